@@ -1,0 +1,3 @@
+pub mod Tagged
+pub mod Text
+pub mod Frame

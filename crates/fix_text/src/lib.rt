@@ -1,0 +1,16 @@
+//! Fields and frames of FIX 4.4 as bytes: what is written has one spelling, and what is read is lent.
+#![tactic(auto)]
+
+mod checksum;
+mod fault;
+mod field;
+mod frame;
+mod refusal;
+mod write;
+
+pub use checksum::sum256;
+pub use fault::TextFault;
+pub use field::{Field, FieldRef, first, first_ref};
+pub use frame::{FieldRefs, Frame};
+pub use refusal::MAX_BODY;
+pub use write::{write_frame, write_frame_parts};

@@ -1,0 +1,130 @@
+//! Which fields can be written as a frame, and how long their text is.
+ghost use Rattle.std.specs.Prelude.{true, Err, ◌≡◌, ◌+◌, ◌<◌, ◌≤◌, ◌++◌, length, decimal, IsOkAnd, MatchOption};
+ghost use Rattle.std.specs.List.{list_all, flat_map};
+ghost use Rattle.fix_text.specs.Text.{field_text, fields_text, holds_soh, begins_with_type, is_writable_tag, is_writable_value, has_writable_tags, has_writable_values};
+ghost use Rattle.fix_text.specs.Frame.{frame_refusal};
+
+use crate::fault::TextFault;
+use crate::field::{Field, FieldRef, Lend};
+use memchr::memchr;
+
+/// The greatest BodyLength (9), in bytes.
+pub const MAX_BODY: usize = 4096;
+
+const SOH: u8 = 1;
+
+fn can_write_tag(tag: u32) -> bool
+    ensures { result ≡ is_writable_tag tag }
+{
+    0 < tag && tag <= 999_999 && tag != 8 && tag != 9 && tag != 10
+}
+
+fn has_soh(value: &[u8]) -> bool
+    ensures { result ≡ holds_soh value.now }
+{
+    memchr(SOH, value).is_some()
+}
+
+fn can_write_value(value: &[u8]) -> bool
+    ensures { result ≡ is_writable_value value.now }
+{
+    !value.is_empty() && !has_soh(value)
+}
+
+fn can_write_each_tag<F: Lend>(fields: &[F]) -> bool
+    ensures { result ≡ list_all (λ field. is_writable_tag (F.tagged field).tag) fields.now }
+{
+    fields.iter().all(|field| can_write_tag(field.lend().tag()))
+}
+
+fn can_write_each_value<F: Lend>(fields: &[F]) -> bool
+    ensures { result ≡ list_all (λ field. is_writable_value (F.tagged field).value) fields.now }
+{
+    fields
+        .iter()
+        .all(|field| can_write_value(field.lend().value()))
+}
+
+fn is_typed(head: &[FieldRef<'_>], rest: &[Field]) -> bool
+    ensures { result ≡ begins_with_type (head.now ++ rest.now) }
+{
+    match head {
+        [field, ..] => field.tag() == 35,
+        [] => match rest {
+            [field, ..] => field.tag() == 35,
+            [] => false,
+        },
+    }
+}
+
+fn can_write_tags(head: &[FieldRef<'_>], rest: &[Field]) -> bool
+    ensures { result ≡ has_writable_tags (head.now ++ rest.now) }
+{
+    is_typed(head, rest) && can_write_each_tag(head) && can_write_each_tag(rest)
+}
+
+fn can_write_values(head: &[FieldRef<'_>], rest: &[Field]) -> bool
+    ensures { result ≡ has_writable_values (head.now ++ rest.now) }
+{
+    can_write_each_value(head) && can_write_each_value(rest)
+}
+
+/// The number of decimal digits of a tag.
+fn digit_count(tag: u32) -> usize
+    requires { tag ≤ 999999 }
+    ensures value { result ≡ length (decimal tag) }
+    ensures small { result ≤ 6 }
+{
+    match tag {
+        0..=9 => 1,
+        10..=99 => 2,
+        100..=999 => 3,
+        1_000..=9_999 => 4,
+        10_000..=99_999 => 5,
+        _ => 6,
+    }
+}
+
+/// The length of text that is there and of the written fields, or None where it is above the
+/// greatest body.
+fn length_with<F: Lend>(before: usize, fields: &[F]) -> Option<usize>
+    requires tags { list_all (λ field. is_writable_tag (F.tagged field).tag) fields.now ≡ true }
+    requires fits { before ≤ 4096 }
+    ensures { MatchOption result (4096 < before + length (flat_map (λ field. field_text (F.tagged field)) fields.now)) (λ n. (n ≡ before + length (flat_map (λ field. field_text (F.tagged field)) fields.now)) × (n ≤ 4096)) }
+{
+    let mut total = before;
+    for item in fields {
+        let field = item.lend();
+        let value = field.value().len();
+        if value > MAX_BODY {
+            return None;
+        }
+        total += digit_count(field.tag()) + 1 + value + 1;
+        if total > MAX_BODY {
+            return None;
+        }
+    }
+    Some(total)
+}
+
+fn length_of(head: &[FieldRef<'_>], rest: &[Field]) -> Option<usize>
+    requires { has_writable_tags (head.now ++ rest.now) ≡ true }
+    ensures { MatchOption result (4096 < length (fields_text (head.now ++ rest.now))) (λ n. (n ≡ length (fields_text (head.now ++ rest.now))) × (n ≤ 4096)) }
+{
+    let before = length_with(0, head)?;
+    length_with(before, rest)
+}
+
+/// The length of the body of these fields, or why they can't be written: each fault is tried over
+/// all fields before the next.
+pub fn body_length(head: &[FieldRef<'_>], rest: &[Field]) -> Result<usize, TextFault>
+    ensures { MatchOption (frame_refusal (head.now ++ rest.now)) (IsOkAnd result (λ n. (n ≡ length (fields_text (head.now ++ rest.now))) × (n ≤ 4096))) (λ fault. result ≡ Err fault) }
+{
+    if !can_write_tags(head, rest) {
+        return Err(TextFault::BadTag);
+    }
+    if !can_write_values(head, rest) {
+        return Err(TextFault::BadValue);
+    }
+    length_of(head, rest).ok_or(TextFault::TooLong)
+}
