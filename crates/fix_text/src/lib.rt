@@ -11,6 +11,6 @@ mod write;
 pub use checksum::sum256;
 pub use fault::TextFault;
 pub use field::{Field, FieldRef, first, first_ref};
-pub use frame::{FieldRefs, Frame};
+pub use frame::{FieldRefs, Fields, Frame};
 pub use refusal::MAX_BODY;
 pub use write::{write_frame, write_frame_parts};

@@ -45,28 +45,34 @@ fn can_write_each_value<F: Lend>(fields: &[F]) -> bool
         .all(|field| can_write_value(field.lend().value()))
 }
 
-fn is_typed(head: &[FieldRef<'_>], rest: &[Field]) -> bool
-    ensures { result ≡ begins_with_type (head.now ++ rest.now) }
+fn is_typed(head: &[FieldRef<'_>], body: &[FieldRef<'_>], rest: &[Field]) -> bool
+    ensures { result ≡ begins_with_type (head.now ++ body.now ++ rest.now) }
 {
     match head {
         [field, ..] => field.tag() == 35,
-        [] => match rest {
+        [] => match body {
             [field, ..] => field.tag() == 35,
-            [] => false,
+            [] => match rest {
+                [field, ..] => field.tag() == 35,
+                [] => false,
+            },
         },
     }
 }
 
-fn can_write_tags(head: &[FieldRef<'_>], rest: &[Field]) -> bool
-    ensures { result ≡ has_writable_tags (head.now ++ rest.now) }
+fn can_write_tags(head: &[FieldRef<'_>], body: &[FieldRef<'_>], rest: &[Field]) -> bool
+    ensures { result ≡ has_writable_tags (head.now ++ body.now ++ rest.now) }
 {
-    is_typed(head, rest) && can_write_each_tag(head) && can_write_each_tag(rest)
+    is_typed(head, body, rest)
+        && can_write_each_tag(head)
+        && can_write_each_tag(body)
+        && can_write_each_tag(rest)
 }
 
-fn can_write_values(head: &[FieldRef<'_>], rest: &[Field]) -> bool
-    ensures { result ≡ has_writable_values (head.now ++ rest.now) }
+fn can_write_values(head: &[FieldRef<'_>], body: &[FieldRef<'_>], rest: &[Field]) -> bool
+    ensures { result ≡ has_writable_values (head.now ++ body.now ++ rest.now) }
 {
-    can_write_each_value(head) && can_write_each_value(rest)
+    can_write_each_value(head) && can_write_each_value(body) && can_write_each_value(rest)
 }
 
 /// The number of decimal digits of a tag.
@@ -107,24 +113,30 @@ fn length_with<F: Lend>(before: usize, fields: &[F]) -> Option<usize>
     Some(total)
 }
 
-fn length_of(head: &[FieldRef<'_>], rest: &[Field]) -> Option<usize>
-    requires { has_writable_tags (head.now ++ rest.now) ≡ true }
-    ensures { MatchOption result (4096 < length (fields_text (head.now ++ rest.now))) (λ n. (n ≡ length (fields_text (head.now ++ rest.now))) × (n ≤ 4096)) }
+fn length_of(head: &[FieldRef<'_>], body: &[FieldRef<'_>], rest: &[Field]) -> Option<usize>
+    requires { has_writable_tags (head.now ++ body.now ++ rest.now) ≡ true }
+    ensures { let n = length (fields_text (head.now ++ body.now ++ rest.now)) in MatchOption result (4096 < n) (λ length. (length ≡ n) × (n ≤ 4096)) }
 {
-    let before = length_with(0, head)?;
-    length_with(before, rest)
+    let head = length_with(0, head)?;
+    let body = length_with(head, body)?;
+    length_with(body, rest)
 }
 
-/// The length of the body of these fields, or why they can't be written: each fault is tried over
+/// The length of the text of these fields, or why they can't be written: each fault is tried over
 /// all fields before the next.
-pub fn body_length(head: &[FieldRef<'_>], rest: &[Field]) -> Result<usize, TextFault>
-    ensures { MatchOption (frame_refusal (head.now ++ rest.now)) (IsOkAnd result (λ n. (n ≡ length (fields_text (head.now ++ rest.now))) × (n ≤ 4096))) (λ fault. result ≡ Err fault) }
+pub fn checked_length(
+    head: &[FieldRef<'_>],
+    body: &[FieldRef<'_>],
+    rest: &[Field],
+) -> Result<usize, TextFault>
+    ensures { let fields = head.now ++ body.now ++ rest.now in
+        MatchOption (frame_refusal fields) (IsOkAnd result (λ n. (n ≡ length (fields_text fields)) × (n ≤ 4096))) (λ fault. result ≡ Err fault) }
 {
-    if !can_write_tags(head, rest) {
+    if !can_write_tags(head, body, rest) {
         return Err(TextFault::BadTag);
     }
-    if !can_write_values(head, rest) {
+    if !can_write_values(head, body, rest) {
         return Err(TextFault::BadValue);
     }
-    length_of(head, rest).ok_or(TextFault::TooLong)
+    length_of(head, body, rest).ok_or(TextFault::TooLong)
 }

@@ -7,7 +7,7 @@ ghost use Rattle.fix_text.specs.Frame.{IsGrown, header_text, trailer_text, frame
 use crate::checksum::sum256;
 use crate::fault::TextFault;
 use crate::field::{Field, FieldRef, Lend};
-use crate::refusal::body_length;
+use crate::refusal::checked_length;
 use itoa::Buffer;
 use std::alloc::AllocError;
 
@@ -71,39 +71,42 @@ fn push_trailer(start: usize, out: &mut Vec<u8>) -> Result<(), AllocError>
     out.extend_from_slice(&trailer)
 }
 
-/// Appends the frame of a body of this length, or on a refused growth only a part of it.
+/// Appends the frame of fields whose text is of this length, or on a refused growth a part of it.
 fn push_frame(
-    body: usize,
+    length_of_text: usize,
     head: &[FieldRef<'_>],
+    body: &[FieldRef<'_>],
     rest: &[Field],
     out: &mut Vec<u8>,
 ) -> Result<(), AllocError>
-    requires { (body ≡ length (fields_text (head.now ++ rest.now))) × (body ≤ 4096) }
-    ensures ok { OnOk result (out.new.items ≡ out.old.items ++ frame_text (head.now ++ rest.now)) }
+    requires { (length_of_text ≡ length (fields_text (head.now ++ body.now ++ rest.now))) × (length_of_text ≤ 4096) }
+    ensures ok { OnOk result (out.new.items ≡ out.old.items ++ frame_text (head.now ++ body.now ++ rest.now)) }
     ensures err { OnErr result (IsGrown out.old.items out.new.items) }
 {
     let start = out.len();
-    out.reserve(body + FRAME_ROOM)?;
-    push_header(body, out)?;
+    out.reserve(length_of_text + FRAME_ROOM)?;
+    push_header(length_of_text, out)?;
     push_fields(head, out)?;
+    push_fields(body, out)?;
     push_fields(rest, out)?;
     push_trailer(start, out)
 }
 
-/// Appends the one written frame of the fields of `head` and behind them those of `rest`, as
-/// `write_frame` does of one list. What is lent need not be copied to be written.
+/// Appends the one written frame of the fields of `head`, `body` and `rest`, one behind the other,
+/// as `write_frame` does of one list. So what lies apart, or is lent, need not be copied.
 pub fn write_frame_parts(
     head: &[FieldRef<'_>],
+    body: &[FieldRef<'_>],
     rest: &[Field],
     out: &mut Vec<u8>,
 ) -> Result<(), TextFault>
-    ensures refusal { MatchOption (frame_refusal (head.now ++ rest.now)) (IsOkUnless result TextFault.OutOfMemory) (λ fault. result ≡ Err fault) }
-    ensures ok { OnOk result (out.new.items ≡ out.old.items ++ frame_text (head.now ++ rest.now)) }
+    ensures refusal { MatchOption (frame_refusal (head.now ++ body.now ++ rest.now)) (IsOkUnless result TextFault.OutOfMemory) (λ fault. result ≡ Err fault) }
+    ensures ok { OnOk result (out.new.items ≡ out.old.items ++ frame_text (head.now ++ body.now ++ rest.now)) }
     ensures err { OnErr result (out.new.items ≡ out.old.items) }
 {
-    let body = body_length(head, rest)?;
+    let length_of_text = checked_length(head, body, rest)?;
     let start = out.len();
-    if push_frame(body, head, rest, out).is_err() {
+    if push_frame(length_of_text, head, body, rest, out).is_err() {
         out.truncate(start);
         return Err(TextFault::OutOfMemory);
     }
@@ -120,5 +123,5 @@ pub fn write_frame(fields: &[Field], out: &mut Vec<u8>) -> Result<(), TextFault>
     ensures ok { OnOk result (out.new.items ≡ out.old.items ++ frame_text fields.now) }
     ensures err { OnErr result (out.new.items ≡ out.old.items) }
 {
-    write_frame_parts(&[], fields, out)
+    write_frame_parts(&[], &[], fields, out)
 }
