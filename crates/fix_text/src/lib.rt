@@ -12,5 +12,5 @@ pub use checksum::sum256;
 pub use fault::TextFault;
 pub use field::{Field, FieldRef, first, first_ref};
 pub use frame::{FieldRefs, Fields, Frame};
-pub use refusal::MAX_BODY;
+pub use refusal::{MAX_BODY, can_write_tag, can_write_value};
 pub use write::{write_frame, write_frame_parts};

@@ -13,7 +13,8 @@ pub const MAX_BODY: usize = 4096;
 
 const SOH: u8 = 1;
 
-fn can_write_tag(tag: u32) -> bool
+/// Whether a tag can be written: it is 1 to 999,999, and none of the frame's own 8, 9 and 10.
+pub fn can_write_tag(tag: u32) -> bool
     ensures { result ≡ is_writable_tag tag }
 {
     0 < tag && tag <= 999_999 && tag != 8 && tag != 9 && tag != 10
@@ -25,7 +26,8 @@ fn has_soh(value: &[u8]) -> bool
     memchr(SOH, value).is_some()
 }
 
-fn can_write_value(value: &[u8]) -> bool
+/// Whether a value can be written: it isn't empty and holds no SOH.
+pub fn can_write_value(value: &[u8]) -> bool
     ensures { result ≡ is_writable_value value.now }
 {
     !value.is_empty() && !has_soh(value)

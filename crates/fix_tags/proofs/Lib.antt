@@ -1,0 +1,9 @@
+pub mod Apps
+pub mod Bodies
+pub mod Decimals
+pub mod DigitsRead
+pub mod HeaderBack
+pub mod Lookups
+pub mod MessageBack
+pub mod WritableFields
+pub mod Outcomes

@@ -1,0 +1,86 @@
+-- A message that can be written is read back from its fields as itself, whatever the time.
+use Rattle.std.proofs.Common.{◌≡◌, ℕ, Bool, true, List, [], ◌++◌, Option, Some, None, Ok, codes, refl, ◌∙◌, ap}
+use Rattle.std.specs.Fmt.{decimal}
+use Rattle.fix_text.specs.Tagged.{Tagged, value_of}
+use Rattle.fix_tags.specs.CompId.{is_comp_id}
+use Rattle.fix_tags.specs.Stamp.{StampParts, stamp_text}
+use Rattle.fix_tags.specs.Reading.{short_text, number_if, body_read, envelope_read}
+use Rattle.fix_tags.specs.Message.{is_message_number, is_app_kind, kind_of, kind_fault, body_fault, field_fault, unless_ok, ◌or_then◌, header_fields, body_fields, envelope_fields}
+use Rattle.fix_tags.specs.declared.body.Body.{Body}
+use Rattle.fix_tags.specs.declared.body.Body.TheVariants.{Logon, Heartbeat, TestRequest, ResendRequest, Reject, GapFill, Reset, Logout, BusinessReject, App}
+use Rattle.fix_tags.specs.declared.envelope.Envelope.{Envelope}
+use Rattle.fix_tags.proofs.HeaderBack.{read-header}
+use Rattle.fix_tags.proofs.Bodies.{unless_ok-none, or_then-first, or_then-second, short_text-written, message_number_reads, resend_request_back, reject_back, gap_fill_back, reset_back, business_reject_back, heartbeat_back, test_request_back, logout_back, logon_back}
+use Rattle.fix_tags.proofs.Apps.{app_kind_parts, app_back, value_of-app}
+
+kind_reads : (body : Body) → kind_fault body ≡ None → short_text 8 (kind_of body) ≡ Some (kind_of body)
+kind_reads (Logon heart reset next) none = refl
+kind_reads (Heartbeat id) none = refl
+kind_reads (TestRequest id) none = refl
+kind_reads (ResendRequest begin last) none = refl
+kind_reads (Reject number) none = refl
+kind_reads (GapFill new_number) none = refl
+kind_reads (Reset new_number) none = refl
+kind_reads Logout none = refl
+kind_reads (BusinessReject number) none = refl
+kind_reads (App kind fields) none =
+    let parts = app_kind_parts kind (unless_ok-none (is_app_kind kind) 35 none) in short_text-written 8 kind parts.0 parts.1
+
+-- a body has no flag of the header
+no_dup : (body : Body) → body_fault body ≡ None → value_of (body_fields body) 43 ≡ None
+no_dup (Logon heart true None) none = refl
+no_dup (Logon heart true (Some next)) none = refl
+no_dup (Logon heart _ None) none = refl
+no_dup (Logon heart _ (Some next)) none = refl
+no_dup (Heartbeat None) none = refl
+no_dup (Heartbeat (Some id)) none = refl
+no_dup (TestRequest id) none = refl
+no_dup (ResendRequest begin last) none = refl
+no_dup (Reject number) none = refl
+no_dup (GapFill new_number) none = refl
+no_dup (Reset new_number) none = refl
+no_dup Logout none = refl
+no_dup (BusinessReject None) none = refl
+no_dup (BusinessReject (Some number)) none = refl
+no_dup (App kind fields) none = value_of-app fields 43 none refl
+
+no_resend : (body : Body) → body_fault body ≡ None → value_of (body_fields body) 97 ≡ None
+no_resend (Logon heart true None) none = refl
+no_resend (Logon heart true (Some next)) none = refl
+no_resend (Logon heart _ None) none = refl
+no_resend (Logon heart _ (Some next)) none = refl
+no_resend (Heartbeat None) none = refl
+no_resend (Heartbeat (Some id)) none = refl
+no_resend (TestRequest id) none = refl
+no_resend (ResendRequest begin last) none = refl
+no_resend (Reject number) none = refl
+no_resend (GapFill new_number) none = refl
+no_resend (Reset new_number) none = refl
+no_resend Logout none = refl
+no_resend (BusinessReject None) none = refl
+no_resend (BusinessReject (Some number)) none = refl
+no_resend (App kind fields) none = value_of-app fields 97 none refl
+
+-- the body reads back behind any header
+body_back : (e : Envelope) (time : List ℕ) (body : Body) → kind_fault body ≡ None → body_fault body ≡ None → body_read (kind_of body) (header_fields e time ++ body_fields body) ≡ Ok body
+body_back e time (Logon heart reset next) kind none = logon_back e time heart reset next none
+body_back e time (Heartbeat id) kind none = heartbeat_back e time id none
+body_back e time (TestRequest id) kind none = test_request_back e time id none
+body_back e time (ResendRequest begin last) kind none = resend_request_back e time begin last none
+body_back e time (Reject number) kind none = reject_back e time number none
+body_back e time (GapFill new_number) kind none = gap_fill_back e time new_number none
+body_back e time (Reset new_number) kind none = reset_back e time new_number none
+body_back e time Logout kind none = logout_back e time
+body_back e time (BusinessReject number) kind none = business_reject_back e time number none
+body_back e time (App app_kind fields) kind none = app_back e time app_kind fields (unless_ok-none (is_app_kind app_kind) 35 kind) none
+
+-- a written message is read back from its fields as itself
+pub envelope_read-written : (e : Envelope) (stamp : StampParts) → is_comp_id e.sender ≡ true → is_comp_id e.target ≡ true → field_fault e ≡ None
+    → envelope_read (envelope_fields e stamp) ≡ Ok e
+envelope_read-written e stamp sender target none =
+    let kind = or_then-first (kind_fault e.body) (unless_ok (is_message_number e.number) 34 or_then body_fault e.body) none in
+    let rest = or_then-second (kind_fault e.body) (unless_ok (is_message_number e.number) 34 or_then body_fault e.body) none in
+    let number = unless_ok-none (is_message_number e.number) 34 (or_then-first (unless_ok (is_message_number e.number) 34) (body_fault e.body) rest) in
+    let body = or_then-second (unless_ok (is_message_number e.number) 34) (body_fault e.body) rest in
+    read-header e (stamp_text stamp) (body_fields e.body) (kind_reads e.body kind) sender target (message_number_reads e.number number)
+    (no_dup e.body body) (no_resend e.body body) (body_back e (stamp_text stamp) e.body kind body)

@@ -1,0 +1,8 @@
+use Rattle.std.proofs.Common.{◌≡◌, ◌≤◌, min, drop}
+use Rattle.fix_tags.specs.Digits.{number_after, leading_digits, after_digits, digits_number}
+use Rattle.fix_tags.proofs.digits.leading_number.Given as goal
+
+-- the digits that are left, after those of the value, write the whole number, up to the limit
+abbrev pub invariant-loop-count : goal.invariant-loop-count
+invariant-loop-count l =
+    (l.value ≤ 1_000_000_000_000) × (min 1_000_000_000_000 (number_after l.value (leading_digits (drop l.count l.bytes))) ≡ min 1_000_000_000_000 (digits_number (leading_digits l.bytes))) × (after_digits (drop l.count l.bytes) ≡ after_digits l.bytes)

@@ -1,0 +1,14 @@
+pub mod App
+pub mod CompId
+pub mod Digits
+pub mod Flag
+pub mod Lent
+pub mod Message
+pub mod Number
+pub mod Price
+pub mod ReadBack
+pub mod Reading
+pub mod Shares
+pub mod Spelled
+pub mod Stamp
+pub mod Written

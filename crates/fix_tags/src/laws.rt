@@ -1,0 +1,52 @@
+//! What is written is read back: each law is the contract of a function that does nothing.
+
+ghost use Rattle.std.specs.Prelude.{◌≡◌, ◌≤◌, Some, decimal};
+ghost use Rattle.fix_tags.specs.CompId.{comp_id_of};
+ghost use Rattle.fix_tags.specs.Flag.{flag_of, flag_text};
+ghost use Rattle.fix_tags.specs.Number.{number_of};
+ghost use Rattle.fix_tags.specs.Price.{price_of, price_short, price_four};
+ghost use Rattle.fix_tags.specs.Shares.{shares_of};
+ghost use Rattle.fix_tags.specs.Stamp.{IsStamp, stamp_text, stamp_read};
+
+use crate::comp_id::CompId;
+use crate::stamp::Stamp;
+
+/// A number up to 999,999,999,999 that was written is read back.
+pub fn number_reads_back(number: u64)
+    requires { number ≤ 999_999_999_999 }
+    ensures { number_of (decimal number) ≡ Some number }
+{}
+
+/// Shares up to 999,999,999 that were written as a number are read back.
+pub fn shares_read_back(shares: u64)
+    requires { shares ≤ 999_999_999 }
+    ensures { shares_of (decimal shares) ≡ Some shares }
+{}
+
+/// A price of 1 to 9,999,999,999 ten-thousandths that was written short or with four decimals is read back.
+pub fn price_reads_back(price: u64)
+    requires least { 1 ≤ price }
+    requires greatest { price ≤ 9_999_999_999 }
+    ensures short { price_of (price_short price) ≡ Some price }
+    ensures four { price_of (price_four price) ≡ Some price }
+{}
+
+/// A flag that was written is read back.
+pub fn flag_reads_back(flag: bool)
+    ensures { flag_of (flag_text flag) ≡ Some flag }
+{}
+
+/// A stamp that was written is read back.
+pub fn stamp_reads_back(stamp: &Stamp)
+    ensures range { IsStamp stamp.now }
+    ensures same { stamp_read (stamp_text stamp.now) ≡ Some stamp.now }
+{
+    let _year = stamp.year();
+}
+
+/// The text of a name is read as that name.
+pub fn comp_id_reads_back(id: &CompId)
+    ensures { comp_id_of id.now ≡ Some id.now }
+{
+    let _text = id.as_bytes();
+}

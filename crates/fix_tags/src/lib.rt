@@ -1,0 +1,39 @@
+//! The messages of a FIX 4.4 session as envelopes, and the values of their fields: how each is read
+//! and written.
+#![tactic(auto)]
+
+mod append;
+mod body;
+mod comp_id;
+mod digits;
+mod envelope;
+mod fault;
+mod flag;
+pub mod laws;
+mod limits;
+mod number;
+mod price;
+mod read;
+mod shares;
+mod stamp;
+mod stamp_text;
+mod text;
+mod writable;
+mod write;
+
+pub use body::{Body, BodyRef};
+pub use comp_id::{CompId, is_comp_id};
+pub use envelope::{Envelope, EnvelopeRef};
+pub use fault::TagFault;
+pub use flag::{read_flag, write_flag};
+pub use number::{read_number, write_number};
+pub use price::{read_price, write_price_four, write_price_short};
+pub use read::read_envelope;
+pub use shares::read_shares;
+pub use stamp::Stamp;
+pub use stamp_text::{read_stamp, stamp_bytes, write_stamp};
+pub use text::Text;
+pub use write::write_envelope;
+
+#[cfg(test)]
+mod tests;

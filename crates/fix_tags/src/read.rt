@@ -1,0 +1,258 @@
+//! Reading a message from the fields of a frame.
+ghost use Rattle.std.specs.Prelude.{[], ◌∷◌, None, ◌≡◌, filter, IfOk, IsTrue};
+ghost use Rattle.std.specs.Option.{option_map};
+ghost use Rattle.fix_tags.specs.App.{is_app_tag};
+ghost use Rattle.fix_tags.specs.CompId.{comp_id_of};
+ghost use Rattle.fix_tags.specs.Lent.{body_of};
+ghost use Rattle.fix_tags.specs.Reading.{Gives, Reads, required, optional, flag_at, anything, short_text, some_text, number_if, some_number, no_encryption, logon_read, heartbeat_read, test_request_read, resend_request_read, reject_read, sequence_reset_read, business_reject_read, app_read, body_read, envelope_read};
+ghost use Rattle.fix_tags.specs.Message.{is_reference, is_heart, is_message_number, is_next_number};
+
+use crate::body::BodyRef;
+use crate::comp_id::is_comp_id;
+use crate::envelope::EnvelopeRef;
+use crate::fault::TagFault;
+use crate::flag::read_flag;
+use crate::limits::{MAX_HEART, MAX_KIND, MAX_MESSAGE_NUMBER, MAX_REFERENCE, MAX_TEST_ID};
+use crate::number::read_number;
+use crate::writable::is_header_tag;
+use fix_text::{FieldRef, FieldRefs, Frame};
+use std::alloc::{AllocError, Global};
+
+/// A field of 1 to `most` bytes.
+fn text_at<'a>(frame: &Frame<'a>, tag: u32, most: usize) -> Result<&'a [u8], TagFault>
+    ensures { Gives (λ value. value.now) result (required frame.now.fields tag (short_text most)) }
+{
+    match frame.get(tag) {
+        None => Err(TagFault::Missing(tag)),
+        Some(value) if !value.is_empty() && value.len() <= most => Ok(value),
+        Some(_) => Err(TagFault::BadField(tag)),
+    }
+}
+
+fn comp_id_at<'a>(frame: &Frame<'a>, tag: u32) -> Result<&'a [u8], TagFault>
+    ensures { Gives (λ value. value.now) result (required frame.now.fields tag comp_id_of) }
+{
+    match frame.get(tag) {
+        None => Err(TagFault::Missing(tag)),
+        Some(value) if is_comp_id(value) => Ok(value),
+        Some(_) => Err(TagFault::BadField(tag)),
+    }
+}
+
+/// A flag, which is N where it is missing.
+fn flag_of_field(frame: &Frame<'_>, tag: u32) -> Result<bool, TagFault>
+    ensures { result ≡ flag_at frame.now.fields tag }
+{
+    match frame.get(tag) {
+        None => Ok(false),
+        Some(value) => read_flag(value).ok_or(TagFault::BadField(tag)),
+    }
+}
+
+fn message_number(frame: &Frame<'_>) -> Result<u64, TagFault>
+    ensures { result ≡ required frame.now.fields 34 (number_if is_message_number) }
+{
+    match frame.get(34) {
+        None => Err(TagFault::Missing(34)),
+        Some(value) => match read_number(value) {
+            Some(number) if 1 <= number && number <= MAX_MESSAGE_NUMBER => Ok(number),
+            _ => Err(TagFault::BadField(34)),
+        },
+    }
+}
+
+/// A number that must be there, from 0 to 999,999,999.
+fn reference_at(frame: &Frame<'_>, tag: u32) -> Result<u64, TagFault>
+    ensures { result ≡ required frame.now.fields tag (number_if is_reference) }
+{
+    match frame.get(tag) {
+        None => Err(TagFault::Missing(tag)),
+        Some(value) => match read_number(value) {
+            Some(number) if number <= MAX_REFERENCE => Ok(number),
+            _ => Err(TagFault::BadField(tag)),
+        },
+    }
+}
+
+/// The same of a number that may be missing.
+fn optional_reference_at(frame: &Frame<'_>, tag: u32) -> Result<Option<u64>, TagFault>
+    ensures { result ≡ optional frame.now.fields tag (some_number is_reference) None }
+{
+    match frame.get(tag) {
+        None => Ok(None),
+        Some(value) => match read_number(value) {
+            Some(number) if number <= MAX_REFERENCE => Ok(Some(number)),
+            _ => Err(TagFault::BadField(tag)),
+        },
+    }
+}
+
+fn optional_test_id<'a>(frame: &Frame<'a>) -> Result<Option<&'a [u8]>, TagFault>
+    ensures { Gives (option_map (λ value. value.now)) result (optional frame.now.fields 112 some_text None) }
+{
+    match frame.get(112) {
+        None => Ok(None),
+        Some(value) if !value.is_empty() && value.len() <= MAX_TEST_ID => Ok(Some(value)),
+        Some(_) => Err(TagFault::BadField(112)),
+    }
+}
+
+fn heart(frame: &Frame<'_>) -> Result<u64, TagFault>
+    ensures { result ≡ required frame.now.fields 108 (number_if is_heart) }
+{
+    match frame.get(108) {
+        None => Err(TagFault::Missing(108)),
+        Some(value) => match read_number(value) {
+            Some(seconds) if seconds <= MAX_HEART => Ok(seconds),
+            _ => Err(TagFault::BadField(108)),
+        },
+    }
+}
+
+fn next_number(frame: &Frame<'_>) -> Result<Option<u64>, TagFault>
+    ensures { result ≡ optional frame.now.fields 789 (some_number is_next_number) None }
+{
+    match frame.get(789) {
+        None => Ok(None),
+        Some(value) => match read_number(value) {
+            Some(number) if 1 <= number && number <= MAX_REFERENCE => Ok(Some(number)),
+            _ => Err(TagFault::BadField(789)),
+        },
+    }
+}
+
+/// EncryptMethod (98) is 0: none.
+fn no_encryption(frame: &Frame<'_>) -> Result<(), TagFault>
+    ensures { Gives (λ _. 48 ∷ []) result (required frame.now.fields 98 no_encryption) }
+{
+    match frame.get(98) {
+        None => Err(TagFault::Missing(98)),
+        Some([b'0']) => Ok(()),
+        Some(_) => Err(TagFault::BadField(98)),
+    }
+}
+
+/// The fields that aren't the header's nor the frame's.
+fn app_fields<'a>(alloc: Global, fields: &[FieldRef<'a>]) -> Result<Vec<FieldRef<'a>>, AllocError>
+    ensures { IfOk result (λ kept. kept.items ≡ filter (λ f. is_app_tag f.tag) fields.now) }
+{
+    let mut kept = Vec::with_capacity(alloc, fields.len())?;
+    for field in fields {
+        if is_application_tag(field.tag()) {
+            kept.push(FieldRef::new(field.tag(), field.value()))?;
+        }
+    }
+    Ok(kept)
+}
+
+fn is_application_tag(tag: u32) -> bool
+    ensures { result ≡ is_app_tag tag }
+{
+    !is_header_tag(tag) && !matches!(tag, 8 | 9 | 10)
+}
+
+fn logon<'a>(frame: &Frame<'a>) -> Result<BodyRef<'a>, TagFault>
+    ensures { Gives body_of result (logon_read frame.now.fields) }
+{
+    no_encryption(frame)?;
+    let heart = heart(frame)?;
+    let reset = flag_of_field(frame, 141)?;
+    let next = next_number(frame)?;
+    Ok(BodyRef::Logon { heart, reset, next })
+}
+
+fn heartbeat<'a>(frame: &Frame<'a>) -> Result<BodyRef<'a>, TagFault>
+    ensures { Gives body_of result (heartbeat_read frame.now.fields) }
+{
+    let id = optional_test_id(frame)?;
+    Ok(BodyRef::Heartbeat { id })
+}
+
+fn test_request<'a>(frame: &Frame<'a>) -> Result<BodyRef<'a>, TagFault>
+    ensures { Gives body_of result (test_request_read frame.now.fields) }
+{
+    let id = text_at(frame, 112, MAX_TEST_ID)?;
+    Ok(BodyRef::TestRequest { id })
+}
+
+fn resend_request<'a>(frame: &Frame<'a>) -> Result<BodyRef<'a>, TagFault>
+    ensures { Gives body_of result (resend_request_read frame.now.fields) }
+{
+    let begin = reference_at(frame, 7)?;
+    let last = reference_at(frame, 16)?;
+    Ok(BodyRef::ResendRequest { begin, last })
+}
+
+fn reject<'a>(frame: &Frame<'a>) -> Result<BodyRef<'a>, TagFault>
+    ensures { Gives body_of result (reject_read frame.now.fields) }
+{
+    let number = reference_at(frame, 45)?;
+    Ok(BodyRef::Reject { number })
+}
+
+fn sequence_reset<'a>(frame: &Frame<'a>) -> Result<BodyRef<'a>, TagFault>
+    ensures { Gives body_of result (sequence_reset_read frame.now.fields) }
+{
+    let fills = flag_of_field(frame, 123)?;
+    let new_number = reference_at(frame, 36)?;
+    if fills {
+        return Ok(BodyRef::GapFill { new_number });
+    }
+    Ok(BodyRef::Reset { new_number })
+}
+
+fn business_reject<'a>(frame: &Frame<'a>) -> Result<BodyRef<'a>, TagFault>
+    ensures { Gives body_of result (business_reject_read frame.now.fields) }
+{
+    let number = optional_reference_at(frame, 45)?;
+    Ok(BodyRef::BusinessReject { number })
+}
+
+fn app<'a>(alloc: Global, kind: &'a [u8], frame: &Frame<'a>) -> Result<BodyRef<'a>, TagFault>
+    ensures { Reads body_of result (app_read kind.entry.now frame.now.fields) }
+{
+    let Ok(kept) = app_fields(alloc, frame.fields.as_slice()) else {
+        return Err(TagFault::OutOfMemory);
+    };
+    let fields = FieldRefs::new(kept);
+    Ok(BodyRef::App { kind, fields })
+}
+
+fn body<'a>(alloc: Global, kind: &'a [u8], frame: &Frame<'a>) -> Result<BodyRef<'a>, TagFault>
+    ensures { Reads body_of result (body_read kind.entry.now frame.now.fields) }
+{
+    match kind {
+        [b'A'] => logon(frame),
+        [b'0'] => heartbeat(frame),
+        [b'1'] => test_request(frame),
+        [b'2'] => resend_request(frame),
+        [b'3'] => reject(frame),
+        [b'4'] => sequence_reset(frame),
+        [b'5'] => Ok(BodyRef::Logout),
+        [b'j'] => business_reject(frame),
+        _ => app(alloc, kind, frame),
+    }
+}
+
+/// Reads the message of a frame (FIX 4.4 Volume 2, "Standard Message Header" and the messages of the
+/// session), with its texts and fields lent from the frame's lender.
+///
+/// The fields are tried in the order 35, 49, 56, 34, 52, 43, 97 and then those of the body;
+/// `Missing` and `BadField` name the first that isn't there or isn't as it must be, and `OutOfMemory`
+/// comes only where nothing else is wrong.
+#[tactic(auto, unfolding(crate::specs::Reading::envelope_read))]
+pub fn read_envelope<'a>(alloc: Global, frame: &Frame<'a>) -> Result<EnvelopeRef<'a>, TagFault>
+    ensures { Reads (λ e. e) result (envelope_read frame.now.fields) }
+{
+    let kind = text_at(frame, 35, MAX_KIND)?;
+    let sender = comp_id_at(frame, 49)?;
+    let target = comp_id_at(frame, 56)?;
+    let number = message_number(frame)?;
+    if frame.get(52).is_none() {
+        return Err(TagFault::Missing(52));
+    }
+    let poss_dup = flag_of_field(frame, 43)?;
+    let poss_resend = flag_of_field(frame, 97)?;
+    let body = body(alloc, kind, frame)?;
+    Ok(EnvelopeRef::new(sender, target, number, poss_dup, poss_resend, body))
+}

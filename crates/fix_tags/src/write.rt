@@ -1,0 +1,265 @@
+//! Writing a message as a frame.
+ghost use Rattle.std.specs.Prelude.{◌∷◌, Some, None, Err, ◌≡◌, ◌++◌, MatchOption, IsOkUnless, OnOk, OnErr, Ok};
+ghost use Rattle.fix_text.specs.Frame.{frame_text};
+ghost use Rattle.fix_tags.specs.CompId.{IsCompId};
+ghost use Rattle.fix_tags.specs.Message.{WritesFrame, field, marks_and_time, kind_of, body_fields, header_fields, field_fault, envelope_fields, envelope_refusal};
+ghost use Rattle.fix_tags.specs.Reading.{reset_or_fill, envelope_read};
+
+use crate::body::Body;
+use crate::envelope::Envelope;
+use crate::fault::TagFault;
+use crate::stamp::Stamp;
+use crate::stamp_text::stamp_bytes;
+use crate::text::Text;
+use crate::writable::field_fault;
+use fix_text::{FieldRef, TextFault, write_frame_parts};
+use itoa::Buffer;
+
+/// MsgType (35).
+fn kind_of(body: &Body) -> &[u8]
+    ensures { result.now ≡ kind_of body.now }
+{
+    match body {
+        Body::Logon { .. } => b"A",
+        Body::Heartbeat { .. } => b"0",
+        Body::TestRequest { .. } => b"1",
+        Body::ResendRequest { .. } => b"2",
+        Body::Reject { .. } => b"3",
+        Body::GapFill { .. } | Body::Reset { .. } => b"4",
+        Body::Logout => b"5",
+        Body::BusinessReject { .. } => b"j",
+        Body::App { kind, .. } => kind.as_bytes(),
+    }
+}
+
+fn write_logon(
+    head: &[FieldRef<'_>],
+    heart: u64,
+    reset: bool,
+    next: Option<u64>,
+    out: &mut Vec<u8>,
+) -> Result<(), TextFault>
+    ensures { WritesFrame (head.now ++ body_fields (Body.Logon heart reset next)) out.old.items out.new.items result }
+{
+    let mut heart_digits = Buffer::new();
+    let mut next_digits = Buffer::new();
+    let encryption = FieldRef::new(98, b"0");
+    let heart = FieldRef::new(108, heart_digits.format(heart).as_bytes());
+    match (reset, next) {
+        (false, None) => write_frame_parts(head, &[encryption, heart], &[], out),
+        (true, None) => {
+            let reset = FieldRef::new(141, b"Y");
+            write_frame_parts(head, &[encryption, heart, reset], &[], out)
+        }
+        (false, Some(next)) => {
+            let next = FieldRef::new(789, next_digits.format(next).as_bytes());
+            write_frame_parts(head, &[encryption, heart, next], &[], out)
+        }
+        (true, Some(next)) => {
+            let reset = FieldRef::new(141, b"Y");
+            let next = FieldRef::new(789, next_digits.format(next).as_bytes());
+            write_frame_parts(head, &[encryption, heart, reset, next], &[], out)
+        }
+    }
+}
+
+fn write_resend_request(
+    head: &[FieldRef<'_>],
+    begin: u64,
+    last: u64,
+    out: &mut Vec<u8>,
+) -> Result<(), TextFault>
+    ensures { WritesFrame (head.now ++ body_fields (Body.ResendRequest begin last)) out.old.items out.new.items result }
+{
+    let mut begin_digits = Buffer::new();
+    let mut last_digits = Buffer::new();
+    let begin = FieldRef::new(7, begin_digits.format(begin).as_bytes());
+    let last = FieldRef::new(16, last_digits.format(last).as_bytes());
+    write_frame_parts(head, &[begin, last], &[], out)
+}
+
+fn write_sequence_reset(
+    head: &[FieldRef<'_>],
+    fills: bool,
+    new_number: u64,
+    out: &mut Vec<u8>,
+) -> Result<(), TextFault>
+    ensures { WritesFrame (head.now ++ body_fields (reset_or_fill fills new_number)) out.old.items out.new.items result }
+{
+    let mut digits = Buffer::new();
+    let new_number = FieldRef::new(36, digits.format(new_number).as_bytes());
+    if fills {
+        return write_frame_parts(head, &[FieldRef::new(123, b"Y"), new_number], &[], out);
+    }
+    write_frame_parts(head, &[FieldRef::new(123, b"N"), new_number], &[], out)
+}
+
+fn write_reject(head: &[FieldRef<'_>], number: u64, out: &mut Vec<u8>) -> Result<(), TextFault>
+    ensures { WritesFrame (head.now ++ body_fields (Body.Reject number)) out.old.items out.new.items result }
+{
+    let mut digits = Buffer::new();
+    let number = FieldRef::new(45, digits.format(number).as_bytes());
+    write_frame_parts(head, &[number], &[], out)
+}
+
+fn write_business_reject(
+    head: &[FieldRef<'_>],
+    number: Option<u64>,
+    out: &mut Vec<u8>,
+) -> Result<(), TextFault>
+    ensures { WritesFrame (head.now ++ body_fields (Body.BusinessReject number)) out.old.items out.new.items result }
+{
+    let mut digits = Buffer::new();
+    let kind = FieldRef::new(372, b"D");
+    let reason = FieldRef::new(380, b"0");
+    match number {
+        None => write_frame_parts(head, &[kind, reason], &[], out),
+        Some(number) => {
+            let number = FieldRef::new(45, digits.format(number).as_bytes());
+            write_frame_parts(head, &[number, kind, reason], &[], out)
+        }
+    }
+}
+
+/// A body of a TestReqID (112).
+fn write_test_id(head: &[FieldRef<'_>], id: &[u8], out: &mut Vec<u8>) -> Result<(), TextFault>
+    ensures { WritesFrame (head.now ++ body_fields (Body.TestRequest id.now)) out.old.items out.new.items result }
+{
+    write_frame_parts(head, &[FieldRef::new(112, id)], &[], out)
+}
+
+fn write_heartbeat(
+    head: &[FieldRef<'_>],
+    id: &Option<Text>,
+    out: &mut Vec<u8>,
+) -> Result<(), TextFault>
+    ensures { WritesFrame (head.now ++ body_fields (Body.Heartbeat id.now)) out.old.items out.new.items result }
+{
+    match id {
+        None => write_frame_parts(head, &[], &[], out),
+        Some(id) => write_test_id(head, id.as_bytes(), out),
+    }
+}
+
+fn write_body(head: &[FieldRef<'_>], body: &Body, out: &mut Vec<u8>) -> Result<(), TextFault>
+    ensures { WritesFrame (head.now ++ body_fields body.now) out.old.items out.new.items result }
+{
+    match body {
+        Body::Logon { heart, reset, next } => write_logon(head, *heart, *reset, *next, out),
+        Body::Heartbeat { id } => write_heartbeat(head, id, out),
+        Body::TestRequest { id } => write_test_id(head, id.as_bytes(), out),
+        Body::ResendRequest { begin, last } => write_resend_request(head, *begin, *last, out),
+        Body::Reject { number } => write_reject(head, *number, out),
+        Body::GapFill { new_number } => write_sequence_reset(head, true, *new_number, out),
+        Body::Reset { new_number } => write_sequence_reset(head, false, *new_number, out),
+        Body::BusinessReject { number } => write_business_reject(head, *number, out),
+        Body::Logout => write_frame_parts(head, &[], &[], out),
+        Body::App { fields, .. } => write_frame_parts(head, &[], fields.as_slice(), out),
+    }
+}
+
+/// The texts of a header, all lent for one time.
+#[derive(Drop)]
+struct HeaderTexts<'a> {
+    kind: &'a [u8],
+    sender: &'a [u8],
+    target: &'a [u8],
+    number: &'a [u8],
+    time: &'a [u8],
+}
+
+/// The frame of a header with these texts, its two flags, and a body.
+fn write_with_header<'a>(
+    texts: HeaderTexts<'a>,
+    poss_dup: bool,
+    poss_resend: bool,
+    body: &Body,
+    out: &mut Vec<u8>,
+) -> Result<(), TextFault>
+    ensures { WritesFrame (field 35 texts.entry.kind.now ∷ field 49 texts.entry.sender.now ∷ field 56 texts.entry.target.now ∷ field 34 texts.entry.number.now ∷ marks_and_time poss_dup poss_resend texts.entry.time.now ++ body_fields body.now) out.old.items out.new.items result }
+{
+    let kind = FieldRef::new(35, texts.kind);
+    let sender = FieldRef::new(49, texts.sender);
+    let target = FieldRef::new(56, texts.target);
+    let number = FieldRef::new(34, texts.number);
+    let dup = FieldRef::new(43, b"Y");
+    let resend = FieldRef::new(97, b"Y");
+    let time = FieldRef::new(52, texts.time);
+    let original = FieldRef::new(122, texts.time);
+    match (poss_dup, poss_resend) {
+        (false, false) => write_body(&[kind, sender, target, number, time], body, out),
+        (false, true) => write_body(&[kind, sender, target, number, resend, time], body, out),
+        (true, false) => {
+            write_body(
+                &[kind, sender, target, number, dup, time, original],
+                body,
+                out,
+            )
+        }
+        (true, true) => write_body(
+            &[kind, sender, target, number, dup, resend, time, original],
+            body,
+            out,
+        ),
+    }
+}
+
+/// The message as a frame that is sent at this time.
+fn write_message(envelope: &Envelope, time: &[u8], out: &mut Vec<u8>) -> Result<(), TextFault>
+    ensures sender { IsCompId envelope.now.sender }
+    ensures target { IsCompId envelope.now.target }
+    ensures written { WritesFrame (header_fields envelope.now time.now ++ body_fields envelope.now.body) out.old.items out.new.items result }
+{
+    let mut digits = Buffer::new();
+    let texts = HeaderTexts {
+        kind: kind_of(&envelope.body),
+        sender: envelope.sender.as_bytes(),
+        target: envelope.target.as_bytes(),
+        number: digits.format(envelope.number).as_bytes(),
+        time,
+    };
+    write_with_header(
+        texts,
+        envelope.poss_dup,
+        envelope.poss_resend,
+        &envelope.body,
+        out,
+    )
+}
+
+/// The frame of a message that has no fault but, maybe, its length.
+fn write_faultless(envelope: &Envelope, stamp: &Stamp, out: &mut Vec<u8>) -> Result<(), TagFault>
+    requires { field_fault envelope.now ≡ None }
+    ensures refusal { MatchOption (envelope_refusal envelope.now stamp.now) (IsOkUnless result TagFault.OutOfMemory) (λ fault. result ≡ Err fault) }
+    ensures ok { OnOk result (out.new.items ≡ out.old.items ++ frame_text (envelope_fields envelope.now stamp.now)) }
+    ensures err { OnErr result (out.new.items ≡ out.old.items) }
+    ensures reads_back { OnOk result (envelope_read (envelope_fields envelope.now stamp.now) ≡ Ok envelope.now) }
+{
+    match write_message(envelope, &stamp_bytes(stamp), out) {
+        Ok(()) => Ok(()),
+        Err(TextFault::TooLong) => Err(TagFault::TooLong),
+        Err(TextFault::OutOfMemory) => Err(TagFault::OutOfMemory),
+        Err(TextFault::BadTag) => unreachable!(),
+        Err(TextFault::BadValue) => unreachable!(),
+    }
+}
+
+/// Appends the one written frame of a message that is sent at this time (FIX 4.4 Volume 2).
+///
+/// `BadValue` names the first field in written order that can't be written: a kind of 35 that is
+/// empty, longer than 8 bytes or the session's; 34 outside 1 to 999,999,998; 7, 16, 36 or 45 above
+/// 999,999,999; 108 above 999,999; 789 outside 1 to 999,999,999; 112 empty or longer than 64 bytes; an
+/// application field with a tag of the header or the frame or outside 1 to 999,999, or with an empty
+/// value or SOH in it. Then `TooLong`: the fields take more than 4,096 bytes. A refusal leaves `out` as
+/// it was.
+pub fn write_envelope(envelope: &Envelope, stamp: &Stamp, out: &mut Vec<u8>) -> Result<(), TagFault>
+    ensures refusal { MatchOption (envelope_refusal envelope.now stamp.now) (IsOkUnless result TagFault.OutOfMemory) (λ fault. result ≡ Err fault) }
+    ensures ok { OnOk result (out.new.items ≡ out.old.items ++ frame_text (envelope_fields envelope.now stamp.now)) }
+    ensures err { OnErr result (out.new.items ≡ out.old.items) }
+    ensures reads_back { OnOk result (envelope_read (envelope_fields envelope.now stamp.now) ≡ Ok envelope.now) }
+{
+    match field_fault(envelope) {
+        Some(fault) => Err(fault),
+        None => write_faultless(envelope, stamp, out),
+    }
+}
