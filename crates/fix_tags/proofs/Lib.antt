@@ -7,3 +7,4 @@ pub mod Lookups
 pub mod MessageBack
 pub mod WritableFields
 pub mod Outcomes
+pub mod AppFits
