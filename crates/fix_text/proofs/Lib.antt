@@ -1,3 +1,10 @@
 pub mod Separators
 pub mod DigitCounts
 pub mod Lengths
+pub mod Literals
+pub mod FieldLists
+pub mod Readers
+pub mod Turns
+pub mod Places
+pub mod Feeding
+pub mod Rewritten

@@ -1,3 +1,6 @@
 pub mod Tagged
 pub mod Text
 pub mod Frame
+pub mod Grammar
+pub mod Reading
+pub mod Passing

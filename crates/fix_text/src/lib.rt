@@ -4,7 +4,12 @@
 mod checksum;
 mod fault;
 mod field;
+mod fields;
 mod frame;
+pub mod laws;
+mod parse;
+mod passed;
+mod reader;
 mod refusal;
 mod write;
 
@@ -12,5 +17,9 @@ pub use checksum::sum256;
 pub use fault::TextFault;
 pub use field::{Field, FieldRef, first, first_ref};
 pub use frame::{FieldRefs, Fields, Frame};
+pub use reader::FrameReader;
 pub use refusal::{MAX_BODY, can_write_tag, can_write_value};
 pub use write::{write_frame, write_frame_parts};
+
+#[cfg(test)]
+mod tests;

@@ -1,0 +1,119 @@
+-- Reading on, one turn at a time.
+use Rattle.std.proofs.Common.{◌≡◌, ℕ, zero, suc, ◌+◌, ◌-◌, ◌<◌, ◌≤◌, List, [], ◌∷◌, ◌++◌, length, drop, Option, Some, None, Result, Ok, Err, refl, sym, ap, ◌∙◌, arith}
+use Rattle.std.proofs.Common.{true, false}
+use Rattle.std.specs.Prelude.{is_some, option_map}
+use Rattle.std.proofs.Common.{take, append_assoc}
+use Rattle.std.proofs.lemmas.List.{length-drop, length-append, nil_from_length, take-append-drop, drop_at}
+use Rattle.fix_text.specs.declared.parse.Stop.{Stop}
+use Rattle.fix_text.specs.declared.parse.Stop.TheVariants.{Short, Differs}
+use Rattle.fix_text.specs.Tagged.{Tagged}
+use Rattle.fix_text.specs.Reading.{WholeParts, Stream, FrameReaderParts, frame_at, literal_at, valid_fields, at_frame, at_place, after_given, after_garbled, after_byte, read_on, next_read}
+use Rattle.fix_text.proofs.Readers.{differs_some, frame_shorter, frame_takes}
+
+-- a frame that is passed needs only what shorter streams give
+same_frame : (later other : Stream → FrameReaderParts) (stream : Stream) (whole : WholeParts) (fields : Option (List Tagged)) → length whole.rest < length stream.rest
+    → ((s : Stream) → length s.rest < length stream.rest → later s ≡ other s) → at_frame later stream whole fields ≡ at_frame other stream whole fields
+same_frame later other stream whole (Some fields) shorter same = refl
+same_frame later other stream whole None shorter same = same (after_garbled stream whole) shorter
+
+-- so does any place
+same_place : (later other : Stream → FrameReaderParts) (stream : Stream) (place : Result WholeParts Stop) → place ≡ frame_at stream.rest
+    → ((s : Stream) → length s.rest < length stream.rest → later s ≡ other s) → at_place later stream place ≡ at_place other stream place
+same_place later other stream (Ok whole) is same = same_frame later other stream whole (valid_fields whole) (frame_shorter stream.rest whole is) same
+same_place later other stream (Err Short) is same = refl
+same_place later other stream (Err Differs) is same = same (after_byte stream) (omega (arith, differs_some stream.rest is, length-drop 1 stream.rest))
+
+-- nothing is read where nothing is
+nothing_read : (turns : ℕ) (stream : Stream) → length stream.rest ≤ 0 → read_on turns stream ≡ record { frame = None; stream = stream }
+unfolding read_on frame_at literal_at
+nothing_read zero stream empty = refl
+nothing_read (suc turns) stream empty = ap (λ (bytes : List ℕ). at_place (read_on turns) stream (frame_at bytes)) (nil_from_length stream.rest (omega arith))
+
+-- enough turns are enough
+enough : (turns more : ℕ) (stream : Stream) → length stream.rest ≤ turns → length stream.rest ≤ more → read_on turns stream ≡ read_on more stream
+unfolding read_on
+enough zero more stream h k = sym (nothing_read more stream h)
+enough (suc turns) zero stream h k = nothing_read (suc turns) stream k
+enough (suc turns) (suc more) stream h k = same_place (read_on turns) (read_on more) stream (frame_at stream.rest) refl (λ s shorter. enough turns more s (omega arith) (omega arith))
+
+-- what a call of the reader gives is what is done at the place, and then what a call gives
+pub next_turn : (stream : Stream) → next_read stream ≡ at_place next_read stream (frame_at stream.rest)
+unfolding next_read read_on
+next_turn stream =
+    enough (length stream.rest) (suc (length stream.rest)) stream (omega arith) (omega arith)
+    ∙ same_place (read_on (length stream.rest)) next_read stream (frame_at stream.rest) refl (λ s shorter. enough (length stream.rest) (length s.rest) s (omega arith) (omega arith))
+
+-- ---- the turns of a loop
+
+turn_at : (stream : Stream) (place : Result WholeParts Stop) (total : FrameReaderParts) → place ≡ frame_at stream.rest → next_read stream ≡ total → at_place next_read stream place ≡ total
+turn_at stream place total is so_far = ap (at_place next_read stream) is ∙ sym (next_turn stream) ∙ so_far
+
+pub waits : (stream : Stream) (stop : Stop) (total : FrameReaderParts) → stop ≡ Short → Err stop ≡ frame_at stream.rest → next_read stream ≡ total → record { frame = None; stream = stream } ≡ total
+waits stream stop total short is so_far = turn_at stream (Err Short) total (ap (λ (s : Stop). Err s) (sym short) ∙ is) so_far
+
+pub skips : (stream next : Stream) (stop : Stop) (total : FrameReaderParts) → stop ≡ Differs → Err stop ≡ frame_at stream.rest → next ≡ after_byte stream → next_read stream ≡ total → next_read next ≡ total
+skips stream next stop total differs is after so_far = ap next_read after ∙ turn_at stream (Err Differs) total (ap (λ (s : Stop). Err s) (sym differs) ∙ is) so_far
+
+pub some_left : (bytes : List ℕ) (stop : Stop) → stop ≡ Differs → Err stop ≡ frame_at bytes → 1 ≤ length bytes
+some_left bytes stop differs is = differs_some bytes (ap (λ (s : Stop). Err s) (sym differs) ∙ is)
+
+given_some : (stream : Stream) (whole : WholeParts) (fields : Option (List Tagged)) → is_some fields ≡ true → at_frame next_read stream whole fields ≡ record { frame = fields; stream = after_given stream whole }
+given_some stream whole None some = absurd cc
+given_some stream whole (Some fields) some = refl
+
+given_none : (stream : Stream) (whole : WholeParts) (fields : Option (List Tagged)) → is_some fields ≡ false → at_frame next_read stream whole fields ≡ next_read (after_garbled stream whole)
+given_none stream whole None none = refl
+given_none stream whole (Some fields) none = absurd cc
+
+pub some_kept : {X Y : Type 0} (f : X → Y) (o : Option X) → is_some (option_map f o) ≡ is_some o
+some_kept f None = refl
+some_kept f (Some x) = refl
+
+pub gives : (stream next : Stream) (whole : WholeParts) (fields : Option (List Tagged)) (total : FrameReaderParts) → Ok whole ≡ frame_at stream.rest → fields ≡ valid_fields whole → is_some fields ≡ true → next ≡ after_given stream whole
+    → next_read stream ≡ total → record { frame = fields; stream = next } ≡ total
+gives stream next whole fields total is valid some after so_far =
+    ap (λ (s : Stream). record { frame = fields; stream = s }) after ∙ sym (given_some stream whole fields some) ∙ ap (at_frame next_read stream whole) valid ∙ turn_at stream (Ok whole) total is so_far
+
+pub garbles : (stream next : Stream) (whole : WholeParts) (fields : Option (List Tagged)) (total : FrameReaderParts) → Ok whole ≡ frame_at stream.rest → fields ≡ valid_fields whole → is_some fields ≡ false → next ≡ after_garbled stream whole
+    → next_read stream ≡ total → next_read next ≡ total
+garbles stream next whole fields total is valid none after so_far =
+    ap next_read after ∙ sym (given_none stream whole fields none) ∙ ap (at_frame next_read stream whole) valid ∙ turn_at stream (Ok whole) total is so_far
+
+-- a count of fields tells whether a frame is valid, and of which fields
+pub counted_some : (fields : Option (List Tagged)) (count : ℕ) → Some count ≡ option_map length fields → is_some fields ≡ true
+counted_some None count is = absurd cc
+counted_some (Some fields) count is = refl
+
+pub counted_none : (fields : Option (List Tagged)) → None ≡ option_map length fields → is_some fields ≡ false
+counted_none None is = refl
+counted_none (Some fields) is = absurd cc
+
+-- ---- a frame takes bytes
+
+-- what is left is no longer, and shorter once a frame was given
+pub record Shortens (stream : Stream) (reader : FrameReaderParts) : Type 0 where
+  pub at_most : length reader.stream.rest ≤ length stream.rest
+  pub shorter : is_some reader.frame ≡ true → length reader.stream.rest < length stream.rest
+
+shortens_frame : (later : Stream → FrameReaderParts) (stream : Stream) (whole : WholeParts) (fields : Option (List Tagged)) → length whole.rest < length stream.rest → ((s : Stream) → Shortens s (later s)) → Shortens stream (at_frame later stream whole fields)
+shortens_frame later stream whole (Some fields) less each = record { at_most = omega arith; shorter = λ given. less }
+shortens_frame later stream whole None less each =
+    let after = each (after_garbled stream whole) in
+    record { at_most = omega (arith, after.at_most); shorter = λ given. omega (arith, after.at_most) }
+
+shortens_place : (later : Stream → FrameReaderParts) (stream : Stream) (place : Result WholeParts Stop) → place ≡ frame_at stream.rest → ((s : Stream) → Shortens s (later s)) → Shortens stream (at_place later stream place)
+shortens_place later stream (Ok whole) is each = shortens_frame later stream whole (valid_fields whole) (frame_shorter stream.rest whole is) each
+shortens_place later stream (Err Short) is each = record { at_most = omega arith; shorter = λ given. absurd cc }
+shortens_place later stream (Err Differs) is each =
+    let after = each (after_byte stream) in
+    let more = differs_some stream.rest is in
+    record { at_most = omega (arith, after.at_most, length-drop 1 stream.rest); shorter = λ given. omega (arith, after.at_most, length-drop 1 stream.rest) }
+
+shortens_read : (turns : ℕ) (stream : Stream) → Shortens stream (read_on turns stream)
+unfolding read_on
+shortens_read zero stream = record { at_most = omega arith; shorter = λ given. absurd cc }
+shortens_read (suc turns) stream = shortens_place (read_on turns) stream (frame_at stream.rest) refl (shortens_read turns)
+
+pub next_shortens : (stream : Stream) → Shortens stream (next_read stream)
+unfolding next_read
+next_shortens stream = shortens_read (length stream.rest) stream

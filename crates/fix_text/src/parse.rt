@@ -1,0 +1,174 @@
+//! What stands at the front of bytes: a whole frame, the beginning of one, or neither.
+ghost use Rattle.std.specs.Prelude.{◌≡◌, ◌<◌, ◌≤◌, ◌*◌, ◌+◌, length, IfOk};
+ghost use Rattle.std.specs.Result.{result_map_both};
+ghost use Rattle.fix_text.specs.Reading.{literal_at, digit_at, length_at, body_at, trailer_at, frame_at};
+
+use std::marker::Model;
+
+const SOH: u8 = 1;
+
+/// The greatest BodyLength (9), in bytes.
+const MAX_BODY: usize = 4096;
+
+/// Why no whole frame stands at a place.
+#[derive(Clone, Copy, Debug, PartialEq, Eq)]
+pub enum Stop {
+    /// The bytes are the beginning of a frame.
+    Short,
+    /// No frame begins so.
+    Differs,
+}
+
+/// A whole frame, which may not be valid, and what follows it.
+#[derive(Debug, Drop)]
+pub struct Whole<'a> {
+    before: &'a [u8],
+    body: &'a [u8],
+    check: u32,
+    rest: &'a [u8],
+}
+
+impl<'a> Model for Whole<'a> {
+    ghost use Rattle.fix_text.specs.Reading.{WholeParts};
+
+    ghost Value = { WholeParts };
+
+    ghost view = { λ whole. record { before = whole.before.now; body = whole.body.now; check = whole.check; rest = whole.rest.now } };
+}
+
+impl<'a> Whole<'a> {
+    pub fn before(&self) -> &'a [u8]
+        ensures { result.now ≡ self.now.before }
+    {
+        self.before
+    }
+
+    pub fn body(&self) -> &'a [u8]
+        ensures { result.now ≡ self.now.body }
+    {
+        self.body
+    }
+
+    pub fn check(&self) -> u32
+        ensures { result ≡ self.now.check }
+    {
+        self.check
+    }
+
+    pub fn rest(&self) -> &'a [u8]
+        ensures { result.now ≡ self.now.rest }
+    {
+        self.rest
+    }
+}
+
+#[tactic(auto, unfolding(crate::specs::Reading::literal_at))]
+fn literal_at<'a>(wanted: &[u8], bytes: &'a [u8]) -> Result<&'a [u8], Stop>
+    ensures found { result_map_both (λ rest. rest.now) (λ stop. stop) result ≡ literal_at wanted.now bytes.now }
+    ensures within { IfOk result (λ rest. length rest.now ≤ length bytes.now) }
+{
+    let mut rest = bytes;
+    for byte in wanted {
+        match rest {
+            [] => return Err(Stop::Short),
+            [first, after @ ..] => {
+                if first != byte {
+                    return Err(Stop::Differs);
+                }
+                rest = after;
+            }
+        }
+    }
+    Ok(rest)
+}
+
+#[tactic(auto, unfolding(crate::specs::Reading::digit_at))]
+fn digit_at(bytes: &[u8]) -> Result<(u32, &[u8]), Stop>
+    ensures found { result_map_both (λ found. (found.0, found.1.now)) (λ stop. stop) result ≡ digit_at bytes.now }
+    ensures small { IfOk result (λ found. found.0 ≤ 9) }
+{
+    match bytes {
+        [] => Err(Stop::Short),
+        [byte @ b'0'..=b'9', rest @ ..] => Ok((u32::from(*byte - b'0'), rest)),
+        [_, ..] => Err(Stop::Differs),
+    }
+}
+
+/// BodyLength, behind `9=`.
+#[tactic(auto, unfolding(crate::specs::Reading::length_at))]
+fn length_at(bytes: &[u8]) -> Result<(usize, &[u8]), Stop>
+    ensures found { result_map_both (λ found. (found.0, found.1.now)) (λ stop. stop) result ≡ length_at 6 0 bytes.now }
+    ensures positive { IfOk result (λ found. 0 < found.0) }
+    ensures within { IfOk result (λ found. length found.1.now ≤ length bytes.now) }
+{
+    let mut rest = bytes;
+    let mut number = 0usize;
+    let mut left = 6u32;
+    loop {
+        match rest {
+            [] => {
+                let may_end = number <= MAX_BODY && (0 < number || 0 < left);
+                return Err(if may_end { Stop::Short } else { Stop::Differs });
+            }
+            [SOH, after @ ..] => {
+                let is_size = 0 < number && number <= MAX_BODY;
+                return if is_size {
+                    Ok((number, after))
+                } else {
+                    Err(Stop::Differs)
+                };
+            }
+            [digit @ b'0'..=b'9', after @ ..] if 0 < left && number <= MAX_BODY => {
+                number = 10 * number + usize::from(*digit - b'0');
+                left -= 1;
+                rest = after;
+            }
+            _ => return Err(Stop::Differs),
+        }
+    }
+}
+
+#[tactic(auto, unfolding(crate::specs::Reading::body_at))]
+fn body_at(size: usize, bytes: &[u8]) -> Result<(&[u8], &[u8]), Stop>
+    requires { 0 < size }
+    ensures found { result_map_both (λ found. (found.0.now, found.1.now)) (λ stop. stop) result ≡ body_at size bytes.now }
+    ensures within { IfOk result (λ found. length found.1.now ≤ length bytes.now) }
+{
+    if bytes.len() < size {
+        return Err(Stop::Short);
+    }
+    if bytes[size - 1] != SOH {
+        return Err(Stop::Differs);
+    }
+    Ok(bytes.split_at(size))
+}
+
+#[tactic(auto, unfolding(crate::specs::Reading::trailer_at))]
+fn trailer_at(bytes: &[u8]) -> Result<(u32, &[u8]), Stop>
+    ensures { result_map_both (λ found. (found.0, found.1.now)) (λ stop. stop) result ≡ trailer_at bytes.now }
+{
+    let rest = literal_at(b"10=", bytes)?;
+    let (hundreds, rest) = digit_at(rest)?;
+    let (tens, rest) = digit_at(rest)?;
+    let (ones, rest) = digit_at(rest)?;
+    let rest = literal_at(b"\x01", rest)?;
+    Ok((100 * hundreds + 10 * tens + ones, rest))
+}
+
+/// The frame at the front of the bytes. It looks at no byte of the body but the last.
+#[tactic(auto, unfolding(crate::specs::Reading::frame_at))]
+pub fn frame_at(bytes: &[u8]) -> Result<Whole<'_>, Stop>
+    ensures { result ≡ frame_at bytes.now }
+{
+    let digits = literal_at(b"8=FIX.4.4\x019=", bytes)?;
+    let (size, rest) = length_at(digits)?;
+    let (body, trailer) = body_at(size, rest)?;
+    let (check, rest) = trailer_at(trailer)?;
+    let before = &bytes[..bytes.len() - trailer.len()];
+    Ok(Whole {
+        before,
+        body,
+        check,
+        rest,
+    })
+}

@@ -1,0 +1,4 @@
+//! Frames as the standard's text shows them, written and read.
+
+mod reading;
+mod writing;
