@@ -75,7 +75,7 @@ header_length e time fields kind sender target number short =
       f34,
     )
 
-no_app_fault : (fields : List Tagged) → are_app_fields fields ≡ true → app_fault fields ≡ None
+pub no_app_fault : (fields : List Tagged) → are_app_fields fields ≡ true → app_fault fields ≡ None
 no_app_fault [] good = refl
 no_app_fault (f ∷ fields) good =
     let parts = and_parts (is_app_field f) (are_app_fields fields) good in

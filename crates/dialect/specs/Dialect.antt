@@ -1,0 +1,19 @@
+-- What holds of an order in every dialect.
+use Rattle.std.specs.Prelude.{◌≡◌, ℕ, ◌≤◌, true, List, ◌++◌, length, codes, Some}
+use Rattle.fix_text.specs.Tagged.{Tagged, value_of}
+use Rattle.fix_text.specs.Text.{fields_text}
+use Rattle.fix_tags.specs.App.{are_app_fields}
+
+-- new is old with fields behind it of which this holds
+abbrev pub Appends : (List Tagged → Type 0) → List Tagged → List Tagged → Type 0
+Appends Holds old new = (more : List Tagged) × Holds more × (new ≡ old ++ more)
+
+-- the order carries the mark of a leg of a sweep, and is immediate or cancel (59=3)
+pub record IsMarked (mark : Tagged) (fields : List Tagged) : Type 0 where
+  pub marked : value_of fields mark.tag ≡ Some mark.value
+  pub immediate : value_of fields 59 ≡ Some (codes "3")
+
+-- the fields can be written as those of an application message, in at most 1,000 bytes
+pub record FitsMessage (fields : List Tagged) : Type 0 where
+  pub app : are_app_fields fields ≡ true
+  pub short : length (fields_text fields) ≤ 1000

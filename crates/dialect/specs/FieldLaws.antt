@@ -1,0 +1,82 @@
+-- Lemmas: fields that are known by their tags and values, and how long they are.
+use Rattle.std.proofs.Common.{◌≡◌, ◌==◌, ℕ, suc, ◌+◌, ◌*◌, ◌<◌, ◌≤◌, Bool, true, false, cond, ◌&&◌, not, List, [], ◌∷◌, ◌++◌, length, map, decimal, Some, refl, sym, ap, ap₂, subst, ◌∙◌, arith, length-append}
+use Rattle.std.specs.List.{AllByRecursion, list_all, flat_map}
+use Rattle.std.proofs.lemmas.Bool.{and_parts, and_from, not-true, eq-eqb, cond-true}
+use Rattle.std.proofs.lemmas.Bool.Decides.{nat_tests}
+use Rattle.std.proofs.lemmas.Option.{same_Some}
+use Rattle.std.proofs.lemmas.Fmt.{length-decimal-le}
+use Rattle.fix_text.specs.Tagged.{Tagged, value_of}
+use Rattle.fix_text.specs.Text.{field_text, fields_text, is_writable_tag, is_writable_value, holds_soh}
+use Rattle.fix_text.proofs.Lengths.{length-field_text}
+use Rattle.fix_tags.specs.App.{is_header_tag, is_app_field, are_app_fields}
+use Rattle.dialect.specs.Fields.{field}
+use Rattle.dialect.specs.Dialect.{FitsMessage}
+
+-- no field of the list has this tag
+abbrev pub has_no : ℕ → List Tagged → Bool
+has_no tag fields = list_all (λ f. not (tag == f.tag)) fields
+
+-- no two fields have one tag
+abbrev pub has_distinct_tags : List Tagged → Bool
+has_distinct_tags [] = true
+has_distinct_tags (first ∷ fields) = has_no first.tag fields && has_distinct_tags fields
+
+-- each field is the first of its tag in this list
+abbrev pub AreIn : List Tagged → List Tagged → Type 0
+AreIn fields expected = AllByRecursion (λ f. value_of fields f.tag ≡ Some f.value) expected
+
+without_front : (front : Tagged) (fields expected : List Tagged) → has_no front.tag expected ≡ true → AreIn (front ∷ fields) expected → AreIn fields expected
+without_front front fields [] none are = tt
+without_front front fields (first ∷ expected) none are =
+    let parts = and_parts _ _ none in
+    (rw (not-true (front.tag == first.tag) parts.0) at are.0, without_front front fields expected parts.1 are.1)
+
+-- fields whose tags are these, each once, and whose values are these
+pub fields_are : (expected fields : List Tagged) → has_distinct_tags expected ≡ true → map (λ f. f.tag) fields ≡ map (λ f. f.tag) expected → AreIn fields expected → fields ≡ expected
+fields_are [] [] distinct tags are = refl
+fields_are [] (first ∷ fields) distinct tags are = cc
+fields_are (known ∷ expected) [] distinct tags are = cc
+fields_are (known ∷ expected) (first ∷ fields) distinct tags are =
+    let parts = and_parts (has_no known.tag expected) (has_distinct_tags expected) distinct in
+    let tag : first.tag ≡ known.tag = cc in
+    let more : map (λ f. f.tag) fields ≡ map (λ f. f.tag) expected = cc in
+    let value : first.value ≡ known.value = same_Some _ _ (sym (cond-true (first.tag == known.tag) (Some first.value) (value_of fields known.tag) (eq-eqb _ _ tag)) ∙ are.0) in
+    let others = subst (λ t. has_no t expected ≡ true) (sym tag) parts.0 in
+    let rest = fields_are expected fields parts.1 more (without_front first fields expected others are.1) in
+    ap₂ (λ (x : Tagged) (xs : List Tagged). x ∷ xs) (λ i. record { tag = tag i; value = value i }) rest
+
+-- a value that can be written, of at most 32 bytes
+pub record IsShortValue (value : List ℕ) : Type 0 where
+  pub writable : is_writable_value value ≡ true
+  pub short : length value ≤ 32
+
+-- a field that an application message takes, with such a value
+pub record IsShortField (f : Tagged) : Type 0 where
+  pub tag : (is_writable_tag f.tag && not (is_header_tag f.tag)) ≡ true
+  pub value : IsShortValue f.value
+
+pub short_field : (tag : ℕ) (value : List ℕ) → (is_writable_tag tag && not (is_header_tag tag)) ≡ true → IsShortValue value → IsShortField (field tag value)
+short_field tag value own short = record { tag = own; value = short }
+
+are_app_fields-short : (fields : List Tagged) → AllByRecursion IsShortField fields → are_app_fields fields ≡ true
+are_app_fields-short [] short = refl
+are_app_fields-short (first ∷ fields) short =
+    and_from _ _ (and_from _ _ short.0.tag short.0.value.writable) (are_app_fields-short fields short.1)
+
+length-tag : (tag : ℕ) → is_writable_tag tag ≡ true → length (decimal tag) ≤ 6
+length-tag tag writable = length-decimal-le 6 tag (omega arith) (grind (arith, nat_tests)) (grind (arith, nat_tests))
+
+length-fields_text-short : (fields : List Tagged) → AllByRecursion IsShortField fields → length (fields_text fields) ≤ length fields * 40
+length-fields_text-short [] short = omega arith
+length-fields_text-short (first ∷ fields) short =
+    let tag = length-tag first.tag (and_parts _ _ short.0.tag).0 in
+    let here = length-field_text first in
+    let whole = length-append (field_text first) (fields_text fields) in
+    omega (arith, tag, here, whole, short.0.value.short, length-fields_text-short fields short.1)
+
+-- up to 25 such fields
+pub FitsMessage-short : (fields : List Tagged) → AllByRecursion IsShortField fields → length fields ≤ 25 → FitsMessage fields
+FitsMessage-short fields short few = record {
+  app = are_app_fields-short fields short;
+  short = omega (arith, length-fields_text-short fields short);
+}

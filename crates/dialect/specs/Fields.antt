@@ -1,0 +1,48 @@
+-- Reading and writing one field, with its fault.
+use Rattle.std.specs.Prelude.{ℕ, Bool, true, false, List, ◌++◌, ◌≡◌, Option, Some, Result, Ok, Err}
+use Rattle.std.specs.Option.{ok_or, option_map_or}
+use Rattle.std.specs.Str.{bytes_eq}
+use Rattle.fix_text.specs.Tagged.{Tagged, value_of}
+use Rattle.dialect.specs.declared.fault.DialectFault.{DialectFault}
+use Rattle.dialect.specs.declared.fault.DialectFault.TheVariants.{Missing, Bad}
+
+-- the next step, where this one met no fault
+infixl 10 ◌>>=◌
+abbrev pub ◌>>=◌ : {A B : Type 0} → Result A DialectFault → (A → Result B DialectFault) → Result B DialectFault
+(Ok x) >>= f = f x
+(Err fault) >>= f = Err fault
+
+-- the value of a field that must be there
+abbrev pub required : List Tagged → ℕ → Result (List ℕ) DialectFault
+required fields tag = ok_or (value_of fields tag) (Missing tag)
+
+-- what the value of a field that must be there reads as
+abbrev pub required_as : {A : Type 0} → (List ℕ → Option A) → List Tagged → ℕ → Result A DialectFault
+required_as reads fields tag = required fields tag >>= λ text. ok_or (reads text) (Bad tag)
+
+-- a field is there, and its value reads as this
+pub record ReadsAs {A : Type 0} (reads : List ℕ → Option A) (fields : List Tagged) (tag : ℕ) (x : A) : Type 0 where
+  pub text : List ℕ
+  pub there : value_of fields tag ≡ Some text
+  pub reads_as : reads text ≡ Some x
+
+-- the fault, unless a test holds
+abbrev pub unless : Bool → DialectFault → Result (Unit {0}) DialectFault
+unless true fault = Ok tt
+unless false fault = Err fault
+
+-- whether a field is there and passes a test
+abbrev pub has_value : (List ℕ → Bool) → List Tagged → ℕ → Bool
+has_value test fields tag = option_map_or test (value_of fields tag) false
+
+-- whether a text is this one
+abbrev pub is_text : List ℕ → List ℕ → Bool
+is_text text other = bytes_eq other text
+
+-- a field of this tag and value
+abbrev pub field : ℕ → List ℕ → Tagged
+field tag value = record { tag = tag; value = value }
+
+-- new is old with some fields behind it
+abbrev pub IsGrown : List Tagged → List Tagged → Type 0
+IsGrown old new = (more : List Tagged) × (new ≡ old ++ more)

@@ -1,0 +1,17 @@
+pub mod Fields
+pub mod Split
+pub mod Ordinal
+pub mod Mark
+pub mod Limit
+pub mod Time
+pub mod Dialect
+pub mod PlainId
+pub mod JoinedSymbol
+pub mod Plain
+pub mod FieldLaws
+pub mod LimitLaws
+pub mod ValueLaws
+pub mod SplitLaws
+pub mod IdLaws
+pub mod SymbolLaws
+pub mod PlainLaws

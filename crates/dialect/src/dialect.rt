@@ -1,0 +1,57 @@
+//! A dialect: how a venue spells an order.
+
+use crate::fault::DialectFault;
+use fix_tags::Stamp;
+use fix_text::{Field, FieldRef};
+use leg::Leg;
+use std::alloc::Global;
+
+/// How a venue spells an order (FIX 4.4 Volume 4, NewOrderSingle) in the fields of a message of kind `D`, without
+/// those of the header. What is written for a leg is a relation, what is read from fields a function, and the laws
+/// join the two.
+pub trait Dialect {
+    ghost use Rattle.std.specs.Prelude.{◌≡◌, List, Result, Ok, OnOk, OnErr, IsOkUnless};
+    ghost use Rattle.fix_text.specs.Tagged.{Tagged};
+    ghost use Rattle.leg.specs.declared.leg.Leg.{Leg};
+    ghost use Rattle.dialect.specs.declared.fault.DialectFault.{DialectFault};
+    ghost use Rattle.dialect.specs.Dialect.{Appends, IsMarked, FitsMessage};
+
+    // The fields that may be written for a leg, whatever the stamp.
+    ghost IsOrder: { Self → Leg → List Tagged → Type 0 };
+
+    // The leg that fields say, or the first fault.
+    ghost order_read: { Self → List Tagged → Result Leg DialectFault };
+
+    // The field that marks a leg of a sweep.
+    ghost mark: { Self → Tagged };
+
+    /// Appends the fields of an order for the leg, with the stamp as TransactTime (60). V05 leaves the list as it was.
+    fn write_order(
+        &self,
+        alloc: Global,
+        leg: &Leg,
+        stamp: &Stamp,
+        fields: &mut Vec<Field>,
+    ) -> Result<(), DialectFault>
+        ensures ok { OnOk result
+            (Appends (IsOrder self.now leg.now) fields.old.items fields.new.items) }
+        ensures only { IsOkUnless result DialectFault.OutOfMemory }
+        ensures err { OnErr result (fields.new.items ≡ fields.old.items) };
+
+    /// Reads an order. Faults are tried in the written order of the fields, and the first one is answered. Of a tag
+    /// that stands several times the first counts, and tags that an order doesn't have are passed over.
+    fn read_order(&self, fields: &[FieldRef<'_>]) -> Result<Leg, DialectFault>
+        ensures value { result ≡ order_read self.now fields.now };
+
+    // What was written is read back.
+    ghost order_reads_back: { (d : Self) (leg : Leg) (fields : List Tagged) →
+        IsOrder d leg fields → order_read d fields ≡ Ok leg };
+
+    // An order carries the mark, and is immediate or cancel.
+    ghost order_is_marked: { (d : Self) (leg : Leg) (fields : List Tagged) →
+        IsOrder d leg fields → IsMarked (mark d) fields };
+
+    // An order can be written into a message, in at most 1,000 bytes.
+    ghost order_fits: { (d : Self) (leg : Leg) (fields : List Tagged) →
+        IsOrder d leg fields → FitsMessage fields };
+}

@@ -1,0 +1,13 @@
+//! What follows from a dialect's laws: each is the contract of a function that does nothing.
+
+ghost use Rattle.std.specs.Prelude.{◌≡◌, List};
+ghost use Rattle.fix_text.specs.Tagged.{Tagged};
+ghost use Rattle.leg.specs.declared.leg.Leg.{Leg};
+
+use crate::dialect::Dialect;
+
+/// Two legs that differ have different fields.
+pub fn orders_tell_legs_apart<D: Dialect>(dialect: &D)
+    ensures { (a b : Leg) (fields : List Tagged) →
+        D.IsOrder dialect.now a fields → D.IsOrder dialect.now b fields → a ≡ b }
+{}

@@ -1,0 +1,144 @@
+//! How much an order is for, at which limit, and on which side: OrderQty (38), OrdType (40), Price (44) and Side (54).
+
+ghost use Rattle.std.specs.Prelude.{◌≡◌, ◌++◌, IfOk, IfSome, OnOk, OnErr};
+ghost use Rattle.fix_tags.specs.Price.{price_of};
+ghost use Rattle.leg.specs.Terms.{IsShares, IsPrice};
+ghost use Rattle.dialect.specs.Fields.{required_as, IsGrown};
+ghost use Rattle.dialect.specs.Limit.{order_shares_of, limit_order_in, side_of, limit_in, limit_fields, leg_of, side_text, IsInRange};
+
+use crate::fault::DialectFault;
+use crate::field_value::required;
+use crate::push::{push_slice, push_text};
+use crate::tag::{ORD_TYPE, ORDER_QTY, PRICE, SIDE};
+use crate::text::number_text;
+use fix_tags::{read_price, read_shares};
+use fix_text::{Field, FieldRef};
+use leg::{Leg, LegId, MAX_SHARES, Side, Symbol, Terms};
+use std::alloc::{AllocError, Global};
+
+/// OrdType (40) of a limit order.
+pub(crate) const LIMIT_ORDER: &[u8] = b"2";
+
+/// Shares, limit price in ten-thousandths of a dollar, and side of an order.
+#[derive(Clone, Copy)]
+pub(crate) struct Limit {
+    pub shares: u64,
+    pub price: u64,
+    pub side: Side,
+}
+
+/// Reads shares that a leg may be for.
+fn read_order_shares(text: &[u8]) -> Option<u64>
+    ensures value { result ≡ order_shares_of text.now }
+    ensures in_range { IfSome result IsShares }
+{
+    let shares = read_shares(text)?;
+    if shares < 1 || shares > MAX_SHARES {
+        return None;
+    }
+    Some(shares)
+}
+
+fn read_order_price(text: &[u8]) -> Option<u64>
+    ensures value { result ≡ price_of text.now }
+    ensures in_range { IfSome result IsPrice }
+{
+    read_price(text)
+}
+
+/// Reads `1` as a buy and `2` as a sell.
+fn read_side(text: &[u8]) -> Option<Side>
+    ensures { result ≡ side_of text.now }
+{
+    match text {
+        [b'1'] => Some(Side::Buy),
+        [b'2'] => Some(Side::Sell),
+        _ => None,
+    }
+}
+
+fn shares_in(fields: &[FieldRef<'_>]) -> Result<u64, DialectFault>
+    ensures value { result ≡ required_as order_shares_of fields.now 38 }
+    ensures in_range { IfOk result IsShares }
+{
+    let text = required(fields, ORDER_QTY)?;
+    read_order_shares(text).ok_or(DialectFault::Bad(ORDER_QTY))
+}
+
+fn check_limit_order(fields: &[FieldRef<'_>]) -> Result<(), DialectFault>
+    ensures { result ≡ limit_order_in fields.now }
+{
+    let text = required(fields, ORD_TYPE)?;
+    if text == LIMIT_ORDER {
+        Ok(())
+    } else {
+        Err(DialectFault::Bad(ORD_TYPE))
+    }
+}
+
+fn price_in(fields: &[FieldRef<'_>]) -> Result<u64, DialectFault>
+    ensures value { result ≡ required_as price_of fields.now 44 }
+    ensures in_range { IfOk result IsPrice }
+{
+    let text = required(fields, PRICE)?;
+    read_order_price(text).ok_or(DialectFault::Bad(PRICE))
+}
+
+fn side_in(fields: &[FieldRef<'_>]) -> Result<Side, DialectFault>
+    ensures { result ≡ required_as side_of fields.now 54 }
+{
+    let text = required(fields, SIDE)?;
+    read_side(text).ok_or(DialectFault::Bad(SIDE))
+}
+
+/// Reads 38 to 54, of which 40 must be `2`. The price may be spelled in every way that a price is read.
+#[tactic(auto, unfolding(crate::specs::Limit::limit_in))]
+pub(crate) fn read_limit(fields: &[FieldRef<'_>]) -> Result<Limit, DialectFault>
+    ensures value { result ≡ limit_in fields.now }
+    ensures in_range { IfOk result IsInRange }
+{
+    let shares = shares_in(fields)?;
+    check_limit_order(fields)?;
+    let price = price_in(fields)?;
+    let side = side_in(fields)?;
+    Ok(Limit {
+        shares,
+        price,
+        side,
+    })
+}
+
+/// The leg of an order whose parts were read.
+pub(crate) fn leg_of(id: LegId, symbol: Symbol, limit: Limit) -> Leg
+    requires { IsInRange limit }
+    ensures { result ≡ leg_of id symbol limit }
+{
+    let terms = Terms::new(symbol, limit.side, limit.shares, limit.price).unwrap();
+    Leg { id, terms }
+}
+
+fn side_text(side: Side) -> &'static [u8]
+    ensures { result.now ≡ side_text side }
+{
+    match side {
+        Side::Buy => b"1",
+        Side::Sell => b"2",
+    }
+}
+
+/// Appends 38 to 54 for the terms, with this text of the price.
+pub(crate) fn push_limit(
+    alloc: Global,
+    terms: &Terms,
+    price: Vec<u8>,
+    fields: &mut Vec<Field>,
+) -> Result<(), AllocError>
+    ensures ok { OnOk result (fields.new.items
+        ≡ fields.old.items ++ limit_fields terms.now.shares price.items terms.now.side) }
+    ensures err { OnErr result (IsGrown fields.old.items fields.new.items) }
+{
+    push_text(ORDER_QTY, number_text(alloc, terms.shares())?, fields)?;
+    push_slice(alloc, ORD_TYPE, LIMIT_ORDER, fields)?;
+    push_text(PRICE, price, fields)?;
+    push_slice(alloc, SIDE, side_text(terms.side()), fields)
+}

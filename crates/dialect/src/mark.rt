@@ -1,0 +1,26 @@
+//! Instructions of an order, in ExecInst (18).
+
+ghost use Rattle.std.specs.Prelude.{◌≡◌};
+ghost use Rattle.dialect.specs.Mark.{is_among};
+ghost use Rattle.dialect.specs.Fields.{has_value};
+
+use crate::tag::EXEC_INST;
+use fix_text::{FieldRef, first_ref};
+
+/// Whether a value stands among those of a text, which single spaces part (FIX 4.4 Volume 1, data type
+/// MultipleValueString).
+fn is_among(value: &[u8], text: &[u8]) -> bool
+    ensures { result ≡ is_among value.now text.now }
+{
+    text.split(|c| *c == b' ').any(|part| part == value)
+}
+
+/// Whether ExecInst (18) is there with this value among its values.
+pub(crate) fn has_instruction(fields: &[FieldRef<'_>], value: &[u8]) -> bool
+    ensures { result ≡ has_value (is_among value.now) fields.now 18 }
+{
+    match first_ref(fields, EXEC_INST) {
+        Some(text) => is_among(value, text),
+        None => false,
+    }
+}

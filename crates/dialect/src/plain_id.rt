@@ -1,0 +1,47 @@
+//! A leg's number in ClOrdID (11) as Plain spells it, `S12L3`.
+
+ghost use Rattle.std.specs.Prelude.{◌≡◌, IfOk};
+ghost use Rattle.dialect.specs.PlainId.{numbers_of, plain_id_of};
+ghost use Rattle.leg.specs.LegId.{leg_id_text};
+
+use crate::ordinal::read_ordinal;
+use crate::split::split_round;
+use crate::text::append_number;
+use leg::{LegId, MAX_PLACE, MAX_SWEEP};
+use std::alloc::{AllocError, Global};
+
+/// The greatest length of a leg's number: `S`, 12 digits, `L` and 2 digits.
+const MAX_LEN: usize = 16;
+
+/// Reads the two numbers round the first `L`.
+fn read_numbers(text: &[u8]) -> Option<LegId>
+    ensures { result ≡ numbers_of text.now }
+{
+    let (sweep, place) = split_round(text, b'L')?;
+    let sweep = read_ordinal(sweep, MAX_SWEEP)?;
+    let place = read_ordinal(place, u64::from(MAX_PLACE))?;
+    Some(LegId::new(sweep, place as u8))
+}
+
+/// Reads the one spelling of a leg's number, with no leading zeros.
+#[tactic(auto, unfolding(crate::specs::PlainId::plain_id_of))]
+pub(crate) fn read_plain_id(text: &[u8]) -> Option<LegId>
+    ensures { result ≡ plain_id_of text.now }
+{
+    match text {
+        [b'S', numbers @ ..] => read_numbers(numbers),
+        _ => None,
+    }
+}
+
+/// The one spelling of a leg's number.
+pub(crate) fn plain_id_text(alloc: Global, id: &LegId) -> Result<Vec<u8>, AllocError>
+    ensures { IfOk result (λ text. text.items ≡ leg_id_text id.now) }
+{
+    let mut text = Vec::with_capacity(alloc, MAX_LEN)?;
+    text.push(b'S')?;
+    append_number(id.sweep(), &mut text)?;
+    text.push(b'L')?;
+    append_number(u64::from(id.place()), &mut text)?;
+    Ok(text)
+}

@@ -1,0 +1,48 @@
+//! A symbol in one text: the root and, where there is one, the suffix behind a separator.
+
+ghost use Rattle.std.specs.Prelude.{◌≡◌, IfOk};
+ghost use Rattle.dialect.specs.JoinedSymbol.{joined_symbol_of, joined_symbol_text};
+
+use crate::split::split_round;
+use leg::Symbol;
+use std::alloc::{AllocError, Global};
+
+/// The greatest length of a symbol: a root of 6 letters, a separator and 3 letters.
+const MAX_LEN: usize = 10;
+
+/// Reads a root of 1 to 6 letters A to Z and, behind the first separator, a suffix of 1 to 3.
+#[tactic(auto, unfolding(crate::specs::JoinedSymbol::joined_symbol_of))]
+pub(crate) fn read_joined_symbol(separator: u8, text: &[u8]) -> Option<Symbol>
+    ensures { result ≡ joined_symbol_of separator text.now }
+{
+    match split_round(text, separator) {
+        None => Symbol::new(text, &[]).ok(),
+        Some((_, [])) => None,
+        Some((root, suffix)) => Symbol::new(root, suffix).ok(),
+    }
+}
+
+/// Reads a symbol as `BRK.B`, or `IBM` where it has no suffix.
+pub fn read_symbol(text: &[u8]) -> Option<Symbol>
+    ensures { result ≡ joined_symbol_of 46 text.now }
+{
+    read_joined_symbol(b'.', text)
+}
+
+/// The root and, where there is one, the suffix behind the separator.
+pub(crate) fn joined_symbol_text(
+    alloc: Global,
+    separator: u8,
+    symbol: &Symbol,
+) -> Result<Vec<u8>, AllocError>
+    ensures { IfOk result (λ text. text.items ≡ joined_symbol_text separator symbol.now) }
+{
+    let mut text = Vec::with_capacity(alloc, MAX_LEN)?;
+    text.extend_from_slice(symbol.root())?;
+    let suffix = symbol.suffix();
+    if !suffix.is_empty() {
+        text.push(separator)?;
+        text.extend_from_slice(suffix)?;
+    }
+    Ok(text)
+}

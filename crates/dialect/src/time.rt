@@ -1,0 +1,42 @@
+//! How long an order stands and when it was made: TimeInForce (59) and TransactTime (60).
+
+ghost use Rattle.std.specs.Prelude.{◌≡◌, ◌++◌, OnOk, OnErr};
+ghost use Rattle.dialect.specs.Time.{immediate_in, immediate_fields};
+ghost use Rattle.dialect.specs.Fields.{IsGrown};
+
+use crate::fault::DialectFault;
+use crate::field_value::{is_value, required};
+use crate::push::{push_slice, push_text};
+use crate::tag::{TIME_IN_FORCE, TRANSACT_TIME};
+use crate::text::stamp_text;
+use fix_tags::Stamp;
+use fix_text::{Field, FieldRef};
+use std::alloc::{AllocError, Global};
+
+/// TimeInForce (59) of an order that is filled at once or cancelled.
+pub(crate) const IMMEDIATE_OR_CANCEL: &[u8] = b"3";
+
+/// Reads 59, which must be `3`, and then 60, which must be there with any value.
+#[tactic(auto, unfolding(crate::specs::Time::immediate_in))]
+pub(crate) fn check_immediate(fields: &[FieldRef<'_>]) -> Result<(), DialectFault>
+    ensures { result ≡ immediate_in fields.now }
+{
+    if !is_value(fields, TIME_IN_FORCE, IMMEDIATE_OR_CANCEL) {
+        return Err(DialectFault::NotIoc);
+    }
+    required(fields, TRANSACT_TIME)?;
+    Ok(())
+}
+
+/// Appends 59 and 60.
+pub(crate) fn push_immediate(
+    alloc: Global,
+    stamp: &Stamp,
+    fields: &mut Vec<Field>,
+) -> Result<(), AllocError>
+    ensures ok { OnOk result (fields.new.items ≡ fields.old.items ++ immediate_fields stamp.now) }
+    ensures err { OnErr result (IsGrown fields.old.items fields.new.items) }
+{
+    push_slice(alloc, TIME_IN_FORCE, IMMEDIATE_OR_CANCEL, fields)?;
+    push_text(TRANSACT_TIME, stamp_text(alloc, stamp)?, fields)
+}
