@@ -1,22 +1,19 @@
 -- An application message of up to 3,000 bytes of fields can be written under any header.
-use Rattle.std.proofs.Common.{◌≡◌, ℕ, ◌+◌, ◌^◌, ◌<◌, ◌≤◌, Bool, true, false, cond, ◌&&◌, List, [], ◌∷◌, ◌++◌, length, Option, Some, None, nat_lt, nat_le, decimal, codes, refl, ◌∙◌, ap, arith}
+use Rattle.std.proofs.Common.{◌≡◌, ℕ, ◌+◌, ◌^◌, ◌<◌, ◌≤◌, Bool, true, false, List, [], ◌∷◌, ◌++◌, length, None, nat_lt, nat_le, decimal, codes, refl, ◌∙◌, ap, arith}
 use Rattle.std.proofs.lemmas.Bool.{and_parts}
 use Rattle.std.proofs.lemmas.Bool.Decides.{nat_tests}
-use Rattle.std.proofs.lemmas.List.Concat.{flat_map-append}
 use Rattle.std.proofs.Math.ListN.{length-append}
 use Rattle.fix_text.specs.Tagged.{Tagged}
 use Rattle.fix_text.specs.Text.{field_text, fields_text}
-use Rattle.fix_text.proofs.DigitCounts.{length-decimal_two, length-decimal_three}
 use Rattle.fix_text.proofs.Lengths.{length-field_text}
 use Rattle.fix_tags.specs.App.{is_app_field, are_app_fields}
 use Rattle.fix_tags.specs.CompId.{IsCompId}
-use Rattle.fix_tags.specs.Message.{field, number_field, flag_field, original_time, marks_and_time, header_fields, body_fields, envelope_fields, kind_of, is_app_kind, is_message_number, app_fault, unless_ok, ◌or_then◌, kind_fault, body_fault, field_fault, envelope_refusal}
+use Rattle.fix_tags.specs.Message.{field, number_field, header_fields, body_fields, envelope_fields, kind_of, is_app_kind, is_message_number, app_fault, unless_ok, ◌or_then◌, kind_fault, body_fault, field_fault, envelope_refusal}
 use Rattle.fix_tags.specs.Stamp.{StampParts, stamp_text}
 use Rattle.fix_tags.specs.Written.{length-comp_id, length-decimal, length-stamp_text}
 use Rattle.fix_tags.specs.declared.body.Body.{Body}
 use Rattle.fix_tags.specs.declared.body.Body.TheVariants.{App}
 use Rattle.fix_tags.specs.declared.envelope.Envelope.{Envelope}
-use Rattle.fix_tags.specs.declared.fault.TagFault.{TagFault}
 use Rattle.fix_tags.proofs.Apps.{app_kind_parts}
 use Rattle.fix_tags.proofs.Lookups.{marks}
 

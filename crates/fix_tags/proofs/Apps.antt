@@ -1,18 +1,16 @@
 -- A written application message reads back as itself.
-use Rattle.std.proofs.Common.{◌≡◌, ℕ, Bool, true, false, cond, ◌&&◌, ◌||◌, not, List, [], ◌∷◌, ◌++◌, length, Option, Some, None, Result, Ok, ◌==◌, nat_le, refl, ◌∙◌, ap}
+use Rattle.std.proofs.Common.{◌≡◌, ℕ, Bool, true, false, ◌&&◌, ◌||◌, not, List, [], ◌∷◌, ◌++◌, length, None, Ok, ◌==◌, nat_le, refl, ◌∙◌, ap}
 use Rattle.std.specs.Prelude.{filter}
 use Rattle.std.proofs.lemmas.Bool.{and_parts, not-true, eqb-true, false_from_ne_true}
 use Rattle.fix_text.specs.Tagged.{Tagged, value_of}
 use Rattle.fix_text.specs.Text.{is_writable_value, is_writable_tag}
 use Rattle.fix_tags.specs.App.{is_app_tag, is_app_field, is_header_tag}
-use Rattle.fix_tags.specs.Reading.{short_text, body_of_byte, body_read, app_read}
-use Rattle.fix_tags.specs.Message.{is_session_byte, is_session_kind, is_app_kind, app_fault, field, flag_field, original_time, header_fields}
+use Rattle.fix_tags.specs.Reading.{body_of_byte, body_read, app_read}
+use Rattle.fix_tags.specs.Message.{is_session_byte, is_session_kind, is_app_kind, app_fault, header_fields}
 use Rattle.fix_tags.specs.declared.body.Body.TheVariants.{App}
 use Rattle.fix_tags.specs.declared.envelope.Envelope.{Envelope}
-use Rattle.fix_tags.specs.declared.fault.TagFault.{TagFault}
-use Rattle.fix_tags.specs.declared.fault.TagFault.TheVariants.{BadValue}
 use Rattle.fix_tags.proofs.Lookups.{marks}
-use Rattle.fix_tags.proofs.Bodies.{if_passed, short_text-written, app_fields_kept}
+use Rattle.fix_tags.proofs.Bodies.{if_passed, app_fields_kept}
 
 -- both of two tests failed
 or_parts : (x y : Bool) → (x || y) ≡ false → (x ≡ false) × (y ≡ false)

@@ -1,18 +1,17 @@
 -- Each body of a written message reads back as itself.
-use Rattle.std.proofs.Common.{◌≡◌, ℕ, ◌≤◌, ◌<◌, Bool, true, false, cond, ◌&&◌, List, [], ◌∷◌, ◌++◌, length, Option, Some, None, Result, Ok, Err, ◌==◌, nat_lt, nat_le, not, codes, refl, ◌∙◌, ap, sym, arith}
+use Rattle.std.proofs.Common.{◌≡◌, ℕ, ◌≤◌, Bool, true, false, cond, ◌&&◌, List, [], ◌∷◌, ◌++◌, length, Option, Some, None, Ok, ◌==◌, nat_lt, nat_le, not, codes, refl, ap, arith}
 use Rattle.std.specs.Fmt.{decimal}
 use Rattle.std.specs.Prelude.{filter, option_and_then}
 use Rattle.std.proofs.lemmas.Bool.Decides.{nat_tests}
 use Rattle.fix_text.specs.Tagged.{Tagged, value_of}
 use Rattle.std.proofs.lemmas.Bool.{and_parts, not-true}
 use Rattle.fix_text.specs.Text.{is_writable_value, is_writable_tag, holds_soh}
-use Rattle.fix_tags.specs.App.{is_app_tag, is_app_field, is_header_tag, is_frame_tag}
+use Rattle.fix_tags.specs.App.{is_app_tag, is_app_field, is_header_tag}
 use Rattle.fix_tags.specs.Flag.{flag_of}
 use Rattle.fix_tags.specs.ReadBack.{number_of-decimal}
-use Rattle.fix_tags.specs.Reading.{◌>>=◌, required, optional, flag_at, short_text, some_text, some_number, number_if, passing, no_encryption, body_read}
-use Rattle.fix_tags.specs.Message.{is_reference, is_heart, is_next_number, is_message_number, is_test_id, unless_ok, ◌or_then◌, kind_of, header_fields, body_fields, body_fault, app_fault, field, number_field, option_field, text_field, flag_field}
-use Rattle.fix_tags.specs.declared.body.Body.{Body}
-use Rattle.fix_tags.specs.declared.body.Body.TheVariants.{Logon, Heartbeat, TestRequest, ResendRequest, Reject, GapFill, Reset, Logout, BusinessReject, App}
+use Rattle.fix_tags.specs.Reading.{required, flag_at, short_text, some_text, number_if, body_read}
+use Rattle.fix_tags.specs.Message.{is_reference, is_heart, is_next_number, is_message_number, is_test_id, unless_ok, ◌or_then◌, header_fields, body_fields, body_fault, app_fault, field, number_field, option_field, flag_field}
+use Rattle.fix_tags.specs.declared.body.Body.TheVariants.{Logon, Heartbeat, TestRequest, ResendRequest, Reject, GapFill, Reset, Logout, BusinessReject}
 use Rattle.fix_tags.specs.declared.envelope.Envelope.{Envelope}
 use Rattle.fix_tags.specs.declared.fault.TagFault.{TagFault}
 use Rattle.fix_tags.specs.declared.fault.TagFault.TheVariants.{BadValue}

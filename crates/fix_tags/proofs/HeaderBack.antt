@@ -1,17 +1,14 @@
 -- A written message reads back as itself.
-use Rattle.std.proofs.Common.{◌≡◌, ℕ, ◌≤◌, Bool, true, false, ◌&&◌, List, [], ◌∷◌, ◌++◌, length, Option, Some, None, Result, Ok, Err, ◌==◌, nat_lt, nat_le, codes, refl, ◌∙◌, ap, sym, arith}
+use Rattle.std.proofs.Common.{◌≡◌, ℕ, Bool, true, false, List, ◌++◌, Option, Some, None, Result, Ok, refl, ◌∙◌, ap}
 use Rattle.std.specs.Fmt.{decimal}
 use Rattle.fix_text.specs.Tagged.{Tagged, value_of}
 use Rattle.fix_tags.specs.CompId.{is_comp_id, comp_id_of}
 use Rattle.fix_tags.specs.Flag.{flag_of}
-use Rattle.fix_tags.specs.Number.{number_of}
-use Rattle.fix_tags.specs.Stamp.{StampParts, stamp_text}
-use Rattle.fix_tags.specs.Reading.{◌>>=◌, required, wanted, good, optional, or_default, flag_at, short_text, number_if, passing, anything, body_read, envelope_read}
-use Rattle.fix_tags.specs.Message.{is_message_number, kind_of, header_fields, body_fields, envelope_fields}
-use Rattle.fix_tags.specs.declared.body.Body.{Body}
+use Rattle.fix_tags.specs.Reading.{◌>>=◌, required, flag_at, short_text, number_if, anything, body_read, envelope_read}
+use Rattle.fix_tags.specs.Message.{is_message_number, kind_of, header_fields}
 use Rattle.fix_tags.specs.declared.envelope.Envelope.{Envelope}
 use Rattle.fix_tags.specs.declared.fault.TagFault.{TagFault}
-use Rattle.fix_tags.proofs.Lookups.{marks, flag_or, value_of-time, value_of-dup, value_of-resend}
+use Rattle.fix_tags.proofs.Lookups.{flag_or, value_of-time, value_of-dup, value_of-resend}
 
 -- what a step gives is handed on
 bind_ok : {A B : Type 0} (r : Result A TagFault) (x : A) (f : A → Result B TagFault) (y : Result B TagFault) → r ≡ Ok x → f x ≡ y → (r >>= f) ≡ y

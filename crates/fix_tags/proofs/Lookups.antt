@@ -1,5 +1,5 @@
 -- Where a field is found among the fields of a written message.
-use Rattle.std.proofs.Common.{◌≡◌, ℕ, Bool, true, false, List, [], ◌∷◌, ◌++◌, Option, Some, None, ◌==◌, codes, refl, ◌∙◌}
+use Rattle.std.proofs.Common.{◌≡◌, ℕ, Bool, true, false, List, ◌∷◌, ◌++◌, Option, Some, ◌==◌, codes, refl}
 use Rattle.fix_text.specs.Tagged.{Tagged, value_of}
 use Rattle.fix_tags.specs.Message.{field, flag_field, original_time, header_fields}
 use Rattle.fix_tags.specs.declared.envelope.Envelope.{Envelope}

@@ -1,10 +1,9 @@
 -- A message that can be written is read back from its fields as itself, whatever the time.
-use Rattle.std.proofs.Common.{◌≡◌, ℕ, Bool, true, List, [], ◌++◌, Option, Some, None, Ok, codes, refl, ◌∙◌, ap}
-use Rattle.std.specs.Fmt.{decimal}
-use Rattle.fix_text.specs.Tagged.{Tagged, value_of}
+use Rattle.std.proofs.Common.{◌≡◌, ℕ, true, List, ◌++◌, Some, None, Ok, refl}
+use Rattle.fix_text.specs.Tagged.{value_of}
 use Rattle.fix_tags.specs.CompId.{is_comp_id}
 use Rattle.fix_tags.specs.Stamp.{StampParts, stamp_text}
-use Rattle.fix_tags.specs.Reading.{short_text, number_if, body_read, envelope_read}
+use Rattle.fix_tags.specs.Reading.{short_text, body_read, envelope_read}
 use Rattle.fix_tags.specs.Message.{is_message_number, is_app_kind, kind_of, kind_fault, body_fault, field_fault, unless_ok, ◌or_then◌, header_fields, body_fields, envelope_fields}
 use Rattle.fix_tags.specs.declared.body.Body.{Body}
 use Rattle.fix_tags.specs.declared.body.Body.TheVariants.{Logon, Heartbeat, TestRequest, ResendRequest, Reject, GapFill, Reset, Logout, BusinessReject, App}

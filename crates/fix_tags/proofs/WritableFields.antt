@@ -1,14 +1,14 @@
 -- The fields of a message without a fault can be written as a frame's.
-use Rattle.std.proofs.Common.{◌≡◌, ◌≢◌, ℕ, ◌^◌, ◌<◌, ◌≤◌, Bool, true, false, ◌&&◌, not, List, [], ◌∷◌, ◌++◌, length, Option, Some, None, ◌==◌, nat_lt, nat_le, codes, decimal, refl, ◌∙◌, arith, inl, inr}
-use Rattle.std.specs.List.{AllByRecursion, list_all}
-use Rattle.std.proofs.lemmas.Bool.{and_parts, and_from, not_from_false}
+use Rattle.std.proofs.Common.{◌≡◌, ◌≢◌, ℕ, ◌^◌, ◌<◌, Bool, true, false, ◌&&◌, not, List, [], ◌∷◌, ◌++◌, length, Some, None, ◌==◌, nat_le, decimal, refl, arith}
+use Rattle.std.specs.List.{list_all}
+use Rattle.std.proofs.lemmas.Bool.{and_parts, and_from}
 use Rattle.std.proofs.lemmas.Bool.Decides.{nat_tests}
 use Rattle.std.proofs.lemmas.List.Folds.{list_all-append}
 use Rattle.fix_text.specs.Tagged.{Tagged}
-use Rattle.fix_text.specs.Text.{holds_soh, is_writable_value, is_writable_tag, begins_with_type, has_writable_tags, has_writable_values}
+use Rattle.fix_text.specs.Text.{holds_soh, is_writable_value, is_writable_tag, has_writable_values}
 use Rattle.fix_tags.specs.App.{is_header_tag, is_app_field}
 use Rattle.fix_tags.specs.CompId.{IsCompId}
-use Rattle.fix_tags.specs.Message.{field, number_field, option_field, text_field, flag_field, original_time, kind_of, body_fields, header_fields, is_test_id, is_app_kind, is_message_number, is_reference, is_heart, is_next_number, unless_ok, ◌or_then◌, app_fault, kind_fault, body_fault, field_fault}
+use Rattle.fix_tags.specs.Message.{number_field, kind_of, body_fields, header_fields, is_test_id, is_app_kind, is_message_number, is_reference, is_heart, is_next_number, unless_ok, ◌or_then◌, app_fault, kind_fault, body_fault, field_fault}
 use Rattle.fix_tags.specs.Stamp.{StampParts, stamp_text}
 use Rattle.fix_tags.specs.Written.{HasNoDelimiter, HasNoDelimiter-decimal, HasNoDelimiter-comp_id, HasNoDelimiter-stamp_text, nonempty-decimal, nonempty-comp_id, length-stamp_text}
 use Rattle.fix_tags.specs.declared.body.Body.{Body}

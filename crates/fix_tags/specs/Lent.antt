@@ -1,7 +1,5 @@
 -- What is lent, seen as what is owned.
-use Rattle.std.specs.Prelude.{ℕ, List, Option, Some, None}
 use Rattle.std.specs.Option.{option_map}
-use Rattle.std.specs.Borrow.{Bor}
 use Rattle.fix_tags.specs.declared.body.Body.{Body}
 use Rattle.fix_tags.specs.declared.body.Body.TheVariants as owned
 use Rattle.fix_tags.specs.declared.body.BodyRef.{BodyRef}

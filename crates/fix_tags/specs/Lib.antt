@@ -1,5 +1,6 @@
 pub mod App
 pub mod CompId
+pub mod Config
 pub mod Digits
 pub mod Flag
 pub mod Lent

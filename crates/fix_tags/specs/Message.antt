@@ -1,15 +1,12 @@
 -- What a message is written as (FIX 4.4 Volume 2): the fields of its header and of its body.
-use Rattle.std.specs.Prelude.{◌≡◌, Result, Err, MatchOption, IsOkUnless, OnOk, OnErr, ℕ, List, [], ◌∷◌, ◌++◌, length, Bool, true, false, ◌&&◌, ◌||◌, not, ◌==◌, nat_lt, nat_le, Option, Some, None, codes, if◌then◌else◌}
+use Rattle.std.specs.Prelude.{◌≡◌, Result, Err, MatchOption, IsOkUnless, OnOk, OnErr, ℕ, List, [], ◌∷◌, ◌++◌, length, Bool, false, ◌&&◌, ◌||◌, not, ◌==◌, nat_lt, nat_le, Option, Some, None, codes, if◌then◌else◌}
 use Rattle.std.specs.Fmt.{decimal}
-use Rattle.std.specs.Str.{bytes_eq}
-use Rattle.std.specs.List.{list_any}
 use Rattle.fix_text.specs.Tagged.{Tagged}
 use Rattle.fix_text.specs.Frame.{frame_text, frame_refusal}
 use Rattle.fix_text.specs.declared.fault.TextFault.{TextFault}
 use Rattle.fix_text.specs.declared.fault.TextFault.TheVariants as text
-use Rattle.fix_text.specs.Text.{fields_text, holds_soh, is_writable_value}
+use Rattle.fix_text.specs.Text.{fields_text, is_writable_value}
 use Rattle.fix_tags.specs.App.{is_app_field}
-use Rattle.fix_tags.specs.Flag.{flag_text}
 use Rattle.fix_tags.specs.Stamp.{StampParts, stamp_text}
 use Rattle.fix_tags.specs.declared.body.Body.{Body}
 use Rattle.fix_tags.specs.declared.body.Body.TheVariants.{Logon, Heartbeat, TestRequest, ResendRequest, Reject, GapFill, Reset, Logout, BusinessReject, App}
@@ -168,10 +165,13 @@ body_fault (App kind fields) = app_fault fields
 abbrev pub field_fault : Envelope → Option TagFault
 field_fault e = kind_fault e.body or_then (unless_ok (is_message_number e.number) 34 or_then body_fault e.body)
 
--- why a message can't be written: its first bad tag in written order, or that its fields take more than 4,096 bytes
+-- whether the fields of a message take more than 4,096 bytes
+abbrev pub is_too_long : Envelope → StampParts → Bool
+is_too_long e stamp = nat_lt 4096 (length (fields_text (envelope_fields e stamp)))
+
+-- why a message can't be written: its first bad tag in written order, or that it is too long
 abbrev pub envelope_refusal : Envelope → StampParts → Option TagFault
-envelope_refusal e stamp =
-    field_fault e or_then (if nat_lt 4096 (length (fields_text (envelope_fields e stamp))) then Some TooLong else None)
+envelope_refusal e stamp = field_fault e or_then (if is_too_long e stamp then Some TooLong else None)
 
 -- what a call says that writes these fields as a frame at the end of a buffer
 pub record WritesFrame (fields : List Tagged) (old new : List ℕ) (result : Result (Unit {0}) TextFault) : Type 0 where

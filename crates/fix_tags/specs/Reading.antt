@@ -1,5 +1,5 @@
 -- What fields are read as (FIX 4.4 Volume 2): the message, or the first fault, a missing field before a bad one.
-use Rattle.std.specs.Prelude.{◌≡◌, ℕ, IsOk, List, [], ◌∷◌, length, Bool, true, false, ◌&&◌, not, ◌==◌, nat_lt, nat_le, Option, Some, None, Result, Ok, Err, codes, filter, option_and_then, if◌then◌else◌}
+use Rattle.std.specs.Prelude.{◌≡◌, ℕ, IsOk, List, [], ◌∷◌, length, Bool, false, ◌&&◌, ◌==◌, nat_lt, nat_le, Option, Some, None, Result, Ok, Err, filter, option_and_then, if◌then◌else◌}
 use Rattle.fix_text.specs.Tagged.{Tagged, value_of}
 use Rattle.fix_tags.specs.App.{is_app_tag}
 use Rattle.fix_tags.specs.CompId.{comp_id_of}

@@ -4,6 +4,7 @@ use crate::text::Text;
 use fix_text::{FieldRefs, Fields};
 
 /// The body of a message (FIX 4.4 Volume 2): one of the session's, or an application message.
+/// `write_envelope` says which values can be written.
 #[derive(Debug, Drop)]
 pub enum Body {
     /// `A`: the heartbeat interval in seconds (108), whether numbers are reset (141), and the next
@@ -38,7 +39,7 @@ pub enum Body {
     Reset {
         new_number: u64,
     },
-    /// `5`.
+    /// `5`: the sender ends the session.
     Logout,
     /// `j`: with the number of the message that it refuses (45), if there is one.
     BusinessReject {
@@ -51,7 +52,7 @@ pub enum Body {
     },
 }
 
-/// A `Body` whose texts and fields are lent from the frame that it was read from.
+/// A `Body` whose texts and fields are lent from the frame that it was read from. Its variants are those of `Body`.
 #[derive(Debug, Drop)]
 pub enum BodyRef<'a> {
     Logon {

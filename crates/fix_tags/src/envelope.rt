@@ -18,6 +18,7 @@ pub struct Envelope {
     pub poss_dup: bool,
     /// PossResend (97): the message may have been sent before, under another number.
     pub poss_resend: bool,
+    /// What the message says, which gives its MsgType (35).
     pub body: Body,
 }
 
@@ -66,14 +67,14 @@ impl<'a> EnvelopeRef<'a> {
         }
     }
 
-    /// SenderCompID (49).
+    /// SenderCompID (49), 1 to 16 printable bytes.
     pub fn sender(&self) -> &'a [u8]
         ensures { result.now ≡ self.now.sender }
     {
         self.sender
     }
 
-    /// TargetCompID (56).
+    /// TargetCompID (56), 1 to 16 printable bytes.
     pub fn target(&self) -> &'a [u8]
         ensures { result.now ≡ self.now.target }
     {
@@ -101,6 +102,7 @@ impl<'a> EnvelopeRef<'a> {
         self.poss_resend
     }
 
+    /// What the message says, which its MsgType (35) gave.
     pub fn body(&self) -> &BodyRef<'a>
         ensures { body_of result.now ≡ self.now.body }
     {

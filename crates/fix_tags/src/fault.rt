@@ -12,10 +12,10 @@ pub enum TagFault {
     /// The value of this tag isn't one of its form.
     #[error("M01 bad value of tag {0}")]
     BadValue(u32),
-    /// The message is longer than a message may be.
+    /// The fields of the message take more than 4,096 bytes.
     #[error("M02 too long")]
     TooLong,
-    /// There is no memory left to write to.
+    /// There is no memory left.
     #[error("M03 out of memory")]
     OutOfMemory,
     /// A field that must be there is not.

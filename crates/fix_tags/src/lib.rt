@@ -5,6 +5,7 @@
 mod append;
 mod body;
 mod comp_id;
+mod config;
 mod digits;
 mod envelope;
 mod fault;
@@ -23,6 +24,7 @@ mod write;
 
 pub use body::{Body, BodyRef};
 pub use comp_id::{CompId, is_comp_id};
+pub use config::Config;
 pub use envelope::{Envelope, EnvelopeRef};
 pub use fault::TagFault;
 pub use flag::{read_flag, write_flag};

@@ -34,6 +34,7 @@ impl Text {
         Ok(Text { bytes })
     }
 
+    /// The bytes, as they stand in the field.
     pub fn as_bytes(&self) -> &[u8]
         ensures { result.now ≡ self.now }
     {

@@ -1,8 +1,8 @@
 //! Writing a message as a frame.
-ghost use Rattle.std.specs.Prelude.{◌∷◌, Some, None, Err, ◌≡◌, ◌++◌, MatchOption, IsOkUnless, OnOk, OnErr, Ok};
+ghost use Rattle.std.specs.Prelude.{◌∷◌, Some, None, Err, ◌≡◌, ◌++◌, if◌then◌else◌, MatchOption, IsOkUnless, OnOk, OnErr, Ok};
 ghost use Rattle.fix_text.specs.Frame.{frame_text};
 ghost use Rattle.fix_tags.specs.CompId.{IsCompId};
-ghost use Rattle.fix_tags.specs.Message.{WritesFrame, field, marks_and_time, kind_of, body_fields, header_fields, field_fault, envelope_fields, envelope_refusal};
+ghost use Rattle.fix_tags.specs.Message.{WritesFrame, field, marks_and_time, kind_of, body_fields, header_fields, field_fault, envelope_fields, is_too_long, envelope_refusal};
 ghost use Rattle.fix_tags.specs.Reading.{reset_or_fill, envelope_read};
 
 use crate::body::Body;
@@ -204,11 +204,14 @@ fn write_with_header<'a>(
     }
 }
 
-/// The message as a frame that is sent at this time.
-fn write_message(envelope: &Envelope, time: &[u8], out: &mut Vec<u8>) -> Result<(), TextFault>
+/// The frame of a message whose fields have no fault: only its length can be refused.
+fn write_message(envelope: &Envelope, stamp: &Stamp, out: &mut Vec<u8>) -> Result<(), TextFault>
+    requires { field_fault envelope.now ≡ None }
+    ensures refusal { MatchOption (if is_too_long envelope.now stamp.now then Some TextFault.TooLong else None) (IsOkUnless result TextFault.OutOfMemory) (λ fault. result ≡ Err fault) }
+    ensures ok { OnOk result (out.new.items ≡ out.old.items ++ frame_text (envelope_fields envelope.now stamp.now)) }
+    ensures err { OnErr result (out.new.items ≡ out.old.items) }
     ensures sender { IsCompId envelope.now.sender }
     ensures target { IsCompId envelope.now.target }
-    ensures written { WritesFrame (header_fields envelope.now time.now ++ body_fields envelope.now.body) out.old.items out.new.items result }
 {
     let mut digits = Buffer::new();
     let texts = HeaderTexts {
@@ -216,7 +219,7 @@ fn write_message(envelope: &Envelope, time: &[u8], out: &mut Vec<u8>) -> Result<
         sender: envelope.sender.as_bytes(),
         target: envelope.target.as_bytes(),
         number: digits.format(envelope.number).as_bytes(),
-        time,
+        time: &stamp_bytes(stamp),
     };
     write_with_header(
         texts,
@@ -227,7 +230,7 @@ fn write_message(envelope: &Envelope, time: &[u8], out: &mut Vec<u8>) -> Result<
     )
 }
 
-/// The frame of a message that has no fault but, maybe, its length.
+/// The same, with the message's own faults.
 fn write_faultless(envelope: &Envelope, stamp: &Stamp, out: &mut Vec<u8>) -> Result<(), TagFault>
     requires { field_fault envelope.now ≡ None }
     ensures refusal { MatchOption (envelope_refusal envelope.now stamp.now) (IsOkUnless result TagFault.OutOfMemory) (λ fault. result ≡ Err fault) }
@@ -235,7 +238,7 @@ fn write_faultless(envelope: &Envelope, stamp: &Stamp, out: &mut Vec<u8>) -> Res
     ensures err { OnErr result (out.new.items ≡ out.old.items) }
     ensures reads_back { OnOk result (envelope_read (envelope_fields envelope.now stamp.now) ≡ Ok envelope.now) }
 {
-    match write_message(envelope, &stamp_bytes(stamp), out) {
+    match write_message(envelope, stamp, out) {
         Ok(()) => Ok(()),
         Err(TextFault::TooLong) => Err(TagFault::TooLong),
         Err(TextFault::OutOfMemory) => Err(TagFault::OutOfMemory),

@@ -5,31 +5,26 @@ use Rattle.fix_tags.proofs.write.write_faultless.Goals as goal
 
 pub unreachable-requires : goal.unreachable-requires
 unreachable-requires c =
-    let h = outcome c.args.envelope.now c.args.stamp.now c.stamp_bytes.result c.write_message.result c.stamp_bytes.ensures c.write_message.ensures.sender c.write_message.ensures.target c.requires c.write_message.ensures.written.refusal in
-    rw (c.in-Err-BadTag.is, c.in-Err-BadTag.field-0-is) at h
+    let h = outcome _ _ c.write_message.ensures.refusal in rw (c.in-Err-BadTag.is, c.in-Err-BadTag.field-0-is) at h
 
 pub unreachable-requires-in-Err-BadValue : goal.unreachable-requires-in-Err-BadValue
 unreachable-requires-in-Err-BadValue c =
-    let h = outcome c.args.envelope.now c.args.stamp.now c.stamp_bytes.result c.write_message.result c.stamp_bytes.ensures c.write_message.ensures.sender c.write_message.ensures.target c.requires c.write_message.ensures.written.refusal in
-    rw (c.in-Err-BadValue.is, c.in-Err-BadValue.field-0-is) at h
+    let h = outcome _ _ c.write_message.ensures.refusal in rw (c.in-Err-BadValue.is, c.in-Err-BadValue.field-0-is) at h
 
 pub returns-in-Ok-clause-refusal : goal.returns-in-Ok-clause-refusal
 returns-in-Ok-clause-refusal c =
-    let h = outcome c.args.envelope.now c.args.stamp.now c.stamp_bytes.result c.write_message.result c.stamp_bytes.ensures c.write_message.ensures.sender c.write_message.ensures.target c.requires c.write_message.ensures.written.refusal in
-    let short = rw c.in-Ok.is at h in
-    rw (refused_as c.args.envelope.now c.args.stamp.now false c.requires short) tt
+    let h = outcome _ _ c.write_message.ensures.refusal in
+    rw (refused_as c.args.envelope.now c.args.stamp.now false c.requires (rw c.in-Ok.is at h)) tt
 
 pub returns-in-Ok-clause-reads_back : goal.returns-in-Ok-clause-reads_back
 returns-in-Ok-clause-reads_back c = envelope_read-written c.args.envelope.now c.args.stamp.now c.write_message.ensures.sender c.write_message.ensures.target c.requires
 
 pub returns-in-Err-TooLong-clause-refusal : goal.returns-in-Err-TooLong-clause-refusal
 returns-in-Err-TooLong-clause-refusal c =
-    let h = outcome c.args.envelope.now c.args.stamp.now c.stamp_bytes.result c.write_message.result c.stamp_bytes.ensures c.write_message.ensures.sender c.write_message.ensures.target c.requires c.write_message.ensures.written.refusal in
-    let long = rw (c.in-Err-TooLong.is, c.in-Err-TooLong.field-0-is) at h in
-    rw (refused_as c.args.envelope.now c.args.stamp.now true c.requires long) refl
+    let h = outcome _ _ c.write_message.ensures.refusal in
+    rw (refused_as c.args.envelope.now c.args.stamp.now true c.requires (rw (c.in-Err-TooLong.is, c.in-Err-TooLong.field-0-is) at h)) refl
 
 pub returns-in-Err-OutOfMemory-clause-refusal : goal.returns-in-Err-OutOfMemory-clause-refusal
 returns-in-Err-OutOfMemory-clause-refusal c =
-    let h = outcome c.args.envelope.now c.args.stamp.now c.stamp_bytes.result c.write_message.result c.stamp_bytes.ensures c.write_message.ensures.sender c.write_message.ensures.target c.requires c.write_message.ensures.written.refusal in
-    let short = rw (c.in-Err-OutOfMemory.is, c.in-Err-OutOfMemory.field-0-is) at h in
-    rw (refused_as c.args.envelope.now c.args.stamp.now false c.requires short) refl
+    let h = outcome _ _ c.write_message.ensures.refusal in
+    rw (refused_as c.args.envelope.now c.args.stamp.now false c.requires (rw (c.in-Err-OutOfMemory.is, c.in-Err-OutOfMemory.field-0-is) at h)) refl

@@ -1,0 +1,64 @@
+//! Messages and frames from plain parts.
+
+use crate::*;
+use fix_text::{Field, FieldRef, FieldRefs, Fields, Frame};
+use std::alloc::{AllocError, Global};
+use std::test::Fail;
+
+/// A tag with its value.
+pub(super) type Pair<'a> = (u32, &'a [u8]);
+
+/// 2024-01-02 14:30:00.000.
+pub(super) fn stamp() -> Result<Stamp, Fail> {
+    Ok(Stamp::new(2024, 1, 2, 14, 30, 0, 0).ok_or("a moment")?)
+}
+
+/// A message between these two, without its flags.
+pub(super) fn message(
+    sender: &[u8],
+    target: &[u8],
+    number: u64,
+    body: Body,
+) -> Result<Envelope, Fail> {
+    Ok(Envelope {
+        sender: CompId::new(sender).ok_or("a sender")?,
+        target: CompId::new(target).ok_or("a target")?,
+        number,
+        poss_dup: false,
+        poss_resend: false,
+        body,
+    })
+}
+
+/// An application message.
+pub(super) fn app(alloc: Global, kind: &[u8], pairs: &[Pair<'_>]) -> Result<Body, AllocError> {
+    let kind = Text::from_slice(alloc, kind)?;
+    let mut fields = Vec::with_capacity(alloc, pairs.len())?;
+    for (tag, value) in pairs {
+        fields.push(Field::from_slice(alloc, *tag, value)?)?;
+    }
+    let fields = Fields::new(fields);
+    Ok(Body::App { kind, fields })
+}
+
+/// The frame of these fields.
+pub(super) fn frame<'a>(alloc: Global, pairs: &[Pair<'a>]) -> Result<Frame<'a>, AllocError> {
+    let mut fields = Vec::with_capacity(alloc, pairs.len())?;
+    for (tag, value) in pairs {
+        fields.push(FieldRef::new(*tag, value))?;
+    }
+    let fields = FieldRefs::new(fields);
+    Ok(Frame { fields })
+}
+
+/// The fields of a good header, and then those of a body.
+pub(super) fn with_header<'a>(
+    alloc: Global,
+    kind: &'a [u8],
+    body: &[Pair<'a>],
+) -> Result<Vec<Pair<'a>>, AllocError> {
+    let header: [Pair<'a>; 5] = [(35, kind), (49, b"A"), (56, b"B"), (34, b"1"), (52, b"now")];
+    let mut pairs = Vec::from_slice(alloc, &header)?;
+    pairs.extend_from_slice(body)?;
+    Ok(pairs)
+}
