@@ -1,10 +1,9 @@
 -- Bytes at the end of those kept change nothing before them.
-use Rattle.std.proofs.Common.{◌≡◌, ℕ, ◌+◌, ◌-◌, ◌≤◌, List, ◌++◌, length, take, drop, Option, Some, None, refl, sym, ap, ◌∙◌, arith}
+use Rattle.std.proofs.Common.{◌≡◌, ℕ, ◌-◌, ◌≤◌, List, ◌++◌, length, take, drop, Option, Some, None, refl, sym, ap, ◌∙◌, arith}
 use Rattle.std.specs.Prelude.{option_map, option_and_then, slice_range, is_some}
 use Rattle.std.proofs.lemmas.List.{length-drop, length-append, drop-append-le, take-append-le}
-use Rattle.fix_text.specs.Tagged.{Tagged}
-use Rattle.fix_text.specs.Reading.{FrameReaderParts, fields_of, fed}
-use Rattle.fix_text.specs.Passing.{body_in, seen, IsBody, HasBody, IsPassed}
+use Rattle.fix_text.specs.Reading.{fields_of, fed}
+use Rattle.fix_text.specs.Passing.{body_in, seen, HasBody, IsPassed}
 use Rattle.fix_text.proofs.Turns.{counted_some}
 use Rattle.fix_text.specs.declared.passed.Body.{Body}
 use Rattle.fix_text.specs.declared.passed.Passed.{Passed}

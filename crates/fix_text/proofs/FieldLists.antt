@@ -1,11 +1,11 @@
 -- Fields one after the other, as a loop reads them.
-use Rattle.std.proofs.Common.{◌≡◌, ℕ, zero, suc, ◌+◌, ◌<◌, ◌≤◌, Bool, true, false, cond, eqb, List, [], ◌∷◌, ◌++◌, length, get_or, drop, take, Option, Some, None, refl, sym, ap, ◌∙◌, arith, append_assoc}
+use Rattle.std.proofs.Common.{◌≡◌, ℕ, zero, suc, ◌+◌, ◌<◌, ◌≤◌, Bool, true, false, cond, eqb, List, [], ◌∷◌, ◌++◌, length, drop, take, Option, Some, None, refl, sym, ap, ◌∙◌, arith, append_assoc}
 use Rattle.std.proofs.Common.{subst, sum, ◌%◌}
 use Rattle.std.specs.Prelude.{IsSomeAnd, is_some}
 use Rattle.std.specs.Option.{option_map, option_and_then}
 use Rattle.std.proofs.lemmas.List.{append-nil, take-append-drop, drop_more, length-append}
 use Rattle.std.proofs.lemmas.Bool.{eqb-true, or_parts, or_from, false_from_ne_true}
-use Rattle.memchr.specs.Find.{Nowhere, Passes, is_byte, IsFirstByte}
+use Rattle.memchr.specs.Find.{Nowhere, Passes, is_byte}
 use Rattle.fix_text.specs.Tagged.{Tagged}
 use Rattle.fix_text.specs.Reading.{field_of, fields_of, fields_of_parts, parts_of, with_byte, with_field, if_typed, typed_fields, valid_fields, WholeParts}
 use Rattle.fix_text.specs.Text.{begins_with_type, holds_soh}

@@ -8,3 +8,11 @@ pub mod Turns
 pub mod Places
 pub mod Feeding
 pub mod Rewritten
+pub mod Prefixes
+pub mod TrailerPrefixes
+pub mod FramePrefixes
+pub mod FieldTexts
+pub mod FrameTexts
+pub mod NextFrames
+pub mod Streams
+pub mod Replays

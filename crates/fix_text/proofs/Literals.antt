@@ -1,8 +1,7 @@
 -- Matching a literal byte by byte.
-use Rattle.std.proofs.Common.{◌≡◌, ℕ, suc, ◌+◌, ◌<◌, Bool, true, false, cond, eqb, List, [], ◌∷◌, length, get_or, drop, length-drop, Result, Ok, Err, refl, sym, ap, ◌∙◌, arith}
-use Rattle.std.proofs.lemmas.List.{at_drop_more}
+use Rattle.std.proofs.Common.{◌≡◌, ℕ, ◌<◌, List, [], ◌∷◌, length, drop, length-drop, Result, Err, refl, sym, ◌∙◌, arith}
 use Rattle.fix_text.specs.declared.parse.Stop.{Stop}
-use Rattle.fix_text.specs.declared.parse.Stop.TheVariants.{Short, Differs}
+use Rattle.fix_text.specs.declared.parse.Stop.TheVariants.{Short}
 use Rattle.fix_text.specs.Reading.{literal_at}
 
 -- nothing is left to match against

@@ -1,11 +1,10 @@
 -- Where the parts of a frame lie in the bytes that it was read from.
-use Rattle.std.proofs.Common.{◌≡◌, ℕ, suc, ◌+◌, ◌-◌, ◌<◌, ◌≤◌, true, List, [], ◌∷◌, ◌++◌, length, take, drop, Option, Some, None, Result, Ok, Err, refl, sym, ap, ◌∙◌, arith, append_assoc}
-use Rattle.std.specs.Prelude.{is_some, option_map, slice_range}
-use Rattle.std.proofs.lemmas.List.{length-drop, length-append, length-take-le, take_at, drop_at, drop-drop, take-append-drop}
-use Rattle.fix_text.specs.Tagged.{Tagged}
+use Rattle.std.proofs.Common.{◌≡◌, ℕ, ◌+◌, ◌-◌, ◌<◌, ◌≤◌, List, ◌++◌, length, take, drop, Ok, sym, ap, ◌∙◌, arith, append_assoc}
+use Rattle.std.specs.Prelude.{slice_range}
+use Rattle.std.proofs.lemmas.List.{length-append, length-take-le, take_at, drop_at, drop-drop, take-append-drop}
 use Rattle.fix_text.specs.Grammar.{header_of, trailer_of}
 use Rattle.fix_text.specs.Reading.{WholeParts, frame_at}
-use Rattle.fix_text.proofs.Readers.{Spelled, frame_takes}
+use Rattle.fix_text.proofs.Readers.{frame_takes}
 
 -- a part of a list, by what stands before it and behind it
 pub part_found : (bytes front part back : List ℕ) (start end : ℕ) → bytes ≡ front ++ (part ++ back) → start ≡ length front → end ≡ start + length part → slice_range bytes start end ≡ part

@@ -1,13 +1,13 @@
 -- Readers of the parts of a frame: what each takes from the front, and that it reads again what was written.
-use Rattle.std.proofs.Common.{◌≡◌, ℕ, zero, suc, ◌+◌, ◌-◌, ◌*◌, ◌<◌, ◌≤◌, Bool, true, false, cond, eqb, ltb, leb, List, [], ◌∷◌, ◌++◌, length, get_or, take, drop, Result, Ok, Err, refl, sym, ap, subst, ◌∙◌, arith, append_assoc, inl, inr, ◌⊎◌}
-use Rattle.std.specs.Prelude.{IsTrue, ◌&&◌, ◌||◌, slice_index, codes}
+use Rattle.std.proofs.Common.{◌≡◌, ℕ, ◌+◌, ◌-◌, ◌*◌, ◌<◌, ◌≤◌, Bool, true, false, cond, eqb, ltb, leb, List, [], ◌∷◌, ◌++◌, length, get_or, take, drop, Result, Ok, Err, refl, sym, ap, subst, ◌∙◌, arith, append_assoc, inl, inr, ◌⊎◌}
+use Rattle.std.specs.Prelude.{IsTrue, ◌&&◌, ◌||◌, codes}
 use Rattle.std.specs.Char.{is_ascii_digit}
 use Rattle.std.specs.Str.{all_ascii_digits}
-use Rattle.std.proofs.lemmas.Bool.{eqb-true, ltb-true, ltb-false, leb-true, lt-ltb, le-ltb, le-leb, ne_eqb, eq-eqb, and_parts, and_from}
-use Rattle.std.proofs.lemmas.List.{take_at, drop_at, take-append-drop, length-append, length-take, length-drop, length-take-le, length_push, get_or_at, take_more}
+use Rattle.std.proofs.lemmas.Bool.{eqb-true, ltb-true, ltb-false, lt-ltb, le-ltb, le-leb, ne_eqb, eq-eqb, and_parts, and_from}
+use Rattle.std.proofs.lemmas.List.{take_at, drop_at, take-append-drop, length-append, length-take-le, length_push, get_or_at, take_more}
 use Rattle.fix_text.specs.declared.parse.Stop.{Stop}
 use Rattle.fix_text.specs.declared.parse.Stop.TheVariants.{Short, Differs}
-use Rattle.fix_text.specs.Grammar.{number_after, number_of, IsLength, IsCheck, EndsInSoh, opening, header_of, trailer_of}
+use Rattle.fix_text.specs.Grammar.{number_after, IsLength, IsCheck, EndsInSoh, opening, header_of, trailer_of}
 use Rattle.fix_text.specs.Reading.{◌>>=◌, literal_at, digit_at, length_at, body_at, trailer_at, frame_at, WholeParts}
 
 -- the value of a step that went well
@@ -246,7 +246,7 @@ regroup o d b r = simp append_assoc
 front_taken : (bytes front rest : List ℕ) → bytes ≡ front ++ rest → take (length bytes - length rest) bytes ≡ front
 front_taken bytes front rest e = rw e (take_at front rest (length (front ++ rest) - length rest) (omega (arith, length-append front rest)))
 
-is_length_from : (digits : List ℕ) (size : ℕ) → Completes 6 0 size digits → IsLength digits size
+pub is_length_from : (digits : List ℕ) (size : ℕ) → Completes 6 0 size digits → IsLength digits size
 is_length_from digits size h = record { few = h.few; each = h.each; value = h.value; positive = h.positive; bound = h.bound }
 
 pub frame_takes : (bytes : List ℕ) (whole : WholeParts) → frame_at bytes ≡ Ok whole → (text : List ℕ) × Spelled text whole × (bytes ≡ text ++ whole.rest)
@@ -305,8 +305,3 @@ pub frame_shorter : (bytes : List ℕ) (whole : WholeParts) → Ok whole ≡ fra
 frame_shorter bytes whole e =
     let t = frame_takes bytes whole (sym e) in
     omega (arith, ap length t.2, length-append t.0 whole.rest, ap length t.1.text_is, length-append (header_of t.1.digits ++ whole.body) (trailer_of t.1.check))
-
-pub rest_dropped : (bytes : List ℕ) (whole : WholeParts) → Ok whole ≡ frame_at bytes → drop (length bytes - length whole.rest) bytes ≡ whole.rest
-rest_dropped bytes whole e =
-    let t = frame_takes bytes whole (sym e) in
-    rw t.2 (drop_at t.0 whole.rest (length (t.0 ++ whole.rest) - length whole.rest) (omega (arith, length-append t.0 whole.rest)))

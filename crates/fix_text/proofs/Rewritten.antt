@@ -1,19 +1,19 @@
 -- What is written is read again, whatever follows it.
-use Rattle.std.proofs.Common.{◌≡◌, ℕ, zero, suc, ◌+◌, ◌-◌, ◌*◌, ◌/◌, ◌%◌, ◌^◌, ◌<◌, ◌≤◌, Bool, true, false, cond, eqb, ltb, leb, List, [], ◌∷◌, ◌++◌, length, get_or, sum, Option, Some, None, Result, Ok, refl, sym, ap, subst, ◌∙◌, arith, rules, append_assoc}
-use Rattle.std.specs.Prelude.{IsTrue, ◌&&◌, not, codes, decimal}
+use Rattle.std.proofs.Common.{◌≡◌, ℕ, ◌+◌, ◌-◌, ◌*◌, ◌/◌, ◌%◌, ◌^◌, ◌<◌, ◌≤◌, true, false, eqb, ltb, leb, List, [], ◌∷◌, ◌++◌, length, get_or, sum, Option, Some, Ok, refl, sym, ap, ◌∙◌, arith, rules, append_assoc}
+use Rattle.std.specs.Prelude.{IsTrue, not, decimal}
 use Rattle.std.specs.Char.{is_ascii_digit}
 use Rattle.std.specs.Str.{all_ascii_digits}
-use Rattle.std.specs.List.{flat_map, list_all, list_any}
+use Rattle.std.specs.List.{list_all}
 use Rattle.std.specs.Option.{option_and_then}
-use Rattle.std.proofs.lemmas.Bool.{and_parts, and_from, or_parts, or_from, leb-true, ltb-true, lt-ltb, le-leb, ne_eqb, eq-eqb, not-true, eqb-true}
+use Rattle.std.proofs.lemmas.Bool.{and_parts, and_from, or_parts, or_from, leb-true, ltb-true, lt-ltb, le-leb, ne_eqb, eq-eqb, not-true}
 use Rattle.std.proofs.lemmas.List.{length-append, append-nil}
 use Rattle.std.proofs.lemmas.Str.Parse.{IsNumeralModel, numerals_by_fold, tells_all_ascii_digits}
 use Rattle.std.proofs.lemmas.Fmt.{digits_decimal, digits_value-decimal, first_decimal, decimal_nonempty, length-decimal-le}
 use Rattle.fix_text.specs.Tagged.{Tagged}
 use Rattle.fix_text.specs.Text.{field_text, fields_text, holds_soh, is_writable_tag, is_writable_value, begins_with_type, has_writable_tags, has_writable_values}
-use Rattle.fix_text.specs.Frame.{three_digits, header_text, trailer_text, framed, frame_text}
-use Rattle.fix_text.specs.Grammar.{number_after, number_of, opening, header_of, trailer_of, IsLength, IsCheck, EndsInSoh}
-use Rattle.fix_text.specs.Reading.{WholeParts, Stream, FrameReaderParts, field_from, field_of, fields_of, parts_of, fields_of_parts, with_field, if_typed, typed_fields, valid_fields, frame_at, at_frame, at_place, next_read, BeginsWritten}
+use Rattle.fix_text.specs.Frame.{three_digits, header_text, trailer_text, frame_text}
+use Rattle.fix_text.specs.Grammar.{number_after, number_of, header_of, trailer_of, IsLength, IsCheck, EndsInSoh, IsField, AreFields}
+use Rattle.fix_text.specs.Reading.{WholeParts, Stream, field_from, field_of, fields_of, parts_of, fields_of_parts, with_field, if_typed, typed_fields, valid_fields, frame_at, at_frame, at_place, next_read, BeginsWritten}
 use Rattle.fix_text.proofs.Readers.{number_after-ge, digit_range, digit_is, frame_again}
 use Rattle.fix_text.proofs.FieldLists.{fields_of-part}
 use Rattle.fix_text.proofs.Turns.{next_turn}
@@ -21,7 +21,7 @@ use Rattle.fix_text.proofs.Turns.{next_turn}
 -- ---- digits
 
 -- our words for texts of digits and their numbers
-own : IsNumeralModel (λ ds. IsTrue (all_ascii_digits ds)) (number_after 0)
+pub own : IsNumeralModel (λ ds. IsTrue (all_ascii_digits ds)) (number_after 0)
 own = numerals_by_fold _ tells_all_ascii_digits number_after (search rules)
 
 pub decimal_digits : (n : ℕ) → n < 2 ^ 64 → IsTrue (all_ascii_digits (decimal n))
@@ -79,19 +79,8 @@ field_of-decimal tag value positive bound =
     field_of-digits (decimal tag) value (decimal_digits tag small) (decimal_nonempty tag small) (first_decimal tag positive small) (omega (arith, is))
     ∙ ap (λ (n : ℕ). Some (record { tag = n; value = value })) is
 
--- what can be read of a field: a tag in range, and a value without SOH
-pub record IsField (field : Tagged) : Type 0 where
-  pub positive : 0 < field.tag
-  pub bound : field.tag ≤ 999999
-  pub value : holds_soh field.value ≡ false
-
 part_no_soh : (field : Tagged) → IsField field → holds_soh (decimal field.tag ++ 61 ∷ field.value) ≡ false
 part_no_soh field h = holds_soh-append (decimal field.tag) (61 ∷ field.value) (digits_no_soh (decimal field.tag) (decimal_digits field.tag (omega (arith, h.bound)))) h.value
-
--- each of the fields can be read
-abbrev pub AreFields : List Tagged → Type 0
-AreFields [] = Unit {0}
-AreFields (field ∷ fields) = IsField field × AreFields fields
 
 pub fields_again : (fields : List Tagged) → AreFields fields → fields_of (fields_text fields) ≡ Some fields
 unfolding fields_of parts_of fields_of_parts

@@ -1,5 +1,5 @@
 -- What a search for SOH says of a value.
-use Rattle.std.proofs.Common.{◌≡◌, ℕ, ◌<◌, zero-le, Bool, true, false, List, Option, Some, None, refl, sym, get_or, ◌==◌}
+use Rattle.std.proofs.Common.{◌≡◌, ℕ, zero-le, Bool, true, false, List, Option, Some, None, refl, sym, get_or, ◌==◌}
 use Rattle.std.specs.Prelude.{is_some}
 use Rattle.std.specs.List.{list_any}
 use Rattle.std.proofs.lemmas.List.Recursion.{or_at, or_from_places}

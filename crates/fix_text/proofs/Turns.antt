@@ -1,14 +1,13 @@
 -- Reading on, one turn at a time.
-use Rattle.std.proofs.Common.{◌≡◌, ℕ, zero, suc, ◌+◌, ◌-◌, ◌<◌, ◌≤◌, List, [], ◌∷◌, ◌++◌, length, drop, Option, Some, None, Result, Ok, Err, refl, sym, ap, ◌∙◌, arith}
+use Rattle.std.proofs.Common.{◌≡◌, ℕ, zero, suc, ◌<◌, ◌≤◌, List, length, Option, Some, None, Result, Ok, Err, refl, sym, ap, ◌∙◌, arith}
 use Rattle.std.proofs.Common.{true, false}
 use Rattle.std.specs.Prelude.{is_some, option_map}
-use Rattle.std.proofs.Common.{take, append_assoc}
-use Rattle.std.proofs.lemmas.List.{length-drop, length-append, nil_from_length, take-append-drop, drop_at}
+use Rattle.std.proofs.lemmas.List.{length-drop, nil_from_length}
 use Rattle.fix_text.specs.declared.parse.Stop.{Stop}
 use Rattle.fix_text.specs.declared.parse.Stop.TheVariants.{Short, Differs}
 use Rattle.fix_text.specs.Tagged.{Tagged}
 use Rattle.fix_text.specs.Reading.{WholeParts, Stream, FrameReaderParts, frame_at, literal_at, valid_fields, at_frame, at_place, after_given, after_garbled, after_byte, read_on, next_read}
-use Rattle.fix_text.proofs.Readers.{differs_some, frame_shorter, frame_takes}
+use Rattle.fix_text.proofs.Readers.{differs_some, frame_shorter}
 
 -- a frame that is passed needs only what shorter streams give
 same_frame : (later other : Stream → FrameReaderParts) (stream : Stream) (whole : WholeParts) (fields : Option (List Tagged)) → length whole.rest < length stream.rest
@@ -30,7 +29,7 @@ nothing_read zero stream empty = refl
 nothing_read (suc turns) stream empty = ap (λ (bytes : List ℕ). at_place (read_on turns) stream (frame_at bytes)) (nil_from_length stream.rest (omega arith))
 
 -- enough turns are enough
-enough : (turns more : ℕ) (stream : Stream) → length stream.rest ≤ turns → length stream.rest ≤ more → read_on turns stream ≡ read_on more stream
+pub enough : (turns more : ℕ) (stream : Stream) → length stream.rest ≤ turns → length stream.rest ≤ more → read_on turns stream ≡ read_on more stream
 unfolding read_on
 enough zero more stream h k = sym (nothing_read more stream h)
 enough (suc turns) zero stream h k = nothing_read (suc turns) stream k
@@ -64,10 +63,6 @@ given_some stream whole (Some fields) some = refl
 given_none : (stream : Stream) (whole : WholeParts) (fields : Option (List Tagged)) → is_some fields ≡ false → at_frame next_read stream whole fields ≡ next_read (after_garbled stream whole)
 given_none stream whole None none = refl
 given_none stream whole (Some fields) none = absurd cc
-
-pub some_kept : {X Y : Type 0} (f : X → Y) (o : Option X) → is_some (option_map f o) ≡ is_some o
-some_kept f None = refl
-some_kept f (Some x) = refl
 
 pub gives : (stream next : Stream) (whole : WholeParts) (fields : Option (List Tagged)) (total : FrameReaderParts) → Ok whole ≡ frame_at stream.rest → fields ≡ valid_fields whole → is_some fields ≡ true → next ≡ after_given stream whole
     → next_read stream ≡ total → record { frame = fields; stream = next } ≡ total

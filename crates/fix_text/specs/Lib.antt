@@ -4,3 +4,5 @@ pub mod Frame
 pub mod Grammar
 pub mod Reading
 pub mod Passing
+pub mod Deciding
+pub mod Calls

@@ -1,6 +1,7 @@
 //! Fields and frames of FIX 4.4 as bytes: what is written has one spelling, and what is read is lent.
 #![tactic(auto)]
 
+mod calls;
 mod checksum;
 mod fault;
 mod field;
@@ -13,6 +14,7 @@ mod reader;
 mod refusal;
 mod write;
 
+pub use calls::{Call, Replay, read_calls};
 pub use checksum::sum256;
 pub use fault::TextFault;
 pub use field::{Field, FieldRef, first, first_ref};

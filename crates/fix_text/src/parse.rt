@@ -11,7 +11,7 @@ const SOH: u8 = 1;
 const MAX_BODY: usize = 4096;
 
 /// Why no whole frame stands at a place.
-#[derive(Clone, Copy, Debug, PartialEq, Eq)]
+#[derive(Clone, Copy)]
 pub enum Stop {
     /// The bytes are the beginning of a frame.
     Short,
@@ -20,7 +20,7 @@ pub enum Stop {
 }
 
 /// A whole frame, which may not be valid, and what follows it.
-#[derive(Debug, Drop)]
+#[derive(Drop)]
 pub struct Whole<'a> {
     before: &'a [u8],
     body: &'a [u8],

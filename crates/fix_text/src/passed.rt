@@ -1,5 +1,5 @@
 //! How far a stream was passed, by places in the bytes that are kept of it.
-ghost use Rattle.std.specs.Prelude.{◌≡◌, ◌≤◌, IfSome, drop, length, vec_len};
+ghost use Rattle.std.specs.Prelude.{◌≡◌, ◌≤◌, ◌*◌, IfSome, drop, length, vec_len};
 ghost use Rattle.fix_text.specs.Reading.{next_read};
 
 use crate::fields::count_valid_fields;
@@ -122,12 +122,14 @@ impl Passed {
         }
     }
 
-    /// Lets go of the bytes before the first place of use, where they are no fewer than those behind it: so each byte
-    /// moves at most once.
+    /// Lets go of the bytes before the first place of use, where they are no fewer than those behind it: so no more
+    /// bytes move than were passed.
     pub fn compact(self, buffer: &mut Vec<u8>) -> Passed
         requires { IsPassed buffer.old.items self }
         ensures same { seen buffer.new.items result ≡ seen buffer.old.items self }
         ensures places { IsPassed buffer.new.items result }
+        // At least half of what is kept is still of use.
+        ensures half { 2 * first_place result ≤ vec_len buffer.new }
     {
         let gone = self.first_place();
         let left = buffer.len() - gone;

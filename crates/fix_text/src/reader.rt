@@ -1,14 +1,15 @@
 //! A reader of frames from a stream of bytes, which lends what it passes.
-ghost use Rattle.std.specs.Prelude.{◌≡◌, ℕ, List, [], Some, None, IfOk, IsOkUnless, OnOk, OnErr, ◌<◌, length, is_some};
+ghost use Rattle.std.specs.Prelude.{◌≡◌, ℕ, List, [], Some, None, IfOk, IsOkUnless, OnOk, OnErr, ◌<◌, length, IsSome, is_some};
 ghost use Rattle.std.specs.Bool.{OnTrue};
 ghost use Rattle.std.specs.Option.{option_map};
 ghost use Rattle.fix_text.specs.Tagged.{Tagged};
-ghost use Rattle.fix_text.specs.Reading.{next_read, fed, BeginsWritten};
+ghost use Rattle.fix_text.specs.Reading.{Stream, next_read, fed, BeginsWritten};
+ghost use Rattle.fix_text.specs.Deciding.{IsNext};
 
 use crate::fault::TextFault;
 use crate::fields::fill_fields;
 use crate::frame::{FieldRefs, Frame};
-use crate::passed::{Body, Passed};
+use crate::passed::Passed;
 use std::alloc::Global;
 use std::marker::Model;
 
@@ -60,6 +61,7 @@ impl FrameReader {
         ensures ok { OnOk result (self.new ≡ record self.old { stream = fed self.old.stream bytes.now }) }
         ensures err { OnErr result (self.new ≡ self.old) }
         ensures refusal { IsOkUnless result TextFault.OutOfMemory }
+        ensures some { OnErr result (0 < length bytes.now) }
     {
         self.passed = self.passed.compact(&mut self.buffer);
         if self.buffer.extend_from_slice(bytes).is_err() {
@@ -72,6 +74,8 @@ impl FrameReader {
     pub fn advance(&mut self) -> bool
         ensures step { self.new ≡ next_read self.old.stream }
         ensures found { result ≡ is_some self.new.frame }
+        // In the words of the grammar.
+        ensures next { IsNext self.old.stream self.new }
         ensures shorter { OnTrue result (length self.new.stream.rest < length self.old.stream.rest) }
         // A written frame is the next one, whatever follows it.
         ensures written { (fields : List Tagged) (rest : List ℕ) → BeginsWritten self.old.stream fields rest
@@ -85,6 +89,7 @@ impl FrameReader {
     pub fn lend(&self) -> Result<Option<Frame<'_>>, TextFault>
         ensures fields { IfOk result (λ frame. option_map (λ frame. frame.fields) frame ≡ self.now.frame) }
         ensures refusal { IsOkUnless result TextFault.OutOfMemory }
+        ensures some { OnErr result (IsSome self.now.frame) }
     {
         let Some(body) = self.passed.body else {
             return Ok(None)
@@ -102,10 +107,13 @@ impl FrameReader {
     /// but for want of memory, the only refusal, which leaves the reader as it was.
     pub fn next(&mut self) -> Result<Option<Frame<'_>>, TextFault>
         ensures fields { IfOk result (λ frame. option_map (λ frame. frame.fields) frame ≡ (next_read self.old.stream).frame) }
+        // In the words of the grammar, with the stream that is left.
+        ensures next { IfOk result (λ frame. (after : Stream) × IsNext self.old.stream (record { frame = option_map (λ frame. frame.fields) frame; stream = after })) }
         // A written frame is the next one, whatever follows it.
         ensures written { (fields : List Tagged) (rest : List ℕ) → BeginsWritten self.old.stream fields rest
             → IfOk result (λ frame. option_map (λ frame. frame.fields) frame ≡ Some fields) }
         ensures refusal { IsOkUnless result TextFault.OutOfMemory }
+        ensures some { OnErr result (IsSome (next_read self.old.stream).frame) }
     {
         let passed = self.passed.pass(self.buffer.as_slice());
         let Some(body) = passed.body else {

@@ -1,5 +1,6 @@
 //! Streams with their frames, by rows that were made outside of this program.
 
+use crate::calls::{Call, read_calls};
 use crate::fault::TextFault;
 use crate::frame::Frame;
 use crate::reader::FrameReader;
@@ -80,5 +81,21 @@ fn the_last_byte_is_waited_for(rt: HostRuntime) -> Result<(), Fail> {
     assert!(rt; reader.advance());
     let frame = reader.lend()?;
     assert!(rt; frame.as_ref().map_or(false, |frame| is_heartbeat(frame)));
+    Ok(())
+}
+
+#[test]
+fn calls_give_the_frames(rt: HostRuntime) -> Result<(), Fail> {
+    let (front, back) = HEARTBEAT.split_at(20);
+    let calls = vec![in rt.alloc();
+        Call::Feed(front.to_vec(rt.alloc())?),
+        Call::Next,
+        Call::Feed(back.to_vec(rt.alloc())?),
+        Call::Next,
+        Call::Next,
+    ]?;
+    let replay = read_calls(rt.alloc(), calls.as_slice())?;
+    assert_eq!(rt; replay.frames.len(), 1);
+    assert_eq!(rt; replay.frames[0].as_slice().len(), 5);
     Ok(())
 }

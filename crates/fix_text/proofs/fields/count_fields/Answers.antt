@@ -1,6 +1,4 @@
-use Rattle.std.proofs.Common.{rules, tests, length}
-use Rattle.std.specs.Option.{option_map}
-use Rattle.fix_text.specs.Reading.{fields_of}
+use Rattle.std.proofs.Common.{rules, tests}
 use Rattle.fix_text.proofs.FieldLists.{fields_of-none, not_fields, none_counted, one_counted, all_counted, part_shorter}
 use Rattle.fix_text.proofs.fields.count_fields.Goals as goal
 

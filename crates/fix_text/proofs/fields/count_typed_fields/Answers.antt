@@ -1,7 +1,6 @@
-use Rattle.std.proofs.Common.{◌≡◌, ◌+◌, eqb, false, true, length, sym, ap, ◌∙◌, None, Some, ℕ, refl}
+use Rattle.std.proofs.Common.{◌≡◌, ◌+◌, eqb, false, true, sym, ap, ◌∙◌, refl}
 use Rattle.std.specs.Option.{option_map}
 use Rattle.std.proofs.lemmas.Bool.{ne_eqb, eq-eqb}
-use Rattle.fix_text.specs.Reading.{fields_of, typed_fields}
 use Rattle.fix_text.proofs.FieldLists.{not_fields, typed_none, typed_no_part, typed_other, typed_counted}
 use Rattle.fix_text.proofs.fields.count_typed_fields.Goals as goal
 

@@ -1,4 +1,4 @@
-use Rattle.std.proofs.Common.{◌≡◌, false, ◌<◌, ◌≤◌, length, sym, ap, ◌∙◌, arith, take_all, le_refl, subst}
+use Rattle.std.proofs.Common.{◌≡◌, false, length, arith, take_all, le_refl}
 use Rattle.std.proofs.lemmas.List.{take_rest}
 use Rattle.fix_text.specs.Text.{holds_soh}
 use Rattle.fix_text.proofs.FieldLists.{no_soh_before, parted_at}
