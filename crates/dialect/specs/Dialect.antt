@@ -1,5 +1,5 @@
 -- What holds of an order in every dialect.
-use Rattle.std.specs.Prelude.{◌≡◌, ℕ, ◌≤◌, true, List, ◌++◌, length, codes, Some}
+use Rattle.std.specs.Prelude.{◌≡◌, ◌≤◌, true, List, ◌++◌, length, codes, Some}
 use Rattle.fix_text.specs.Tagged.{Tagged, value_of}
 use Rattle.fix_text.specs.Text.{fields_text}
 use Rattle.fix_tags.specs.App.{are_app_fields}

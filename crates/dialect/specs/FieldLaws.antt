@@ -1,14 +1,14 @@
 -- Lemmas: fields that are known by their tags and values, and how long they are.
-use Rattle.std.proofs.Common.{◌≡◌, ◌==◌, ℕ, suc, ◌+◌, ◌*◌, ◌<◌, ◌≤◌, Bool, true, false, cond, ◌&&◌, not, List, [], ◌∷◌, ◌++◌, length, map, decimal, Some, refl, sym, ap, ap₂, subst, ◌∙◌, arith, length-append}
-use Rattle.std.specs.List.{AllByRecursion, list_all, flat_map}
+use Rattle.std.proofs.Common.{◌≡◌, ◌==◌, ℕ, ◌*◌, ◌≤◌, Bool, true, ◌&&◌, not, List, [], ◌∷◌, length, map, decimal, Some, refl, sym, ap₂, subst, ◌∙◌, arith, length-append}
+use Rattle.std.specs.List.{AllByRecursion, list_all}
 use Rattle.std.proofs.lemmas.Bool.{and_parts, and_from, not-true, eq-eqb, cond-true}
 use Rattle.std.proofs.lemmas.Bool.Decides.{nat_tests}
 use Rattle.std.proofs.lemmas.Option.{same_Some}
 use Rattle.std.proofs.lemmas.Fmt.{length-decimal-le}
 use Rattle.fix_text.specs.Tagged.{Tagged, value_of}
-use Rattle.fix_text.specs.Text.{field_text, fields_text, is_writable_tag, is_writable_value, holds_soh}
+use Rattle.fix_text.specs.Text.{field_text, fields_text, is_writable_tag, is_writable_value}
 use Rattle.fix_text.proofs.Lengths.{length-field_text}
-use Rattle.fix_tags.specs.App.{is_header_tag, is_app_field, are_app_fields}
+use Rattle.fix_tags.specs.App.{is_header_tag, are_app_fields}
 use Rattle.dialect.specs.Fields.{field}
 use Rattle.dialect.specs.Dialect.{FitsMessage}
 

@@ -1,12 +1,11 @@
 -- Lemmas: a leg's number that was written is read back.
-use Rattle.std.proofs.Common.{◌≡◌, ◌==◌, ℕ, ◌^◌, ◌<◌, ◌≤◌, Bool, true, false, List, [], ◌∷◌, ◌++◌, length, codes, decimal, Option, Some, None, refl, sym, ap, ◌∙◌, arith, append_assoc}
-use Rattle.std.proofs.lemmas.Bool.{and_from, le-leb, cond-true}
+use Rattle.std.proofs.Common.{◌≡◌, ℕ, ◌^◌, ◌<◌, ◌≤◌, ◌∷◌, ◌++◌, codes, decimal, Some, refl, ap, ◌∙◌, arith, append_assoc}
+use Rattle.std.proofs.lemmas.Bool.{le-leb}
 use Rattle.std.proofs.lemmas.Bool.Decides.{nat_tests}
 use Rattle.std.proofs.lemmas.Slice.Eq.{bytes_eq-Decides}
 use Rattle.leg.specs.LegId.{LegIdParts, IsLegId, leg_id_text}
 use Rattle.leg.proofs.Digits.{digits_of_decimal}
 use Rattle.dialect.specs.Ordinal.{ordinal_of}
-use Rattle.dialect.specs.Split.{parts_round}
 use Rattle.dialect.specs.SplitLaws.{HasNo, parts_round-joined}
 use Rattle.fix_tags.specs.ReadBack.{number_of-decimal}
 use Rattle.dialect.specs.PlainId.{numbers_of, plain_id_of}

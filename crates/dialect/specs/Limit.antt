@@ -1,5 +1,5 @@
 -- How much an order is for, at which limit, and on which side (FIX 4.4 Volume 4, NewOrderSingle: OrderQty, OrdType, Price, Side).
-use Rattle.std.specs.Prelude.{ℕ, List, [], ◌∷◌, Option, Some, None, option_and_then, codes, decimal, Result, Ok, Err, ◌==◌, if◌then◌else◌}
+use Rattle.std.specs.Prelude.{ℕ, List, [], ◌∷◌, Option, Some, None, option_and_then, codes, decimal, Result, Ok, ◌==◌, if◌then◌else◌}
 use Rattle.fix_text.specs.Tagged.{Tagged}
 use Rattle.fix_tags.specs.Shares.{shares_of}
 use Rattle.fix_tags.specs.Price.{price_of}

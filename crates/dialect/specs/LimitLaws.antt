@@ -1,5 +1,5 @@
 -- Lemmas: the parts of an order that are spelled alike in several dialects are read back.
-use Rattle.std.proofs.Common.{◌≡◌, ℕ, ◌≤◌, Bool, true, List, [], ◌∷◌, codes, decimal, Some, Ok, refl, arith}
+use Rattle.std.proofs.Common.{◌≡◌, ℕ, true, List, codes, decimal, Some, Ok, refl, arith}
 use Rattle.std.proofs.lemmas.Bool.{le-leb}
 use Rattle.fix_text.specs.Tagged.{Tagged, value_of}
 use Rattle.fix_tags.specs.Price.{price_of}

@@ -1,5 +1,5 @@
 -- The dialect Plain: an order (FIX 4.4 Volume 4, NewOrderSingle) as most venues spell it.
-use Rattle.std.specs.Prelude.{◌≡◌, ℕ, true, List, [], ◌∷◌, ◌++◌, map, codes, decimal, Some, IsSome, Result, Ok, Err}
+use Rattle.std.specs.Prelude.{◌≡◌, true, List, [], ◌∷◌, ◌++◌, map, codes, decimal, Some, IsSome, Result, Ok}
 use Rattle.fix_text.specs.Tagged.{Tagged, value_of}
 use Rattle.fix_tags.specs.Price.{price_of, price_short}
 use Rattle.fix_tags.specs.Shares.{shares_of}

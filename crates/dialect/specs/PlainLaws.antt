@@ -1,14 +1,13 @@
 -- Lemmas: the laws of the dialect Plain.
-use Rattle.std.proofs.Common.{◌≡◌, ℕ, ◌≤◌, List, [], ◌∷◌, ◌++◌, codes, Some, Ok, refl, sym, ap, subst, ◌∙◌, arith}
+use Rattle.std.proofs.Common.{◌≡◌, List, Some, Ok, refl, sym, ap, subst, ◌∙◌, arith}
 use Rattle.std.specs.List.{AllByRecursion}
-use Rattle.fix_text.specs.Tagged.{Tagged, value_of}
+use Rattle.fix_text.specs.Tagged.{Tagged}
 use Rattle.fix_tags.specs.Price.{price_short}
-use Rattle.fix_tags.specs.Stamp.{StampParts, IsStamp}
+use Rattle.fix_tags.specs.Stamp.{StampParts}
 use Rattle.leg.specs.declared.leg.Leg.{Leg}
 use Rattle.leg.specs.Leg.{IsLeg}
 use Rattle.leg.specs.Symbol.{SymbolParts, IsSymbol, symbol_text}
 use Rattle.dialect.specs.declared.limit.Limit.{Limit}
-use Rattle.dialect.specs.declared.fault.DialectFault.{DialectFault}
 use Rattle.dialect.specs.Dialect.{IsMarked, FitsMessage}
 use Rattle.dialect.specs.FieldLaws.{fields_are, IsShortField, short_field, FitsMessage-short}
 use Rattle.dialect.specs.IdLaws.{plain_id_of-text}
@@ -16,7 +15,7 @@ use Rattle.dialect.specs.SymbolLaws.{joined_symbol_of-text}
 use Rattle.dialect.specs.LimitLaws.{limit_in-written, immediate_in-written, is_among-alone}
 use Rattle.dialect.specs.ValueLaws.{short_id, short_shares, short_price, short_side, short_byte, short_symbol, short_stamp}
 use Rattle.fix_tags.specs.ReadBack.{price_of-price_short}
-use Rattle.dialect.specs.JoinedSymbol.{behind, joined_symbol_text, joined_symbol_of}
+use Rattle.dialect.specs.JoinedSymbol.{joined_symbol_text, joined_symbol_of}
 use Rattle.dialect.specs.Plain.{IsPlainOrder, plain_mark, plain_order_read, plain_order_fields}
 
 -- a symbol in Plain has a point before its suffix

@@ -1,10 +1,9 @@
 -- Lemmas: a symbol that was written in one text is read back.
-use Rattle.std.proofs.Common.{◌≡◌, ◌==◌, ℕ, ◌<◌, ◌≤◌, Bool, true, false, List, [], ◌∷◌, ◌++◌, length, Option, Some, None, Ok, refl, sym, ap, ◌∙◌, arith}
+use Rattle.std.proofs.Common.{◌≡◌, ℕ, ◌<◌, List, [], ◌∷◌, ◌++◌, Some, Ok, refl, arith}
 use Rattle.std.specs.List.{All}
-use Rattle.std.specs.Result.{result_ok}
 use Rattle.std.proofs.lemmas.Bool.Decides.{nat_tests}
 use Rattle.std.proofs.lemmas.List.{append-nil}
-use Rattle.leg.specs.Symbol.{SymbolParts, IsLetter, IsSymbol, symbol_of, symbol_text}
+use Rattle.leg.specs.Symbol.{SymbolParts, IsLetter, IsSymbol, symbol_of}
 use Rattle.leg.proofs.InRange.{symbol_of-parts}
 use Rattle.dialect.specs.Split.{parts_round}
 use Rattle.dialect.specs.SplitLaws.{HasNo, parts_round-joined, parts_round-none}

@@ -1,5 +1,5 @@
 -- How long an order stands and when it was made (FIX 4.4 Volume 4, NewOrderSingle: TimeInForce, TransactTime).
-use Rattle.std.specs.Prelude.{List, [], ◌∷◌, codes, Result, Ok, Err}
+use Rattle.std.specs.Prelude.{List, [], ◌∷◌, codes, Result, Ok}
 use Rattle.fix_text.specs.Tagged.{Tagged}
 use Rattle.fix_tags.specs.Stamp.{StampParts, stamp_text}
 use Rattle.dialect.specs.declared.fault.DialectFault.{DialectFault}
