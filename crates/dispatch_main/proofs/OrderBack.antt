@@ -1,28 +1,26 @@
 -- The frame of an order is read back as its leg, in any dialect.
-use Rattle.std.proofs.Common.{◌≡◌, ℕ, ◌+◌, ◌≤◌, ◌<◌, true, List, [], ◌∷◌, ◌++◌, length, Option, Some, None, Result, Ok, codes, refl, ◌∙◌, ap, sym, arith}
+use Rattle.std.proofs.Common.{◌≡◌, ℕ, ◌≤◌, true, List, [], ◌++◌, length, Some, None, Result, Ok, codes, refl, ◌∙◌, ap, sym, arith}
 use Rattle.std.specs.Prelude.{IsTrue}
 use Rattle.std.proofs.lemmas.List.{append-nil}
 use Rattle.std.proofs.lemmas.Bool.Decides.{nat_tests}
 use Rattle.fix_text.specs.Tagged.{Tagged}
 use Rattle.fix_text.specs.Text.{fields_text, has_writable_tags, has_writable_values}
 use Rattle.fix_text.specs.Frame.{frame_text}
-use Rattle.fix_text.specs.Reading.{Stream, FrameReaderParts, next_read}
+use Rattle.fix_text.specs.Reading.{FrameReaderParts, next_read}
 use Rattle.fix_text.proofs.Rewritten.{next_begins}
 use Rattle.fix_tags.specs.CompId.{IsCompId}
-use Rattle.fix_tags.specs.Message.{is_message_number, field_fault, envelope_fields, kind_of}
+use Rattle.fix_tags.specs.Message.{is_message_number, field_fault, envelope_fields, envelope_refusal}
 use Rattle.fix_tags.specs.Reading.{envelope_read}
 use Rattle.fix_tags.specs.Stamp.{stamp_text}
 use Rattle.fix_tags.specs.Written.{length-stamp_text}
-use Rattle.fix_tags.specs.declared.envelope.Envelope.{Envelope}
-use Rattle.fix_tags.proofs.AppFits.{header_length, no_app_fault}
+use Rattle.fix_tags.proofs.AppFits.{header_length, no_app_fault, app_not_refused}
 use Rattle.fix_tags.proofs.MessageBack.{envelope_read-written}
 use Rattle.fix_tags.proofs.WritableFields.{good_message, good_tags, good_values}
 use Rattle.leg.specs.declared.leg.Leg.{Leg}
 use Rattle.dialect.specs.Dialect.{FitsMessage}
 use Rattle.dialect.specs.declared.fault.DialectFault.{DialectFault}
 use Rattle.dispatch_main.specs.declared.order.header.Header.{Header}
-use Rattle.dispatch_main.specs.declared.order.order_fault.OrderFault.{OrderFault}
-use Rattle.dispatch_main.specs.OrderFrame.{order_message, IsOrderFrame, order_read_from, order_of_fields}
+use Rattle.dispatch_main.specs.OrderFrame.{order_message, IsOrderFrame, order_read_from}
 
 number_is : (n : ℕ) → 1 ≤ n → n ≤ 999999998 → is_message_number n ≡ true
 number_is n low high = grind (arith, nat_tests)
@@ -54,6 +52,11 @@ module _ (header : Header) (order : List Tagged) (fits : FitsMessage order) (sen
       let begins : bytes ≡ frame_text fields ++ [] = is ∙ sym (append-nil (frame_text fields)) in
       ap (λ (r : FrameReaderParts). r.frame)
       (next_begins (record { rest = bytes; skipped = 0; garbled = 0 }) fields [] (record { tags = typed_and_writable; values = values_writable; short = short_enough; bytes = begins }))
+
+-- nothing keeps an order from being written but want of memory
+pub order_not_refused : (header : Header) (order : List Tagged) → FitsMessage order → IsCompId header.from → IsCompId header.to → envelope_refusal (order_message header order) header.at ≡ None
+order_not_refused header order fits sender target =
+    app_not_refused (order_message header order) header.at (codes "D") order refl refl fits.app (omega (arith, fits.short)) sender target (number_is header.number header.number_from header.number_to)
 
 -- the frame of an order is read back as its leg
 pub order_back : (IsOrder : Leg → List Tagged → Type 0) (read : List Tagged → Result Leg DialectFault) (leg : Leg) (header : Header) (bytes : List ℕ)

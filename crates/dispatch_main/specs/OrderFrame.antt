@@ -1,12 +1,11 @@
 -- An order as the bytes of one frame, in any dialect.
-use Rattle.std.specs.Prelude.{◌≡◌, ℕ, true, false, List, [], ◌∷◌, ◌==◌, Option, Some, None, Result, Ok, Err, codes, if◌then◌else◌}
+use Rattle.std.specs.Prelude.{◌≡◌, ℕ, false, List, [], ◌∷◌, ◌==◌, Option, Some, None, Result, Ok, Err, codes, if◌then◌else◌}
 use Rattle.fix_text.specs.Tagged.{Tagged}
 use Rattle.fix_text.specs.Frame.{frame_text}
 use Rattle.fix_text.specs.Reading.{next_read}
 use Rattle.fix_tags.specs.CompId.{IsCompId}
 use Rattle.fix_tags.specs.Message.{envelope_fields}
 use Rattle.fix_tags.specs.Reading.{envelope_read}
-use Rattle.fix_tags.specs.Stamp.{StampParts}
 use Rattle.fix_tags.specs.declared.body.Body.{Body}
 use Rattle.fix_tags.specs.declared.body.Body.TheVariants.{App}
 use Rattle.fix_tags.specs.declared.envelope.Envelope.{Envelope}

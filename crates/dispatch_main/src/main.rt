@@ -4,20 +4,36 @@
 mod fault;
 mod order;
 
-use crate::fault::ProgramFault;
+use crate::fault::{ProgramFault, tell};
+use std::alloc::Global;
+use std::io::Write;
 use std::process::ExitCode;
 use std::{env, io};
 
-fn main(rt: HostRuntime) -> io::Result<ExitCode> {
-    let alloc = rt.alloc();
-    let words: Vec<String> = env::args(&rt)?.collect(alloc)?;
+/// The words of the command line, of which the first is the program's own name.
+fn words(rt: &HostRuntime) -> Result<Vec<String>, ProgramFault> {
+    match env::args(rt) {
+        Ok(words) => Ok(words.collect(rt.alloc())?),
+        Err(error) if error.kind() == io::ErrorKind::OutOfMemory => Err(ProgramFault::OutOfMemory),
+        Err(_) => Err(ProgramFault::ReadFailed),
+    }
+}
+
+fn run<W: Write, E: Write>(alloc: Global, words: &[String], out: &mut W, err: &mut E) -> u8 {
+    match words {
+        [_, command, ..] if command.as_str() == "order" => {
+            order::order_run(alloc, &words[1..], out, err)
+        }
+        _ => tell(&ProgramFault::NoCommand, err),
+    }
+}
+
+fn main(rt: HostRuntime) -> ExitCode {
     let mut out = rt.stdout();
     let mut err = rt.stderr();
-    let status = match words.as_slice() {
-        [_, command, ..] if command.as_str() == "order" => {
-            order::order_run(alloc, &words[1..], &mut out, &mut err)
-        }
-        _ => fault::tell(&ProgramFault::NoCommand, &mut err),
+    let status = match words(&rt) {
+        Ok(words) => run(rt.alloc(), &words, &mut out, &mut err),
+        Err(fault) => tell(&fault, &mut err),
     };
-    Ok(ExitCode::from(status))
+    ExitCode::from(status)
 }

@@ -7,10 +7,12 @@ pub mod order_fault;
 mod request;
 
 use crate::fault::{ProgramFault, tell};
-use crate::order::frame::{Sent, send_and_read_back};
+use crate::order::frame::{read_order_frame, write_order_frame};
 use crate::order::options::read_options;
+use crate::order::order_fault::OrderFault;
 use crate::order::request::Request;
 use dialect::Plain;
+use leg::Leg;
 use std::alloc::Global;
 use std::convert::AsStr;
 use std::io;
@@ -40,20 +42,23 @@ pub fn order_run<S: AsStr, W: Write, E: Write>(
 fn order<S: AsStr, W: Write>(alloc: Global, words: &[S], out: &mut W) -> Result<(), ProgramFault> {
     let options = read_options(alloc, words)?;
     let Request { leg, header } = Request::new(&options)?;
-    let Ok(sent) = send_and_read_back(alloc, &Plain, &leg, header) else {
-        return Err(ProgramFault::OutOfMemory);
+    let frame = write_order_frame(alloc, &Plain, &leg, header)?;
+    let read = match read_order_frame(alloc, &Plain, &frame) {
+        Ok(read) => read,
+        Err(OrderFault::OutOfMemory) => return Err(ProgramFault::OutOfMemory),
+        // What was written is read back.
+        Err(_) => unreachable!(),
     };
-    print(sent, out).map_err(|_| ProgramFault::WriteFailed)
+    print(frame, &read, out).map_err(|_| ProgramFault::WriteFailed)
 }
 
 /// A line of the frame with `|` for SOH, and a line of the leg that was read back from it.
-fn print<W: Write>(sent: Sent, out: &mut W) -> io::Result<()> {
-    let Sent { mut frame, leg } = sent;
+fn print<W: Write>(mut frame: Vec<u8>, read: &Leg, out: &mut W) -> io::Result<()> {
     for byte in frame.iter_mut() {
         if *byte == SOH {
             *byte = b'|';
         }
     }
     out.write_all(&frame)?;
-    write!(out, "\n{leg}\n")
+    write!(out, "\n{read}\n")
 }

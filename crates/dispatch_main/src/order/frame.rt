@@ -1,15 +1,17 @@
 //! The way of an order: from a leg to the bytes of a frame, and back.
-ghost use Rattle.std.specs.Prelude.{◌≡◌, ◌≤◌, Some, Ok, IfOk, IsOkUnless};
+ghost use Rattle.std.specs.Prelude.{◌≡◌, ◌≤◌, Some, None, Ok, IfOk, IsOkUnless};
+ghost use Rattle.fix_text.specs.Frame.{frame_text};
 ghost use Rattle.fix_text.specs.Reading.{next_read};
+ghost use Rattle.fix_tags.specs.Message.{envelope_fields, envelope_refusal};
 ghost use Rattle.leg.specs.declared.leg.Leg.{Leg};
 ghost use Rattle.dispatch_main.specs.OrderFrame.{order_message, IsOrderFrame, order_in, order_of_fields, order_read_from, ReadsOrder};
 ghost use Rattle.dispatch_main.specs.declared.order.header.Header.{Header};
 
 use crate::order::header::Header;
 use crate::order::order_fault::OrderFault;
-use dialect::{Dialect, ORDER_KIND};
+use dialect::{Dialect, DialectFault, ORDER_KIND};
 use fix_tags::{
-    Body, BodyRef, Envelope, EnvelopeRef, TagFault, Text, read_envelope, write_envelope,
+    Body, BodyRef, Envelope, EnvelopeRef, Stamp, TagFault, Text, read_envelope, write_envelope,
 };
 use fix_text::{Field, Fields, Frame, FrameReader};
 use leg::Leg;
@@ -37,29 +39,37 @@ fn message_of(alloc: Global, header: Header, order: Vec<Field>) -> Result<Envelo
     })
 }
 
+/// The frame of a message that has no fault.
+fn frame_of(alloc: Global, message: &Envelope, at: &Stamp) -> Result<Vec<u8>, AllocError>
+    requires { envelope_refusal message.now at.now ≡ None }
+    ensures { IfOk result (λ frame. frame.items ≡ frame_text (envelope_fields message.now at.now)) }
+{
+    let mut frame = Vec::new(alloc);
+    match write_envelope(message, at, &mut frame) {
+        Ok(()) => Ok(frame),
+        Err(TagFault::OutOfMemory) => Err(AllocError),
+        Err(_) => unreachable!(),
+    }
+}
+
 /// The leg as the frame of an order, in this dialect. The only refusal is want of memory.
 pub fn write_order_frame<D: Dialect>(
     alloc: Global,
     dialect: &D,
     leg: &Leg,
     header: Header,
-) -> Result<Vec<u8>, OrderFault>
+) -> Result<Vec<u8>, AllocError>
     ensures frame { IfOk result (λ frame. IsOrderFrame (D.IsOrder dialect.now) leg.now header frame.items) }
-    ensures only { IsOkUnless result OrderFault.OutOfMemory }
 {
     let at = header.at;
     let mut fields = Vec::new(alloc);
-    if dialect.write_order(alloc, leg, &at, &mut fields).is_err() {
-        return Err(OrderFault::OutOfMemory);
+    match dialect.write_order(alloc, leg, &at, &mut fields) {
+        Ok(()) => {}
+        Err(DialectFault::OutOfMemory) => return Err(AllocError),
+        Err(_) => unreachable!(),
     }
-    let Ok(message) = message_of(alloc, header, fields) else {
-        return Err(OrderFault::OutOfMemory);
-    };
-    let mut frame = Vec::new(alloc);
-    if write_envelope(&message, &at, &mut frame).is_err() {
-        return Err(OrderFault::OutOfMemory);
-    }
-    Ok(frame)
+    let message = message_of(alloc, header, fields)?;
+    frame_of(alloc, &message, &at)
 }
 
 /// The leg of a message, if it is an order.
@@ -142,28 +152,4 @@ pub fn read_order_frame<D: Dialect>(
         → ReadsOrder result (Ok leg) }
 {
     order_of_bytes(alloc, dialect, bytes)
-}
-
-/// A leg that went its way, and what it became.
-#[derive(Debug, Drop)]
-pub struct Sent {
-    pub frame: Vec<u8>,
-    pub leg: Leg,
-}
-
-/// Writes the leg as the frame of an order, and reads it back from the bytes of that frame: in every
-/// dialect what is read is the leg that was written. The only refusal is want of memory.
-pub fn send_and_read_back<D: Dialect>(
-    alloc: Global,
-    dialect: &D,
-    leg: &Leg,
-    header: Header,
-) -> Result<Sent, OrderFault>
-    ensures frame { IfOk result (λ sent. IsOrderFrame (D.IsOrder dialect.now) leg.now header sent.frame.items) }
-    ensures leg { IfOk result (λ sent. sent.leg ≡ leg.now) }
-    ensures only { IsOkUnless result OrderFault.OutOfMemory }
-{
-    let frame = write_order_frame(alloc, dialect, leg, header)?;
-    let leg = read_order_frame(alloc, dialect, &frame)?;
-    Ok(Sent { frame, leg })
 }

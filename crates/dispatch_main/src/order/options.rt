@@ -37,6 +37,7 @@ fn command<'a>(alloc: Global) -> Result<Command<'a>, AllocError> {
         DIALECTS.as_slice(),
     );
     Command::new(alloc, "order")
+        .bin_name("dispatch order")?
         .about(
             "Writes a leg as an order frame, with | for SOH, and the leg that is read back from it",
         )
@@ -70,8 +71,8 @@ fn fault_of(error: clap::Error) -> ProgramFault {
     ProgramFault::CommandLine(error)
 }
 
-fn value<'a>(matches: &ArgMatches<'a>, name: &str) -> &'a str {
-    matches.get_str(name).unwrap_or("")
+fn value<'a>(matches: &ArgMatches<'a>, name: &'static str) -> Result<&'a str, ProgramFault> {
+    matches.get_str(name).ok_or(ProgramFault::NoValue(name))
 }
 
 /// The options in these words. A missing, unknown or repeated option and a dialect that isn't there are
@@ -80,18 +81,18 @@ pub fn read_options<'a, S: AsStr>(
     alloc: Global,
     words: &'a [S],
 ) -> Result<Options<'a>, ProgramFault> {
-    let command = command(alloc).map_err(|_| ProgramFault::OutOfMemory)?;
+    let command = command(alloc)?;
     let matches = command.try_get_matches_from(words).map_err(fault_of)?;
     Ok(Options {
-        sweep: value(&matches, "sweep"),
-        leg: value(&matches, "leg"),
-        symbol: value(&matches, "symbol"),
-        side: value(&matches, "side"),
-        shares: value(&matches, "shares"),
-        price: value(&matches, "price"),
-        number: value(&matches, "number"),
-        from: value(&matches, "from"),
-        to: value(&matches, "to"),
-        at: value(&matches, "at"),
+        sweep: value(&matches, "sweep")?,
+        leg: value(&matches, "leg")?,
+        symbol: value(&matches, "symbol")?,
+        side: value(&matches, "side")?,
+        shares: value(&matches, "shares")?,
+        price: value(&matches, "price")?,
+        number: value(&matches, "number")?,
+        from: value(&matches, "from")?,
+        to: value(&matches, "to")?,
+        at: value(&matches, "at")?,
     })
 }

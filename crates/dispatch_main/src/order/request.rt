@@ -67,9 +67,7 @@ impl Request {
         let from = comp_id_of(options.from, "from")?;
         let to = comp_id_of(options.to, "to")?;
         let at = stamp_of(options.at)?;
-        let Ok(terms) = Terms::new(symbol, side, shares, price) else {
-            return Err(ProgramFault::BadValue("shares"));
-        };
+        let terms = Terms::new(symbol, side, shares, price).unwrap();
         let id = LegId::new(sweep, place as u8);
         Ok(Request {
             leg: Leg { id, terms },

@@ -183,7 +183,10 @@ fn a_command_line_that_is_none(rt: HostRuntime) -> Result<(), Fail> {
             "order --dialect split --sweep 0",
             b"dispatch: error: invalid value 'split' for '--dialect <D>'\n",
         ),
-        ("order --help", b"dispatch: Writes a leg as an order frame"),
+        (
+            "order --help",
+            b"dispatch: Writes a leg as an order frame, with | for SOH, and the leg that is read back from it\n\nUsage: dispatch order --dialect <D> --sweep <N>",
+        ),
     ];
     for (line, text) in &cases {
         let run = run_line(alloc, line)?;

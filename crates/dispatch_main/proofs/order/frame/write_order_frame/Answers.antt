@@ -1,0 +1,23 @@
+use Rattle.std.proofs.Common.{◌≡◌, ◌∙◌, List, [], rules, sym, subst, ap}
+use Rattle.fix_text.specs.Tagged.{Tagged}
+use Rattle.fix_tags.specs.CompId.{IsCompId}
+use Rattle.fix_tags.specs.Message.{envelope_refusal}
+use Rattle.fix_tags.specs.declared.envelope.Envelope.{Envelope}
+use Rattle.dialect.specs.Dialect.{Appends, FitsMessage}
+use Rattle.dispatch_main.specs.OrderFrame.{order_message}
+use Rattle.dispatch_main.proofs.OrderBack.{order_not_refused}
+use Rattle.dispatch_main.proofs.order.frame.write_order_frame.Goals as goal
+
+pub frame_of-requires : goal.frame_of-requires
+frame_of-requires g c =
+    let laws = g.met.D.Dialect in
+    let d = c.args.dialect.now in
+    let leg = c.args.leg.now in
+    let header = c.args.header in
+    let order : List Tagged = c.write_order.new.fields.items in
+    let appended : Appends (g.D.Dialect.IsOrder d leg) [] order = search rules in
+    let fits : FitsMessage order = subst FitsMessage (sym appended.2) (laws.order_fits d leg appended.0 appended.1) in
+    let message : c.in_ok-message.message ≡ order_message header order = search rules in
+    let sender : IsCompId header.from = search rules in
+    let target : IsCompId header.to = search rules in
+    ap (λ (e : Envelope). envelope_refusal e header.at) message ∙ order_not_refused header order fits sender target
