@@ -77,13 +77,13 @@ fn can_write_values(head: &[FieldRef<'_>], body: &[FieldRef<'_>], rest: &[Field]
     can_write_each_value(head) && can_write_each_value(body) && can_write_each_value(rest)
 }
 
-/// The number of decimal digits of a tag.
-fn digit_count(tag: u32) -> usize
-    requires { tag ≤ 999999 }
-    ensures value { result ≡ length (decimal tag) }
+/// The number of decimal digits of a tag or a length.
+pub(crate) fn digit_count(number: u32) -> usize
+    requires { number ≤ 999999 }
+    ensures value { result ≡ length (decimal number) }
     ensures small { result ≤ 6 }
 {
-    match tag {
+    match number {
         0..=9 => 1,
         10..=99 => 2,
         100..=999 => 3,
