@@ -1,7 +1,8 @@
 -- A written application message reads back as itself.
 use Rattle.std.proofs.Common.{◌≡◌, ℕ, Bool, true, false, ◌&&◌, ◌||◌, not, List, [], ◌∷◌, ◌++◌, length, None, Ok, ◌==◌, nat_le, refl, ◌∙◌, ap}
 use Rattle.std.specs.Prelude.{filter}
-use Rattle.std.proofs.lemmas.Bool.{and_parts, not-true, eqb-true, false_from_ne_true}
+use Rattle.std.specs.List.{list_all}
+use Rattle.std.proofs.lemmas.Bool.{and_parts, and_from, not-true, eqb-true, false_from_ne_true}
 use Rattle.fix_text.specs.Tagged.{Tagged, value_of}
 use Rattle.fix_text.specs.Text.{is_writable_value, is_writable_tag}
 use Rattle.fix_tags.specs.App.{is_app_tag, is_app_field, is_header_tag}
@@ -61,12 +62,23 @@ app_back e time kind fields is none =
 apart : (a b : ℕ) → a ≡ b → is_header_tag a ≡ false → is_header_tag b ≡ true → ⊥
 apart a b same outside header = let moved : is_header_tag a ≡ true = ap is_header_tag same ∙ header in absurd cc
 
--- no field of the application has a tag of the header
-pub value_of-app : (fields : List Tagged) (tag : ℕ) → app_fault fields ≡ None → is_header_tag tag ≡ true → value_of fields tag ≡ None
-value_of-app [] tag none header = refl
-value_of-app (f ∷ fields) tag none header =
+-- fields of which none has a tag of the header
+abbrev pub are_outside : List Tagged → Bool
+are_outside fields = list_all (λ f. not (is_header_tag f.tag)) fields
+
+-- the fields of an application message that can be written are such
+pub app_fields_outside : (fields : List Tagged) → app_fault fields ≡ None → are_outside fields ≡ true
+app_fields_outside [] none = refl
+app_fields_outside (f ∷ fields) none =
     let here = if_passed (is_app_field f) (app_fault fields) f.tag none in
-    let parts = and_parts (is_writable_tag f.tag && not (is_header_tag f.tag)) (is_writable_value f.value) here.0 in
-    let outside = not-true (is_header_tag f.tag) (and_parts (is_writable_tag f.tag) (not (is_header_tag f.tag)) parts.0).1 in
-    let other = false_from_ne_true (f.tag == tag) (λ same. apart f.tag tag (eqb-true f.tag tag same) outside header) in
-    rw (other, value_of-app fields tag here.1 header) refl
+    let tags = and_parts (is_writable_tag f.tag && not (is_header_tag f.tag)) (is_writable_value f.value) here.0 in
+    and_from _ _ (and_parts (is_writable_tag f.tag) (not (is_header_tag f.tag)) tags.0).1 (app_fields_outside fields here.1)
+
+-- no such field has a tag of the header
+pub value_of-outside : (fields : List Tagged) (tag : ℕ) → are_outside fields ≡ true → is_header_tag tag ≡ true → value_of fields tag ≡ None
+value_of-outside [] tag outside header = refl
+value_of-outside (f ∷ fields) tag outside header =
+    let parts = and_parts (not (is_header_tag f.tag)) (are_outside fields) outside in
+    let here = not-true (is_header_tag f.tag) parts.0 in
+    let other = false_from_ne_true (f.tag == tag) (λ same. apart f.tag tag (eqb-true f.tag tag same) here header) in
+    rw (other, value_of-outside fields tag parts.1 header) refl

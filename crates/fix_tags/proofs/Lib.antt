@@ -8,3 +8,4 @@ pub mod MessageBack
 pub mod WritableFields
 pub mod Outcomes
 pub mod AppFits
+pub mod ValueFaults

@@ -1,6 +1,5 @@
 -- A message that can be written is read back from its fields as itself, whatever the time.
 use Rattle.std.proofs.Common.{◌≡◌, ℕ, true, List, ◌++◌, Some, None, Ok, refl}
-use Rattle.fix_text.specs.Tagged.{value_of}
 use Rattle.fix_tags.specs.CompId.{is_comp_id}
 use Rattle.fix_tags.specs.Stamp.{StampParts, stamp_text}
 use Rattle.fix_tags.specs.Reading.{short_text, body_read, envelope_read}
@@ -10,7 +9,7 @@ use Rattle.fix_tags.specs.declared.body.Body.TheVariants.{Logon, Heartbeat, Test
 use Rattle.fix_tags.specs.declared.envelope.Envelope.{Envelope}
 use Rattle.fix_tags.proofs.HeaderBack.{read-header}
 use Rattle.fix_tags.proofs.Bodies.{unless_ok-none, or_then-first, or_then-second, short_text-written, message_number_reads, resend_request_back, reject_back, gap_fill_back, reset_back, business_reject_back, heartbeat_back, test_request_back, logout_back, logon_back}
-use Rattle.fix_tags.proofs.Apps.{app_kind_parts, app_back, value_of-app}
+use Rattle.fix_tags.proofs.Apps.{app_kind_parts, app_back, are_outside, app_fields_outside, value_of-outside}
 
 kind_reads : (body : Body) → kind_fault body ≡ None → short_text 8 (kind_of body) ≡ Some (kind_of body)
 kind_reads (Logon heart reset next) none = refl
@@ -25,40 +24,23 @@ kind_reads (BusinessReject number) none = refl
 kind_reads (App kind fields) none =
     let parts = app_kind_parts kind (unless_ok-none (is_app_kind kind) 35 none) in short_text-written 8 kind parts.0 parts.1
 
--- a body has no flag of the header
-no_dup : (body : Body) → body_fault body ≡ None → value_of (body_fields body) 43 ≡ None
-no_dup (Logon heart true None) none = refl
-no_dup (Logon heart true (Some next)) none = refl
-no_dup (Logon heart _ None) none = refl
-no_dup (Logon heart _ (Some next)) none = refl
-no_dup (Heartbeat None) none = refl
-no_dup (Heartbeat (Some id)) none = refl
-no_dup (TestRequest id) none = refl
-no_dup (ResendRequest begin last) none = refl
-no_dup (Reject number) none = refl
-no_dup (GapFill new_number) none = refl
-no_dup (Reset new_number) none = refl
-no_dup Logout none = refl
-no_dup (BusinessReject None) none = refl
-no_dup (BusinessReject (Some number)) none = refl
-no_dup (App kind fields) none = value_of-app fields 43 none refl
-
-no_resend : (body : Body) → body_fault body ≡ None → value_of (body_fields body) 97 ≡ None
-no_resend (Logon heart true None) none = refl
-no_resend (Logon heart true (Some next)) none = refl
-no_resend (Logon heart _ None) none = refl
-no_resend (Logon heart _ (Some next)) none = refl
-no_resend (Heartbeat None) none = refl
-no_resend (Heartbeat (Some id)) none = refl
-no_resend (TestRequest id) none = refl
-no_resend (ResendRequest begin last) none = refl
-no_resend (Reject number) none = refl
-no_resend (GapFill new_number) none = refl
-no_resend (Reset new_number) none = refl
-no_resend Logout none = refl
-no_resend (BusinessReject None) none = refl
-no_resend (BusinessReject (Some number)) none = refl
-no_resend (App kind fields) none = value_of-app fields 97 none refl
+-- no field of a body has a tag of the header
+body_outside : (body : Body) → body_fault body ≡ None → are_outside (body_fields body) ≡ true
+body_outside (Logon heart true None) none = refl
+body_outside (Logon heart true (Some next)) none = refl
+body_outside (Logon heart _ None) none = refl
+body_outside (Logon heart _ (Some next)) none = refl
+body_outside (Heartbeat None) none = refl
+body_outside (Heartbeat (Some id)) none = refl
+body_outside (TestRequest id) none = refl
+body_outside (ResendRequest begin last) none = refl
+body_outside (Reject number) none = refl
+body_outside (GapFill new_number) none = refl
+body_outside (Reset new_number) none = refl
+body_outside Logout none = refl
+body_outside (BusinessReject None) none = refl
+body_outside (BusinessReject (Some number)) none = refl
+body_outside (App kind fields) none = app_fields_outside fields none
 
 -- the body reads back behind any header
 body_back : (e : Envelope) (time : List ℕ) (body : Body) → kind_fault body ≡ None → body_fault body ≡ None → body_read (kind_of body) (header_fields e time ++ body_fields body) ≡ Ok body
@@ -81,5 +63,6 @@ envelope_read-written e stamp sender target none =
     let rest = or_then-second (kind_fault e.body) (unless_ok (is_message_number e.number) 34 or_then body_fault e.body) none in
     let number = unless_ok-none (is_message_number e.number) 34 (or_then-first (unless_ok (is_message_number e.number) 34) (body_fault e.body) rest) in
     let body = or_then-second (unless_ok (is_message_number e.number) 34) (body_fault e.body) rest in
+    let outside = body_outside e.body body in
     read-header e (stamp_text stamp) (body_fields e.body) (kind_reads e.body kind) sender target (message_number_reads e.number number)
-    (no_dup e.body body) (no_resend e.body body) (body_back e (stamp_text stamp) e.body kind body)
+    (value_of-outside (body_fields e.body) 43 outside refl) (value_of-outside (body_fields e.body) 97 outside refl) (body_back e (stamp_text stamp) e.body kind body)

@@ -1,6 +1,8 @@
 -- What a message is written as (FIX 4.4 Volume 2): the fields of its header and of its body.
-use Rattle.std.specs.Prelude.{◌≡◌, Result, Err, MatchOption, IsOkUnless, OnOk, OnErr, ℕ, List, [], ◌∷◌, ◌++◌, length, Bool, false, ◌&&◌, ◌||◌, not, ◌==◌, nat_lt, nat_le, Option, Some, None, codes, if◌then◌else◌}
+use Rattle.std.specs.Prelude.{◌≡◌, Result, Err, MatchOption, IsOkUnless, OnOk, OnErr, ℕ, ◌+◌, ◌<◌, List, [], ◌∷◌, ◌++◌, length, Bool, false, ◌&&◌, ◌||◌, not, ◌==◌, nat_lt, nat_le, Option, Some, None, codes, if◌then◌else◌}
 use Rattle.std.specs.Fmt.{decimal}
+use Rattle.std.specs.Global.{Vec}
+use Rattle.std.specs.Vec.{vec_len, vec_capacity}
 use Rattle.fix_text.specs.Tagged.{Tagged}
 use Rattle.fix_text.specs.Frame.{frame_text, frame_refusal}
 use Rattle.fix_text.specs.declared.fault.TextFault.{TextFault}
@@ -173,8 +175,10 @@ is_too_long e stamp = nat_lt 4096 (length (fields_text (envelope_fields e stamp)
 abbrev pub envelope_refusal : Envelope → StampParts → Option TagFault
 envelope_refusal e stamp = field_fault e or_then (if is_too_long e stamp then Some TooLong else None)
 
--- what a call says that writes these fields as a frame at the end of a buffer
-pub record WritesFrame (fields : List Tagged) (old new : List ℕ) (result : Result (Unit {0}) TextFault) : Type 0 where
+-- what a call says that writes these fields as a frame at the end of a buffer: why it refuses, what the buffer holds,
+-- and that it wants memory only where the buffer had no room for the frame
+pub record WritesFrame (fields : List Tagged) (old new : Vec ℕ) (result : Result (Unit {0}) TextFault) : Type 0 where
   pub refusal : MatchOption (frame_refusal fields) (IsOkUnless result text.OutOfMemory) (λ fault. result ≡ Err fault)
-  pub ok : OnOk result (new ≡ old ++ frame_text fields)
-  pub err : OnErr result (new ≡ old)
+  pub ok : OnOk result (new.items ≡ old.items ++ frame_text fields)
+  pub err : OnErr result (new.items ≡ old.items)
+  pub full : result ≡ Err text.OutOfMemory → vec_capacity old < vec_len old + length (frame_text fields)

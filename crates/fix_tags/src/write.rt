@@ -1,5 +1,5 @@
 //! Writing a message as a frame.
-ghost use Rattle.std.specs.Prelude.{◌∷◌, Some, None, Err, ◌≡◌, ◌++◌, if◌then◌else◌, MatchOption, IsOkUnless, OnOk, OnErr, Ok};
+ghost use Rattle.std.specs.Prelude.{◌∷◌, Some, None, Err, ◌≡◌, ◌+◌, ◌<◌, ◌++◌, length, vec_len, vec_capacity, if◌then◌else◌, MatchOption, IsOkUnless, OnOk, OnErr, Ok};
 ghost use Rattle.fix_text.specs.Frame.{frame_text};
 ghost use Rattle.fix_tags.specs.CompId.{IsCompId};
 ghost use Rattle.fix_tags.specs.Message.{WritesFrame, field, marks_and_time, kind_of, body_fields, header_fields, field_fault, envelope_fields, is_too_long, envelope_refusal};
@@ -39,7 +39,7 @@ fn write_logon(
     next: Option<u64>,
     out: &mut Vec<u8>,
 ) -> Result<(), TextFault>
-    ensures { WritesFrame (head.now ++ body_fields (Body.Logon heart reset next)) out.old.items out.new.items result }
+    ensures { WritesFrame (head.now ++ body_fields (Body.Logon heart reset next)) out.old out.new result }
 {
     let mut heart_digits = Buffer::new();
     let mut next_digits = Buffer::new();
@@ -69,7 +69,7 @@ fn write_resend_request(
     last: u64,
     out: &mut Vec<u8>,
 ) -> Result<(), TextFault>
-    ensures { WritesFrame (head.now ++ body_fields (Body.ResendRequest begin last)) out.old.items out.new.items result }
+    ensures { WritesFrame (head.now ++ body_fields (Body.ResendRequest begin last)) out.old out.new result }
 {
     let mut begin_digits = Buffer::new();
     let mut last_digits = Buffer::new();
@@ -84,7 +84,7 @@ fn write_sequence_reset(
     new_number: u64,
     out: &mut Vec<u8>,
 ) -> Result<(), TextFault>
-    ensures { WritesFrame (head.now ++ body_fields (reset_or_fill fills new_number)) out.old.items out.new.items result }
+    ensures { WritesFrame (head.now ++ body_fields (reset_or_fill fills new_number)) out.old out.new result }
 {
     let mut digits = Buffer::new();
     let new_number = FieldRef::new(36, digits.format(new_number).as_bytes());
@@ -95,7 +95,7 @@ fn write_sequence_reset(
 }
 
 fn write_reject(head: &[FieldRef<'_>], number: u64, out: &mut Vec<u8>) -> Result<(), TextFault>
-    ensures { WritesFrame (head.now ++ body_fields (Body.Reject number)) out.old.items out.new.items result }
+    ensures { WritesFrame (head.now ++ body_fields (Body.Reject number)) out.old out.new result }
 {
     let mut digits = Buffer::new();
     let number = FieldRef::new(45, digits.format(number).as_bytes());
@@ -107,7 +107,7 @@ fn write_business_reject(
     number: Option<u64>,
     out: &mut Vec<u8>,
 ) -> Result<(), TextFault>
-    ensures { WritesFrame (head.now ++ body_fields (Body.BusinessReject number)) out.old.items out.new.items result }
+    ensures { WritesFrame (head.now ++ body_fields (Body.BusinessReject number)) out.old out.new result }
 {
     let mut digits = Buffer::new();
     let kind = FieldRef::new(372, b"D");
@@ -123,7 +123,7 @@ fn write_business_reject(
 
 /// A body of a TestReqID (112).
 fn write_test_id(head: &[FieldRef<'_>], id: &[u8], out: &mut Vec<u8>) -> Result<(), TextFault>
-    ensures { WritesFrame (head.now ++ body_fields (Body.TestRequest id.now)) out.old.items out.new.items result }
+    ensures { WritesFrame (head.now ++ body_fields (Body.TestRequest id.now)) out.old out.new result }
 {
     write_frame_parts(head, &[FieldRef::new(112, id)], &[], out)
 }
@@ -133,7 +133,7 @@ fn write_heartbeat(
     id: &Option<Text>,
     out: &mut Vec<u8>,
 ) -> Result<(), TextFault>
-    ensures { WritesFrame (head.now ++ body_fields (Body.Heartbeat id.now)) out.old.items out.new.items result }
+    ensures { WritesFrame (head.now ++ body_fields (Body.Heartbeat id.now)) out.old out.new result }
 {
     match id {
         None => write_frame_parts(head, &[], &[], out),
@@ -142,7 +142,7 @@ fn write_heartbeat(
 }
 
 fn write_body(head: &[FieldRef<'_>], body: &Body, out: &mut Vec<u8>) -> Result<(), TextFault>
-    ensures { WritesFrame (head.now ++ body_fields body.now) out.old.items out.new.items result }
+    ensures { WritesFrame (head.now ++ body_fields body.now) out.old out.new result }
 {
     match body {
         Body::Logon { heart, reset, next } => write_logon(head, *heart, *reset, *next, out),
@@ -176,7 +176,7 @@ fn write_with_header<'a>(
     body: &Body,
     out: &mut Vec<u8>,
 ) -> Result<(), TextFault>
-    ensures { WritesFrame (field 35 texts.entry.kind.now ∷ field 49 texts.entry.sender.now ∷ field 56 texts.entry.target.now ∷ field 34 texts.entry.number.now ∷ marks_and_time poss_dup poss_resend texts.entry.time.now ++ body_fields body.now) out.old.items out.new.items result }
+    ensures { WritesFrame (field 35 texts.entry.kind.now ∷ field 49 texts.entry.sender.now ∷ field 56 texts.entry.target.now ∷ field 34 texts.entry.number.now ∷ marks_and_time poss_dup poss_resend texts.entry.time.now ++ body_fields body.now) out.old out.new result }
 {
     let kind = FieldRef::new(35, texts.kind);
     let sender = FieldRef::new(49, texts.sender);
@@ -210,6 +210,7 @@ fn write_message(envelope: &Envelope, stamp: &Stamp, out: &mut Vec<u8>) -> Resul
     ensures refusal { MatchOption (if is_too_long envelope.now stamp.now then Some TextFault.TooLong else None) (IsOkUnless result TextFault.OutOfMemory) (λ fault. result ≡ Err fault) }
     ensures ok { OnOk result (out.new.items ≡ out.old.items ++ frame_text (envelope_fields envelope.now stamp.now)) }
     ensures err { OnErr result (out.new.items ≡ out.old.items) }
+    ensures full { result ≡ Err TextFault.OutOfMemory → vec_capacity out.old < vec_len out.old + length (frame_text (envelope_fields envelope.now stamp.now)) }
     ensures sender { IsCompId envelope.now.sender }
     ensures target { IsCompId envelope.now.target }
 {
@@ -236,6 +237,7 @@ fn write_faultless(envelope: &Envelope, stamp: &Stamp, out: &mut Vec<u8>) -> Res
     ensures refusal { MatchOption (envelope_refusal envelope.now stamp.now) (IsOkUnless result TagFault.OutOfMemory) (λ fault. result ≡ Err fault) }
     ensures ok { OnOk result (out.new.items ≡ out.old.items ++ frame_text (envelope_fields envelope.now stamp.now)) }
     ensures err { OnErr result (out.new.items ≡ out.old.items) }
+    ensures full { result ≡ Err TagFault.OutOfMemory → vec_capacity out.old < vec_len out.old + length (frame_text (envelope_fields envelope.now stamp.now)) }
     ensures reads_back { OnOk result (envelope_read (envelope_fields envelope.now stamp.now) ≡ Ok envelope.now) }
 {
     match write_message(envelope, stamp, out) {
@@ -253,12 +255,13 @@ fn write_faultless(envelope: &Envelope, stamp: &Stamp, out: &mut Vec<u8>) -> Res
 /// empty, longer than 8 bytes or the session's; 34 outside 1 to 999,999,998; 7, 16, 36 or 45 above
 /// 999,999,999; 108 above 999,999; 789 outside 1 to 999,999,999; 112 empty or longer than 64 bytes; an
 /// application field with a tag of the header or the frame or outside 1 to 999,999, or with an empty
-/// value or SOH in it. Then `TooLong`: the fields take more than 4,096 bytes. A refusal leaves `out` as
-/// it was.
+/// value or SOH in it. Then `TooLong`: the fields take more than 4,096 bytes. Then `OutOfMemory`: `out`
+/// has no room for the frame, and no memory is left. A refusal leaves `out` as it was.
 pub fn write_envelope(envelope: &Envelope, stamp: &Stamp, out: &mut Vec<u8>) -> Result<(), TagFault>
     ensures refusal { MatchOption (envelope_refusal envelope.now stamp.now) (IsOkUnless result TagFault.OutOfMemory) (λ fault. result ≡ Err fault) }
     ensures ok { OnOk result (out.new.items ≡ out.old.items ++ frame_text (envelope_fields envelope.now stamp.now)) }
     ensures err { OnErr result (out.new.items ≡ out.old.items) }
+    ensures full { result ≡ Err TagFault.OutOfMemory → vec_capacity out.old < vec_len out.old + length (frame_text (envelope_fields envelope.now stamp.now)) }
     ensures reads_back { OnOk result (envelope_read (envelope_fields envelope.now stamp.now) ≡ Ok envelope.now) }
 {
     match field_fault(envelope) {

@@ -1,6 +1,8 @@
 -- A frame as it is written (FIX 4.4 Volume 2, "Message structure", BodyLength and CheckSum).
-use Rattle.std.specs.Prelude.{◌≡◌, ℕ, ◌+◌, ◌/◌, ◌%◌, List, [], ◌∷◌, ◌++◌, length, sum, codes, Option, Some, None, nat_lt, not, if◌then◌else◌}
+use Rattle.std.specs.Prelude.{◌≡◌, ℕ, ◌+◌, ◌/◌, ◌%◌, ◌≤◌, List, [], ◌∷◌, ◌++◌, length, sum, codes, Option, Some, None, nat_lt, not, if◌then◌else◌}
 use Rattle.std.specs.Fmt.{decimal}
+use Rattle.std.specs.Global.{Vec}
+use Rattle.std.specs.Vec.{vec_len, vec_capacity}
 use Rattle.fix_text.specs.Tagged.{Tagged}
 use Rattle.fix_text.specs.Text.{fields_text, has_writable_tags, has_writable_values}
 use Rattle.fix_text.specs.declared.fault.TextFault.{TextFault}
@@ -33,6 +35,11 @@ frame_refusal fields =
     else (if not (has_writable_values fields) then Some BadValue
     else (if nat_lt 4096 (length (fields_text fields)) then Some TooLong else None))
 
--- new is old with some bytes behind it
-abbrev pub IsGrown : List ℕ → List ℕ → Type 0
-IsGrown old new = (more : List ℕ) × (new ≡ old ++ more)
+-- a buffer has room for a text
+abbrev pub HasRoom : Vec ℕ → List ℕ → Type 0
+HasRoom out text = vec_len out + length text ≤ vec_capacity out
+
+-- new is old with a text behind it, and has no less room
+abbrev pub Appends : Vec ℕ → Vec ℕ → List ℕ → Type 0
+Appends old new text =
+    (new.items ≡ old.items ++ text) × (vec_len new ≡ vec_len old + length text) × (vec_capacity old ≤ vec_capacity new)

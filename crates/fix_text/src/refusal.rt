@@ -1,5 +1,5 @@
 //! Which fields can be written as a frame, and how long their text is.
-ghost use Rattle.std.specs.Prelude.{true, Err, ◌≡◌, ◌+◌, ◌<◌, ◌≤◌, ◌++◌, length, decimal, IsOkAnd, MatchOption};
+ghost use Rattle.std.specs.Prelude.{true, Some, None, Err, ◌≡◌, ◌+◌, ◌≤◌, ◌++◌, min, length, decimal, if◌then◌else◌, IsOkAnd, MatchOption};
 ghost use Rattle.std.specs.List.{list_all, flat_map};
 ghost use Rattle.fix_text.specs.Text.{field_text, fields_text, holds_soh, begins_with_type, is_writable_tag, is_writable_value, has_writable_tags, has_writable_values};
 ghost use Rattle.fix_text.specs.Frame.{frame_refusal};
@@ -10,6 +10,9 @@ use memchr::memchr;
 
 /// The greatest BodyLength (9), in bytes.
 pub const MAX_BODY: usize = 4096;
+
+/// What stands for every length above the greatest.
+const TOO_LONG: usize = MAX_BODY + 1;
 
 const SOH: u8 = 1;
 
@@ -39,14 +42,6 @@ fn can_write_each_tag<F: Lend>(fields: &[F]) -> bool
     fields.iter().all(|field| can_write_tag(field.lend().tag()))
 }
 
-fn can_write_each_value<F: Lend>(fields: &[F]) -> bool
-    ensures { result ≡ list_all (λ field. is_writable_value (F.tagged field).value) fields.now }
-{
-    fields
-        .iter()
-        .all(|field| can_write_value(field.lend().value()))
-}
-
 fn is_typed(head: &[FieldRef<'_>], body: &[FieldRef<'_>], rest: &[Field]) -> bool
     ensures { result ≡ begins_with_type (head.now ++ body.now ++ rest.now) }
 {
@@ -71,19 +66,13 @@ fn can_write_tags(head: &[FieldRef<'_>], body: &[FieldRef<'_>], rest: &[Field]) 
         && can_write_each_tag(rest)
 }
 
-fn can_write_values(head: &[FieldRef<'_>], body: &[FieldRef<'_>], rest: &[Field]) -> bool
-    ensures { result ≡ has_writable_values (head.now ++ body.now ++ rest.now) }
-{
-    can_write_each_value(head) && can_write_each_value(body) && can_write_each_value(rest)
-}
-
-/// The number of decimal digits of a tag.
-fn digit_count(tag: u32) -> usize
-    requires { tag ≤ 999999 }
-    ensures value { result ≡ length (decimal tag) }
+/// The number of decimal digits of a tag or a length.
+pub(crate) fn digit_count(number: u32) -> usize
+    requires { number ≤ 999999 }
+    ensures value { result ≡ length (decimal number) }
     ensures small { result ≤ 6 }
 {
-    match tag {
+    match number {
         0..=9 => 1,
         10..=99 => 2,
         100..=999 => 3,
@@ -93,31 +82,29 @@ fn digit_count(tag: u32) -> usize
     }
 }
 
-/// The length of text that is there and of the written fields, or None where it is above the
-/// greatest body.
+/// The length of text that is there and of the written fields, or `TOO_LONG` where it is above the
+/// greatest body; None where a value can't be written.
 fn length_with<F: Lend>(before: usize, fields: &[F]) -> Option<usize>
     requires tags { list_all (λ field. is_writable_tag (F.tagged field).tag) fields.now ≡ true }
-    requires fits { before ≤ 4096 }
-    ensures { MatchOption result (4096 < before + length (flat_map (λ field. field_text (F.tagged field)) fields.now)) (λ n. (n ≡ before + length (flat_map (λ field. field_text (F.tagged field)) fields.now)) × (n ≤ 4096)) }
+    requires fits { before ≤ 4097 }
+    ensures { result ≡ (if list_all (λ field. is_writable_value (F.tagged field).value) fields.now then Some (min 4097 (before + length (flat_map (λ field. field_text (F.tagged field)) fields.now))) else None) }
 {
     let mut total = before;
     for item in fields {
         let field = item.lend();
-        let value = field.value().len();
-        if value > MAX_BODY {
+        let value = field.value();
+        if !can_write_value(value) {
             return None;
         }
-        total += digit_count(field.tag()) + 1 + value + 1;
-        if total > MAX_BODY {
-            return None;
-        }
+        total = TOO_LONG.min(total + digit_count(field.tag()) + 1 + value.len() + 1);
     }
     Some(total)
 }
 
 fn length_of(head: &[FieldRef<'_>], body: &[FieldRef<'_>], rest: &[Field]) -> Option<usize>
     requires { has_writable_tags (head.now ++ body.now ++ rest.now) ≡ true }
-    ensures { let n = length (fields_text (head.now ++ body.now ++ rest.now)) in MatchOption result (4096 < n) (λ length. (length ≡ n) × (n ≤ 4096)) }
+    ensures { let fields = head.now ++ body.now ++ rest.now in
+        result ≡ (if has_writable_values fields then Some (min 4097 (length (fields_text fields))) else None) }
 {
     let head = length_with(0, head)?;
     let body = length_with(head, body)?;
@@ -125,7 +112,7 @@ fn length_of(head: &[FieldRef<'_>], body: &[FieldRef<'_>], rest: &[Field]) -> Op
 }
 
 /// The length of the text of these fields, or why they can't be written: each fault is tried over
-/// all fields before the next.
+/// all fields before the next. The bytes are looked at once.
 pub fn checked_length(
     head: &[FieldRef<'_>],
     body: &[FieldRef<'_>],
@@ -137,8 +124,9 @@ pub fn checked_length(
     if !can_write_tags(head, body, rest) {
         return Err(TextFault::BadTag);
     }
-    if !can_write_values(head, body, rest) {
-        return Err(TextFault::BadValue);
+    match length_of(head, body, rest) {
+        None => Err(TextFault::BadValue),
+        Some(length) if length <= MAX_BODY => Ok(length),
+        Some(_) => Err(TextFault::TooLong),
     }
-    length_of(head, body, rest).ok_or(TextFault::TooLong)
 }

@@ -1,65 +1,77 @@
 //! Writing a frame: one spelling, appended whole or not at all.
-ghost use Rattle.std.specs.Prelude.{Some, Err, ◌≡◌, ◌+◌, ◌≤◌, ◌++◌, length, drop, vec_len, IsOkUnless, OnOk, OnErr, MatchOption};
+ghost use Rattle.std.specs.Prelude.{Err, ◌≡◌, ◌+◌, ◌<◌, ◌≤◌, ◌++◌, List, length, drop, vec_len, vec_capacity, IsOkUnless, OnOk, OnErr, MatchOption, ℕ};
 ghost use Rattle.std.specs.List.{flat_map};
 ghost use Rattle.fix_text.specs.Text.{field_text, fields_text};
-ghost use Rattle.fix_text.specs.Frame.{IsGrown, header_text, trailer_text, frame_text, frame_refusal};
+ghost use Rattle.fix_text.specs.Frame.{HasRoom, Appends, header_text, trailer_text, framed, frame_text, frame_refusal};
 
 use crate::checksum::sum256;
 use crate::fault::TextFault;
 use crate::field::{Field, FieldRef, Lend};
-use crate::refusal::checked_length;
+use crate::refusal::{checked_length, digit_count};
 use itoa::Buffer;
-use std::alloc::AllocError;
 
 /// What stands before the digits of BodyLength: BeginString (8) of FIX 4.4, and tag 9.
 const BEGIN: &[u8; 12] = b"8=FIX.4.4\x019=";
 
 const SOH: u8 = 1;
 
-/// Room for the header and the trailer of the longest body, in bytes.
-const FRAME_ROOM: usize = 24;
+/// The bytes of a trailer.
+const TRAILER_LEN: usize = 7;
 
-fn push_field(field: &FieldRef<'_>, out: &mut Vec<u8>) -> Result<(), AllocError>
-    ensures ok { OnOk result (out.new.items ≡ out.old.items ++ field_text field.now) }
-    ensures err { OnErr result (IsGrown out.old.items out.new.items) }
+/// The length of a frame whose body is of this length.
+fn frame_length(body: usize) -> usize
+    requires { body ≤ 4096 }
+    ensures { (text : List ℕ) → length text ≡ body → length (framed text) ≡ result }
 {
-    let mut digits = Buffer::new();
-    out.extend_from_slice(digits.format(field.tag()).as_bytes())?;
-    out.push(b'=')?;
-    out.extend_from_slice(field.value())?;
-    out.push(SOH)?;
-    Ok(())
+    BEGIN.len() + digit_count(body as u32) + 1 + body + TRAILER_LEN
 }
 
-fn push_fields<F: Lend>(fields: &[F], out: &mut Vec<u8>) -> Result<(), AllocError>
-    ensures ok { OnOk result (out.new.items ≡ out.old.items ++ flat_map (λ field. field_text (F.tagged field)) fields.now) }
-    ensures err { OnErr result (IsGrown out.old.items out.new.items) }
+/// Appends a text for which there is room.
+fn push_text(text: &[u8], out: &mut Vec<u8>)
+    requires { HasRoom out.old text.now }
+    ensures { Appends out.old out.new text.now }
+{
+    out.extend_from_slice(text).unwrap();
+}
+
+fn push_field(field: &FieldRef<'_>, out: &mut Vec<u8>)
+    requires { HasRoom out.old (field_text field.now) }
+    ensures { Appends out.old out.new (field_text field.now) }
+{
+    let mut digits = Buffer::new();
+    push_text(digits.format(field.tag()).as_bytes(), out);
+    out.push_reserved(b'=');
+    push_text(field.value(), out);
+    out.push_reserved(SOH);
+}
+
+fn push_fields<F: Lend>(fields: &[F], out: &mut Vec<u8>)
+    requires { HasRoom out.old (flat_map (λ field. field_text (F.tagged field)) fields.now) }
+    ensures { Appends out.old out.new (flat_map (λ field. field_text (F.tagged field)) fields.now) }
 {
     for field in fields {
-        push_field(&field.lend(), out)?;
+        push_field(&field.lend(), out);
     }
-    Ok(())
 }
 
-fn push_header(body: usize, out: &mut Vec<u8>) -> Result<(), AllocError>
-    ensures ok { OnOk result (out.new.items ≡ out.old.items ++ header_text body) }
-    ensures err { OnErr result (IsGrown out.old.items out.new.items) }
+fn push_header(body: usize, out: &mut Vec<u8>)
+    requires { HasRoom out.old (header_text body) }
+    ensures { Appends out.old out.new (header_text body) }
 {
     let mut digits = Buffer::new();
-    out.extend_from_slice(BEGIN)?;
-    out.extend_from_slice(digits.format(body).as_bytes())?;
-    out.push(SOH)?;
-    Ok(())
+    push_text(BEGIN, out);
+    push_text(digits.format(body).as_bytes(), out);
+    out.push_reserved(SOH);
 }
 
 /// The trailer of the bytes from `start` on.
-fn push_trailer(start: usize, out: &mut Vec<u8>) -> Result<(), AllocError>
-    requires { start ≤ vec_len out.old }
-    ensures ok { OnOk result (out.new.items ≡ out.old.items ++ trailer_text (drop start out.old.items)) }
-    ensures err { OnErr result (IsGrown out.old.items out.new.items) }
+fn push_trailer(start: usize, out: &mut Vec<u8>)
+    requires within { start ≤ vec_len out.old }
+    requires room { HasRoom out.old (trailer_text (drop start out.old.items)) }
+    ensures { Appends out.old out.new (trailer_text (drop start out.old.items)) }
 {
     let sum = sum256(&out[start..]);
-    let trailer = [
+    let trailer: [u8; TRAILER_LEN] = [
         b'1',
         b'0',
         b'=',
@@ -68,32 +80,33 @@ fn push_trailer(start: usize, out: &mut Vec<u8>) -> Result<(), AllocError>
         b'0' + sum % 10,
         SOH,
     ];
-    out.extend_from_slice(&trailer)
+    push_text(&trailer, out);
 }
 
-/// Appends the frame of fields whose text is of this length, or on a refused growth a part of it.
+/// Appends the frame of fields whose text is of this length, for which there is room.
 fn push_frame(
     length_of_text: usize,
     head: &[FieldRef<'_>],
     body: &[FieldRef<'_>],
     rest: &[Field],
     out: &mut Vec<u8>,
-) -> Result<(), AllocError>
-    requires { (length_of_text ≡ length (fields_text (head.now ++ body.now ++ rest.now))) × (length_of_text ≤ 4096) }
-    ensures ok { OnOk result (out.new.items ≡ out.old.items ++ frame_text (head.now ++ body.now ++ rest.now)) }
-    ensures err { OnErr result (IsGrown out.old.items out.new.items) }
+)
+    requires length { length_of_text ≡ length (fields_text (head.now ++ body.now ++ rest.now)) }
+    requires room { HasRoom out.old (frame_text (head.now ++ body.now ++ rest.now)) }
+    ensures { Appends out.old out.new (frame_text (head.now ++ body.now ++ rest.now)) }
 {
     let start = out.len();
-    out.reserve(length_of_text + FRAME_ROOM)?;
-    push_header(length_of_text, out)?;
-    push_fields(head, out)?;
-    push_fields(body, out)?;
-    push_fields(rest, out)?;
-    push_trailer(start, out)
+    push_header(length_of_text, out);
+    push_fields(head, out);
+    push_fields(body, out);
+    push_fields(rest, out);
+    push_trailer(start, out);
 }
 
 /// Appends the one written frame of the fields of `head`, `body` and `rest`, one behind the other,
 /// as `write_frame` does of one list. So what lies apart, or is lent, need not be copied.
+///
+/// Memory is asked for once, before the first byte, and only where `out` has no room for the frame.
 pub fn write_frame_parts(
     head: &[FieldRef<'_>],
     body: &[FieldRef<'_>],
@@ -103,13 +116,13 @@ pub fn write_frame_parts(
     ensures refusal { MatchOption (frame_refusal (head.now ++ body.now ++ rest.now)) (IsOkUnless result TextFault.OutOfMemory) (λ fault. result ≡ Err fault) }
     ensures ok { OnOk result (out.new.items ≡ out.old.items ++ frame_text (head.now ++ body.now ++ rest.now)) }
     ensures err { OnErr result (out.new.items ≡ out.old.items) }
+    ensures full { result ≡ Err TextFault.OutOfMemory → vec_capacity out.old < vec_len out.old + length (frame_text (head.now ++ body.now ++ rest.now)) }
 {
     let length_of_text = checked_length(head, body, rest)?;
-    let start = out.len();
-    if push_frame(length_of_text, head, body, rest, out).is_err() {
-        out.truncate(start);
+    if out.reserve(frame_length(length_of_text)).is_err() {
         return Err(TextFault::OutOfMemory);
     }
+    push_frame(length_of_text, head, body, rest, out);
     Ok(())
 }
 
@@ -117,11 +130,13 @@ pub fn write_frame_parts(
 /// (8), BodyLength (9), the fields as they are, and CheckSum (10).
 ///
 /// The first field must be MsgType (35). `BadTag`, `BadValue` and `TooLong` are each tried over all
-/// fields before the next; a refusal leaves `out` as it was.
+/// fields before the next; then `OutOfMemory`: `out` has no room for the frame, and no memory is
+/// left. A refusal leaves `out` as it was.
 pub fn write_frame(fields: &[Field], out: &mut Vec<u8>) -> Result<(), TextFault>
     ensures refusal { MatchOption (frame_refusal fields.now) (IsOkUnless result TextFault.OutOfMemory) (λ fault. result ≡ Err fault) }
     ensures ok { OnOk result (out.new.items ≡ out.old.items ++ frame_text fields.now) }
     ensures err { OnErr result (out.new.items ≡ out.old.items) }
+    ensures full { result ≡ Err TextFault.OutOfMemory → vec_capacity out.old < vec_len out.old + length (frame_text fields.now) }
 {
     write_frame_parts(&[], &[], fields, out)
 }

@@ -4,6 +4,7 @@ use super::support::{Pair, app, message, stamp};
 use crate::*;
 use fix_text::{FieldRef, FieldRefs, Frame};
 use std::alloc::Global;
+use std::process::Abort;
 use std::test::Fail;
 
 /// A written frame with `|` for SOH.
@@ -30,6 +31,63 @@ fn split(alloc: Global, written: &[u8]) -> Result<Frame<'_>, Fail> {
     Ok(Frame { fields })
 }
 
+/// A number, whether it may have been sent before, what is written, and what the body is read as.
+type SessionRow = (u64, bool, &'static [u8], &'static str);
+
+const HEARTBEAT: SessionRow = (
+    2,
+    false,
+    b"8=FIX.4.4|9=45|35=0|49=A|56=B|34=2|52=20240102-14:30:00.000|10=060|",
+    "Heartbeat { id: None }",
+);
+
+const LOGON: SessionRow = (
+    1,
+    false,
+    b"8=FIX.4.4|9=57|35=A|49=A|56=B|34=1|52=20240102-14:30:00.000|98=0|108=30|10=104|",
+    "Logon { heart: 30, reset: false, next: None }",
+);
+
+const LOGON_WITH_NEXT: SessionRow = (
+    1,
+    false,
+    b"8=FIX.4.4|9=63|35=A|49=A|56=B|34=1|52=20240102-14:30:00.000|98=0|108=30|789=1|10=124|",
+    "Logon { heart: 30, reset: false, next: Some(1) }",
+);
+
+const TEST_REQUEST: SessionRow = (
+    2,
+    false,
+    b"8=FIX.4.4|9=52|35=1|49=A|56=B|34=2|52=20240102-14:30:00.000|112=F2|10=133|",
+    "TestRequest { id: [70, 50] }",
+);
+
+const GAP_FILL: SessionRow = (
+    4,
+    true,
+    b"8=FIX.4.4|9=87|35=4|49=A|56=B|34=4|43=Y|52=20240102-14:30:00.000|122=20240102-14:30:00.000|123=Y|36=8|10=055|",
+    "GapFill { new_number: 8 }",
+);
+
+/// One message of the session from A to B, written and read back.
+fn assert_session(rt: &impl Abort, alloc: Global, body: Body, row: SessionRow) -> Result<(), Fail> {
+    let (number, poss_dup, text, read_body) = row;
+    let mut envelope = message(b"A", b"B", number, body)?;
+    envelope.poss_dup = poss_dup;
+    let mut written = Vec::new(alloc);
+    write_envelope(&envelope, &stamp()?, &mut written)?;
+    assert_eq!(rt; shown(alloc, written.as_slice())?.as_slice(), text);
+    let frame = split(alloc, written.as_slice())?;
+    let read = read_envelope(alloc, &frame)?;
+    assert_eq!(rt; read.sender(), b"A".as_slice());
+    assert_eq!(rt; read.target(), b"B".as_slice());
+    assert_eq!(rt; read.number(), number);
+    assert_eq!(rt; read.poss_dup(), poss_dup);
+    assert!(rt; !read.poss_resend());
+    assert_eq!(rt; format!(in alloc; "{:?}", read.body())?.as_str(), read_body);
+    Ok(())
+}
+
 #[test]
 fn session_messages(rt: HostRuntime) -> Result<(), Fail> {
     let alloc = rt.alloc();
@@ -39,58 +97,15 @@ fn session_messages(rt: HostRuntime) -> Result<(), Fail> {
         next,
     };
     let id = Text::from_slice(alloc, b"F2")?;
-    let rows: [(u64, bool, Body, &[u8], &str); 5] = [
-        (
-            2,
-            false,
-            Body::Heartbeat { id: None },
-            b"8=FIX.4.4|9=45|35=0|49=A|56=B|34=2|52=20240102-14:30:00.000|10=060|",
-            "Heartbeat { id: None }",
-        ),
-        (
-            1,
-            false,
-            logon(None),
-            b"8=FIX.4.4|9=57|35=A|49=A|56=B|34=1|52=20240102-14:30:00.000|98=0|108=30|10=104|",
-            "Logon { heart: 30, reset: false, next: None }",
-        ),
-        (
-            1,
-            false,
-            logon(Some(1)),
-            b"8=FIX.4.4|9=63|35=A|49=A|56=B|34=1|52=20240102-14:30:00.000|98=0|108=30|789=1|10=124|",
-            "Logon { heart: 30, reset: false, next: Some(1) }",
-        ),
-        (
-            2,
-            false,
-            Body::TestRequest { id },
-            b"8=FIX.4.4|9=52|35=1|49=A|56=B|34=2|52=20240102-14:30:00.000|112=F2|10=133|",
-            "TestRequest { id: [70, 50] }",
-        ),
-        (
-            4,
-            true,
-            Body::GapFill { new_number: 8 },
-            b"8=FIX.4.4|9=87|35=4|49=A|56=B|34=4|43=Y|52=20240102-14:30:00.000|122=20240102-14:30:00.000|123=Y|36=8|10=055|",
-            "GapFill { new_number: 8 }",
-        ),
+    let rows = [
+        (Body::Heartbeat { id: None }, HEARTBEAT),
+        (logon(None), LOGON),
+        (logon(Some(1)), LOGON_WITH_NEXT),
+        (Body::TestRequest { id }, TEST_REQUEST),
+        (Body::GapFill { new_number: 8 }, GAP_FILL),
     ];
-    for (number, poss_dup, body, text, read_body) in rows {
-        let mut envelope = message(b"A", b"B", number, body)?;
-        envelope.poss_dup = poss_dup;
-        let mut written = Vec::new(alloc);
-        write_envelope(&envelope, &stamp()?, &mut written)?;
-        assert_eq!(rt; shown(alloc, written.as_slice())?.as_slice(), text);
-        let frame = split(alloc, written.as_slice())?;
-        let read = read_envelope(alloc, &frame)?;
-        assert_eq!(rt; read.sender(), b"A".as_slice());
-        assert_eq!(rt; read.target(), b"B".as_slice());
-        assert_eq!(rt; read.number(), number);
-        assert_eq!(rt; read.poss_dup(), poss_dup);
-        assert!(rt; !read.poss_resend());
-        let shown_body = format!(in alloc; "{:?}", read.body())?;
-        assert_eq!(rt; shown_body.as_str(), read_body);
+    for (body, row) in rows {
+        assert_session(&rt, alloc, body, row)?;
     }
     Ok(())
 }

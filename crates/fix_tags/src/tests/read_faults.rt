@@ -2,6 +2,7 @@
 
 use super::support::{Pair, frame, with_header};
 use crate::*;
+use TagFault::{BadField, Missing};
 use std::alloc::{AllocError, Global};
 use std::process::Abort;
 use std::test::Fail;
@@ -27,14 +28,20 @@ fn fault_of(alloc: Global, pairs: &[Pair<'_>]) -> Result<Option<TagFault>, Alloc
     Ok(read_envelope(alloc, &frame(alloc, pairs)?).err())
 }
 
-/// A kind, its fields, the one that is changed, whether it has to be there, and how it may not be.
+/// A kind, its fields, the one that is changed, whether it has to be there, values at the limits of its form,
+/// and values past them.
 type Row = (
     &'static [u8],
     &'static [Pair<'static>],
     u32,
     bool,
     &'static [&'static [u8]],
+    &'static [&'static [u8]],
 );
+
+const ZERO: &[u8] = b"0";
+
+const MOST: &[u8] = b"999999999";
 
 const OVER: &[u8] = b"1000000000";
 
@@ -42,55 +49,91 @@ const LONG: &[u8] = &[b'x'; 65];
 
 const LOGON: &[Pair<'static>] = &[(98, b"0"), (108, b"30"), (141, b"Y"), (789, b"1")];
 
+const NAMES: &[&'static [u8]] = &[b"A", b"ABCDEFGHIJKLMNOP"];
+
+const NO_NAMES: &[&'static [u8]] = &[b"", b"A B", b"ABCDEFGHIJKLMNOPQ"];
+
+const IDS: &[&'static [u8]] = &[b"F", &[b'x'; 64]];
+
 const RANGE: &[Pair<'static>] = &[(7, b"1"), (16, b"0")];
 
 const FILL: &[Pair<'static>] = &[(123, b"Y"), (36, b"8")];
+
+const RESET: &[Pair<'static>] = &[(123, b"N"), (36, b"8")];
 
 const ID: &[Pair<'static>] = &[(112, b"F2")];
 
 const REFUSED: &[Pair<'static>] = &[(45, b"3")];
 
-const ROWS: [Row; 19] = [
-    (b"5", &[], 35, true, &[b"", b"ABCDEFGHI"]),
-    (b"5", &[], 49, true, &[b"", b"A B", b"ABCDEFGHIJKLMNOPQ"]),
-    (b"5", &[], 56, true, &[b"", b"A B", b"ABCDEFGHIJKLMNOPQ"]),
-    (b"5", &[], 34, true, &[b"", b"0", b"1x", b"999999999"]),
-    (b"5", &[], 52, true, &[]),
-    (b"5", &[], 43, false, &[b"", b"y"]),
-    (b"5", &[], 97, false, &[b"", b"y"]),
-    (b"A", LOGON, 98, true, &[b"", b"00", b"1"]),
-    (b"A", LOGON, 108, true, &[b"", b"x", b"1000000"]),
-    (b"A", LOGON, 141, false, &[b"", b"y"]),
-    (b"A", LOGON, 789, false, &[b"", b"0", OVER]),
-    (b"0", ID, 112, false, &[b"", LONG]),
-    (b"1", ID, 112, true, &[b"", LONG]),
-    (b"2", RANGE, 7, true, &[b"x", OVER]),
-    (b"2", RANGE, 16, true, &[b"x", OVER]),
-    (b"3", REFUSED, 45, true, &[b"x", OVER]),
-    (b"4", FILL, 123, false, &[b"", b"y"]),
-    (b"4", FILL, 36, true, &[b"x", OVER]),
-    (b"j", REFUSED, 45, false, &[b"x", OVER]),
+const FLAGS: &[&'static [u8]] = &[b"Y", b"N"];
+
+const ROWS: [Row; 20] = [
+    (
+        b"5",
+        &[],
+        35,
+        true,
+        &[b"Z", b"ABCDEFGH"],
+        &[b"", b"ABCDEFGHI"],
+    ),
+    (b"5", &[], 49, true, NAMES, NO_NAMES),
+    (b"5", &[], 56, true, NAMES, NO_NAMES),
+    (
+        b"5",
+        &[],
+        34,
+        true,
+        &[b"1", b"999999998"],
+        &[b"", ZERO, b"1x", MOST],
+    ),
+    (b"5", &[], 52, true, &[b""], &[]),
+    (b"5", &[], 43, false, FLAGS, &[b"", b"y"]),
+    (b"5", &[], 97, false, FLAGS, &[b"", b"y"]),
+    (b"A", LOGON, 98, true, &[ZERO], &[b"", b"00", b"1"]),
+    (
+        b"A",
+        LOGON,
+        108,
+        true,
+        &[ZERO, b"999999"],
+        &[b"", b"x", b"1000000"],
+    ),
+    (b"A", LOGON, 141, false, FLAGS, &[b"", b"y"]),
+    (b"A", LOGON, 789, false, &[b"1", MOST], &[b"", ZERO, OVER]),
+    (b"0", ID, 112, false, IDS, &[b"", LONG]),
+    (b"1", ID, 112, true, IDS, &[b"", LONG]),
+    (b"2", RANGE, 7, true, &[ZERO, MOST], &[b"x", OVER]),
+    (b"2", RANGE, 16, true, &[ZERO, MOST], &[b"x", OVER]),
+    (b"3", REFUSED, 45, true, &[ZERO, MOST], &[b"x", OVER]),
+    (b"4", FILL, 123, false, FLAGS, &[b"", b"y"]),
+    (b"4", FILL, 36, true, &[ZERO, MOST], &[b"x", OVER]),
+    (b"4", RESET, 36, true, &[ZERO, MOST], &[b"x", OVER]),
+    (b"j", REFUSED, 45, false, &[ZERO, MOST], &[b"x", OVER]),
 ];
 
-/// One field missing, and then spoilt in each way.
+/// One field missing, then at the limits of its form, and then spoilt in each way.
 fn assert_row(rt: &impl Abort, alloc: Global, row: Row) -> Result<(), AllocError> {
-    let (kind, body, tag, must_be_there, spoilt) = row;
-    let missing = must_be_there.then_some(TagFault::Missing(tag));
+    let (kind, body, tag, must_be_there, good, spoilt) = row;
+    let missing = must_be_there.then_some(Missing(tag));
     assert_eq!(rt; fault_with(alloc, kind, body, 0, None)?, None);
     assert_eq!(rt;
         fault_with(alloc, kind, body, tag, None)?,
         missing,
         "without {tag}"
     );
+    for value in good {
+        let fault = fault_with(alloc, kind, body, tag, Some(value))?;
+        assert_eq!(rt; fault, None, "{tag}={value:?}");
+    }
     for value in spoilt {
         let fault = fault_with(alloc, kind, body, tag, Some(value))?;
-        assert_eq!(rt; fault, Some(TagFault::BadField(tag)), "{tag}={value:?}");
+        assert_eq!(rt; fault, Some(BadField(tag)), "{tag}={value:?}");
     }
     Ok(())
 }
 
 #[test]
-fn each_field_missing_and_spoilt(rt: HostRuntime) -> Result<(), Fail> {
+fn each_field_missing_at_its_limits_and_spoilt(rt: HostRuntime) -> Result<(), Fail> {
     for row in ROWS {
         assert_row(&rt, rt.alloc(), row)?;
     }
@@ -101,78 +144,64 @@ fn each_field_missing_and_spoilt(rt: HostRuntime) -> Result<(), Fail> {
     Ok(())
 }
 
+/// Fields of a frame with more than one fault, and the one that is named.
+const FIRST_FAULTS: [(&[Pair<'static>], TagFault); 9] = [
+    (
+        &[(35, b"5"), (56, b"B"), (34, b"0"), (52, b"now")],
+        Missing(49),
+    ),
+    (
+        &[(35, b"5"), (49, b"A"), (56, b""), (34, b"0")],
+        BadField(56),
+    ),
+    (
+        &[(35, b"5"), (49, b""), (56, b""), (34, b"1")],
+        BadField(49),
+    ),
+    (
+        &[(35, b"5"), (49, b"A"), (56, b"B"), (34, b"0")],
+        BadField(34),
+    ),
+    (
+        &[(35, b"5"), (49, b"A"), (56, b"B"), (34, b"1"), (43, b"")],
+        Missing(52),
+    ),
+    (&[(49, b""), (56, b"")], Missing(35)),
+    (&[(35, b""), (49, b""), (56, b"")], BadField(35)),
+    (&[(35, b"5"), (49, b"A"), (34, b"0")], Missing(56)),
+    (
+        &[(35, b"5"), (49, b"A"), (56, b"B"), (43, b"")],
+        Missing(34),
+    ),
+];
+
+/// A kind, fields behind a good header with more than one fault, and the one that is named.
+type FirstRow = (&'static [u8], &'static [Pair<'static>], TagFault);
+
+const FIRST_FAULTS_BEHIND: [FirstRow; 9] = [
+    (b"A", &[(97, b""), (43, b"")], BadField(43)),
+    (b"A", &[(97, b"")], BadField(97)),
+    (b"A", &[(108, b"")], Missing(98)),
+    (b"A", &[(98, b"1"), (108, b"x")], BadField(98)),
+    (b"A", &[(98, b"0"), (141, b""), (789, b"0")], Missing(108)),
+    (b"A", &[(98, b"0"), (108, b"x"), (141, b"")], BadField(108)),
+    (
+        b"A",
+        &[(98, b"0"), (108, b"30"), (141, b""), (789, b"0")],
+        BadField(141),
+    ),
+    (b"2", &[(7, b"x")], BadField(7)),
+    (b"4", &[(123, b"")], BadField(123)),
+];
+
 #[test]
 fn the_first_fault_is_named(rt: HostRuntime) -> Result<(), Fail> {
-    use TagFault::{BadField, Missing};
-    let rows: [(&[Pair<'_>], TagFault); 9] = [
-        (
-            &[(35, b"5"), (56, b"B"), (34, b"0"), (52, b"now")],
-            Missing(49),
-        ),
-        (
-            &[(35, b"5"), (49, b"A"), (56, b""), (34, b"0")],
-            BadField(56),
-        ),
-        (
-            &[(35, b"5"), (49, b""), (56, b""), (34, b"1")],
-            BadField(49),
-        ),
-        (
-            &[(35, b"5"), (49, b"A"), (56, b"B"), (34, b"0")],
-            BadField(34),
-        ),
-        (
-            &[(35, b"5"), (49, b"A"), (56, b"B"), (34, b"1"), (43, b"")],
-            Missing(52),
-        ),
-        (
-            &[
-                (35, b"A"),
-                (49, b"A"),
-                (56, b"B"),
-                (34, b"1"),
-                (52, b""),
-                (97, b""),
-                (43, b""),
-            ],
-            BadField(43),
-        ),
-        (
-            &[
-                (35, b"A"),
-                (49, b"A"),
-                (56, b"B"),
-                (34, b"1"),
-                (52, b""),
-                (97, b""),
-            ],
-            BadField(97),
-        ),
-        (
-            &[
-                (35, b"A"),
-                (49, b"A"),
-                (56, b"B"),
-                (34, b"1"),
-                (52, b""),
-                (108, b""),
-            ],
-            Missing(98),
-        ),
-        (
-            &[
-                (35, b"4"),
-                (49, b"A"),
-                (56, b"B"),
-                (34, b"1"),
-                (52, b""),
-                (123, b""),
-            ],
-            BadField(123),
-        ),
-    ];
-    for (pairs, fault) in rows {
+    for (pairs, fault) in FIRST_FAULTS {
         assert_eq!(rt; fault_of(rt.alloc(), pairs)?, Some(fault));
+    }
+    for (kind, body, fault) in FIRST_FAULTS_BEHIND {
+        let pairs = with_header(rt.alloc(), kind, body)?;
+        assert_eq!(rt; fault_of(rt.alloc(), pairs.as_slice())?, Some(fault));
     }
     Ok(())
 }

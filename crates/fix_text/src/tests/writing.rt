@@ -53,6 +53,17 @@ fn writes_the_same_from_parts(rt: HostRuntime) -> Result<(), Fail> {
 }
 
 #[test]
+fn writes_into_exactly_the_room_that_is_there(rt: HostRuntime) -> Result<(), Fail> {
+    let alloc = rt.alloc();
+    let fields = heartbeat(alloc)?;
+    let mut out = Vec::with_capacity(alloc, HEARTBEAT.len())?;
+    write_frame(&fields, &mut out)?;
+    assert_eq!(rt; out.as_slice(), HEARTBEAT);
+    assert_eq!(rt; out.capacity(), HEARTBEAT.len());
+    Ok(())
+}
+
+#[test]
 fn refuses_in_order_and_leaves_the_buffer(rt: HostRuntime) -> Result<(), Fail> {
     let alloc = rt.alloc();
     let cases: [(&[(u32, &[u8])], TextFault); 10] = [
