@@ -15,3 +15,4 @@ pub mod SplitLaws
 pub mod IdLaws
 pub mod SymbolLaws
 pub mod PlainLaws
+pub mod Spelling

@@ -12,6 +12,7 @@ mod ordinal;
 mod plain;
 mod plain_id;
 mod push;
+mod spelling;
 mod split;
 mod symbol_text;
 mod tag;
@@ -23,6 +24,7 @@ pub use fault::DialectFault;
 pub use kind::{ORDER_KIND, REPORT_KIND};
 pub use laws::orders_tell_legs_apart;
 pub use plain::Plain;
+pub use spelling::Spelling;
 pub use symbol_text::read_symbol;
 
 #[cfg(test)]
