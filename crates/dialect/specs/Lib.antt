@@ -5,6 +5,10 @@ pub mod Mark
 pub mod Limit
 pub mod Time
 pub mod Dialect
+pub mod FreeText
+pub mod Fill
+pub mod Report
+pub mod OrderView
 pub mod PlainId
 pub mod JoinedSymbol
 pub mod Plain

@@ -2,16 +2,24 @@
 #![tactic(auto)]
 
 mod dialect;
+mod exec_id;
 mod fault;
 mod field_value;
+mod fill;
+mod free_text;
 mod kind;
+mod last_px;
 mod laws;
 mod limit;
 mod mark;
+mod note;
+mod order_id;
+mod order_view;
 mod ordinal;
 mod plain;
 mod plain_id;
 mod push;
+mod report;
 mod spelling;
 mod split;
 mod symbol_text;
@@ -20,10 +28,17 @@ mod text;
 mod time;
 
 pub use dialect::Dialect;
+pub use exec_id::{ExecId, MAX_EXEC_ID};
 pub use fault::DialectFault;
+pub use fill::Fill;
 pub use kind::{ORDER_KIND, REPORT_KIND};
+pub use last_px::{LastPx, MAX_LAST_PX};
 pub use laws::orders_tell_legs_apart;
+pub use note::Note;
+pub use order_id::{MAX_ORDER_ID, OrderId};
+pub use order_view::OrderView;
 pub use plain::Plain;
+pub use report::{Report, ReportKind};
 pub use spelling::Spelling;
 pub use symbol_text::read_symbol;
 
