@@ -20,3 +20,5 @@ pub mod IdLaws
 pub mod SymbolLaws
 pub mod PlainLaws
 pub mod Spelling
+pub mod ReportFields
+pub mod ReportRead
