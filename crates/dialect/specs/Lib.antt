@@ -22,3 +22,5 @@ pub mod PlainLaws
 pub mod Spelling
 pub mod ReportFields
 pub mod ReportRead
+pub mod ReportLaws
+pub mod ReportFits
