@@ -24,3 +24,4 @@ pub mod ReportFields
 pub mod ReportRead
 pub mod ReportLaws
 pub mod ReportFits
+pub mod PlainSpelling

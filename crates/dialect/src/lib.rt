@@ -1,4 +1,4 @@
-//! How venues spell an order in the fields of a message.
+//! How venues spell an order, and a report on it, in the fields of a message.
 #![tactic(auto)]
 
 mod dialect;
@@ -18,6 +18,7 @@ mod order_view;
 mod ordinal;
 mod plain;
 mod plain_id;
+mod plain_spelling;
 mod push;
 mod report;
 mod report_read;
@@ -36,7 +37,7 @@ pub use fault::DialectFault;
 pub use fill::Fill;
 pub use kind::{ORDER_KIND, REPORT_KIND};
 pub use last_px::{LastPx, MAX_LAST_PX};
-pub use laws::orders_tell_legs_apart;
+pub use laws::{orders_tell_legs_apart, reports_tell_apart};
 pub use note::Note;
 pub use order_id::{MAX_ORDER_ID, OrderId};
 pub use order_view::OrderView;
