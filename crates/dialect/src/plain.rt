@@ -103,7 +103,7 @@ impl Dialect for Plain {
     ghost use Rattle.dialect.specs.Plain.{IsPlainOrder, IsPlainReading, plain_mark, plain_order_read, plain_order_fields};
     ghost use Rattle.dialect.specs.PlainLaws.{plain_reads_back, plain_is_marked, plain_fits};
     ghost use Rattle.dialect.specs.PlainSpelling.{plain_spelling, plain_is_spelling};
-    ghost use Rattle.dialect.specs.ReportFields.{IsReportOf};
+    ghost use Rattle.dialect.specs.ReportFields.{IsReportOf, report_fields};
     ghost use Rattle.dialect.specs.ReportRead.{report_read_of};
     ghost use Rattle.dialect.specs.ReportLaws.{report_reads_back as reports_read_back};
     ghost use Rattle.dialect.specs.ReportFits.{report_fits as reports_fit};
@@ -153,7 +153,15 @@ impl Dialect for Plain {
         report: &Report,
         view: &OrderView,
         fields: &mut Vec<Field>,
-    ) -> Result<(), DialectFault> {
+    ) -> Result<(), DialectFault>
+        requires { view.now.leg.id ≡ report.now.id }
+        ensures ok { OnOk result
+            (Appends (IsReportOf plain_spelling report.now) fields.old.items fields.new.items) }
+        ensures only { IsOkUnless result DialectFault.OutOfMemory }
+        ensures err { OnErr result (fields.new.items ≡ fields.old.items) }
+        ensures exact { OnOk result
+            (fields.new.items ≡ fields.old.items ++ report_fields plain_spelling report.now view.now) }
+    {
         write_report(self, alloc, report, view, fields)
     }
 

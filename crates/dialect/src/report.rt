@@ -45,8 +45,7 @@ impl Report {
             ReportKind::Bust { cancelled_id } => {
                 let _ = cancelled_id.as_bytes();
             }
-            ReportKind::New | ReportKind::Canceled | ReportKind::Rejected | ReportKind::Expired =>
-                {}
+            _ => {}
         }
     }
 }

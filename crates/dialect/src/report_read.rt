@@ -5,7 +5,7 @@ ghost use Rattle.leg.specs.Terms.{IsShares};
 ghost use Rattle.dialect.specs.Fields.{required_as};
 ghost use Rattle.dialect.specs.FreeText.{free_text_of};
 ghost use Rattle.dialect.specs.Limit.{order_shares_of};
-ghost use Rattle.dialect.specs.ReportRead.{fill_in, kind_of_byte, kind_in, report_read_of};
+ghost use Rattle.dialect.specs.ReportRead.{fill_in, trade_in, bust_in, kind_of_byte, kind_in, report_read_of};
 
 use crate::exec_id::ExecId;
 use crate::fault::DialectFault;
@@ -59,19 +59,31 @@ fn fill_in(fields: &[FieldRef<'_>]) -> Result<Fill, DialectFault>
     Ok(Fill::new(shares, px).unwrap())
 }
 
+fn trade_in(fields: &[FieldRef<'_>]) -> Result<ReportKind, DialectFault>
+    ensures { result ≡ trade_in fields.now }
+{
+    let fill = fill_in(fields)?;
+    Ok(ReportKind::Trade(fill))
+}
+
+fn bust_in(fields: &[FieldRef<'_>]) -> Result<ReportKind, DialectFault>
+    ensures { result ≡ bust_in fields.now }
+{
+    let cancelled_id = exec_id_in(fields, EXEC_REF_ID)?;
+    Ok(ReportKind::Bust { cancelled_id })
+}
+
 /// Reads what the byte of 150 says, with the fields that it needs.
 fn kind_by(fields: &[FieldRef<'_>], byte: u8) -> Result<ReportKind, DialectFault>
     ensures { result ≡ kind_of_byte fields.now byte }
 {
     match byte {
         b'0' => Ok(ReportKind::New),
-        b'F' => Ok(ReportKind::Trade(fill_in(fields)?)),
+        b'F' => trade_in(fields),
         b'4' => Ok(ReportKind::Canceled),
         b'8' => Ok(ReportKind::Rejected),
         b'C' => Ok(ReportKind::Expired),
-        b'H' => Ok(ReportKind::Bust {
-            cancelled_id: exec_id_in(fields, EXEC_REF_ID)?,
-        }),
+        b'H' => bust_in(fields),
         _ => Err(DialectFault::Bad(EXEC_TYPE)),
     }
 }

@@ -23,8 +23,8 @@ use std::alloc::{AllocError, Global};
 /// AvgPx (6), which must be there and isn't kept.
 const NO_AVERAGE: &[u8] = b"0";
 
-/// The most fields that a report has.
-const REPORT_LEN: usize = 14;
+/// The most fields that a report has: those of a trade of a symbol in two parts.
+const REPORT_LEN: usize = 13;
 
 fn exec_type_text(kind: &ReportKind) -> &'static [u8]
     ensures { result.now ≡ exec_type_text kind.now }
