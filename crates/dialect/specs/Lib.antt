@@ -5,6 +5,10 @@ pub mod Mark
 pub mod Limit
 pub mod Time
 pub mod Dialect
+pub mod FreeText
+pub mod Fill
+pub mod Report
+pub mod OrderView
 pub mod PlainId
 pub mod JoinedSymbol
 pub mod Plain
@@ -15,3 +19,9 @@ pub mod SplitLaws
 pub mod IdLaws
 pub mod SymbolLaws
 pub mod PlainLaws
+pub mod Spelling
+pub mod ReportFields
+pub mod ReportRead
+pub mod ReportLaws
+pub mod ReportFits
+pub mod PlainSpelling

@@ -12,7 +12,8 @@ use Rattle.dialect.specs.Limit.{order_shares_of, side_of, side_text, limit_in}
 use Rattle.dialect.specs.Time.{immediate_in}
 use Rattle.fix_tags.specs.ReadBack.{shares_of-decimal}
 
-order_shares_of-decimal : (shares : ℕ) → IsShares shares → order_shares_of (decimal shares) ≡ Some shares
+-- shares that a leg may be for
+pub order_shares_of-decimal : (shares : ℕ) → IsShares shares → order_shares_of (decimal shares) ≡ Some shares
 order_shares_of-decimal shares range =
     rw (shares_of-decimal shares (omega arith), le-leb 1 shares range.low, le-leb shares 1000000 range.high) refl
 

@@ -45,10 +45,14 @@ short_id id range =
     let bytes = leg_id_bytes id range in
     short_value (leg_id_text id) (simp length-append (omega arith)) (omega (arith, length-leg_id_text id range)) (λ k d within. id_free _ (bytes k d within))
 
+-- a count of shares, which may be none
+pub short_count : (count : ℕ) → count ≤ 1_000_000 → IsShortValue (decimal count)
+short_count count high =
+    short_value (decimal count) (nonempty-decimal count (omega arith)) (omega (arith, length-decimal 7 count (omega arith) (omega arith) (omega arith))) (All-from_recursion IsNotSoh _ (HasNoDelimiter-decimal count (omega arith)))
+
 -- the number of shares
 pub short_shares : (shares : ℕ) → IsShares shares → IsShortValue (decimal shares)
-short_shares shares range =
-    short_value (decimal shares) (nonempty-decimal shares (omega arith)) (omega (arith, length-decimal 7 shares (omega arith) (omega arith) (omega arith))) (All-from_recursion IsNotSoh _ (HasNoDelimiter-decimal shares (omega arith)))
+short_shares shares range = short_count shares range.high
 
 -- a price in the short form
 pub short_price : (price : ℕ) → IsPrice price → IsShortValue (price_short price)

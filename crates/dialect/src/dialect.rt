@@ -1,19 +1,22 @@
-//! A dialect: how a venue spells an order.
+//! A dialect: how a venue spells an order and a report on it.
 
 use crate::fault::DialectFault;
+use crate::order_view::OrderView;
+use crate::report::Report;
 use fix_tags::Stamp;
 use fix_text::{Field, FieldRef};
 use leg::Leg;
 use std::alloc::Global;
 
-/// How a venue spells an order (FIX 4.4 Volume 4, NewOrderSingle) in the fields of a message of kind `D`, without
-/// those of the header. What is written for a leg is a relation, what is read from fields a function, and the laws
-/// join the two.
+/// How a venue spells an order (FIX 4.4 Volume 4, NewOrderSingle) in the fields of a message of kind `D`, and a report
+/// on it (ExecutionReport) in those of kind `8`, without those of the header. What is written for a leg or a report is
+/// a relation, what is read from fields a function, and the laws join the two.
 pub trait Dialect {
     ghost use Rattle.std.specs.Prelude.{◌≡◌, List, Result, Ok, OnOk, OnErr, IsOkUnless};
     ghost use Rattle.fix_text.specs.Tagged.{Tagged};
     ghost use Rattle.leg.specs.declared.leg.Leg.{Leg};
     ghost use Rattle.dialect.specs.declared.fault.DialectFault.{DialectFault};
+    ghost use Rattle.dialect.specs.declared.report.Report.{Report};
     ghost use Rattle.dialect.specs.Dialect.{Appends, IsMarked, FitsMessage};
 
     // The fields that may be written for a leg, whatever the stamp.
@@ -24,6 +27,12 @@ pub trait Dialect {
 
     // The field that marks a leg of a sweep.
     ghost mark: { Self → Tagged };
+
+    // The fields that may be written for a report, whatever else its exchange knows of the order.
+    ghost IsReport: { Self → Report → List Tagged → Type 0 };
+
+    // The report that fields say, or the first fault.
+    ghost report_read: { Self → List Tagged → Result Report DialectFault };
 
     /// Appends the fields of an order for the leg, with the stamp as TransactTime (60). V05 leaves the list as it was.
     fn write_order(
@@ -43,6 +52,26 @@ pub trait Dialect {
     fn read_order(&self, fields: &[FieldRef<'_>]) -> Result<Leg, DialectFault>
         ensures value { result ≡ order_read self.now fields.now };
 
+    /// Appends the fields of a report, beside what its exchange knows of the order. V05 leaves the list as it was.
+    fn write_report(
+        &self,
+        alloc: Global,
+        report: &Report,
+        view: &OrderView,
+        fields: &mut Vec<Field>,
+    ) -> Result<(), DialectFault>
+        requires { view.now.leg.id ≡ report.now.id }
+        ensures ok { OnOk result
+            (Appends (IsReport self.now report.now) fields.old.items fields.new.items) }
+        ensures only { IsOkUnless result DialectFault.OutOfMemory }
+        ensures err { OnErr result (fields.new.items ≡ fields.old.items) };
+
+    /// Reads a report. It takes no memory. Faults are tried in the order 11, 17, 150, and then 32 and 31 of a trade or
+    /// 19 of a bust, and the first one is answered. Of a tag that stands several times the first counts, and the other
+    /// tags are passed over.
+    fn read_report(&self, fields: &[FieldRef<'_>]) -> Result<Report, DialectFault>
+        ensures value { result ≡ report_read self.now fields.now };
+
     // What was written is read back.
     ghost order_reads_back: { (d : Self) (leg : Leg) (fields : List Tagged) →
         IsOrder d leg fields → order_read d fields ≡ Ok leg };
@@ -54,4 +83,12 @@ pub trait Dialect {
     // An order can be written into a message, in at most 1,000 bytes.
     ghost order_fits: { (d : Self) (leg : Leg) (fields : List Tagged) →
         IsOrder d leg fields → FitsMessage fields };
+
+    // What was written of a report is read back.
+    ghost report_reads_back: { (d : Self) (report : Report) (fields : List Tagged) →
+        IsReport d report fields → report_read d fields ≡ Ok report };
+
+    // A report can be written into a message, in at most 1,000 bytes.
+    ghost report_fits: { (d : Self) (report : Report) (fields : List Tagged) →
+        IsReport d report fields → FitsMessage fields };
 }

@@ -3,6 +3,7 @@
 ghost use Rattle.std.specs.Prelude.{◌≡◌, List};
 ghost use Rattle.fix_text.specs.Tagged.{Tagged};
 ghost use Rattle.leg.specs.declared.leg.Leg.{Leg};
+ghost use Rattle.dialect.specs.declared.report.Report.{Report};
 
 use crate::dialect::Dialect;
 
@@ -10,4 +11,10 @@ use crate::dialect::Dialect;
 pub fn orders_tell_legs_apart<D: Dialect>(dialect: &D)
     ensures { (a b : Leg) (fields : List Tagged) →
         D.IsOrder dialect.now a fields → D.IsOrder dialect.now b fields → a ≡ b }
+{}
+
+/// Two reports that differ have different fields.
+pub fn reports_tell_apart<D: Dialect>(dialect: &D)
+    ensures { (a b : Report) (fields : List Tagged) →
+        D.IsReport dialect.now a fields → D.IsReport dialect.now b fields → a ≡ b }
 {}

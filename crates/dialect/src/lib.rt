@@ -1,17 +1,30 @@
-//! How venues spell an order in the fields of a message.
+//! How venues spell an order, and a report on it, in the fields of a message.
 #![tactic(auto)]
 
 mod dialect;
+mod exec_id;
 mod fault;
 mod field_value;
+mod fill;
+mod free_text;
 mod kind;
+mod last_px;
 mod laws;
 mod limit;
 mod mark;
+mod note;
+mod order_id;
+mod order_view;
 mod ordinal;
 mod plain;
 mod plain_id;
+mod plain_spelling;
 mod push;
+mod report;
+mod report_read;
+mod report_tag;
+mod report_write;
+mod spelling;
 mod split;
 mod symbol_text;
 mod tag;
@@ -19,10 +32,18 @@ mod text;
 mod time;
 
 pub use dialect::Dialect;
+pub use exec_id::{ExecId, MAX_EXEC_ID};
 pub use fault::DialectFault;
+pub use fill::Fill;
 pub use kind::{ORDER_KIND, REPORT_KIND};
-pub use laws::orders_tell_legs_apart;
+pub use last_px::{LastPx, MAX_LAST_PX};
+pub use laws::{orders_tell_legs_apart, reports_tell_apart};
+pub use note::Note;
+pub use order_id::{MAX_ORDER_ID, OrderId};
+pub use order_view::OrderView;
 pub use plain::Plain;
+pub use report::{Report, ReportKind};
+pub use spelling::Spelling;
 pub use symbol_text::read_symbol;
 
 #[cfg(test)]

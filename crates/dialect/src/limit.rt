@@ -28,7 +28,7 @@ pub(crate) struct Limit {
 }
 
 /// Reads shares that a leg may be for.
-fn read_order_shares(text: &[u8]) -> Option<u64>
+pub(crate) fn read_order_shares(text: &[u8]) -> Option<u64>
     ensures value { result ≡ order_shares_of text.now }
     ensures in_range { IfSome result IsShares }
 {
@@ -117,7 +117,7 @@ pub(crate) fn leg_of(id: LegId, symbol: Symbol, limit: Limit) -> Leg
     Leg { id, terms }
 }
 
-fn side_text(side: Side) -> &'static [u8]
+pub(crate) fn side_text(side: Side) -> &'static [u8]
     ensures { result.now ≡ side_text side }
 {
     match side {

@@ -11,8 +11,12 @@ use crate::fault::DialectFault;
 use crate::field_value::required;
 use crate::limit::{leg_of, push_limit, read_limit};
 use crate::mark::has_instruction;
+use crate::order_view::OrderView;
 use crate::plain_id::{plain_id_text, read_plain_id};
 use crate::push::{all_or_nothing, push_slice, push_text};
+use crate::report::Report;
+use crate::report_read::read_report;
+use crate::report_write::write_report;
 use crate::symbol_text::{joined_symbol_text, read_joined_symbol};
 use crate::tag::{CL_ORD_ID, EXEC_INST, SYMBOL};
 use crate::text::short_price_text;
@@ -98,12 +102,21 @@ impl Dialect for Plain {
     ghost use Rattle.dialect.specs.Dialect.{Appends};
     ghost use Rattle.dialect.specs.Plain.{IsPlainOrder, IsPlainReading, plain_mark, plain_order_read, plain_order_fields};
     ghost use Rattle.dialect.specs.PlainLaws.{plain_reads_back, plain_is_marked, plain_fits};
+    ghost use Rattle.dialect.specs.PlainSpelling.{plain_spelling, plain_is_spelling};
+    ghost use Rattle.dialect.specs.ReportFields.{IsReportOf, report_fields};
+    ghost use Rattle.dialect.specs.ReportRead.{report_read_of};
+    ghost use Rattle.dialect.specs.ReportLaws.{report_reads_back as reports_read_back};
+    ghost use Rattle.dialect.specs.ReportFits.{report_fits as reports_fit};
 
     ghost IsOrder = { λ _ leg fields. IsPlainOrder leg fields };
 
     ghost order_read = { λ _ fields. plain_order_read fields };
 
     ghost mark = { λ _. plain_mark };
+
+    ghost IsReport = { λ _ report fields. IsReportOf plain_spelling report fields };
+
+    ghost report_read = { λ _ fields. report_read_of plain_spelling fields };
 
     fn write_order(
         &self,
@@ -134,9 +147,35 @@ impl Dialect for Plain {
         read_order(fields)
     }
 
+    fn write_report(
+        &self,
+        alloc: Global,
+        report: &Report,
+        view: &OrderView,
+        fields: &mut Vec<Field>,
+    ) -> Result<(), DialectFault>
+        requires { view.now.leg.id ≡ report.now.id }
+        ensures ok { OnOk result
+            (Appends (IsReportOf plain_spelling report.now) fields.old.items fields.new.items) }
+        ensures only { IsOkUnless result DialectFault.OutOfMemory }
+        ensures err { OnErr result (fields.new.items ≡ fields.old.items) }
+        ensures exact { OnOk result
+            (fields.new.items ≡ fields.old.items ++ report_fields plain_spelling report.now view.now) }
+    {
+        write_report(self, alloc, report, view, fields)
+    }
+
+    fn read_report(&self, fields: &[FieldRef<'_>]) -> Result<Report, DialectFault> {
+        read_report(self, fields)
+    }
+
     ghost order_reads_back = { λ _ leg fields is. plain_reads_back leg fields is };
 
     ghost order_is_marked = { λ _ leg fields is. plain_is_marked leg fields is };
 
     ghost order_fits = { λ _ leg fields is. plain_fits leg fields is };
+
+    ghost report_reads_back = { λ _ report fields is. reports_read_back plain_spelling plain_is_spelling report fields is };
+
+    ghost report_fits = { λ _ report fields is. reports_fit plain_spelling plain_is_spelling report fields is };
 }

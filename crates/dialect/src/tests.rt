@@ -1,5 +1,7 @@
 //! Orders as they are written in Plain, each fault of reading, and which of two faults comes first.
 
+mod reports;
+
 use super::*;
 use fix_tags::Stamp;
 use fix_text::{Field, FieldRef};

@@ -1,0 +1,113 @@
+//! A report is read.
+
+ghost use Rattle.std.specs.Prelude.{◌≡◌, IfOk};
+ghost use Rattle.leg.specs.Terms.{IsShares};
+ghost use Rattle.dialect.specs.Fields.{required_as};
+ghost use Rattle.dialect.specs.FreeText.{free_text_of};
+ghost use Rattle.dialect.specs.Limit.{order_shares_of};
+ghost use Rattle.dialect.specs.ReportRead.{fill_in, trade_in, bust_in, kind_of_byte, kind_in, report_read_of};
+
+use crate::exec_id::ExecId;
+use crate::fault::DialectFault;
+use crate::field_value::required;
+use crate::fill::Fill;
+use crate::last_px::LastPx;
+use crate::limit::read_order_shares;
+use crate::report::{Report, ReportKind};
+use crate::report_tag::{EXEC_ID, EXEC_REF_ID, EXEC_TYPE, LAST_PX, LAST_QTY};
+use crate::spelling::Spelling;
+use crate::tag::CL_ORD_ID;
+use fix_text::FieldRef;
+use leg::LegId;
+
+fn id_in<S: Spelling>(spelling: &S, fields: &[FieldRef<'_>]) -> Result<LegId, DialectFault>
+    ensures { result ≡ required_as (S.spelling spelling.now).id_of fields.now 11 }
+{
+    let text = required(fields, CL_ORD_ID)?;
+    spelling.read_id(text).ok_or(DialectFault::Bad(CL_ORD_ID))
+}
+
+fn exec_id_in(fields: &[FieldRef<'_>], tag: u32) -> Result<ExecId, DialectFault>
+    ensures { result ≡ required_as (free_text_of 64) fields.now tag }
+{
+    let text = required(fields, tag)?;
+    ExecId::new(text).ok_or(DialectFault::Bad(tag))
+}
+
+fn last_shares_in(fields: &[FieldRef<'_>]) -> Result<u64, DialectFault>
+    ensures value { result ≡ required_as order_shares_of fields.now 32 }
+    ensures in_range { IfOk result IsShares }
+{
+    let text = required(fields, LAST_QTY)?;
+    read_order_shares(text).ok_or(DialectFault::Bad(LAST_QTY))
+}
+
+fn last_px_in(fields: &[FieldRef<'_>]) -> Result<LastPx, DialectFault>
+    ensures { result ≡ required_as (free_text_of 20) fields.now 31 }
+{
+    let text = required(fields, LAST_PX)?;
+    LastPx::new(text).ok_or(DialectFault::Bad(LAST_PX))
+}
+
+/// Reads 32 and 31.
+#[tactic(auto, unfolding(crate::specs::ReportRead::fill_in))]
+fn fill_in(fields: &[FieldRef<'_>]) -> Result<Fill, DialectFault>
+    ensures { result ≡ fill_in fields.now }
+{
+    let shares = last_shares_in(fields)?;
+    let px = last_px_in(fields)?;
+    Ok(Fill::new(shares, px).unwrap())
+}
+
+fn trade_in(fields: &[FieldRef<'_>]) -> Result<ReportKind, DialectFault>
+    ensures { result ≡ trade_in fields.now }
+{
+    let fill = fill_in(fields)?;
+    Ok(ReportKind::Trade(fill))
+}
+
+fn bust_in(fields: &[FieldRef<'_>]) -> Result<ReportKind, DialectFault>
+    ensures { result ≡ bust_in fields.now }
+{
+    let cancelled_id = exec_id_in(fields, EXEC_REF_ID)?;
+    Ok(ReportKind::Bust { cancelled_id })
+}
+
+/// Reads what the byte of 150 says, with the fields that it needs.
+fn kind_by(fields: &[FieldRef<'_>], byte: u8) -> Result<ReportKind, DialectFault>
+    ensures { result ≡ kind_of_byte fields.now byte }
+{
+    match byte {
+        b'0' => Ok(ReportKind::New),
+        b'F' => trade_in(fields),
+        b'4' => Ok(ReportKind::Canceled),
+        b'8' => Ok(ReportKind::Rejected),
+        b'C' => Ok(ReportKind::Expired),
+        b'H' => bust_in(fields),
+        _ => Err(DialectFault::Bad(EXEC_TYPE)),
+    }
+}
+
+fn kind_in(fields: &[FieldRef<'_>]) -> Result<ReportKind, DialectFault>
+    ensures { result ≡ kind_in fields.now }
+{
+    match required(fields, EXEC_TYPE)? {
+        [byte] => kind_by(fields, *byte),
+        _ => Err(DialectFault::Bad(EXEC_TYPE)),
+    }
+}
+
+/// Reads a report. It takes no memory. Faults are tried in the order 11, 17, 150, and then 32 and 31 of a trade or 19
+/// of a bust, and the first one is answered. The other fields aren't looked at.
+#[tactic(auto, unfolding(crate::specs::ReportRead::report_read_of))]
+pub(crate) fn read_report<S: Spelling>(
+    spelling: &S,
+    fields: &[FieldRef<'_>],
+) -> Result<Report, DialectFault>
+    ensures { result ≡ report_read_of (S.spelling spelling.now) fields.now }
+{
+    let id = id_in(spelling, fields)?;
+    let exec = exec_id_in(fields, EXEC_ID)?;
+    let kind = kind_in(fields)?;
+    Ok(Report { id, exec, kind })
+}

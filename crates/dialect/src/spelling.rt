@@ -1,0 +1,62 @@
+//! What differs between dialects.
+
+use crate::fault::DialectFault;
+use fix_text::{Field, FieldRef};
+use leg::{LegId, Symbol};
+use std::alloc::{AllocError, Global};
+
+/// How a venue spells a leg's number, the mark of a sweep, a price and a symbol: all that differs between dialects.
+/// The rest of an order and of a report, and every law, is proved once of any spelling.
+pub trait Spelling {
+    ghost use Rattle.std.specs.Prelude.{◌≡◌, ◌++◌, ◌∷◌, [], List, OnOk, OnErr};
+    ghost use Rattle.fix_text.specs.Tagged.{Tagged};
+    ghost use Rattle.dialect.specs.Fields.{field, IsGrown};
+    ghost use Rattle.dialect.specs.Spelling.{SpellingParts, IsSpelling};
+
+    ghost spelling: { Self → SpellingParts };
+
+    /// Appends ClOrdID (11), which says which leg of which sweep an order is.
+    fn push_id(&self, alloc: Global, id: &LegId, fields: &mut Vec<Field>) -> Result<(), AllocError>
+        ensures ok { OnOk result (fields.new.items ≡ fields.old.items ++ field 11 ((spelling self.now).id_text id.now) ∷ []) }
+        ensures err { OnErr result (IsGrown fields.old.items fields.new.items) };
+
+    /// Reads the value of ClOrdID (11). `None` where it isn't exactly what is written for a leg.
+    fn read_id(&self, text: &[u8]) -> Option<LegId>
+        ensures value { result ≡ (spelling self.now).id_of text.now };
+
+    /// Appends the field that marks a leg of a sweep.
+    fn push_mark(&self, alloc: Global, fields: &mut Vec<Field>) -> Result<(), AllocError>
+        ensures ok { OnOk result (fields.new.items ≡ fields.old.items ++ (spelling self.now).mark ∷ []) }
+        ensures err { OnErr result (IsGrown fields.old.items fields.new.items) };
+
+    /// Whether fields carry the mark of a leg of a sweep.
+    fn is_marked(&self, fields: &[FieldRef<'_>]) -> bool
+        ensures value { result ≡ (spelling self.now).is_marked fields.now };
+
+    /// Appends Price (44), of a price in ten-thousandths of a dollar.
+    fn push_price(
+        &self,
+        alloc: Global,
+        price: u64,
+        fields: &mut Vec<Field>,
+    ) -> Result<(), AllocError>
+        ensures ok { OnOk result (fields.new.items ≡ fields.old.items ++ field 44 ((spelling self.now).price_text price) ∷ []) }
+        ensures err { OnErr result (IsGrown fields.old.items fields.new.items) };
+
+    /// Appends the fields of a symbol: Symbol (55) and, where the venue parts it and there is a suffix, SymbolSfx (65).
+    fn push_symbol(
+        &self,
+        alloc: Global,
+        symbol: &Symbol,
+        fields: &mut Vec<Field>,
+    ) -> Result<(), AllocError>
+        ensures ok { OnOk result (fields.new.items ≡ fields.old.items ++ (spelling self.now).symbol_fields symbol.now) }
+        ensures err { OnErr result (IsGrown fields.old.items fields.new.items) };
+
+    /// Reads a symbol from its fields, or answers the first fault.
+    fn read_symbol(&self, fields: &[FieldRef<'_>]) -> Result<Symbol, DialectFault>
+        ensures value { result ≡ (spelling self.now).symbol_in fields.now };
+
+    // What is written is read back, and can be written.
+    ghost is_spelling: { (d : Self) → IsSpelling (spelling d) };
+}
