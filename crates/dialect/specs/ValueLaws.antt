@@ -1,21 +1,21 @@
 -- Lemmas: the values of an order can be written, in at most 32 bytes each.
-use Rattle.std.proofs.Common.{◌≡◌, ◌≢◌, ◌==◌, ◌⊎◌, inl, inr, ℕ, ◌+◌, ◌<◌, ◌≤◌, List, [], ◌∷◌, length, decimal, refl, arith, length-append}
+use Rattle.std.proofs.Common.{◌≡◌, ◌≢◌, ◌==◌, ◌⊎◌, inl, inr, ℕ, ◌<◌, ◌≤◌, List, [], ◌∷◌, length, decimal, refl, arith, length-append}
 use Rattle.std.specs.List.{All}
 use Rattle.std.proofs.lemmas.Bool.{and_from, ne_eqb, not_from_false}
-use Rattle.std.proofs.lemmas.List.Elements.{All-nil, All-cons, All-append, All-from_recursion}
+use Rattle.std.proofs.lemmas.List.Elements.{All-nil, All-cons, All-from_recursion}
 use Rattle.std.proofs.lemmas.List.Folds.{list_any_none}
 use Rattle.fix_tags.specs.Price.{price_short}
 use Rattle.fix_tags.specs.Stamp.{StampParts, stamp_text}
 use Rattle.leg.specs.declared.side.Side.{Side}
 use Rattle.leg.specs.declared.side.Side.TheVariants.{Buy, Sell}
 use Rattle.leg.specs.LegId.{LegIdParts, IsLegId, leg_id_text}
-use Rattle.leg.specs.Symbol.{SymbolParts, IsLetter, IsSymbol}
+use Rattle.leg.specs.Symbol.{SymbolParts, IsSymbol, joined_text}
 use Rattle.leg.specs.Terms.{IsShares, IsPrice}
 use Rattle.leg.proofs.Digits.{IsDigit}
 use Rattle.leg.proofs.LegIdText.{leg_id_bytes, length-leg_id_text}
+use Rattle.leg.proofs.SymbolText.{IsSymbolByte, symbol_bytes, length-joined_text}
 use Rattle.dialect.specs.FieldLaws.{IsShortValue}
 use Rattle.dialect.specs.Limit.{side_text}
-use Rattle.dialect.specs.JoinedSymbol.{behind, joined_symbol_text}
 use Rattle.fix_tags.specs.Written.{HasNoDelimiter-decimal, HasNoDelimiter-price_short, HasNoDelimiter-stamp_text, nonempty-decimal, nonempty-price_short, length-decimal, length-price_short, length-stamp_text}
 
 abbrev IsNotSoh : ℕ → Type 0
@@ -63,26 +63,16 @@ short_side Sell = record { writable = refl; short = omega arith }
 pub short_byte : (c : ℕ) → c ≢ 1 → IsShortValue (c ∷ [])
 short_byte c free = short_value (c ∷ []) (omega arith) (omega arith) (All-cons IsNotSoh c [] free (All-nil IsNotSoh))
 
-length-behind : (separator : ℕ) (suffix : List ℕ) → length (behind separator suffix) ≤ 1 + length suffix
-length-behind separator [] = omega arith
-length-behind separator (c ∷ cs) = omega arith
-
-letters_free : (text : List ℕ) → All IsLetter text → NoSoh text
-letters_free text letters = λ k d within. let letter = letters k d within in λ e. omega arith
-
-behind_free : (separator : ℕ) (suffix : List ℕ) → separator ≢ 1 → All IsLetter suffix → NoSoh (behind separator suffix)
-behind_free separator [] free letters = All-nil IsNotSoh
-behind_free separator (c ∷ cs) free letters = All-cons IsNotSoh separator (c ∷ cs) free (letters_free (c ∷ cs) letters)
+letter_free : (separator c : ℕ) → separator ≢ 1 → IsSymbolByte separator c → c ≢ 1
+letter_free separator c free (inl is) = λ e. free (omega arith)
+letter_free separator c free (inr letter) = λ e. omega arith
 
 -- a symbol in one text
-pub short_symbol : (separator : ℕ) (symbol : SymbolParts) → separator ≢ 1 → IsSymbol symbol → IsShortValue (joined_symbol_text separator symbol)
+pub short_symbol : (separator : ℕ) (symbol : SymbolParts) → separator ≢ 1 → IsSymbol symbol → IsShortValue (joined_text separator symbol)
 short_symbol separator symbol free range =
-    let root = range.root in
-    let suffix = range.suffix in
-    let behind_short = length-behind separator symbol.suffix in
-    let whole = length-append symbol.root (behind separator symbol.suffix) in
-    short_value (joined_symbol_text separator symbol) (omega arith) (omega arith)
-    (All-append IsNotSoh symbol.root (behind separator symbol.suffix) (letters_free symbol.root root.letters) (behind_free separator symbol.suffix free suffix.letters))
+    let long = length-joined_text separator symbol range in
+    let bytes = symbol_bytes separator symbol range in
+    short_value (joined_text separator symbol) (omega (arith, long.some)) (omega (arith, long.short)) (λ k d within. letter_free separator _ free (bytes k d within))
 
 pub short_stamp : (stamp : StampParts) → IsShortValue (stamp_text stamp)
 short_stamp stamp =

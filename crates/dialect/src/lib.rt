@@ -8,6 +8,7 @@ mod kind;
 mod laws;
 mod limit;
 mod mark;
+mod order;
 mod ordinal;
 mod plain;
 mod plain_id;

@@ -1,0 +1,110 @@
+//! An order, written and read in any spelling.
+
+ghost use Rattle.std.specs.Prelude.{◌≡◌, ◌++◌, IfOk, OnOk, OnErr};
+ghost use Rattle.dialect.specs.Fields.{required_as, IsGrown};
+ghost use Rattle.dialect.specs.Order.{order_fields, order_read_of};
+
+use crate::dialect::Dialect;
+use crate::fault::DialectFault;
+use crate::field_value::required;
+use crate::limit::{leg_of, push_limit, read_limit};
+use crate::push::all_or_nothing;
+use crate::spelling::Spelling;
+use crate::tag::CL_ORD_ID;
+use crate::time::{check_immediate, push_immediate};
+use fix_tags::Stamp;
+use fix_text::{Field, FieldRef};
+use leg::{Leg, LegId};
+use std::alloc::{AllocError, Global};
+
+/// How many fields an order has at most.
+const MAX_ORDER_LEN: usize = 10;
+
+fn id_in<S: Spelling>(spelling: &S, fields: &[FieldRef<'_>]) -> Result<LegId, DialectFault>
+    ensures { result ≡ required_as (S.spelling spelling.now).id_of fields.now 11 }
+{
+    let text = required(fields, CL_ORD_ID)?;
+    spelling.read_id(text).ok_or(DialectFault::Bad(CL_ORD_ID))
+}
+
+#[tactic(auto, unfolding(crate::specs::Order::order_read_of))]
+fn read_order<S: Spelling>(spelling: &S, fields: &[FieldRef<'_>]) -> Result<Leg, DialectFault>
+    ensures { result ≡ order_read_of (S.spelling spelling.now) fields.now }
+{
+    let id = id_in(spelling, fields)?;
+    if !spelling.is_marked(fields) {
+        return Err(DialectFault::NotMarked);
+    }
+    let limit = read_limit(fields)?;
+    let symbol = spelling.read_symbol(fields)?;
+    check_immediate(fields)?;
+    Ok(leg_of(id, symbol, limit))
+}
+
+/// Appends the order, or on a refused growth only a part of it.
+fn push_order<S: Spelling>(
+    spelling: &S,
+    alloc: Global,
+    leg: &Leg,
+    stamp: &Stamp,
+    fields: &mut Vec<Field>,
+) -> Result<(), AllocError>
+    ensures ok { OnOk result (fields.new.items
+        ≡ fields.old.items ++ order_fields (S.spelling spelling.now) leg.now stamp.now) }
+    ensures err { OnErr result (IsGrown fields.old.items fields.new.items) }
+{
+    fields.reserve(MAX_ORDER_LEN)?;
+    spelling.push_id(alloc, &leg.id, fields)?;
+    spelling.push_mark(alloc, fields)?;
+    push_limit(spelling, alloc, &leg.terms, fields)?;
+    spelling.push_symbol(alloc, leg.terms.symbol(), fields)?;
+    push_immediate(alloc, stamp, fields)
+}
+
+impl<S: Spelling> Dialect for S {
+    ghost use Rattle.std.specs.Prelude.{◌≡◌, ◌++◌, IfOk, OnOk, OnErr, IsOkUnless};
+    ghost use Rattle.dialect.specs.Dialect.{Appends};
+    ghost use Rattle.dialect.specs.Order.{IsOrderOf, IsReadingOf, order_fields, order_read_of};
+    ghost use Rattle.dialect.specs.OrderLaws.{order_back_of, order_marked_of, order_fits_of};
+
+    ghost IsOrder = { λ d leg fields. IsOrderOf (S.spelling d) leg fields };
+
+    ghost order_read = { λ d fields. order_read_of (S.spelling d) fields };
+
+    ghost mark = { λ d. (S.spelling d).mark };
+
+    fn write_order(
+        &self,
+        alloc: Global,
+        leg: &Leg,
+        stamp: &Stamp,
+        fields: &mut Vec<Field>,
+    ) -> Result<(), DialectFault>
+        ensures ok { OnOk result
+            (Appends (IsOrderOf (S.spelling self.now) leg.now) fields.old.items fields.new.items) }
+        ensures only { IsOkUnless result DialectFault.OutOfMemory }
+        ensures err { OnErr result (fields.new.items ≡ fields.old.items) }
+        ensures exact { OnOk result (fields.new.items
+            ≡ fields.old.items ++ order_fields (S.spelling self.now) leg.now stamp.now) }
+    {
+        // That the leg and the stamp are in range is known once they were read.
+        leg.in_range();
+        let _year = stamp.year();
+        let start = fields.len();
+        let written = push_order(self, alloc, leg, stamp, fields);
+        all_or_nothing(written, start, fields)
+    }
+
+    fn read_order(&self, fields: &[FieldRef<'_>]) -> Result<Leg, DialectFault>
+        ensures value { result ≡ order_read_of (S.spelling self.now) fields.now }
+        ensures says { IfOk result (λ leg. IsReadingOf (S.spelling self.now) leg fields.now) }
+    {
+        read_order(self, fields)
+    }
+
+    ghost order_reads_back = { λ d leg fields is. order_back_of (S.spelling d) leg fields (S.is_spelling d) is };
+
+    ghost order_is_marked = { λ d leg fields is. order_marked_of (S.spelling d) leg fields (S.is_spelling d) is };
+
+    ghost order_fits = { λ d leg fields is. order_fits_of (S.spelling d) leg fields (S.is_spelling d) is };
+}
