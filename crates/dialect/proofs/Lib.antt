@@ -1,3 +1,5 @@
 pub mod Ordinals
 pub mod PriceRange
 pub mod OrderReading
+pub mod DigitsRead
+pub mod ShortIds

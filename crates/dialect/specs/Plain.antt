@@ -1,13 +1,12 @@
 -- The dialect Plain: each value in its shortest form.
-use Rattle.std.specs.Prelude.{ℕ, Bool, List, [], ◌∷◌, Option, Some, None, option_and_then, codes, ◌==◌, if◌then◌else◌}
-use Rattle.fix_text.specs.Tagged.{Tagged}
+use Rattle.std.specs.Prelude.{ℕ, List, [], ◌∷◌, Option, Some, None, option_and_then, ◌==◌, if◌then◌else◌}
 use Rattle.fix_tags.specs.Price.{price_short}
 use Rattle.leg.specs.LegId.{LegIdParts, leg_id_text}
 use Rattle.leg.specs.Symbol.{symbol_text}
-use Rattle.dialect.specs.Fields.{required_as, has_value, field}
+use Rattle.dialect.specs.Fields.{required_as, field}
 use Rattle.dialect.specs.Split.{parts_round}
 use Rattle.dialect.specs.Ordinal.{ordinal_of}
-use Rattle.dialect.specs.Mark.{is_among}
+use Rattle.dialect.specs.Mark.{sweep_mark, has_sweep_mark}
 use Rattle.dialect.specs.JoinedSymbol.{joined_symbol_of}
 use Rattle.dialect.specs.Spelling.{SpellingParts}
 
@@ -25,14 +24,6 @@ numbers_of text =
 unfoldable pub plain_id_of : List ℕ → Option LegIdParts
 plain_id_of [] = None
 plain_id_of (c ∷ cs) = if c == 83 then numbers_of cs else None
-
--- the mark of a leg of a sweep: ExecInst (18) `f`, an intermarket sweep (FIX 4.4 Volume 4, NewOrderSingle)
-abbrev pub sweep_mark : Tagged
-sweep_mark = field 18 (codes "f")
-
--- `f` stands among the instructions
-abbrev pub has_sweep_mark : List Tagged → Bool
-has_sweep_mark fields = has_value (is_among (codes "f")) fields 18
 
 -- a leg's number as `S12L3`, ExecInst `f`, a price as `10.25`, and a symbol as `BRK.B`
 abbrev pub plain : SpellingParts

@@ -1,21 +1,13 @@
 -- Lemmas: the laws of the dialect Plain.
-use Rattle.std.proofs.Common.{◌≡◌, inl, true, false, List, codes, Some, refl, ap, ◌∙◌, arith}
-use Rattle.std.specs.Option.{option_map_or}
-use Rattle.fix_text.specs.Tagged.{Tagged, value_of}
+use Rattle.std.proofs.Common.{inl, refl, arith}
 use Rattle.fix_tags.specs.ReadBack.{price_of-price_short}
 use Rattle.dialect.specs.FieldLaws.{short_field}
-use Rattle.dialect.specs.Mark.{is_among}
-use Rattle.dialect.specs.LimitLaws.{is_among-alone}
-use Rattle.dialect.specs.ValueLaws.{short_id, short_price, short_byte, short_symbol}
+use Rattle.dialect.specs.MarkLaws.{sweep_mark_read, short_sweep_mark}
+use Rattle.dialect.specs.ValueLaws.{short_id, short_price, short_symbol}
 use Rattle.dialect.specs.PlainIdLaws.{plain_id_of-text, plain_id_of-Some}
 use Rattle.dialect.specs.SymbolLaws.{joined_symbol_back, joined_symbol_says}
 use Rattle.dialect.specs.Spelling.{IsSpelling}
-use Rattle.dialect.specs.Plain.{plain, has_sweep_mark}
-
--- a mark that stands alone is read
-pub sweep_mark_read : (fields : List Tagged) → value_of fields 18 ≡ Some (codes "f") → has_sweep_mark fields ≡ true
-sweep_mark_read fields there =
-    ap (λ o. option_map_or (is_among (codes "f")) o false) there ∙ is_among-alone
+use Rattle.dialect.specs.Plain.{plain}
 
 pub plain_is_spelling : IsSpelling plain
 plain_is_spelling = record {
@@ -23,7 +15,7 @@ plain_is_spelling = record {
   id_says = plain_id_of-Some;
   id_short = short_id;
   mark_is_read = sweep_mark_read;
-  mark_short = short_field 18 _ refl (short_byte 102 (λ e. omega arith));
+  mark_short = short_sweep_mark;
   mark_apart = (refl, (refl, (refl, (refl, (refl, (refl, (refl, (refl, (refl, tt)))))))));
   price_reads_back = λ price range. price_of-price_short price range.low range.high;
   price_short = short_price;

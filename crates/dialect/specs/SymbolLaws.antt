@@ -36,7 +36,7 @@ pub joined_symbol_back : (separator : ℕ) (symbol : SymbolParts) (fields : List
 joined_symbol_back separator symbol fields low range there =
     rw (there, joined_symbol_of-text separator symbol low range) refl
 
-was_ok : (r : Result SymbolParts LegFault) (symbol : SymbolParts) → result_ok r ≡ Some symbol → r ≡ Ok symbol
+pub was_ok : (r : Result SymbolParts LegFault) (symbol : SymbolParts) → result_ok r ≡ Some symbol → r ≡ Ok symbol
 was_ok (Ok s) symbol e = cc
 was_ok (Err fault) symbol e = cc
 
