@@ -28,3 +28,5 @@ pub mod Split4
 pub mod Split4Laws
 pub mod Coded
 pub mod CodedLaws
+pub mod Any
+pub mod AnyLaws

@@ -1,6 +1,7 @@
 //! How venues spell an order in the fields of a message.
 #![tactic(auto)]
 
+mod any_dialect;
 mod coded;
 mod dialect;
 mod digits;
@@ -24,6 +25,7 @@ mod tag;
 mod text;
 mod time;
 
+pub use any_dialect::AnyDialect;
 pub use coded::Coded;
 pub use dialect::Dialect;
 pub use fault::DialectFault;
