@@ -23,7 +23,12 @@ impl Spelling for AnyDialect {
 
     ghost spelling = { any_spelling };
 
-    fn push_id(&self, alloc: Global, id: &LegId, fields: &mut Vec<Field>) -> Result<(), AllocError> {
+    fn push_id(
+        &self,
+        alloc: Global,
+        id: &LegId,
+        fields: &mut Vec<Field>,
+    ) -> Result<(), AllocError> {
         match self {
             AnyDialect::Plain => Plain.push_id(alloc, id, fields),
             AnyDialect::Split4 => Split4.push_id(alloc, id, fields),
