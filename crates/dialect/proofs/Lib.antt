@@ -1,6 +1,5 @@
 pub mod Ordinals
 pub mod PriceRange
-pub mod SplitRead
-pub mod PlainIdRead
-pub mod JoinedSymbolRead
-pub mod PlainReading
+pub mod OrderReading
+pub mod DigitsRead
+pub mod ShortIds

@@ -1,16 +1,15 @@
 -- A number that counts from 1 is read from its shortest decimal alone.
-use Rattle.std.proofs.Common.{◌≡◌, ℕ, zero, suc, ◌^◌, ◌<◌, ◌≤◌, Bool, true, false, cond, ◌&&◌, nat_le, List, [], ◌∷◌, length, get_or, decimal, Option, Some, None, refl, sym, ap, subst, ◌∙◌, arith, rules}
+use Rattle.std.proofs.Common.{◌≡◌, ℕ, zero, suc, ◌^◌, ◌<◌, ◌≤◌, Bool, true, false, cond, ◌&&◌, List, [], ◌∷◌, length, get_or, decimal, Option, Some, None, refl, sym, ap, ◌∙◌, arith, rules}
 use Rattle.std.specs.Char.{is_ascii_digit}
-use Rattle.std.specs.Str.{bytes_eq}
-use Rattle.std.proofs.lemmas.Bool.{and_parts, and_from, leb-true, ltb-true, eqb-true, le-leb, false_from_ne_true, cond-false, cond-true, true≢false}
+use Rattle.std.proofs.lemmas.Bool.{and_parts, and_from, ltb-true, eqb-true, cond-false, cond-true, true≢false}
 use Rattle.std.proofs.lemmas.Bool.Decides.{nat_tests}
 use Rattle.std.proofs.lemmas.Fmt.{first_decimal, decimal_digit, decimal-digits_value}
-use Rattle.std.proofs.lemmas.Option.{cond_some, option_and_then_some}
-use Rattle.std.proofs.lemmas.Slice.Eq.{bytes_eq-Decides}
+use Rattle.std.proofs.lemmas.Option.{cond_some}
 use Rattle.std.proofs.lemmas.Str.Parse.{IsNumeralModel, IsDigitsTest, FoldsDigits, numerals_by_fold}
 use Rattle.fix_tags.specs.Digits.{number_after, digits_number, leading_digits, after_digits, all_digits, within}
 use Rattle.fix_tags.specs.Number.{number_of}
 use Rattle.dialect.specs.Ordinal.{ordinal_of, begins_with_zero}
+use Rattle.dialect.specs.OrdinalLaws.{IsOrdinal, passes, passes-true, passes-false}
 
 all_digits_test : IsDigitsTest (λ ds. all_digits ds ≡ true)
 all_digits_test = search rules
@@ -77,34 +76,6 @@ begins_with_zero-first (c ∷ cs) starts = grind (arith, nat_tests)
 not_decimal : (text : List ℕ) (n : ℕ) → begins_with_zero text ≡ true → 1 ≤ n → n < 2 ^ 64 → decimal n ≡ text → ⊥
 not_decimal text n starts low small e =
     omega (arith, first_decimal n low small, ap (λ t. get_or t 0 0) e, begins_with_zero-first text starts)
-
--- what is read is the shortest decimal of a number that counts from 1
-pub record IsOrdinal (greatest : ℕ) (text : List ℕ) (n : ℕ) : Type 0 where
-  pub low : 1 ≤ n
-  pub high : n ≤ greatest
-  pub text_is : decimal n ≡ text
-
--- at a number, the test of `ordinal_of`
-abbrev passes : ℕ → List ℕ → ℕ → Bool
-passes greatest text n = nat_le 1 n && nat_le n greatest && bytes_eq (decimal n) text
-
-passes-true : (greatest : ℕ) (text : List ℕ) (n : ℕ) → IsOrdinal greatest text n → passes greatest text n ≡ true
-passes-true greatest text n is =
-    and_from _ _ (and_from _ _ (le-leb _ _ is.low) (le-leb _ _ is.high)) ((bytes_eq-Decides (decimal n) text).1 is.text_is)
-
-passes-tells : (greatest : ℕ) (text : List ℕ) (n : ℕ) → passes greatest text n ≡ true → IsOrdinal greatest text n
-passes-tells greatest text n e =
-    let parts = and_parts _ _ e in
-    let bounds = and_parts _ _ parts.0 in
-    record { low = leb-true _ _ bounds.0; high = leb-true _ _ bounds.1; text_is = (bytes_eq-Decides (decimal n) text).0 parts.1 }
-
-passes-false : (greatest : ℕ) (text : List ℕ) (n : ℕ) → (IsOrdinal greatest text n → ⊥) → passes greatest text n ≡ false
-passes-false greatest text n never = false_from_ne_true _ (λ e. never (passes-tells greatest text n e))
-
-pub ordinal_of-Some : (greatest : ℕ) (text : List ℕ) (n : ℕ) → ordinal_of greatest text ≡ Some n → IsOrdinal greatest text n
-unfolding ordinal_of
-ordinal_of-Some greatest text n e =
-    option_and_then_some _ (number_of text) n e (λ m from then. let parts = cond_some _ m n then in subst (IsOrdinal greatest text) parts.1 (passes-tells greatest text m parts.0))
 
 -- where the text writes no number, and where it writes one
 pub ordinal_of-none : (greatest : ℕ) (text : List ℕ) → number_of text ≡ None → ordinal_of greatest text ≡ None

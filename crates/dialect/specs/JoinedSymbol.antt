@@ -1,17 +1,8 @@
--- A symbol in one text: the root and, where there is one, the suffix behind a separator.
-use Rattle.std.specs.Prelude.{ℕ, List, [], ◌∷◌, ◌++◌, Option, Some, None}
+-- A symbol that is read from one text: the root and, where there is one, the suffix behind a separator.
+use Rattle.std.specs.Prelude.{ℕ, List, [], ◌∷◌, Option, Some, None}
 use Rattle.std.specs.Result.{result_ok}
 use Rattle.leg.specs.Symbol.{SymbolParts, symbol_of}
 use Rattle.dialect.specs.Split.{parts_round}
-
--- the suffix behind a separator, where it has letters
-abbrev pub behind : ℕ → List ℕ → List ℕ
-behind separator [] = []
-behind separator (c ∷ cs) = separator ∷ c ∷ cs
-
--- what is written
-abbrev pub joined_symbol_text : ℕ → SymbolParts → List ℕ
-joined_symbol_text separator symbol = symbol.root ++ behind separator symbol.suffix
 
 -- the symbol of a root and of the suffix that stands behind its separator
 abbrev pub suffixed_symbol_of : List ℕ → List ℕ → Option SymbolParts

@@ -1,5 +1,5 @@
 -- Lemmas: the parts of an order that are spelled alike in several dialects are read back.
-use Rattle.std.proofs.Common.{◌≡◌, ℕ, true, List, codes, decimal, Some, Ok, refl, arith}
+use Rattle.std.proofs.Common.{◌≡◌, ℕ, List, codes, decimal, Some, Ok, refl, arith}
 use Rattle.std.proofs.lemmas.Bool.{le-leb}
 use Rattle.fix_text.specs.Tagged.{Tagged, value_of}
 use Rattle.fix_tags.specs.Price.{price_of}
@@ -7,7 +7,6 @@ use Rattle.leg.specs.declared.side.Side.{Side}
 use Rattle.leg.specs.declared.side.Side.TheVariants.{Buy, Sell}
 use Rattle.leg.specs.Terms.{IsShares}
 use Rattle.dialect.specs.declared.limit.Limit.{Limit}
-use Rattle.dialect.specs.Mark.{is_among}
 use Rattle.dialect.specs.Limit.{order_shares_of, side_of, side_text, limit_in}
 use Rattle.dialect.specs.Time.{immediate_in}
 use Rattle.fix_tags.specs.ReadBack.{shares_of-decimal}
@@ -31,8 +30,3 @@ limit_in-written fields limit text range says shares kind price side =
 pub immediate_in-written : (fields : List Tagged) (time : List ℕ) → value_of fields 59 ≡ Some (codes "3") → value_of fields 60 ≡ Some time → immediate_in fields ≡ Ok tt
 unfolding immediate_in
 immediate_in-written fields time immediate there = rw (immediate, there) refl
-
--- an instruction that stands alone is there
-pub is_among-alone : is_among (codes "f") (codes "f") ≡ true
-unfolding is_among
-is_among-alone = refl

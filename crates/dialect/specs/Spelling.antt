@@ -6,7 +6,7 @@ use Rattle.fix_tags.specs.Price.{price_of}
 use Rattle.leg.specs.LegId.{LegIdParts, IsLegId}
 use Rattle.leg.specs.Symbol.{SymbolParts, IsSymbol}
 use Rattle.leg.specs.Terms.{IsPrice}
-use Rattle.dialect.specs.FieldLaws.{IsShortValue, IsShortField, has_no}
+use Rattle.dialect.specs.FieldLaws.{IsShortValue, IsShortField, AreIn, has_no}
 use Rattle.dialect.specs.declared.fault.DialectFault.{DialectFault}
 
 pub record SpellingParts : Type 0 where
@@ -29,6 +29,7 @@ shared_tags = 11 ∷ 38 ∷ 40 ∷ 44 ∷ 54 ∷ 55 ∷ 65 ∷ 59 ∷ 60 ∷ []
 -- the laws of a spelling
 pub record IsSpelling (s : SpellingParts) : Type 0 where
   pub id_reads_back : (id : LegIdParts) → IsLegId id → s.id_of (s.id_text id) ≡ Some id
+  pub id_says : (text : List ℕ) (id : LegIdParts) → s.id_of text ≡ Some id → IsLegId id × (text ≡ s.id_text id)
   pub id_short : (id : LegIdParts) → IsLegId id → IsShortValue (s.id_text id)
   pub mark_is_read : (fields : List Tagged) → value_of fields s.mark.tag ≡ Some s.mark.value → s.is_marked fields ≡ true
   pub mark_short : IsShortField s.mark
@@ -40,3 +41,4 @@ pub record IsSpelling (s : SpellingParts) : Type 0 where
   pub symbol_reads_back : (symbol : SymbolParts) (fields : List Tagged) → IsSymbol symbol
       → value_of fields 55 ≡ value_of (s.symbol_fields symbol) 55 → value_of fields 65 ≡ value_of (s.symbol_fields symbol) 65
       → s.symbol_in fields ≡ Ok symbol
+  pub symbol_says : (symbol : SymbolParts) (fields : List Tagged) → s.symbol_in fields ≡ Ok symbol → AreIn fields (s.symbol_fields symbol)

@@ -1,31 +1,32 @@
 -- Lemmas: the values of an order can be written, in at most 32 bytes each.
-use Rattle.std.proofs.Common.{◌≡◌, ◌≢◌, ◌==◌, ◌⊎◌, inl, inr, ℕ, ◌+◌, ◌<◌, ◌≤◌, List, [], ◌∷◌, length, decimal, refl, arith, length-append}
+use Rattle.std.proofs.Common.{◌≡◌, ◌≢◌, ◌==◌, ◌⊎◌, inl, inr, ℕ, ◌<◌, ◌≤◌, List, [], ◌∷◌, length, decimal, refl, arith, length-append}
 use Rattle.std.specs.List.{All}
 use Rattle.std.proofs.lemmas.Bool.{and_from, ne_eqb, not_from_false}
-use Rattle.std.proofs.lemmas.List.Elements.{All-nil, All-cons, All-append, All-from_recursion}
+use Rattle.std.proofs.lemmas.List.Elements.{All-nil, All-cons, All-from_recursion}
 use Rattle.std.proofs.lemmas.List.Folds.{list_any_none}
-use Rattle.fix_tags.specs.Price.{price_short}
+use Rattle.fix_tags.specs.Price.{price_short, price_four}
 use Rattle.fix_tags.specs.Stamp.{StampParts, stamp_text}
 use Rattle.leg.specs.declared.side.Side.{Side}
 use Rattle.leg.specs.declared.side.Side.TheVariants.{Buy, Sell}
 use Rattle.leg.specs.LegId.{LegIdParts, IsLegId, leg_id_text}
-use Rattle.leg.specs.Symbol.{SymbolParts, IsLetter, IsSymbol}
+use Rattle.leg.specs.Symbol.{SymbolParts, IsLetter, IsSymbol, joined_text}
 use Rattle.leg.specs.Terms.{IsShares, IsPrice}
 use Rattle.leg.proofs.Digits.{IsDigit}
 use Rattle.leg.proofs.LegIdText.{leg_id_bytes, length-leg_id_text}
+use Rattle.leg.proofs.SymbolText.{IsSymbolByte, symbol_bytes, length-joined_text}
 use Rattle.dialect.specs.FieldLaws.{IsShortValue}
 use Rattle.dialect.specs.Limit.{side_text}
-use Rattle.dialect.specs.JoinedSymbol.{behind, joined_symbol_text}
-use Rattle.fix_tags.specs.Written.{HasNoDelimiter-decimal, HasNoDelimiter-price_short, HasNoDelimiter-stamp_text, nonempty-decimal, nonempty-price_short, length-decimal, length-price_short, length-stamp_text}
+use Rattle.fix_tags.specs.Written.{HasNoDelimiter-decimal, HasNoDelimiter-price_short, HasNoDelimiter-price_four, HasNoDelimiter-stamp_text, nonempty-decimal, nonempty-price_short, nonempty-price_four, length-decimal, length-price_short, length-price_four, length-stamp_text}
 
-abbrev IsNotSoh : ℕ → Type 0
+abbrev pub IsNotSoh : ℕ → Type 0
 IsNotSoh c = c ≢ 1
 
 -- no byte is SOH
-abbrev NoSoh : List ℕ → Type 0
+abbrev pub NoSoh : List ℕ → Type 0
 NoSoh value = All IsNotSoh value
 
-short_value : (value : List ℕ) → 0 < length value → length value ≤ 32 → NoSoh value → IsShortValue value
+-- a value that isn't empty
+pub short_value : (value : List ℕ) → 0 < length value → length value ≤ 32 → NoSoh value → IsShortValue value
 short_value value some short none =
     let full = ne_eqb (length value) 0 (λ e. omega arith) in
     let free = list_any_none (λ byte. byte == 1) value (λ k d within. ne_eqb _ _ (none k d within)) in
@@ -59,6 +60,11 @@ pub short_price : (price : ℕ) → IsPrice price → IsShortValue (price_short 
 short_price price range =
     short_value (price_short price) (nonempty-price_short price (omega arith)) (omega (arith, length-price_short price range.high)) (All-from_recursion IsNotSoh _ (HasNoDelimiter-price_short price (omega arith)))
 
+-- a price with four decimals
+pub short_price_four : (price : ℕ) → IsPrice price → IsShortValue (price_four price)
+short_price_four price range =
+    short_value (price_four price) (nonempty-price_four price (omega arith)) (omega (arith, length-price_four price range.high)) (All-from_recursion IsNotSoh _ (HasNoDelimiter-price_four price (omega arith)))
+
 pub short_side : (side : Side) → IsShortValue (side_text side)
 short_side Buy = record { writable = refl; short = omega arith }
 short_side Sell = record { writable = refl; short = omega arith }
@@ -67,26 +73,21 @@ short_side Sell = record { writable = refl; short = omega arith }
 pub short_byte : (c : ℕ) → c ≢ 1 → IsShortValue (c ∷ [])
 short_byte c free = short_value (c ∷ []) (omega arith) (omega arith) (All-cons IsNotSoh c [] free (All-nil IsNotSoh))
 
-length-behind : (separator : ℕ) (suffix : List ℕ) → length (behind separator suffix) ≤ 1 + length suffix
-length-behind separator [] = omega arith
-length-behind separator (c ∷ cs) = omega arith
-
-letters_free : (text : List ℕ) → All IsLetter text → NoSoh text
-letters_free text letters = λ k d within. let letter = letters k d within in λ e. omega arith
-
-behind_free : (separator : ℕ) (suffix : List ℕ) → separator ≢ 1 → All IsLetter suffix → NoSoh (behind separator suffix)
-behind_free separator [] free letters = All-nil IsNotSoh
-behind_free separator (c ∷ cs) free letters = All-cons IsNotSoh separator (c ∷ cs) free (letters_free (c ∷ cs) letters)
+letter_free : (separator c : ℕ) → separator ≢ 1 → IsSymbolByte separator c → c ≢ 1
+letter_free separator c free (inl is) = λ e. free (omega arith)
+letter_free separator c free (inr letter) = λ e. omega arith
 
 -- a symbol in one text
-pub short_symbol : (separator : ℕ) (symbol : SymbolParts) → separator ≢ 1 → IsSymbol symbol → IsShortValue (joined_symbol_text separator symbol)
+pub short_symbol : (separator : ℕ) (symbol : SymbolParts) → separator ≢ 1 → IsSymbol symbol → IsShortValue (joined_text separator symbol)
 short_symbol separator symbol free range =
-    let root = range.root in
-    let suffix = range.suffix in
-    let behind_short = length-behind separator symbol.suffix in
-    let whole = length-append symbol.root (behind separator symbol.suffix) in
-    short_value (joined_symbol_text separator symbol) (omega arith) (omega arith)
-    (All-append IsNotSoh symbol.root (behind separator symbol.suffix) (letters_free symbol.root root.letters) (behind_free separator symbol.suffix free suffix.letters))
+    let long = length-joined_text separator symbol range in
+    let bytes = symbol_bytes separator symbol range in
+    short_value (joined_text separator symbol) (omega (arith, long.some)) (omega (arith, long.short)) (λ k d within. letter_free separator _ free (bytes k d within))
+
+-- letters A to Z, up to 6 of them
+pub short_letters : (text : List ℕ) → All IsLetter text → 1 ≤ length text → length text ≤ 6 → IsShortValue text
+short_letters text letters some few =
+    short_value text (omega arith) (omega arith) (λ k d within. let letter = letters k d within in λ e. omega arith)
 
 pub short_stamp : (stamp : StampParts) → IsShortValue (stamp_text stamp)
 short_stamp stamp =

@@ -1,11 +1,15 @@
 //! How venues spell an order, and a report on it, in the fields of a message.
 #![tactic(auto)]
 
+mod any_dialect;
+mod coded;
 mod dialect;
+mod digits;
 mod exec_id;
 mod fault;
 mod field_value;
 mod fill;
+mod fixed_id;
 mod free_text;
 mod kind;
 mod last_px;
@@ -13,24 +17,28 @@ mod laws;
 mod limit;
 mod mark;
 mod note;
+mod order;
 mod order_id;
 mod order_view;
 mod ordinal;
 mod plain;
 mod plain_id;
-mod plain_spelling;
 mod push;
 mod report;
 mod report_read;
 mod report_tag;
 mod report_write;
+mod spelled;
 mod spelling;
 mod split;
+mod split4;
 mod symbol_text;
 mod tag;
 mod text;
 mod time;
 
+pub use any_dialect::AnyDialect;
+pub use coded::Coded;
 pub use dialect::Dialect;
 pub use exec_id::{ExecId, MAX_EXEC_ID};
 pub use fault::DialectFault;
@@ -44,6 +52,7 @@ pub use order_view::OrderView;
 pub use plain::Plain;
 pub use report::{Report, ReportKind};
 pub use spelling::Spelling;
+pub use split4::Split4;
 pub use symbol_text::read_symbol;
 
 #[cfg(test)]

@@ -9,6 +9,7 @@ ghost use Rattle.dialect.specs.Limit.{order_shares_of, limit_order_in, side_of, 
 use crate::fault::DialectFault;
 use crate::field_value::required;
 use crate::push::{push_slice, push_text};
+use crate::spelling::Spelling;
 use crate::tag::{ORD_TYPE, ORDER_QTY, PRICE, SIDE};
 use crate::text::number_text;
 use fix_tags::{read_price, read_shares};
@@ -126,19 +127,19 @@ pub(crate) fn side_text(side: Side) -> &'static [u8]
     }
 }
 
-/// Appends 38 to 54 for the terms, with this text of the price.
-pub(crate) fn push_limit(
+/// Appends 38 to 54 for the terms, the price as the dialect spells it.
+pub(crate) fn push_limit<S: Spelling>(
+    spelling: &S,
     alloc: Global,
     terms: &Terms,
-    price: Vec<u8>,
     fields: &mut Vec<Field>,
 ) -> Result<(), AllocError>
-    ensures ok { OnOk result (fields.new.items
-        ≡ fields.old.items ++ limit_fields terms.now.shares price.items terms.now.side) }
+    ensures ok { OnOk result (fields.new.items ≡ fields.old.items
+        ++ limit_fields terms.now.shares ((S.spelling spelling.now).price_text terms.now.price) terms.now.side) }
     ensures err { OnErr result (IsGrown fields.old.items fields.new.items) }
 {
     push_text(ORDER_QTY, number_text(alloc, terms.shares())?, fields)?;
     push_slice(alloc, ORD_TYPE, LIMIT_ORDER, fields)?;
-    push_text(PRICE, price, fields)?;
+    spelling.push_price(alloc, terms.price(), fields)?;
     push_slice(alloc, SIDE, side_text(terms.side()), fields)
 }

@@ -7,6 +7,9 @@ ghost use Rattle.dialect.specs.Fields.{has_value};
 use crate::tag::EXEC_INST;
 use fix_text::{FieldRef, first_ref};
 
+/// ExecInst (18) of a leg of a sweep: an intermarket sweep.
+pub(crate) const INTERMARKET_SWEEP: &[u8] = b"f";
+
 /// Whether a value stands among those of a text, which single spaces part (FIX 4.4 Volume 1, data type
 /// MultipleValueString).
 fn is_among(value: &[u8], text: &[u8]) -> bool

@@ -1,7 +1,7 @@
 //! A leg's number in ClOrdID (11) as Plain spells it, `S12L3`.
 
 ghost use Rattle.std.specs.Prelude.{◌≡◌, IfOk};
-ghost use Rattle.dialect.specs.PlainId.{numbers_of, plain_id_of};
+ghost use Rattle.dialect.specs.Plain.{numbers_of, plain_id_of};
 ghost use Rattle.leg.specs.LegId.{leg_id_text};
 
 use crate::ordinal::read_ordinal;
@@ -24,7 +24,7 @@ fn read_numbers(text: &[u8]) -> Option<LegId>
 }
 
 /// Reads the one spelling of a leg's number, with no leading zeros.
-#[tactic(auto, unfolding(crate::specs::PlainId::plain_id_of))]
+#[tactic(auto, unfolding(crate::specs::Plain::plain_id_of))]
 pub(crate) fn read_plain_id(text: &[u8]) -> Option<LegId>
     ensures { result ≡ plain_id_of text.now }
 {

@@ -1,7 +1,8 @@
 //! A symbol in one text: the root and, where there is one, the suffix behind a separator.
 
 ghost use Rattle.std.specs.Prelude.{◌≡◌, IfOk};
-ghost use Rattle.dialect.specs.JoinedSymbol.{joined_symbol_of, joined_symbol_text};
+ghost use Rattle.leg.specs.Symbol.{joined_text};
+ghost use Rattle.dialect.specs.JoinedSymbol.{joined_symbol_of};
 
 use crate::split::split_round;
 use leg::Symbol;
@@ -35,7 +36,7 @@ pub(crate) fn joined_symbol_text(
     separator: u8,
     symbol: &Symbol,
 ) -> Result<Vec<u8>, AllocError>
-    ensures { IfOk result (λ text. text.items ≡ joined_symbol_text separator symbol.now) }
+    ensures { IfOk result (λ text. text.items ≡ joined_text separator symbol.now) }
 {
     let mut text = Vec::with_capacity(alloc, MAX_LEN)?;
     text.extend_from_slice(symbol.root())?;

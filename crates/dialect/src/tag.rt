@@ -21,8 +21,14 @@ pub(crate) const SIDE: u32 = 54;
 /// Symbol of the security.
 pub(crate) const SYMBOL: u32 = 55;
 
+/// SymbolSfx: the suffix of a symbol, where a venue has it in a field of its own.
+pub(crate) const SYMBOL_SFX: u32 = 65;
+
 /// TimeInForce: `3` is immediate or cancel.
 pub(crate) const TIME_IN_FORCE: u32 = 59;
 
 /// TransactTime: when the order was made.
 pub(crate) const TRANSACT_TIME: u32 = 60;
+
+/// A leg of a sweep: a venue's own field, with a tag of those that FIX 4.4 Volume 1 leaves to the parties.
+pub(crate) const SWEEP_LEG: u32 = 9001;

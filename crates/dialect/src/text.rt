@@ -1,10 +1,10 @@
 //! The texts of values that are written alike in several dialects.
 
 ghost use Rattle.std.specs.Prelude.{◌≡◌, ◌++◌, decimal, IfOk, OnOk};
-ghost use Rattle.fix_tags.specs.Price.{price_short};
+ghost use Rattle.fix_tags.specs.Price.{price_short, price_four};
 ghost use Rattle.fix_tags.specs.Stamp.{stamp_text};
 
-use fix_tags::{Stamp, write_number, write_price_short, write_stamp};
+use fix_tags::{Stamp, write_number, write_price_four, write_price_short, write_stamp};
 use std::alloc::{AllocError, Global};
 
 /// Appends the shortest decimal.
@@ -29,6 +29,15 @@ pub(crate) fn short_price_text(alloc: Global, price: u64) -> Result<Vec<u8>, All
 {
     let mut text = Vec::new(alloc);
     write_price_short(price, &mut text).map_err(|_| AllocError)?;
+    Ok(text)
+}
+
+/// A price in ten-thousandths of a dollar, with four decimals.
+pub(crate) fn four_price_text(alloc: Global, price: u64) -> Result<Vec<u8>, AllocError>
+    ensures { IfOk result (λ text. text.items ≡ price_four price) }
+{
+    let mut text = Vec::new(alloc);
+    write_price_four(price, &mut text).map_err(|_| AllocError)?;
     Ok(text)
 }
 

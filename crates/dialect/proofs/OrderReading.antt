@@ -1,4 +1,4 @@
--- What an order that Plain reads says.
+-- What an order that was read says.
 use Rattle.std.proofs.Common.{◌≡◌, ◌==◌, ℕ, Bool, true, false, cond, List, [], ◌∷◌, codes, Option, Some, None, Result, Ok, Err, IsSome, IfOk, refl, sym, ap, subst, ◌∙◌}
 use Rattle.std.specs.Option.{ok_or, option_map_or}
 use Rattle.std.proofs.lemmas.Bool.{eqb-true}
@@ -15,44 +15,12 @@ use Rattle.leg.specs.declared.side.Side.TheVariants.{Buy, Sell}
 use Rattle.dialect.specs.declared.limit.Limit.{Limit}
 use Rattle.dialect.specs.declared.fault.DialectFault.{DialectFault}
 use Rattle.dialect.specs.declared.fault.DialectFault.TheVariants.{Missing, Bad, NotIoc, NotMarked}
-use Rattle.dialect.specs.Fields.{◌>>=◌, required, required_as, ReadsAs, unless, has_value, is_text}
-use Rattle.dialect.specs.Mark.{is_among}
-use Rattle.dialect.specs.PlainId.{plain_id_of}
-use Rattle.dialect.specs.JoinedSymbol.{joined_symbol_of}
+use Rattle.dialect.specs.Fields.{required, required_as, ReadsAs, unless, has_value, is_text}
 use Rattle.dialect.specs.Limit.{order_shares_of, side_of, side_text, limit_order_in, limit_in, leg_of}
 use Rattle.dialect.specs.Time.{immediate_in}
-use Rattle.dialect.specs.Plain.{IsPlainReading, plain_order_read}
-use Rattle.dialect.proofs.PlainIdRead.{plain_id_of-Some}
-use Rattle.dialect.proofs.JoinedSymbolRead.{joined_symbol_of-Some}
-
--- the value of a step that met no fault
-bind_ok : {A B : Type 0} (r : Result A DialectFault) (f : A → Result B DialectFault) (y : B) → (r >>= f) ≡ Ok y → (x : A) × (r ≡ Ok x) × (f x ≡ Ok y)
-bind_ok (Ok x) f y e = (x, refl, e)
-bind_ok (Err d) f y e = absurd cc
-
-step : {A B P : Type 0} (f : A → Result B DialectFault) (r : Result A DialectFault) (y : B) → (r >>= f) ≡ Ok y → ((x : A) → r ≡ Ok x → f x ≡ Ok y → P) → P
-step f r y e then = let b = bind_ok r f y e in then b.0 b.1 b.2
-
--- one result
-abbrev done : {A : Type 0} → A → Result A DialectFault
-done x = Ok x
-
-same_ok : {A : Type 0} (x y : A) → done x ≡ done y → x ≡ y
-same_ok x y e = cc
-
-unless_ok : (b : Bool) (fault : DialectFault) (u : Unit {0}) → unless b fault ≡ Ok u → b ≡ true
-unless_ok true fault u e = refl
-unless_ok false fault u e = cc
-
-was_some : {A : Type 0} (o : Option A) (fault : DialectFault) (x : A) → ok_or o fault ≡ Ok x → o ≡ Some x
-was_some None fault x e = cc
-was_some (Some y) fault x e = cc
-
--- a field that was there, and read as this
-required_as-Ok : {A : Type 0} (reads : List ℕ → Option A) (fields : List Tagged) (tag : ℕ) (x : A) → required_as reads fields tag ≡ Ok x → ReadsAs reads fields tag x
-required_as-Ok reads fields tag x e =
-    let b = bind_ok (required fields tag) (λ text. ok_or (reads text) (Bad tag)) x e in
-    record { text = b.0; there = was_some _ _ _ b.1; reads_as = was_some _ _ _ b.2 }
+use Rattle.dialect.specs.Spelling.{SpellingParts, IsSpelling}
+use Rattle.dialect.specs.Order.{IsReadingOf, order_read_of}
+use Rattle.dialect.specs.StepLaws.{bind_ok, step, same_ok, unless_ok, was_some, required_as-Ok}
 
 is_there : (o : Option (List ℕ)) (fault : DialectFault) (text : List ℕ) → ok_or o fault ≡ Ok text → IsSome o
 is_there (Some value) fault text e = refl
@@ -126,34 +94,33 @@ immediate_in-Ok fields u e =
     }))
 
 -- what is known of the parts that were read
-parts_say : (fields : List Tagged) (id : LegIdParts) (limit : Limit) (symbol : SymbolParts) (u v : Unit {0}) → required_as plain_id_of fields 11 ≡ Ok id → unless (has_value (is_among (codes "f")) fields 18) NotMarked ≡ Ok u → limit_in fields ≡ Ok limit → required_as (joined_symbol_of 46) fields 55 ≡ Ok symbol → immediate_in fields ≡ Ok v → IsPlainReading (leg_of id symbol limit) fields
-parts_say fields id limit symbol u v first second third fourth fifth =
-    let id_read = required_as-Ok plain_id_of fields 11 id first in
+parts_say : (s : SpellingParts) (fields : List Tagged) (id : LegIdParts) (limit : Limit) (symbol : SymbolParts) (u v : Unit {0}) → IsSpelling s → required_as s.id_of fields 11 ≡ Ok id → unless (s.is_marked fields) NotMarked ≡ Ok u → limit_in fields ≡ Ok limit → s.symbol_in fields ≡ Ok symbol → immediate_in fields ≡ Ok v → IsReadingOf s (leg_of id symbol limit) fields
+parts_say s fields id limit symbol u v laws first second third fourth fifth =
+    let id_read = required_as-Ok s.id_of fields 11 id first in
     let limit_read = limit_in-Ok fields limit third in
-    let symbol_read = required_as-Ok (joined_symbol_of 46) fields 55 symbol fourth in
     let time_read = immediate_in-Ok fields v fifth in
     record {
-      id = id_read.there ∙ ap Some (sym (plain_id_of-Some id_read.text id id_read.reads_as));
+      id = id_read.there ∙ ap Some (laws.id_says id_read.text id id_read.reads_as).1;
       marked = unless_ok _ NotMarked u second;
       shares = limit_read.shares;
       limit = limit_read.kind;
       price = limit_read.price;
       side = limit_read.side;
-      symbol = symbol_read.there ∙ ap Some (sym (joined_symbol_of-Some 46 symbol_read.text symbol symbol_read.reads_as));
+      symbol = laws.symbol_says symbol fields fourth;
       immediate = time_read.immediate;
       timed = time_read.timed;
     }
 
-plain_order_read-Ok : (fields : List Tagged) (leg : Leg) → plain_order_read fields ≡ Ok leg → IsPlainReading leg fields
-unfolding plain_order_read
-plain_order_read-Ok fields leg e =
-    step _ (required_as plain_id_of fields 11) leg e (λ id first e1.
-    step _ (unless (has_value (is_among (codes "f")) fields 18) NotMarked) leg e1 (λ u second e2.
+order_read_of-Ok : (s : SpellingParts) (fields : List Tagged) (leg : Leg) → IsSpelling s → order_read_of s fields ≡ Ok leg → IsReadingOf s leg fields
+unfolding order_read_of
+order_read_of-Ok s fields leg laws e =
+    step _ (required_as s.id_of fields 11) leg e (λ id first e1.
+    step _ (unless (s.is_marked fields) NotMarked) leg e1 (λ u second e2.
     step _ (limit_in fields) leg e2 (λ limit third e3.
-    step _ (required_as (joined_symbol_of 46) fields 55) leg e3 (λ symbol fourth e4.
+    step _ (s.symbol_in fields) leg e3 (λ symbol fourth e4.
     step _ (immediate_in fields) leg e4 (λ v fifth e5.
-    subst (λ (leg : Leg). IsPlainReading leg fields) (same_ok _ leg e5) (parts_say fields id limit symbol u v first second third fourth fifth))))))
+    subst (λ (leg : Leg). IsReadingOf s leg fields) (same_ok _ leg e5) (parts_say s fields id limit symbol u v laws first second third fourth fifth))))))
 
-pub plain_reading : (fields : List Tagged) (read : Result Leg DialectFault) → read ≡ plain_order_read fields → IfOk read (λ leg. IsPlainReading leg fields)
-plain_reading fields (Ok leg) e = plain_order_read-Ok fields leg (sym e)
-plain_reading fields (Err fault) e = tt
+pub order_reading : (s : SpellingParts) (fields : List Tagged) (read : Result Leg DialectFault) → IsSpelling s → read ≡ order_read_of s fields → IfOk read (λ leg. IsReadingOf s leg fields)
+order_reading s fields (Ok leg) laws e = order_read_of-Ok s fields leg laws (sym e)
+order_reading s fields (Err fault) laws e = tt

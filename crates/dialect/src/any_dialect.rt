@@ -1,0 +1,98 @@
+//! Any of the dialects, where it is known only when the program runs which one it is.
+
+use crate::coded::Coded;
+use crate::fault::DialectFault;
+use crate::plain::Plain;
+use crate::spelling::Spelling;
+use crate::split4::Split4;
+use fix_text::{Field, FieldRef};
+use leg::{LegId, Symbol};
+use std::alloc::{AllocError, Global};
+
+/// One of the dialects, each of which spells an order as the type of its name does.
+#[derive(Clone, Copy, Debug, PartialEq, Eq)]
+pub enum AnyDialect {
+    Plain,
+    Split4,
+    Coded,
+}
+
+impl Spelling for AnyDialect {
+    ghost use Rattle.dialect.specs.Any.{any_spelling};
+    ghost use Rattle.dialect.specs.AnyLaws.{any_is_spelling};
+
+    ghost spelling = { any_spelling };
+
+    fn push_id(
+        &self,
+        alloc: Global,
+        id: &LegId,
+        fields: &mut Vec<Field>,
+    ) -> Result<(), AllocError> {
+        match self {
+            AnyDialect::Plain => Plain.push_id(alloc, id, fields),
+            AnyDialect::Split4 => Split4.push_id(alloc, id, fields),
+            AnyDialect::Coded => Coded.push_id(alloc, id, fields),
+        }
+    }
+
+    fn read_id(&self, text: &[u8]) -> Option<LegId> {
+        match self {
+            AnyDialect::Plain => Plain.read_id(text),
+            AnyDialect::Split4 => Split4.read_id(text),
+            AnyDialect::Coded => Coded.read_id(text),
+        }
+    }
+
+    fn push_mark(&self, alloc: Global, fields: &mut Vec<Field>) -> Result<(), AllocError> {
+        match self {
+            AnyDialect::Plain => Plain.push_mark(alloc, fields),
+            AnyDialect::Split4 => Split4.push_mark(alloc, fields),
+            AnyDialect::Coded => Coded.push_mark(alloc, fields),
+        }
+    }
+
+    fn is_marked(&self, fields: &[FieldRef<'_>]) -> bool {
+        match self {
+            AnyDialect::Plain => Plain.is_marked(fields),
+            AnyDialect::Split4 => Split4.is_marked(fields),
+            AnyDialect::Coded => Coded.is_marked(fields),
+        }
+    }
+
+    fn push_price(
+        &self,
+        alloc: Global,
+        price: u64,
+        fields: &mut Vec<Field>,
+    ) -> Result<(), AllocError> {
+        match self {
+            AnyDialect::Plain => Plain.push_price(alloc, price, fields),
+            AnyDialect::Split4 => Split4.push_price(alloc, price, fields),
+            AnyDialect::Coded => Coded.push_price(alloc, price, fields),
+        }
+    }
+
+    fn push_symbol(
+        &self,
+        alloc: Global,
+        symbol: &Symbol,
+        fields: &mut Vec<Field>,
+    ) -> Result<(), AllocError> {
+        match self {
+            AnyDialect::Plain => Plain.push_symbol(alloc, symbol, fields),
+            AnyDialect::Split4 => Split4.push_symbol(alloc, symbol, fields),
+            AnyDialect::Coded => Coded.push_symbol(alloc, symbol, fields),
+        }
+    }
+
+    fn read_symbol(&self, fields: &[FieldRef<'_>]) -> Result<Symbol, DialectFault> {
+        match self {
+            AnyDialect::Plain => Plain.read_symbol(fields),
+            AnyDialect::Split4 => Split4.read_symbol(fields),
+            AnyDialect::Coded => Coded.read_symbol(fields),
+        }
+    }
+
+    ghost is_spelling = { any_is_spelling };
+}

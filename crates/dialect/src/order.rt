@@ -1,0 +1,86 @@
+//! An order is written and read, in any spelling.
+
+ghost use Rattle.std.specs.Prelude.{◌≡◌, ◌++◌, OnOk, OnErr, IsOkUnless};
+ghost use Rattle.dialect.specs.Dialect.{Appends};
+ghost use Rattle.dialect.specs.Fields.{required_as, IsGrown};
+ghost use Rattle.dialect.specs.Order.{IsOrderOf, order_fields, order_read_of};
+
+use crate::fault::DialectFault;
+use crate::field_value::required;
+use crate::limit::{leg_of, push_limit, read_limit};
+use crate::push::all_or_nothing;
+use crate::spelling::Spelling;
+use crate::tag::CL_ORD_ID;
+use crate::time::{check_immediate, push_immediate};
+use fix_tags::Stamp;
+use fix_text::{Field, FieldRef};
+use leg::{Leg, LegId};
+use std::alloc::{AllocError, Global};
+
+/// How many fields an order has at most.
+const MAX_ORDER_LEN: usize = 10;
+
+fn id_in<S: Spelling>(spelling: &S, fields: &[FieldRef<'_>]) -> Result<LegId, DialectFault>
+    ensures { result ≡ required_as (S.spelling spelling.now).id_of fields.now 11 }
+{
+    let text = required(fields, CL_ORD_ID)?;
+    spelling.read_id(text).ok_or(DialectFault::Bad(CL_ORD_ID))
+}
+
+/// Reads an order, as a venue spells it.
+#[tactic(auto, unfolding(crate::specs::Order::order_read_of))]
+pub(crate) fn read_order<S: Spelling>(spelling: &S, fields: &[FieldRef<'_>]) -> Result<Leg, DialectFault>
+    ensures { result ≡ order_read_of (S.spelling spelling.now) fields.now }
+{
+    let id = id_in(spelling, fields)?;
+    if !spelling.is_marked(fields) {
+        return Err(DialectFault::NotMarked);
+    }
+    let limit = read_limit(fields)?;
+    let symbol = spelling.read_symbol(fields)?;
+    check_immediate(fields)?;
+    Ok(leg_of(id, symbol, limit))
+}
+
+/// Appends the order, or on a refused growth only a part of it.
+fn push_order<S: Spelling>(
+    spelling: &S,
+    alloc: Global,
+    leg: &Leg,
+    stamp: &Stamp,
+    fields: &mut Vec<Field>,
+) -> Result<(), AllocError>
+    ensures ok { OnOk result (fields.new.items
+        ≡ fields.old.items ++ order_fields (S.spelling spelling.now) leg.now stamp.now) }
+    ensures err { OnErr result (IsGrown fields.old.items fields.new.items) }
+{
+    fields.reserve(MAX_ORDER_LEN)?;
+    spelling.push_id(alloc, &leg.id, fields)?;
+    spelling.push_mark(alloc, fields)?;
+    push_limit(spelling, alloc, &leg.terms, fields)?;
+    spelling.push_symbol(alloc, leg.terms.symbol(), fields)?;
+    push_immediate(alloc, stamp, fields)
+}
+
+/// Appends the fields of an order, as a venue spells it. V05 leaves the list as it was.
+pub(crate) fn write_order<S: Spelling>(
+    spelling: &S,
+    alloc: Global,
+    leg: &Leg,
+    stamp: &Stamp,
+    fields: &mut Vec<Field>,
+) -> Result<(), DialectFault>
+    ensures ok { OnOk result
+        (Appends (IsOrderOf (S.spelling spelling.now) leg.now) fields.old.items fields.new.items) }
+    ensures only { IsOkUnless result DialectFault.OutOfMemory }
+    ensures err { OnErr result (fields.new.items ≡ fields.old.items) }
+    ensures exact { OnOk result (fields.new.items
+        ≡ fields.old.items ++ order_fields (S.spelling spelling.now) leg.now stamp.now) }
+{
+    // That the leg and the stamp are in range is known once they were read.
+    leg.in_range();
+    let _year = stamp.year();
+    let start = fields.len();
+    let written = push_order(spelling, alloc, leg, stamp, fields);
+    all_or_nothing(written, start, fields)
+}

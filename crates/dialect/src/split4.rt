@@ -1,0 +1,138 @@
+//! The dialect Split4.
+
+ghost use Rattle.std.specs.Prelude.{◌≡◌, IfOk};
+ghost use Rattle.dialect.specs.Fields.{required_as};
+ghost use Rattle.dialect.specs.Split4.{split4_id_text, split4_id_of, root_of, with_suffix, split4_symbol_in};
+
+use crate::digits::append_digits;
+use crate::fault::DialectFault;
+use crate::field_value::required;
+use crate::fixed_id::{PLACE_DIGITS, read_fixed_id};
+use crate::mark::{INTERMARKET_SWEEP, has_instruction};
+use crate::push::{push_slice, push_text};
+use crate::spelling::Spelling;
+use crate::split::split_round;
+use crate::tag::{CL_ORD_ID, EXEC_INST, PRICE, SYMBOL, SYMBOL_SFX};
+use crate::text::four_price_text;
+use fix_text::{Field, FieldRef, first_ref};
+use leg::{LegId, Symbol};
+use std::alloc::{AllocError, Global};
+
+/// Numbers in full and a symbol in two fields: ClOrdID (11) as `000000000012-03`, Price (44) as `10.2500`, and the
+/// root of a symbol in Symbol (55), its suffix, where it has one, in SymbolSfx (65). The mark of a leg of a sweep is
+/// ExecInst (18) `f`.
+#[derive(Clone, Copy, Debug, PartialEq, Eq)]
+pub struct Split4;
+
+/// The digits of a leg's number are decimal.
+const BASE: u64 = 10;
+
+/// How many digits a sweep's number has.
+const SWEEP_DIGITS: usize = 12;
+
+/// What stands between a sweep's number and a place.
+const DASH: u8 = b'-';
+
+/// The length of a leg's number.
+const ID_LEN: usize = 15;
+
+#[tactic(auto, unfolding(crate::specs::Split4::split4_id_text))]
+fn id_text(alloc: Global, id: &LegId) -> Result<Vec<u8>, AllocError>
+    ensures { IfOk result (λ text. text.items ≡ split4_id_text id.now) }
+{
+    let mut text = Vec::with_capacity(alloc, ID_LEN)?;
+    append_digits(BASE, SWEEP_DIGITS, id.sweep(), &mut text)?;
+    text.push(DASH)?;
+    append_digits(BASE, PLACE_DIGITS, u64::from(id.place()), &mut text)?;
+    Ok(text)
+}
+
+/// Reads the two numbers round the first dash.
+#[tactic(auto, unfolding(crate::specs::Split4::split4_id_of))]
+fn read_id(text: &[u8]) -> Option<LegId>
+    ensures { result ≡ split4_id_of text.now }
+{
+    let (sweep, place) = split_round(text, DASH)?;
+    read_fixed_id(BASE, SWEEP_DIGITS, sweep, place)
+}
+
+/// Reads Symbol (55) as a root, with no suffix.
+fn root_in(fields: &[FieldRef<'_>]) -> Result<Symbol, DialectFault>
+    ensures { result ≡ required_as root_of fields.now 55 }
+{
+    let text = required(fields, SYMBOL)?;
+    Symbol::new(text, &[]).map_err(|_| DialectFault::Bad(SYMBOL))
+}
+
+/// Reads SymbolSfx (65), where it is there, as the suffix of a symbol.
+#[tactic(auto, unfolding(crate::specs::Split4::split4_symbol_in))]
+fn read_symbol(fields: &[FieldRef<'_>]) -> Result<Symbol, DialectFault>
+    ensures { result ≡ split4_symbol_in fields.now }
+{
+    let symbol = root_in(fields)?;
+    match first_ref(fields, SYMBOL_SFX) {
+        None => Ok(symbol),
+        Some([]) => Err(DialectFault::Bad(SYMBOL_SFX)),
+        Some(suffix) => {
+            Symbol::new(symbol.root(), suffix).map_err(|_| DialectFault::Bad(SYMBOL_SFX))
+        }
+    }
+}
+
+impl Spelling for Split4 {
+    ghost use Rattle.dialect.specs.Split4.{split4};
+    ghost use Rattle.dialect.specs.Split4Laws.{split4_is_spelling};
+
+    ghost spelling = { λ _. split4 };
+
+    fn push_id(
+        &self,
+        alloc: Global,
+        id: &LegId,
+        fields: &mut Vec<Field>,
+    ) -> Result<(), AllocError> {
+        push_text(CL_ORD_ID, id_text(alloc, id)?, fields)
+    }
+
+    fn read_id(&self, text: &[u8]) -> Option<LegId> {
+        read_id(text)
+    }
+
+    fn push_mark(&self, alloc: Global, fields: &mut Vec<Field>) -> Result<(), AllocError> {
+        push_slice(alloc, EXEC_INST, INTERMARKET_SWEEP, fields)
+    }
+
+    fn is_marked(&self, fields: &[FieldRef<'_>]) -> bool {
+        has_instruction(fields, INTERMARKET_SWEEP)
+    }
+
+    fn push_price(
+        &self,
+        alloc: Global,
+        price: u64,
+        fields: &mut Vec<Field>,
+    ) -> Result<(), AllocError> {
+        push_text(PRICE, four_price_text(alloc, price)?, fields)
+    }
+
+    fn push_symbol(
+        &self,
+        alloc: Global,
+        symbol: &Symbol,
+        fields: &mut Vec<Field>,
+    ) -> Result<(), AllocError> {
+        push_slice(alloc, SYMBOL, symbol.root(), fields)?;
+        let suffix = symbol.suffix();
+        if suffix.is_empty() {
+            Ok(())
+        } else {
+            push_slice(alloc, SYMBOL_SFX, suffix, fields)
+        }
+    }
+
+    fn read_symbol(&self, fields: &[FieldRef<'_>]) -> Result<Symbol, DialectFault> {
+        read_symbol(fields)
+    }
+
+    ghost is_spelling = { λ _. split4_is_spelling };
+}
