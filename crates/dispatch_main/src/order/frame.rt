@@ -1,5 +1,6 @@
 //! The way of an order: from a leg to the bytes of a frame, and back.
 ghost use Rattle.std.specs.Prelude.{◌≡◌, ◌≤◌, Some, Ok, IfOk, IsOkUnless};
+ghost use Rattle.fix_text.specs.FrameFields.{fields_in};
 ghost use Rattle.fix_text.specs.Reading.{next_read};
 ghost use Rattle.leg.specs.declared.leg.Leg.{Leg};
 ghost use Rattle.dispatch_main.specs.OrderFrame.{order_message, IsOrderFrame, order_in, order_of_fields, order_read_from, ReadsOrder};
@@ -82,7 +83,7 @@ fn order_of_frame<D: Dialect>(
     dialect: &D,
     frame: &Frame<'_>,
 ) -> Result<Leg, OrderFault>
-    ensures { ReadsOrder result (order_of_fields (D.order_read dialect.now) (Some frame.now.fields)) }
+    ensures { ReadsOrder result (order_of_fields (D.order_read dialect.now) (Some (fields_in frame.now))) }
 {
     match read_envelope(alloc, frame) {
         Ok(message) => order_of_message(dialect, &message),
@@ -93,7 +94,7 @@ fn order_of_frame<D: Dialect>(
 
 /// A reader of these bytes.
 fn reader_of(alloc: Global, bytes: &[u8]) -> Result<FrameReader, OrderFault>
-    ensures stream { IfOk result (λ reader. reader.stream ≡ record { rest = bytes.now; skipped = 0; garbled = 0 }) }
+    ensures stream { IfOk result (λ reader. reader ≡ record { rest = bytes.now; skipped = 0; garbled = 0 }) }
     ensures only { IsOkUnless result OrderFault.OutOfMemory }
 {
     let mut reader = FrameReader::new(alloc);
@@ -108,7 +109,7 @@ fn first_order<D: Dialect>(
     dialect: &D,
     reader: &mut FrameReader,
 ) -> Result<Leg, OrderFault>
-    ensures { ReadsOrder result (order_of_fields (D.order_read dialect.now) (next_read reader.old.stream).frame) }
+    ensures { ReadsOrder result (order_of_fields (D.order_read dialect.now) (next_read reader.old).frame) }
 {
     match reader.next() {
         Ok(Some(frame)) => order_of_frame(alloc, dialect, &frame),

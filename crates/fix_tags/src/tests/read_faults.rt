@@ -1,8 +1,8 @@
 //! What is read where a field is missing or spoilt.
 
-use super::support::{Pair, frame, with_header};
+use super::support::{Lender, Pair, with_header};
 use crate::*;
-use std::alloc::{AllocError, Global};
+use std::alloc::Global;
 use std::process::Abort;
 use std::test::Fail;
 
@@ -13,7 +13,7 @@ fn fault_with(
     body: &[Pair<'static>],
     changed: u32,
     value: Option<&'static [u8]>,
-) -> Result<Option<TagFault>, AllocError> {
+) -> Result<Option<TagFault>, Fail> {
     let mut pairs = with_header(alloc, kind, body)?;
     pairs.retain(|pair| pair.0 != changed);
     if let Some(value) = value {
@@ -23,8 +23,9 @@ fn fault_with(
 }
 
 /// The fault of a frame of these fields, if it has one.
-fn fault_of(alloc: Global, pairs: &[Pair<'_>]) -> Result<Option<TagFault>, AllocError> {
-    Ok(read_envelope(alloc, &frame(alloc, pairs)?).err())
+fn fault_of(alloc: Global, pairs: &[Pair<'_>]) -> Result<Option<TagFault>, Fail> {
+    let mut lender = Lender::of_pairs(alloc, pairs)?;
+    Ok(read_envelope(alloc, &lender.frame()?).err())
 }
 
 /// A kind, its fields, the one that is changed, whether it has to be there, and how it may not be.
@@ -73,7 +74,7 @@ const ROWS: [Row; 19] = [
 ];
 
 /// One field missing, and then spoilt in each way.
-fn assert_row(rt: &impl Abort, alloc: Global, row: Row) -> Result<(), AllocError> {
+fn assert_row(rt: &impl Abort, alloc: Global, row: Row) -> Result<(), Fail> {
     let (kind, body, tag, must_be_there, spoilt) = row;
     let missing = must_be_there.then_some(TagFault::Missing(tag));
     assert_eq!(rt; fault_with(alloc, kind, body, 0, None)?, None);
