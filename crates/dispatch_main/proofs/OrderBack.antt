@@ -6,7 +6,7 @@ use Rattle.std.proofs.lemmas.Bool.Decides.{nat_tests}
 use Rattle.fix_text.specs.Tagged.{Tagged}
 use Rattle.fix_text.specs.Text.{fields_text, has_writable_tags, has_writable_values}
 use Rattle.fix_text.specs.Frame.{frame_text}
-use Rattle.fix_text.specs.Reading.{FrameReaderParts, next_read}
+use Rattle.fix_text.specs.Reading.{NextFrame, next_read}
 use Rattle.fix_text.proofs.Rewritten.{next_begins}
 use Rattle.fix_tags.specs.CompId.{IsCompId}
 use Rattle.fix_tags.specs.Message.{is_message_number, field_fault, envelope_fields, envelope_refusal}
@@ -50,7 +50,7 @@ module _ (header : Header) (order : List Tagged) (fits : FitsMessage order) (sen
   first_back bytes is =
       let fields : List Tagged = envelope_fields (order_message header order) header.at in
       let begins : bytes ≡ frame_text fields ++ [] = is ∙ sym (append-nil (frame_text fields)) in
-      ap (λ (r : FrameReaderParts). r.frame)
+      ap (λ (r : NextFrame). r.frame)
       (next_begins (record { rest = bytes; skipped = 0; garbled = 0 }) fields [] (record { tags = typed_and_writable; values = values_writable; short = short_enough; bytes = begins }))
 
 -- nothing keeps an order from being written but want of memory

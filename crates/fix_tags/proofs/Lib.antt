@@ -1,3 +1,4 @@
+pub mod AppFields
 pub mod Apps
 pub mod Bodies
 pub mod Decimals

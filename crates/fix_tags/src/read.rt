@@ -1,6 +1,7 @@
 //! Reading a message from the fields of a frame.
 ghost use Rattle.std.specs.Prelude.{[], ◌∷◌, None, ◌≡◌, filter, IfOk, IsTrue};
 ghost use Rattle.std.specs.Option.{option_map};
+ghost use Rattle.fix_text.specs.FrameFields.{fields_in};
 ghost use Rattle.fix_tags.specs.App.{is_app_tag};
 ghost use Rattle.fix_tags.specs.CompId.{comp_id_of};
 ghost use Rattle.fix_tags.specs.Lent.{body_of};
@@ -20,7 +21,7 @@ use std::alloc::{AllocError, Global};
 
 /// A field of 1 to `most` bytes.
 fn text_at<'a>(frame: &Frame<'a>, tag: u32, most: usize) -> Result<&'a [u8], TagFault>
-    ensures { Gives (λ value. value.now) result (required frame.now.fields tag (short_text most)) }
+    ensures { Gives (λ value. value.now) result (required (fields_in frame.now) tag (short_text most)) }
 {
     match frame.get(tag) {
         None => Err(TagFault::Missing(tag)),
@@ -30,7 +31,7 @@ fn text_at<'a>(frame: &Frame<'a>, tag: u32, most: usize) -> Result<&'a [u8], Tag
 }
 
 fn comp_id_at<'a>(frame: &Frame<'a>, tag: u32) -> Result<&'a [u8], TagFault>
-    ensures { Gives (λ value. value.now) result (required frame.now.fields tag comp_id_of) }
+    ensures { Gives (λ value. value.now) result (required (fields_in frame.now) tag comp_id_of) }
 {
     match frame.get(tag) {
         None => Err(TagFault::Missing(tag)),
@@ -41,7 +42,7 @@ fn comp_id_at<'a>(frame: &Frame<'a>, tag: u32) -> Result<&'a [u8], TagFault>
 
 /// A flag, which is N where it is missing.
 fn flag_of_field(frame: &Frame<'_>, tag: u32) -> Result<bool, TagFault>
-    ensures { result ≡ flag_at frame.now.fields tag }
+    ensures { result ≡ flag_at (fields_in frame.now) tag }
 {
     match frame.get(tag) {
         None => Ok(false),
@@ -50,7 +51,7 @@ fn flag_of_field(frame: &Frame<'_>, tag: u32) -> Result<bool, TagFault>
 }
 
 fn message_number(frame: &Frame<'_>) -> Result<u64, TagFault>
-    ensures { result ≡ required frame.now.fields 34 (number_if is_message_number) }
+    ensures { result ≡ required (fields_in frame.now) 34 (number_if is_message_number) }
 {
     match frame.get(34) {
         None => Err(TagFault::Missing(34)),
@@ -63,7 +64,7 @@ fn message_number(frame: &Frame<'_>) -> Result<u64, TagFault>
 
 /// A number that must be there, from 0 to 999,999,999.
 fn reference_at(frame: &Frame<'_>, tag: u32) -> Result<u64, TagFault>
-    ensures { result ≡ required frame.now.fields tag (number_if is_reference) }
+    ensures { result ≡ required (fields_in frame.now) tag (number_if is_reference) }
 {
     match frame.get(tag) {
         None => Err(TagFault::Missing(tag)),
@@ -76,7 +77,7 @@ fn reference_at(frame: &Frame<'_>, tag: u32) -> Result<u64, TagFault>
 
 /// The same of a number that may be missing.
 fn optional_reference_at(frame: &Frame<'_>, tag: u32) -> Result<Option<u64>, TagFault>
-    ensures { result ≡ optional frame.now.fields tag (some_number is_reference) None }
+    ensures { result ≡ optional (fields_in frame.now) tag (some_number is_reference) None }
 {
     match frame.get(tag) {
         None => Ok(None),
@@ -88,7 +89,7 @@ fn optional_reference_at(frame: &Frame<'_>, tag: u32) -> Result<Option<u64>, Tag
 }
 
 fn optional_test_id<'a>(frame: &Frame<'a>) -> Result<Option<&'a [u8]>, TagFault>
-    ensures { Gives (option_map (λ value. value.now)) result (optional frame.now.fields 112 some_text None) }
+    ensures { Gives (option_map (λ value. value.now)) result (optional (fields_in frame.now) 112 some_text None) }
 {
     match frame.get(112) {
         None => Ok(None),
@@ -98,7 +99,7 @@ fn optional_test_id<'a>(frame: &Frame<'a>) -> Result<Option<&'a [u8]>, TagFault>
 }
 
 fn heart(frame: &Frame<'_>) -> Result<u64, TagFault>
-    ensures { result ≡ required frame.now.fields 108 (number_if is_heart) }
+    ensures { result ≡ required (fields_in frame.now) 108 (number_if is_heart) }
 {
     match frame.get(108) {
         None => Err(TagFault::Missing(108)),
@@ -110,7 +111,7 @@ fn heart(frame: &Frame<'_>) -> Result<u64, TagFault>
 }
 
 fn next_number(frame: &Frame<'_>) -> Result<Option<u64>, TagFault>
-    ensures { result ≡ optional frame.now.fields 789 (some_number is_next_number) None }
+    ensures { result ≡ optional (fields_in frame.now) 789 (some_number is_next_number) None }
 {
     match frame.get(789) {
         None => Ok(None),
@@ -123,7 +124,7 @@ fn next_number(frame: &Frame<'_>) -> Result<Option<u64>, TagFault>
 
 /// EncryptMethod (98) is 0: none.
 fn no_encryption(frame: &Frame<'_>) -> Result<(), TagFault>
-    ensures { Gives (λ _. 48 ∷ []) result (required frame.now.fields 98 no_encryption) }
+    ensures { Gives (λ _. 48 ∷ []) result (required (fields_in frame.now) 98 no_encryption) }
 {
     match frame.get(98) {
         None => Err(TagFault::Missing(98)),
@@ -133,13 +134,14 @@ fn no_encryption(frame: &Frame<'_>) -> Result<(), TagFault>
 }
 
 /// The fields that aren't the header's nor the frame's.
-fn app_fields<'a>(alloc: Global, fields: &[FieldRef<'a>]) -> Result<Vec<FieldRef<'a>>, AllocError>
-    ensures { IfOk result (λ kept. kept.items ≡ filter (λ f. is_app_tag f.tag) fields.now) }
+fn app_fields<'a>(alloc: Global, frame: &Frame<'a>) -> Result<Vec<FieldRef<'a>>, AllocError>
+    ensures { IfOk result (λ kept. kept.items ≡ filter (λ f. is_app_tag f.tag) (fields_in frame.now)) }
 {
-    let mut kept = Vec::with_capacity(alloc, fields.len())?;
-    for field in fields {
+    let mut kept = Vec::with_capacity(alloc, frame.len())?;
+    for index in 0..frame.len() {
+        let field = frame.field(index);
         if is_application_tag(field.tag()) {
-            kept.push(FieldRef::new(field.tag(), field.value()))?;
+            kept.push(field)?;
         }
     }
     Ok(kept)
@@ -152,7 +154,7 @@ fn is_application_tag(tag: u32) -> bool
 }
 
 fn logon<'a>(frame: &Frame<'a>) -> Result<BodyRef<'a>, TagFault>
-    ensures { Gives body_of result (logon_read frame.now.fields) }
+    ensures { Gives body_of result (logon_read (fields_in frame.now)) }
 {
     no_encryption(frame)?;
     let heart = heart(frame)?;
@@ -162,21 +164,21 @@ fn logon<'a>(frame: &Frame<'a>) -> Result<BodyRef<'a>, TagFault>
 }
 
 fn heartbeat<'a>(frame: &Frame<'a>) -> Result<BodyRef<'a>, TagFault>
-    ensures { Gives body_of result (heartbeat_read frame.now.fields) }
+    ensures { Gives body_of result (heartbeat_read (fields_in frame.now)) }
 {
     let id = optional_test_id(frame)?;
     Ok(BodyRef::Heartbeat { id })
 }
 
 fn test_request<'a>(frame: &Frame<'a>) -> Result<BodyRef<'a>, TagFault>
-    ensures { Gives body_of result (test_request_read frame.now.fields) }
+    ensures { Gives body_of result (test_request_read (fields_in frame.now)) }
 {
     let id = text_at(frame, 112, MAX_TEST_ID)?;
     Ok(BodyRef::TestRequest { id })
 }
 
 fn resend_request<'a>(frame: &Frame<'a>) -> Result<BodyRef<'a>, TagFault>
-    ensures { Gives body_of result (resend_request_read frame.now.fields) }
+    ensures { Gives body_of result (resend_request_read (fields_in frame.now)) }
 {
     let begin = reference_at(frame, 7)?;
     let last = reference_at(frame, 16)?;
@@ -184,14 +186,14 @@ fn resend_request<'a>(frame: &Frame<'a>) -> Result<BodyRef<'a>, TagFault>
 }
 
 fn reject<'a>(frame: &Frame<'a>) -> Result<BodyRef<'a>, TagFault>
-    ensures { Gives body_of result (reject_read frame.now.fields) }
+    ensures { Gives body_of result (reject_read (fields_in frame.now)) }
 {
     let number = reference_at(frame, 45)?;
     Ok(BodyRef::Reject { number })
 }
 
 fn sequence_reset<'a>(frame: &Frame<'a>) -> Result<BodyRef<'a>, TagFault>
-    ensures { Gives body_of result (sequence_reset_read frame.now.fields) }
+    ensures { Gives body_of result (sequence_reset_read (fields_in frame.now)) }
 {
     let fills = flag_of_field(frame, 123)?;
     let new_number = reference_at(frame, 36)?;
@@ -202,16 +204,16 @@ fn sequence_reset<'a>(frame: &Frame<'a>) -> Result<BodyRef<'a>, TagFault>
 }
 
 fn business_reject<'a>(frame: &Frame<'a>) -> Result<BodyRef<'a>, TagFault>
-    ensures { Gives body_of result (business_reject_read frame.now.fields) }
+    ensures { Gives body_of result (business_reject_read (fields_in frame.now)) }
 {
     let number = optional_reference_at(frame, 45)?;
     Ok(BodyRef::BusinessReject { number })
 }
 
 fn app<'a>(alloc: Global, kind: &'a [u8], frame: &Frame<'a>) -> Result<BodyRef<'a>, TagFault>
-    ensures { Reads body_of result (app_read kind.entry.now frame.now.fields) }
+    ensures { Reads body_of result (app_read kind.entry.now (fields_in frame.now)) }
 {
-    let Ok(kept) = app_fields(alloc, frame.fields.as_slice()) else {
+    let Ok(kept) = app_fields(alloc, frame) else {
         return Err(TagFault::OutOfMemory);
     };
     let fields = FieldRefs::new(kept);
@@ -219,7 +221,7 @@ fn app<'a>(alloc: Global, kind: &'a [u8], frame: &Frame<'a>) -> Result<BodyRef<'
 }
 
 fn body<'a>(alloc: Global, kind: &'a [u8], frame: &Frame<'a>) -> Result<BodyRef<'a>, TagFault>
-    ensures { Reads body_of result (body_read kind.entry.now frame.now.fields) }
+    ensures { Reads body_of result (body_read kind.entry.now (fields_in frame.now)) }
 {
     match kind {
         [b'A'] => logon(frame),
@@ -242,7 +244,7 @@ fn body<'a>(alloc: Global, kind: &'a [u8], frame: &Frame<'a>) -> Result<BodyRef<
 /// comes only where nothing else is wrong.
 #[tactic(auto, unfolding(crate::specs::Reading::envelope_read))]
 pub fn read_envelope<'a>(alloc: Global, frame: &Frame<'a>) -> Result<EnvelopeRef<'a>, TagFault>
-    ensures { Reads (λ e. e) result (envelope_read frame.now.fields) }
+    ensures { Reads (λ e. e) result (envelope_read (fields_in frame.now)) }
 {
     let kind = text_at(frame, 35, MAX_KIND)?;
     let sender = comp_id_at(frame, 49)?;

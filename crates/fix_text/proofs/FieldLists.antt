@@ -1,14 +1,13 @@
 -- Fields one after the other, as a loop reads them.
 use Rattle.std.proofs.Common.{◌≡◌, ℕ, zero, suc, ◌+◌, ◌<◌, ◌≤◌, Bool, true, false, cond, eqb, List, [], ◌∷◌, ◌++◌, length, drop, take, Option, Some, None, refl, sym, ap, ◌∙◌, arith, append_assoc}
-use Rattle.std.proofs.Common.{subst, sum, ◌%◌}
-use Rattle.std.specs.Prelude.{IsSomeAnd, is_some}
+use Rattle.std.specs.Prelude.{is_some}
 use Rattle.std.specs.Option.{option_map, option_and_then}
-use Rattle.std.proofs.lemmas.List.{append-nil, take-append-drop, drop_more, length-append}
+use Rattle.std.proofs.lemmas.List.{append-nil, take-append-drop, drop_more}
 use Rattle.std.proofs.lemmas.Bool.{eqb-true, or_parts, or_from, false_from_ne_true}
 use Rattle.memchr.specs.Find.{Nowhere, Passes, is_byte}
 use Rattle.fix_text.specs.Tagged.{Tagged}
-use Rattle.fix_text.specs.Reading.{field_of, fields_of, fields_of_parts, parts_of, with_byte, with_field, if_typed, typed_fields, valid_fields, WholeParts}
-use Rattle.fix_text.specs.Text.{begins_with_type, holds_soh}
+use Rattle.fix_text.specs.Reading.{field_of, fields_of, fields_of_parts, parts_of, with_byte, with_field, if_typed, typed_fields}
+use Rattle.fix_text.specs.Text.{holds_soh}
 
 -- what was read before, and what is still read
 abbrev pub with_front : List Tagged → Option (List Tagged) → Option (List Tagged)
@@ -74,33 +73,10 @@ front_of_one : (front : List Tagged) (field : Tagged) (read : Option (List Tagge
 front_of_one front field None = refl
 front_of_one front field (Some later) = ap (λ (fields : List Tagged). Some fields) (sym (append_assoc front (field ∷ []) later))
 
--- ---- a loop that counts
+-- ---- a text that is no fields
 
-counts_one : (count : ℕ) (field : Option Tagged) (read : Option (List Tagged)) (x : Tagged) → Some x ≡ field → option_map (λ later. count + length later) (with_field field read) ≡ option_map (λ later. (count + 1) + length later) read
-counts_one count None read x is = absurd cc
-counts_one count (Some field) None x is = refl
-counts_one count (Some field) (Some later) x is = ap (λ (n : ℕ). Some n) (omega arith)
-
-pub one_counted : (count : ℕ) (text part rest : List ℕ) (field : Tagged) (total : Option ℕ) → text ≡ part ++ 1 ∷ rest → holds_soh part ≡ false → Some field ≡ field_of part
-    → option_map (λ later. count + length later) (fields_of text) ≡ total → option_map (λ later. (count + 1) + length later) (fields_of rest) ≡ total
-one_counted count text part rest field total parted none is so_far =
-    let one : fields_of text ≡ with_field (field_of part) (fields_of rest) = ap fields_of parted ∙ fields_of-part part rest none in
-    sym (counts_one count (field_of part) (fields_of rest) field is) ∙ ap (option_map (λ later. count + length later)) (sym one) ∙ so_far
-
-pub part_shorter : (count : ℕ) (text part rest : List ℕ) (most : ℕ) → text ≡ part ++ 1 ∷ rest → count + length text ≤ most → (count + 1) + length rest ≤ most
-part_shorter count text part rest most parted within = omega (arith, ap length parted, length-append part (1 ∷ rest))
-
--- its exits: no field, no part, no more
 pub not_fields : (text part rest : List ℕ) → text ≡ part ++ 1 ∷ rest → holds_soh part ≡ false → None ≡ field_of part → fields_of text ≡ None
 not_fields text part rest parted none is = ap fields_of parted ∙ fields_of-part part rest none ∙ ap (λ (f : Option Tagged). with_field f (fields_of rest)) (sym is)
-
-pub none_counted : (count : ℕ) (text : List ℕ) (total : Option ℕ) → fields_of text ≡ None → option_map (λ later. count + length later) (fields_of text) ≡ total → None ≡ total
-none_counted count text total is so_far = ap (option_map (λ later. count + length later)) (sym is) ∙ so_far
-
-pub all_counted : (count : ℕ) (text : List ℕ) (total : Option ℕ) → length text ≡ 0 → option_map (λ later. count + length later) (fields_of text) ≡ total → Some count ≡ total
-unfolding fields_of parts_of fields_of_parts
-all_counted count [] total none so_far = ap (λ (n : ℕ). Some n) (omega arith) ∙ so_far
-all_counted count (byte ∷ bytes) total none so_far = absurd (omega arith)
 
 -- ---- a body
 
@@ -113,65 +89,35 @@ unfolding typed_fields fields_of parts_of fields_of_parts
 typed_no_part [] none = refl
 typed_no_part (byte ∷ bytes) none = ap (option_and_then if_typed) (fields_of-none (byte ∷ bytes) (omega arith) none)
 
-begins_other : (field : Tagged) (read : Option (List Tagged)) → eqb field.tag 35 ≡ false → option_and_then if_typed (with_field (Some field) read) ≡ None
-begins_other field None other = refl
-begins_other field (Some later) other = rw other refl
+begins_first : (field : Tagged) (read : Option (List Tagged)) → option_and_then if_typed (with_field (Some field) read) ≡ cond (eqb field.tag 35) (with_field (Some field) read) None
+begins_first field None = test (eqb field.tag 35) where
+  test : (b : Bool) → ◌≡◌ {A = Option (List Tagged)} None (cond b None None)
+  test true = refl
+  test false = refl
+begins_first field (Some later) = refl
 
-pub typed_other : (body part rest : List ℕ) (field : Tagged) → body ≡ part ++ 1 ∷ rest → holds_soh part ≡ false → Some field ≡ field_of part → eqb field.tag 35 ≡ false → typed_fields body ≡ None
+-- the first field decides
+pub typed_first : (body part rest : List ℕ) (field : Tagged) → body ≡ part ++ 1 ∷ rest → holds_soh part ≡ false → Some field ≡ field_of part → typed_fields body ≡ cond (eqb field.tag 35) (fields_of body) None
 unfolding typed_fields
-typed_other body part rest field parted none is other =
-    ap (option_and_then if_typed) (ap fields_of parted ∙ fields_of-part part rest none ∙ ap (λ (f : Option Tagged). with_field f (fields_of rest)) (sym is)) ∙ begins_other field (fields_of rest) other
+typed_first body part rest field parted none is =
+    let one : fields_of body ≡ with_field (Some field) (fields_of rest) = ap fields_of parted ∙ fields_of-part part rest none ∙ ap (λ (f : Option Tagged). with_field f (fields_of rest)) (sym is) in
+    ap (option_and_then if_typed) one ∙ begins_first field (fields_of rest) ∙ ap (λ (read : Option (List Tagged)). cond (eqb field.tag 35) read None) (sym one)
 
-begins_typed : (field : Tagged) (read : Option (List Tagged)) → eqb field.tag 35 ≡ true → option_map length (option_and_then if_typed (with_field (Some field) read)) ≡ option_map (λ n. n + 1) (option_map length read)
-begins_typed field None typed = refl
-begins_typed field (Some later) typed = rw typed (ap (λ (n : ℕ). Some n) (omega arith))
-
-pub typed_counted : (body part rest : List ℕ) (field : Tagged) → body ≡ part ++ 1 ∷ rest → holds_soh part ≡ false → Some field ≡ field_of part → eqb field.tag 35 ≡ true → option_map length (typed_fields body) ≡ option_map (λ n. n + 1) (option_map length (fields_of rest))
-unfolding typed_fields
-typed_counted body part rest field parted none is typed =
-    ap (λ (read : Option (List Tagged)). option_map length (option_and_then if_typed read)) (ap fields_of parted ∙ fields_of-part part rest none ∙ ap (λ (f : Option Tagged). with_field f (fields_of rest)) (sym is)) ∙ begins_typed field (fields_of rest) typed
-
--- ---- a loop that fills a list
-
-split_some : (field : Option Tagged) (read : Option (List Tagged)) (n room : ℕ) → IsSomeAnd (with_field field read) (λ found. n + length found ≤ room)
-    → (x : Tagged) × (field ≡ Some x) × (n < room) × IsSomeAnd read (λ found. (n + 1) + length found ≤ room)
-split_some None read n room h = absurd h
-split_some (Some field) None n room h = absurd h
-split_some (Some field) (Some later) n room h = (field, refl, omega arith, omega arith)
-
--- what a turn may rest on: the part is a field, and there is room for it
-pub turn_has : (text part rest : List ℕ) (n room : ℕ) → text ≡ part ++ 1 ∷ rest → holds_soh part ≡ false → IsSomeAnd (fields_of text) (λ found. n + length found ≤ room)
-    → (x : Tagged) × (field_of part ≡ Some x) × (n < room) × IsSomeAnd (fields_of rest) (λ found. (n + 1) + length found ≤ room)
-turn_has text part rest n room parted none h =
-    split_some (field_of part) (fields_of rest) n room (subst (λ (o : Option (List Tagged)). IsSomeAnd o (λ found. n + length found ≤ room)) (ap fields_of parted ∙ fields_of-part part rest none) h)
+-- ---- a loop that reads them
 
 pub reads_one : (front : List Tagged) (text part rest : List ℕ) (field : Tagged) (total : Option (List Tagged)) → text ≡ part ++ 1 ∷ rest → holds_soh part ≡ false → field_of part ≡ Some field → with_front front (fields_of text) ≡ total → with_front (front ++ field ∷ []) (fields_of rest) ≡ total
 reads_one front text part rest field total parted none is so_far =
     let one : fields_of text ≡ with_field (Some field) (fields_of rest) = ap fields_of parted ∙ fields_of-part part rest none ∙ ap (λ (f : Option Tagged). with_field f (fields_of rest)) is in
     sym (front_of_one front field (fields_of rest)) ∙ ap (with_front front) (sym one) ∙ so_far
 
-pub room_kept : (read : Option (List Tagged)) (n now room left : ℕ) → now ≡ n + 1 → left ≡ room → IsSomeAnd read (λ found. (n + 1) + length found ≤ room) → IsSomeAnd read (λ found. now + length found ≤ left)
-room_kept None n now room left more same h = absurd h
-room_kept (Some later) n now room left more same h = omega (arith, more, same, h)
-
--- its end: where no part is left nothing is
-pub all_filled : (front : List Tagged) (text : List ℕ) (total : Option (List Tagged)) (n room : ℕ) → holds_soh text ≡ false → IsSomeAnd (fields_of text) (λ found. n + length found ≤ room) → with_front front (fields_of text) ≡ total → Some front ≡ total
+-- its end: where no byte is left
+pub all_read : (front : List Tagged) (text : List ℕ) (total : Option (List Tagged)) → length text ≤ 0 → with_front front (fields_of text) ≡ total → Some front ≡ total
 unfolding fields_of parts_of fields_of_parts
-all_filled front [] total n room none h so_far = ap (λ (fields : List Tagged). Some fields) (sym (append-nil front)) ∙ so_far
-all_filled front (byte ∷ bytes) total n room none h so_far =
-    absurd (subst (λ (o : Option (List Tagged)). IsSomeAnd o (λ found. n + length found ≤ room)) (fields_of-none (byte ∷ bytes) (omega arith) none) h)
+all_read front [] total nothing so_far = ap (λ (fields : List Tagged). Some fields) (sym (append-nil front)) ∙ so_far
+all_read front (byte ∷ bytes) total nothing so_far = absurd (omega arith)
 
--- a valid frame's fields are those of its body
-typed_is : (read : Option (List Tagged)) → is_some (option_and_then if_typed read) ≡ true → option_and_then if_typed read ≡ read
-typed_is None some = refl
-typed_is (Some fields) some = test (begins_with_type fields) fields some where
-  test : (b : Bool) (fields : List Tagged) → is_some (cond b (Some fields) None) ≡ true → cond b (Some fields) None ≡ Some fields
-  test true fields some = refl
-  test false fields some = absurd cc
-
-pub valid_is : (whole : WholeParts) → is_some (valid_fields whole) ≡ true → valid_fields whole ≡ fields_of whole.body
-unfolding valid_fields typed_fields
-valid_is whole some = test (eqb (sum whole.before % 256) whole.check) some where
-  test : (b : Bool) → is_some (cond b (option_and_then if_typed (fields_of whole.body)) None) ≡ true → cond b (option_and_then if_typed (fields_of whole.body)) None ≡ fields_of whole.body
-  test true some = typed_is (fields_of whole.body) some
-  test false some = absurd cc
+-- nothing is read as no fields
+pub nothing_read : (text : List ℕ) → length text ≤ 0 → is_some (fields_of text) ≡ true
+unfolding fields_of parts_of fields_of_parts
+nothing_read [] nothing = refl
+nothing_read (byte ∷ bytes) nothing = absurd (omega arith)

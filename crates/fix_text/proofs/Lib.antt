@@ -6,7 +6,7 @@ pub mod FieldLists
 pub mod Readers
 pub mod Turns
 pub mod Places
-pub mod Feeding
+pub mod Placed
 pub mod Rewritten
 pub mod Prefixes
 pub mod TrailerPrefixes
@@ -15,4 +15,5 @@ pub mod FieldTexts
 pub mod FrameTexts
 pub mod NextFrames
 pub mod Streams
+pub mod Lent
 pub mod Replays

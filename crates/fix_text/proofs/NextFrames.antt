@@ -5,7 +5,7 @@ use Rattle.fix_text.specs.declared.parse.Stop.{Stop}
 use Rattle.fix_text.specs.declared.parse.Stop.TheVariants.{Short, Differs}
 use Rattle.fix_text.specs.Tagged.{Tagged}
 use Rattle.fix_text.specs.Grammar.{IsFrame, IsValidFrame, BeginsWithFrame, IsBeginning, Pass, Given, Garbled, Skipped, Takes, Passes, given_of, garbled_of, skipped_of}
-use Rattle.fix_text.specs.Reading.{WholeParts, Stream, FrameReaderParts, frame_at, literal_at, valid_fields, at_frame, at_place, after_garbled, after_byte, one_more, read_on, next_read}
+use Rattle.fix_text.specs.Reading.{WholeParts, Stream, NextFrame, frame_at, literal_at, valid_fields, at_frame, at_place, after_garbled, after_byte, one_more, read_on, next_read}
 use Rattle.fix_text.specs.Deciding.{Decides, counted, Ends, IsNext}
 use Rattle.fix_text.proofs.Readers.{ok_is, frame_takes, frame_shorter, differs_some}
 use Rattle.fix_text.proofs.FramePrefixes.{frame_completes}
@@ -27,7 +27,7 @@ garbled_is bytes whole text is parts none fields v =
     let same : whole ≡ read.0 = ok_is whole read.0 (sym is ∙ ap frame_at parts ∙ read.1) in
     none_given fields (sym none ∙ ap valid_fields same ∙ read.2)
 
-behind_garbled : (stream : Stream) (whole : WholeParts) (text : List ℕ) (new : FrameReaderParts) → Takes (Garbled text) stream.rest whole.rest → IsNext (after_garbled stream whole) new → IsNext stream new
+behind_garbled : (stream : Stream) (whole : WholeParts) (text : List ℕ) (new : NextFrame) → Takes (Garbled text) stream.rest whole.rest → IsNext (after_garbled stream whole) new → IsNext stream new
 behind_garbled stream whole text new takes next = record {
   before = Garbled text ∷ next.before;
   middle = next.middle;
@@ -38,7 +38,7 @@ behind_garbled stream whole text new takes next = record {
   garbled = next.garbled ∙ ap (counted stream.garbled) (sym (add-one (garbled_of next.before)));
 }
 
-behind_byte : (stream : Stream) (byte : ℕ) (new : FrameReaderParts) → Takes (Skipped byte) stream.rest (drop 1 stream.rest) → IsNext (after_byte stream) new → IsNext stream new
+behind_byte : (stream : Stream) (byte : ℕ) (new : NextFrame) → Takes (Skipped byte) stream.rest (drop 1 stream.rest) → IsNext (after_byte stream) new → IsNext stream new
 behind_byte stream byte new takes next = record {
   before = Skipped byte ∷ next.before;
   middle = next.middle;
@@ -49,7 +49,7 @@ behind_byte stream byte new takes next = record {
   garbled = next.garbled;
 }
 
-next_at_frame : (later : Stream → FrameReaderParts) (stream : Stream) (whole : WholeParts) (fields : Option (List Tagged)) → frame_at stream.rest ≡ Ok whole → valid_fields whole ≡ fields
+next_at_frame : (later : Stream → NextFrame) (stream : Stream) (whole : WholeParts) (fields : Option (List Tagged)) → frame_at stream.rest ≡ Ok whole → valid_fields whole ≡ fields
     → ((s : Stream) → length s.rest < length stream.rest → IsNext s (later s)) → IsNext stream (at_frame later stream whole fields)
 next_at_frame later stream whole (Some fields) is valid each =
     let t = frame_takes stream.rest whole is in
@@ -58,7 +58,7 @@ next_at_frame later stream whole None is valid each =
     let t = frame_takes stream.rest whole is in
     behind_garbled stream whole t.0 _ (t.2, spelled_frame t.0 whole t.1, garbled_is stream.rest whole t.0 is t.2 valid) (each (after_garbled stream whole) (frame_shorter stream.rest whole (sym is)))
 
-next_at_place : (later : Stream → FrameReaderParts) (stream : Stream) (place : Result WholeParts Stop) → place ≡ frame_at stream.rest → Decides stream.rest place
+next_at_place : (later : Stream → NextFrame) (stream : Stream) (place : Result WholeParts Stop) → place ≡ frame_at stream.rest → Decides stream.rest place
     → ((s : Stream) → length s.rest < length stream.rest → IsNext s (later s)) → IsNext stream (at_place later stream place)
 next_at_place later stream (Ok whole) is d each = next_at_frame later stream whole (valid_fields whole) (sym is) refl each
 next_at_place later stream (Err Short) is d each = record { before = []; middle = stream.rest; passes = refl; no_valid = refl; ends = (refl, d.0); skipped = refl; garbled = refl }
@@ -120,7 +120,7 @@ past_byte old byte rest takes =
     next_turn old ∙ ap (at_place next_read old) is
     ∙ ap (λ (bytes : List ℕ). next_read (record old { rest = drop 1 bytes; skipped = one_more old.skipped })) takes.0
 
-unique_from : (before : List Pass) (old : Stream) (new : FrameReaderParts) (middle : List ℕ) → Passes before old.rest middle → given_of before ≡ [] → Ends new.frame middle new.stream.rest
+unique_from : (before : List Pass) (old : Stream) (new : NextFrame) (middle : List ℕ) → Passes before old.rest middle → given_of before ≡ [] → Ends new.frame middle new.stream.rest
     → new.stream.skipped ≡ counted old.skipped (skipped_of before) → new.stream.garbled ≡ counted old.garbled (garbled_of before) → next_read old ≡ new
 unique_from [] old new middle passes none ends skipped garbled =
     ends_read old new.frame new.stream.rest (subst (λ (m : List ℕ). Ends new.frame m new.stream.rest) (sym passes) ends)
@@ -135,5 +135,5 @@ unique_from (Skipped byte ∷ before) old new middle passes none ends skipped ga
     ∙ unique_from before (record old { rest = passes.0; skipped = one_more old.skipped }) new middle passes.2 none ends (skipped ∙ ap (counted old.skipped) (add-one (skipped_of before))) garbled
 
 -- only what a call gives is the next valid frame, with the stream after it
-pub next_unique : (old : Stream) (new : FrameReaderParts) → IsNext old new → next_read old ≡ new
+pub next_unique : (old : Stream) (new : NextFrame) → IsNext old new → next_read old ≡ new
 next_unique old new next = unique_from next.before old new next.middle next.passes next.no_valid next.ends next.skipped next.garbled

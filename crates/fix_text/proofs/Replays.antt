@@ -5,7 +5,7 @@ use Rattle.fix_text.specs.declared.calls.Call.{Call}
 use Rattle.fix_text.specs.declared.calls.Call.TheVariants.{Feed, Next}
 use Rattle.fix_text.specs.Tagged.{Tagged}
 use Rattle.fix_text.specs.Grammar.{Pass, Given, Passes, given_of, garbled_of, skipped_of}
-use Rattle.fix_text.specs.Reading.{Stream, FrameReaderParts, fed, next_read}
+use Rattle.fix_text.specs.Reading.{Stream, NextFrame, fed, next_read}
 use Rattle.fix_text.specs.Deciding.{counted, Ends, IsNext}
 use Rattle.fix_text.specs.Calls.{Replayed, start, with_given, bytes_fed, after_next, after_feed, replay_of, IsReplay, AreFirst}
 use Rattle.fix_text.proofs.NextFrames.{next_is}
@@ -16,7 +16,7 @@ use Rattle.fix_text.proofs.Streams.{passes_more, passes-append, given_of-append,
 pub replay_is : (calls : List Call) (old : Replayed) → IsReplay calls old (replay_of calls old)
 replay_is [] old = refl
 replay_is (Feed bytes ∷ calls) old = replay_is calls (after_feed old bytes.items)
-replay_is (Next ∷ calls) old = (next_read old.reader.stream, next_is old.reader.stream, replay_is calls (after_next old))
+replay_is (Next ∷ calls) old = (next_read old.stream, next_is old.stream, replay_is calls (after_next old))
 
 -- ---- the first frames
 
@@ -48,7 +48,7 @@ unfolding next_passes
 next_garbles None middle rest e = refl
 next_garbles (Some fields) middle rest e = refl
 
-first_next : (bytes : List ℕ) (frames : List (List Tagged)) (stream : Stream) (new : FrameReaderParts) → AreFirst bytes frames stream → IsNext stream new → AreFirst bytes (with_given frames new.frame) new.stream
+first_next : (bytes : List ℕ) (frames : List (List Tagged)) (stream : Stream) (new : NextFrame) → AreFirst bytes frames stream → IsNext stream new → AreFirst bytes (with_given frames new.frame) new.stream
 first_next bytes frames stream new f n =
     let last = next_passes new.frame n.middle new.stream.rest n.ends in
     let later : List Pass = n.before ++ last in
@@ -63,13 +63,13 @@ first_next bytes frames stream new f n =
       garbled = n.garbled ∙ ap (λ (s : ℕ). counted s (garbled_of n.before)) f.garbled ∙ sym (counted-add 0 (garbled_of f.passes) (garbled_of n.before)) ∙ ap (counted 0) (sym (garbled_of-append f.passes later ∙ ap (λ (k : ℕ). garbled_of f.passes + k) garbled_later));
     }
 
-first_on : (calls : List Call) (bytes : List ℕ) (old : Replayed) → AreFirst bytes old.frames old.reader.stream → AreFirst (bytes ++ bytes_fed calls) (replay_of calls old).frames (replay_of calls old).reader.stream
-first_on [] bytes old f = subst (λ (b : List ℕ). AreFirst b old.frames old.reader.stream) (sym (append-nil bytes)) f
+first_on : (calls : List Call) (bytes : List ℕ) (old : Replayed) → AreFirst bytes old.frames old.stream → AreFirst (bytes ++ bytes_fed calls) (replay_of calls old).frames (replay_of calls old).stream
+first_on [] bytes old f = subst (λ (b : List ℕ). AreFirst b old.frames old.stream) (sym (append-nil bytes)) f
 first_on (Feed more ∷ calls) bytes old f =
-    subst (λ (b : List ℕ). AreFirst b (replay_of calls (after_feed old more.items)).frames (replay_of calls (after_feed old more.items)).reader.stream) (append_assoc bytes more.items (bytes_fed calls))
-    (first_on calls (bytes ++ more.items) (after_feed old more.items) (first_fed bytes more.items old.frames old.reader.stream f))
-first_on (Next ∷ calls) bytes old f = first_on calls bytes (after_next old) (first_next bytes old.frames old.reader.stream (next_read old.reader.stream) f (next_is old.reader.stream))
+    subst (λ (b : List ℕ). AreFirst b (replay_of calls (after_feed old more.items)).frames (replay_of calls (after_feed old more.items)).stream) (append_assoc bytes more.items (bytes_fed calls))
+    (first_on calls (bytes ++ more.items) (after_feed old more.items) (first_fed bytes more.items old.frames old.stream f))
+first_on (Next ∷ calls) bytes old f = first_on calls bytes (after_next old) (first_next bytes old.frames old.stream (next_read old.stream) f (next_is old.stream))
 
 -- the frames given are the first valid ones of all bytes fed
-pub replay_first : (calls : List Call) → AreFirst (bytes_fed calls) (replay_of calls start).frames (replay_of calls start).reader.stream
+pub replay_first : (calls : List Call) → AreFirst (bytes_fed calls) (replay_of calls start).frames (replay_of calls start).stream
 replay_first calls = first_on calls [] start (record { passes = []; passed = refl; given = refl; skipped = refl; garbled = refl })

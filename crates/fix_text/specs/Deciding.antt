@@ -4,7 +4,7 @@ use Rattle.fix_text.specs.declared.parse.Stop.{Stop}
 use Rattle.fix_text.specs.declared.parse.Stop.TheVariants.{Short, Differs}
 use Rattle.fix_text.specs.Tagged.{Tagged}
 use Rattle.fix_text.specs.Grammar.{IsFrame, BeginsWithFrame, IsBeginning, Pass, Given, Takes, Passes, given_of, garbled_of, skipped_of}
-use Rattle.fix_text.specs.Reading.{WholeParts, Stream, FrameReaderParts, one_more}
+use Rattle.fix_text.specs.Reading.{WholeParts, Stream, NextFrame, one_more}
 
 -- a frame stands there, the beginning of one, or neither; never two of them
 abbrev pub Decides : List ℕ → Result WholeParts Stop → Type 0
@@ -23,7 +23,7 @@ Ends (Some fields) bytes rest = (text : List ℕ) × Takes (Given text fields) b
 Ends None bytes rest = (bytes ≡ rest) × IsBeginning bytes
 
 -- the next valid frame of a stream: what stands before it is no valid frame, and is passed and counted; with no such frame the stream is passed up to the beginning of one
-pub record IsNext (old : Stream) (new : FrameReaderParts) : Type 0 where
+pub record IsNext (old : Stream) (new : NextFrame) : Type 0 where
   pub before : List Pass
   pub middle : List ℕ
   pub passes : Passes before old.rest middle

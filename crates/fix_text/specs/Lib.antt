@@ -3,6 +3,9 @@ pub mod Text
 pub mod Frame
 pub mod Grammar
 pub mod Reading
+pub mod Placing
+pub mod FrameFields
 pub mod Passing
 pub mod Deciding
+pub mod Lending
 pub mod Calls

@@ -135,29 +135,29 @@ after_garbled stream whole = record stream { rest = whole.rest; garbled = one_mo
 abbrev pub after_byte : Stream → Stream
 after_byte stream = record stream { rest = drop 1 stream.rest; skipped = one_more stream.skipped }
 
--- what a reader is: the fields of the frame at hand, which is the last that was given, and the stream behind it
-pub record FrameReaderParts : Type 0 where
+-- what a call for the next frame finds: the fields of the next valid frame, if it is there, and the stream after it
+pub record NextFrame : Type 0 where
   pub frame : Option (List Tagged)
   pub stream : Stream
 
 -- a frame is given with its fields, or else passed, and `later` goes on
-abbrev pub at_frame : (Stream → FrameReaderParts) → Stream → WholeParts → Option (List Tagged) → FrameReaderParts
+abbrev pub at_frame : (Stream → NextFrame) → Stream → WholeParts → Option (List Tagged) → NextFrame
 at_frame later stream whole (Some fields) = record { frame = Some fields; stream = after_given stream whole }
 at_frame later stream whole None = later (after_garbled stream whole)
 
 -- what is done at a place where this stands
-abbrev pub at_place : (Stream → FrameReaderParts) → Stream → Result WholeParts Stop → FrameReaderParts
+abbrev pub at_place : (Stream → NextFrame) → Stream → Result WholeParts Stop → NextFrame
 at_place later stream (Ok whole) = at_frame later stream whole (valid_fields whole)
 at_place later stream (Err Short) = record { frame = None; stream = stream }
 at_place later stream (Err Differs) = later (after_byte stream)
 
 -- the first valid frame, and the stream after it, in at most so many turns
-unfoldable pub read_on : ℕ → Stream → FrameReaderParts
+unfoldable pub read_on : ℕ → Stream → NextFrame
 read_on zero stream = record { frame = None; stream = stream }
 read_on (suc turns) stream = at_place (read_on turns) stream (frame_at stream.rest)
 
 -- the fields of the next valid frame, or None where more bytes are needed, and the stream after it: each turn passes a byte at least
-unfoldable pub next_read : Stream → FrameReaderParts
+unfoldable pub next_read : Stream → NextFrame
 next_read stream = read_on (length stream.rest) stream
 
 -- the stream with more bytes at its end

@@ -1,10 +1,12 @@
 //! A new reader under a list of calls: the theorem of reading over all of them.
-ghost use Rattle.std.specs.Prelude.{◌≡◌, IfOk, OnOk, IsOkUnless};
+ghost use Rattle.std.specs.Prelude.{◌≡◌, ◌++◌, ◌∷◌, [], IfOk, OnOk, IsOkUnless};
+ghost use Rattle.fix_text.specs.FrameFields.{fields_in};
 ghost use Rattle.fix_text.specs.Calls.{start, after_next, replay_of, replayed, bytes_fed, IsReplay, AreFirst};
 
 use crate::fault::TextFault;
 use crate::field::Field;
-use crate::frame::{Fields, Frame};
+use crate::frame::Frame;
+use crate::lists::Fields;
 use crate::reader::FrameReader;
 use std::alloc::{AllocError, Global};
 
@@ -24,14 +26,21 @@ pub struct Replay {
 
 /// The fields of a frame, with values of their own.
 fn owned(alloc: Global, frame: &Frame) -> Result<Fields, AllocError>
-    ensures { IfOk result (λ fields. fields ≡ frame.now.fields) }
+    ensures { IfOk result (λ fields. fields ≡ fields_in frame.now) }
 {
-    let lent = frame.fields.as_slice();
-    let mut fields = Vec::with_capacity(alloc, lent.len())?;
-    for field in lent {
+    let mut fields = Vec::with_capacity(alloc, frame.len())?;
+    for index in 0..frame.len() {
+        let field = frame.field(index);
         fields.push(Field::from_slice(alloc, field.tag(), field.value())?)?;
     }
     Ok(Fields::new(fields))
+}
+
+fn add_frame(alloc: Global, frame: &Frame, frames: &mut Vec<Fields>) -> Result<(), AllocError>
+    ensures { OnOk result (frames.new.items ≡ frames.old.items ++ fields_in frame.now ∷ []) }
+{
+    frames.push(owned(alloc, frame)?)?;
+    Ok(())
 }
 
 /// Adds the next frame, if it is there.
@@ -40,21 +49,17 @@ fn read_next(
     reader: &mut FrameReader,
     frames: &mut Vec<Fields>,
 ) -> Result<(), TextFault>
-    ensures next { OnOk result (record { frames = frames.new.items; reader = reader.new } ≡ after_next (record { frames = frames.old.items; reader = reader.old })) }
+    ensures next { OnOk result (record { frames = frames.new.items; stream = reader.new } ≡ after_next (record { frames = frames.old.items; stream = reader.old })) }
     ensures refusal { IsOkUnless result TextFault.OutOfMemory }
 {
-    if !reader.advance() {
-        return Ok(());
+    match reader.next() {
+        Err(fault) => Err(fault),
+        Ok(None) => Ok(()),
+        Ok(Some(frame)) => match add_frame(alloc, &frame, frames) {
+            Ok(()) => Ok(()),
+            Err(_) => Err(TextFault::OutOfMemory),
+        },
     }
-    if let Some(frame) = reader.lend()? {
-        let Ok(fields) = owned(alloc, &frame) else {
-            return Err(TextFault::OutOfMemory)
-        };
-        if frames.push(fields).is_err() {
-            return Err(TextFault::OutOfMemory);
-        }
-    }
-    Ok(())
 }
 
 fn make_calls(alloc: Global, calls: &[Call]) -> Result<Replay, TextFault>
@@ -77,7 +82,7 @@ pub fn read_calls(alloc: Global, calls: &[Call]) -> Result<Replay, TextFault>
     // Each call for the next frame gives the next valid one, if it is there.
     ensures calls { IfOk result (λ replay. IsReplay calls.now start (replayed replay)) }
     // However the bytes were cut, these are the first valid frames of all of them, with the counts of the others.
-    ensures first { IfOk result (λ replay. AreFirst (bytes_fed calls.now) (replayed replay).frames (replayed replay).reader.stream) }
+    ensures first { IfOk result (λ replay. AreFirst (bytes_fed calls.now) (replayed replay).frames (replayed replay).stream) }
     ensures refusal { IsOkUnless result TextFault.OutOfMemory }
 {
     make_calls(alloc, calls)

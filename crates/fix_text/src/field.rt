@@ -37,12 +37,14 @@ impl Field {
         Ok(Field { tag, value })
     }
 
+    /// The tag.
     pub fn tag(&self) -> u32
         ensures { result ≡ self.now.tag }
     {
         self.tag
     }
 
+    /// The bytes of the value.
     pub fn value(&self) -> &[u8]
         ensures { result.now ≡ self.now.value }
     {
@@ -66,12 +68,14 @@ impl<'a> Model for FieldRef<'a> {
 }
 
 impl<'a> FieldRef<'a> {
+    /// A field of this value. It takes no memory.
     pub fn new(tag: u32, value: &'a [u8]) -> FieldRef<'a>
         ensures { result ≡ record { tag = tag; value = value.entry.now } }
     {
         FieldRef { tag, value }
     }
 
+    /// The tag.
     pub fn tag(&self) -> u32
         ensures { result ≡ self.now.tag }
     {

@@ -1,12 +1,14 @@
-//! The fields of a body, lent from its bytes.
-ghost use Rattle.std.specs.Prelude.{◌≡◌, ◌≤◌, ◌++◌, ◌∷◌, [], IfSome, IfNone, IsSomeAnd, false, length, vec_capacity};
-ghost use Rattle.std.specs.Option.{option_map};
+//! The fields of a text, by their places in it.
+ghost use Rattle.std.specs.Prelude.{◌≡◌, ◌++◌, ◌∷◌, None, IfOk, IfSome, IfNone, IsSome, IsOkUnless, OnErr, false, if◌then◌else◌};
 ghost use Rattle.fix_text.specs.Text.{holds_soh};
 ghost use Rattle.fix_text.specs.Reading.{field_of, fields_of, typed_fields, valid_fields};
+ghost use Rattle.fix_text.specs.Placing.{ArePlaced};
 
 use crate::checksum::sum256;
+use crate::fault::TextFault;
 use crate::field::FieldRef;
 use crate::parse::Whole;
+use crate::place::Place;
 use memchr::memchr;
 
 const SOH: u8 = 1;
@@ -46,56 +48,60 @@ fn first_part(bytes: &[u8]) -> Option<(&[u8], &[u8])>
     Some((&bytes[..end], &bytes[end + 1..]))
 }
 
-/// How many fields a text has, if it is nothing but fields.
-fn count_fields(text: &[u8]) -> Option<usize>
-    ensures count { result ≡ option_map length (fields_of text.now) }
-    ensures bound { IfSome result (λ count. count ≤ length text.now) }
+/// Whether the first field of a body is MsgType (35).
+fn is_typed(body: &[u8]) -> bool
+    ensures { typed_fields body.now ≡ (if result then fields_of body.now else None) }
 {
-    let mut rest = text;
-    let mut count = 0usize;
-    while !rest.is_empty() {
-        let (part, after) = first_part(rest)?;
-        let _field = field_of(part)?;
-        count += 1;
-        rest = after;
+    let Some((part, _)) = first_part(body) else {
+        return false;
+    };
+    match field_of(part) {
+        Some(first) => first.tag() == 35,
+        None => false,
     }
-    Some(count)
 }
 
-/// How many fields a body has, if it is nothing but fields of which the first is MsgType (35).
-fn count_typed_fields(body: &[u8]) -> Option<usize>
-    ensures { result ≡ option_map length (typed_fields body.now) }
+/// Puts the places of a text's fields into the list, in place of what it held, or answers that the text isn't fields
+/// alone. The text is gone through once; where there is no room for a place the rest of the text still decides.
+pub fn place_fields(text: &[u8], places: &mut Vec<Place>) -> Result<bool, TextFault>
+    ensures placed { IfOk result (λ is. ArePlaced is text.now places.new.items (fields_of text.now)) }
+    ensures refusal { IsOkUnless result TextFault.OutOfMemory }
+    ensures some { OnErr result (IsSome (fields_of text.now)) }
 {
-    let (part, rest) = first_part(body)?;
-    let first = field_of(part)?;
-    if first.tag() != 35 {
-        return None;
+    places.clear();
+    let mut at = 0usize;
+    let mut is_full = false;
+    while at < text.len() {
+        let Some((part, _)) = first_part(&text[at..]) else {
+            return Ok(false);
+        };
+        let Some(field) = field_of(part) else {
+            return Ok(false);
+        };
+        let end = at + part.len();
+        let place = Place {
+            tag: field.tag(),
+            start: end - field.value().len(),
+            end,
+        };
+        is_full |= places.push(place).is_err();
+        at = end + 1;
     }
-    Some(count_fields(rest)? + 1)
+    if is_full {
+        return Err(TextFault::OutOfMemory);
+    }
+    Ok(true)
 }
 
-/// How many fields a whole frame has, if it is valid. Its bytes are summed up once.
+/// The same of the body of a whole frame, if the frame is valid. Its bytes are summed up once.
 #[tactic(auto, unfolding(crate::specs::Reading::valid_fields))]
-pub fn count_valid_fields(frame: &Whole) -> Option<usize>
-    ensures { result ≡ option_map length (valid_fields frame.now) }
+pub fn place_valid_fields(frame: &Whole, places: &mut Vec<Place>) -> Result<bool, TextFault>
+    ensures placed { IfOk result (λ is. ArePlaced is frame.now.body places.new.items (valid_fields frame.now)) }
+    ensures refusal { IsOkUnless result TextFault.OutOfMemory }
+    ensures some { OnErr result (IsSome (valid_fields frame.now)) }
 {
-    if u32::from(sum256(frame.before())) != frame.check() {
-        return None;
+    if u32::from(sum256(frame.before())) != frame.check() || !is_typed(frame.body()) {
+        return Ok(false);
     }
-    count_typed_fields(frame.body())
-}
-
-/// Fills a list that has room for them with the fields of a text.
-pub fn fill_fields<'a>(mut fields: Vec<FieldRef<'a>>, text: &'a [u8]) -> Vec<FieldRef<'a>>
-    requires empty { fields.items ≡ [] }
-    requires room { IsSomeAnd (fields_of text.now) (λ found. length found ≤ vec_capacity fields) }
-    ensures { Some result.items ≡ fields_of text.entry.now }
-{
-    let mut rest = text;
-    while let Some((part, after)) = first_part(rest) {
-        let field = field_of(part).unwrap();
-        fields.push_reserved(field);
-        rest = after;
-    }
-    fields
+    place_fields(frame.body(), places)
 }

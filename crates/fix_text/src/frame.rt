@@ -1,96 +1,74 @@
-//! A valid frame, whose fields are lent from the reader's buffer.
-ghost use Rattle.std.specs.Prelude.{◌≡◌};
+//! A frame: fields that are lent from the text in which they lie.
+ghost use Rattle.std.specs.Prelude.{◌≡◌, ◌<◌, Some, length, slice_get, IfOk, IsSome, IsOkUnless, OnErr};
 ghost use Rattle.std.specs.Option.{option_map};
 ghost use Rattle.fix_text.specs.Tagged.{value_of};
+ghost use Rattle.fix_text.specs.Reading.{fields_of};
+ghost use Rattle.fix_text.specs.Placing.{fields_at, AreWithin};
 
-use crate::field::{Field, FieldRef, first_ref};
-use std::marker::Model;
+use crate::fault::TextFault;
+use crate::field::FieldRef;
+use crate::fields::place_fields;
+use crate::place::Place;
 
-/// A list of fields that owns them.
-#[derive(Debug, Drop)]
-pub struct Fields {
-    fields: Vec<Field>,
-}
-
-impl Model for Fields {
-    ghost use Rattle.std.specs.Prelude.{List};
-    ghost use Rattle.fix_text.specs.Tagged.{Tagged};
-
-    ghost Value = { List Tagged };
-
-    ghost view = { λ list. list.fields.items };
-}
-
-impl Fields {
-    /// The list of these fields. It takes no memory.
-    pub fn new(fields: Vec<Field>) -> Fields
-        ensures { result ≡ fields.items }
-    {
-        Fields { fields }
-    }
-
-    pub fn as_slice(&self) -> &[Field]
-        ensures { result.now ≡ self.now }
-    {
-        self.fields.as_slice()
-    }
-
-    /// The fields. It takes no memory.
-    pub fn into_vec(self) -> Vec<Field>
-        ensures { result.items ≡ self }
-    {
-        self.fields
-    }
-}
-
-/// A list of lent fields.
-#[derive(Debug, Drop)]
-pub struct FieldRefs<'a> {
-    fields: Vec<FieldRef<'a>>,
-}
-
-impl<'a> Model for FieldRefs<'a> {
-    ghost use Rattle.std.specs.Prelude.{List};
-    ghost use Rattle.fix_text.specs.Tagged.{Tagged};
-
-    ghost Value = { List Tagged };
-
-    ghost view = { λ list. list.fields.items };
-}
-
-impl<'a> FieldRefs<'a> {
-    /// The list of these fields. It takes no memory.
-    pub fn new(fields: Vec<FieldRef<'a>>) -> FieldRefs<'a>
-        ensures { result ≡ fields.entry.items }
-    {
-        FieldRefs { fields }
-    }
-
-    pub fn as_slice(&self) -> &[FieldRef<'a>]
-        ensures { result.now ≡ self.now }
-    {
-        self.fields.as_slice()
-    }
-
-    /// The fields. It takes no memory.
-    pub fn into_vec(self) -> Vec<FieldRef<'a>>
-        ensures { result.items ≡ self.entry }
-    {
-        self.fields
-    }
-}
-
-/// The fields between BodyLength (9) and CheckSum (10) of a valid frame; the first is MsgType (35).
-#[derive(Debug, Drop)]
+/// The fields of a text, lent with it: those between BodyLength (9) and CheckSum (10) of a valid frame, if a
+/// `FrameReader` gave it. It owns nothing.
+#[derive(Clone, Copy, Debug)]
 pub struct Frame<'a> {
-    pub fields: FieldRefs<'a>,
+    text: &'a [u8],
+    places: &'a [Place],
+    ghost within: { AreWithin text.now places.now },
 }
 
 impl<'a> Frame<'a> {
+    ghost use Rattle.fix_text.specs.FrameFields.{fields_in};
+
+    /// A frame of any text that is nothing but fields, with `places` as the room for where they lie; what it held is
+    /// dropped. The only refusal is want of memory, which comes only where the text is nothing but fields.
+    pub fn read(text: &'a [u8], places: &'a mut Vec<Place>) -> Result<Option<Frame<'a>>, TextFault>
+        ensures fields { IfOk result (λ frame. option_map fields_in frame ≡ fields_of text.entry.now) }
+        ensures refusal { IsOkUnless result TextFault.OutOfMemory }
+        ensures some { OnErr result (IsSome (fields_of text.entry.now)) }
+    {
+        match place_fields(text, places) {
+            Ok(true) => Ok(Some(Frame::of_places(text, places.as_slice()))),
+            Ok(false) => Ok(None),
+            Err(fault) => Err(fault),
+        }
+    }
+
+    /// The frame of these places of a text.
+    pub(crate) fn of_places(text: &'a [u8], places: &'a [Place]) -> Frame<'a>
+        requires { AreWithin text.now places.now }
+        ensures { fields_in result ≡ fields_at text.entry.now places.entry.now }
+    {
+        Frame { text, places }
+    }
+
+    /// The number of fields.
+    pub fn len(&self) -> usize
+        ensures { result ≡ length (fields_in self.now) }
+    {
+        self.places.len()
+    }
+
+    /// The field at an index, which counts from 0, lent for as long as the frame's own lender lends it.
+    pub fn field(&self, index: usize) -> FieldRef<'a>
+        requires { index < length (fields_in self.now) }
+        ensures { slice_get (fields_in self.now) index ≡ Some result }
+    {
+        let place = self.places[index];
+        FieldRef::new(place.tag, &self.text[place.start..place.end])
+    }
+
     /// The value of the first field of this tag.
     pub fn get(&self, tag: u32) -> Option<&'a [u8]>
-        ensures { option_map (λ value. value.now) result ≡ value_of self.now.fields tag }
+        ensures { option_map (λ value. value.now) result ≡ value_of (fields_in self.now) tag }
     {
-        first_ref(self.fields.as_slice(), tag)
+        for place in self.places {
+            if place.tag == tag {
+                return Some(&self.text[place.start..place.end]);
+            }
+        }
+        None
     }
 }

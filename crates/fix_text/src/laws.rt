@@ -4,7 +4,7 @@ ghost use Rattle.fix_text.specs.Tagged.{Tagged};
 ghost use Rattle.fix_text.specs.Text.{fields_text, has_writable_tags, has_writable_values};
 ghost use Rattle.fix_text.specs.Frame.{frame_text};
 ghost use Rattle.fix_text.specs.Grammar.{IsFrame, IsValidFrame, BeginsWithFrame, IsBeginning, IsNeither, Pass, Passes};
-ghost use Rattle.fix_text.specs.Reading.{Stream, FrameReaderParts, frame_at, next_read};
+ghost use Rattle.fix_text.specs.Reading.{Stream, NextFrame, frame_at, next_read};
 ghost use Rattle.fix_text.specs.Deciding.{Decides, IsNext};
 ghost use Rattle.fix_text.specs.Calls.{AreFirst};
 
@@ -40,7 +40,7 @@ pub fn written_is_read()
 /// A reader gives the next valid frame, and nothing else is the next.
 pub fn next_is_determined()
     ensures is { (stream : Stream) → IsNext stream (next_read stream) }
-    ensures only { (stream : Stream) (after : FrameReaderParts) → IsNext stream after → next_read stream ≡ after }
+    ensures only { (stream : Stream) (after : NextFrame) → IsNext stream after → next_read stream ≡ after }
 {}
 
 /// What was read of a stream stays read when more bytes come; of two readings one is the beginning of the other, and so

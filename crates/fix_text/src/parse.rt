@@ -3,12 +3,10 @@ ghost use Rattle.std.specs.Prelude.{◌≡◌, ◌<◌, ◌≤◌, ◌*◌, ◌+
 ghost use Rattle.std.specs.Result.{result_map_both};
 ghost use Rattle.fix_text.specs.Reading.{literal_at, digit_at, length_at, body_at, trailer_at, frame_at};
 
+use crate::refusal::MAX_BODY;
 use std::marker::Model;
 
 const SOH: u8 = 1;
-
-/// The greatest BodyLength (9), in bytes.
-const MAX_BODY: usize = 4096;
 
 /// Why no whole frame stands at a place.
 #[derive(Clone, Copy)]

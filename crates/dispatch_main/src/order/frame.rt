@@ -1,6 +1,7 @@
 //! The way of an order: from a leg to the bytes of a frame, and back.
 ghost use Rattle.std.specs.Prelude.{◌≡◌, ◌≤◌, Some, None, Ok, IfOk, IsOkUnless};
 ghost use Rattle.fix_text.specs.Frame.{frame_text};
+ghost use Rattle.fix_text.specs.FrameFields.{fields_in};
 ghost use Rattle.fix_text.specs.Reading.{next_read};
 ghost use Rattle.fix_tags.specs.Message.{envelope_fields, envelope_refusal};
 ghost use Rattle.leg.specs.declared.leg.Leg.{Leg};
@@ -92,7 +93,7 @@ fn order_of_frame<D: Dialect>(
     dialect: &D,
     frame: &Frame<'_>,
 ) -> Result<Leg, OrderFault>
-    ensures { ReadsOrder result (order_of_fields (D.order_read dialect.now) (Some frame.now.fields)) }
+    ensures { ReadsOrder result (order_of_fields (D.order_read dialect.now) (Some (fields_in frame.now))) }
 {
     match read_envelope(alloc, frame) {
         Ok(message) => order_of_message(dialect, &message),
@@ -103,7 +104,7 @@ fn order_of_frame<D: Dialect>(
 
 /// A reader of these bytes.
 fn reader_of(alloc: Global, bytes: &[u8]) -> Result<FrameReader, OrderFault>
-    ensures stream { IfOk result (λ reader. reader.stream ≡ record { rest = bytes.now; skipped = 0; garbled = 0 }) }
+    ensures stream { IfOk result (λ reader. reader ≡ record { rest = bytes.now; skipped = 0; garbled = 0 }) }
     ensures only { IsOkUnless result OrderFault.OutOfMemory }
 {
     let mut reader = FrameReader::new(alloc);
@@ -118,7 +119,7 @@ fn first_order<D: Dialect>(
     dialect: &D,
     reader: &mut FrameReader,
 ) -> Result<Leg, OrderFault>
-    ensures { ReadsOrder result (order_of_fields (D.order_read dialect.now) (next_read reader.old.stream).frame) }
+    ensures { ReadsOrder result (order_of_fields (D.order_read dialect.now) (next_read reader.old).frame) }
 {
     match reader.next() {
         Ok(Some(frame)) => order_of_frame(alloc, dialect, &frame),

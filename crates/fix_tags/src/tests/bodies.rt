@@ -1,6 +1,6 @@
 //! What the fields of each body are read as.
 
-use super::support::{Pair, frame, with_header};
+use super::support::{Lender, Pair, with_header};
 use crate::*;
 use std::test::Fail;
 
@@ -33,7 +33,8 @@ fn bodies_are_read(rt: HostRuntime) -> Result<(), Fail> {
     ];
     for (kind, body, text) in rows {
         let pairs = with_header(alloc, kind, body)?;
-        let frame = frame(alloc, pairs.as_slice())?;
+        let mut lender = Lender::of_pairs(alloc, pairs.as_slice())?;
+        let frame = lender.frame()?;
         let read = read_envelope(alloc, &frame)?;
         assert_eq!(rt; format!(in alloc; "{:?}", read.body())?.as_str(), text);
     }
@@ -54,7 +55,8 @@ fn an_application_message_leaves_header_and_frame_out(rt: HostRuntime) -> Result
         (10, b"x"),
     ];
     let pairs = with_header(alloc, b"AE", &body)?;
-    let frame = frame(alloc, pairs.as_slice())?;
+    let mut lender = Lender::of_pairs(alloc, pairs.as_slice())?;
+    let frame = lender.frame()?;
     let read = read_envelope(alloc, &frame)?;
     assert!(rt; read.poss_dup() && read.poss_resend());
     let BodyRef::App { kind, fields } = read.body() else {

@@ -1,8 +1,7 @@
 //! Whole messages, written byte for byte and read back.
 
-use super::support::{Pair, app, message, stamp};
+use super::support::{Lender, Pair, app, message, stamp};
 use crate::*;
-use fix_text::{FieldRef, FieldRefs, Frame};
 use std::alloc::Global;
 use std::process::Abort;
 use std::test::Fail;
@@ -14,21 +13,6 @@ fn shown(alloc: Global, written: &[u8]) -> Result<Vec<u8>, Fail> {
         text.push(if *byte == 1 { b'|' } else { *byte })?;
     }
     Ok(text)
-}
-
-/// The fields of a written frame between BodyLength (9) and CheckSum (10).
-fn split(alloc: Global, written: &[u8]) -> Result<Frame<'_>, Fail> {
-    let mut fields = Vec::new(alloc);
-    for piece in str::from_utf8(written)?.split('\x01') {
-        if let Some((tag, value)) = piece.split_once('=') {
-            let tag: u32 = tag.parse()?;
-            if !matches!(tag, 8 | 9 | 10) {
-                fields.push(FieldRef::new(tag, value.as_bytes()))?;
-            }
-        }
-    }
-    let fields = FieldRefs::new(fields);
-    Ok(Frame { fields })
 }
 
 /// A number, whether it may have been sent before, what is written, and what the body is read as.
@@ -77,7 +61,8 @@ fn assert_session(rt: &impl Abort, alloc: Global, body: Body, row: SessionRow) -
     let mut written = Vec::new(alloc);
     write_envelope(&envelope, &stamp()?, &mut written)?;
     assert_eq!(rt; shown(alloc, written.as_slice())?.as_slice(), text);
-    let frame = split(alloc, written.as_slice())?;
+    let mut lender = Lender::of_frame(alloc, written.as_slice())?;
+    let frame = lender.frame()?;
     let read = read_envelope(alloc, &frame)?;
     assert_eq!(rt; read.sender(), b"A".as_slice());
     assert_eq!(rt; read.target(), b"B".as_slice());
@@ -166,7 +151,8 @@ fn application_messages(rt: HostRuntime) -> Result<(), Fail> {
         let mut written = Vec::new(alloc);
         write_envelope(&envelope, &stamp()?, &mut written)?;
         assert_eq!(rt; shown(alloc, written.as_slice())?.as_slice(), text);
-        let frame = split(alloc, written.as_slice())?;
+        let mut lender = Lender::of_frame(alloc, written.as_slice())?;
+        let frame = lender.frame()?;
         let read = read_envelope(alloc, &frame)?;
         assert_eq!(rt; read.sender(), sender);
         assert_eq!(rt; read.target(), target);

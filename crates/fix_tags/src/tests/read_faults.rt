@@ -1,9 +1,9 @@
 //! What is read where a field is missing or spoilt.
 
-use super::support::{Pair, frame, with_header};
+use super::support::{Lender, Pair, with_header};
 use crate::*;
 use TagFault::{BadField, Missing};
-use std::alloc::{AllocError, Global};
+use std::alloc::Global;
 use std::process::Abort;
 use std::test::Fail;
 
@@ -14,7 +14,7 @@ fn fault_with(
     body: &[Pair<'static>],
     changed: u32,
     value: Option<&'static [u8]>,
-) -> Result<Option<TagFault>, AllocError> {
+) -> Result<Option<TagFault>, Fail> {
     let mut pairs = with_header(alloc, kind, body)?;
     pairs.retain(|pair| pair.0 != changed);
     if let Some(value) = value {
@@ -24,8 +24,9 @@ fn fault_with(
 }
 
 /// The fault of a frame of these fields, if it has one.
-fn fault_of(alloc: Global, pairs: &[Pair<'_>]) -> Result<Option<TagFault>, AllocError> {
-    Ok(read_envelope(alloc, &frame(alloc, pairs)?).err())
+fn fault_of(alloc: Global, pairs: &[Pair<'_>]) -> Result<Option<TagFault>, Fail> {
+    let mut lender = Lender::of_pairs(alloc, pairs)?;
+    Ok(read_envelope(alloc, &lender.frame()?).err())
 }
 
 /// A kind, its fields, the one that is changed, whether it has to be there, values at the limits of its form,
@@ -112,7 +113,7 @@ const ROWS: [Row; 20] = [
 ];
 
 /// One field missing, then at the limits of its form, and then spoilt in each way.
-fn assert_row(rt: &impl Abort, alloc: Global, row: Row) -> Result<(), AllocError> {
+fn assert_row(rt: &impl Abort, alloc: Global, row: Row) -> Result<(), Fail> {
     let (kind, body, tag, must_be_there, good, spoilt) = row;
     let missing = must_be_there.then_some(Missing(tag));
     assert_eq!(rt; fault_with(alloc, kind, body, 0, None)?, None);

@@ -1,7 +1,7 @@
 //! Messages and frames from plain parts.
 
 use crate::*;
-use fix_text::{Field, FieldRef, FieldRefs, Fields, Frame};
+use fix_text::{Field, Fields, Frame, Place};
 use std::alloc::{AllocError, Global};
 use std::test::Fail;
 
@@ -41,14 +41,42 @@ pub(super) fn app(alloc: Global, kind: &[u8], pairs: &[Pair<'_>]) -> Result<Body
     Ok(Body::App { kind, fields })
 }
 
-/// The frame of these fields.
-pub(super) fn frame<'a>(alloc: Global, pairs: &[Pair<'a>]) -> Result<Frame<'a>, AllocError> {
-    let mut fields = Vec::with_capacity(alloc, pairs.len())?;
-    for (tag, value) in pairs {
-        fields.push(FieldRef::new(*tag, value))?;
+/// The text of fields, with the room for where they lie.
+#[derive(Drop)]
+pub(super) struct Lender {
+    text: Vec<u8>,
+    places: Vec<Place>,
+}
+
+impl Lender {
+    /// The text of these fields, written as they are.
+    pub(super) fn of_pairs(alloc: Global, pairs: &[Pair<'_>]) -> Result<Lender, AllocError> {
+        let mut text = Vec::new(alloc);
+        for (tag, value) in pairs {
+            text.extend_from_slice(format!(in alloc; "{tag}=")?.as_bytes())?;
+            text.extend_from_slice(value)?;
+            text.push(1)?;
+        }
+        let places = Vec::new(alloc);
+        Ok(Lender { text, places })
     }
-    let fields = FieldRefs::new(fields);
-    Ok(Frame { fields })
+
+    /// The text of a written frame between BodyLength (9) and CheckSum (10).
+    pub(super) fn of_frame(alloc: Global, written: &[u8]) -> Result<Lender, Fail> {
+        let begin = written.iter().position(|byte| *byte == 1).ok_or("8")?;
+        let (_, behind) = written.split_at(begin + 1);
+        let length = behind.iter().position(|byte| *byte == 1).ok_or("9")?;
+        let (_, behind) = behind.split_at(length + 1);
+        let (body, _trailer) = behind.split_at(behind.len().saturating_sub(7));
+        let text = Vec::from_slice(alloc, body)?;
+        let places = Vec::new(alloc);
+        Ok(Lender { text, places })
+    }
+
+    /// The frame of these fields.
+    pub(super) fn frame(&mut self) -> Result<Frame<'_>, Fail> {
+        Ok(Frame::read(self.text.as_slice(), &mut self.places)?.ok_or("a frame")?)
+    }
 }
 
 /// The fields of a good header, and then those of a body.

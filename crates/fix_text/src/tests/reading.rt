@@ -3,6 +3,7 @@
 use crate::calls::{Call, read_calls};
 use crate::fault::TextFault;
 use crate::frame::Frame;
+use crate::place::Place;
 use crate::reader::FrameReader;
 use std::alloc::Global;
 use std::test::Fail;
@@ -19,17 +20,25 @@ const TOO_LONG: &[u8] =
 const BEHIND_OTHERS: &[u8] =
     b"xx8=FIX.4.48=FIX.4.4\x019=0045\x0135=0\x0149=A\x0156=B\x0134=2\x0152=20240102-14:30:00.000\x0110=156\x01";
 
-fn is_heartbeat(frame: &Frame) -> bool {
-    match frame.fields.as_slice() {
-        [kind, sender, target, number, time] => {
-            (kind.tag(), kind.value()) == (35, b"0".as_slice())
-                && (sender.tag(), sender.value()) == (49, b"A".as_slice())
-                && (target.tag(), target.value()) == (56, b"B".as_slice())
-                && (number.tag(), number.value()) == (34, b"2".as_slice())
-                && (time.tag(), time.value()) == (52, b"20240102-14:30:00.000".as_slice())
+/// A frame of more fields than a heartbeat.
+const REJECT: &[u8] =
+    b"8=FIX.4.4\x019=56\x0135=3\x0149=A\x0156=B\x0134=2\x0152=20240102-14:30:00.000\x0145=4\x0158=no\x0110=164\x01";
+
+fn is_field(frame: &Frame, index: usize, tag: u32, value: &[u8]) -> bool {
+    index < frame.len()
+        && {
+            let field = frame.field(index);
+            (field.tag(), field.value()) == (tag, value)
         }
-        _ => false,
-    }
+}
+
+fn is_heartbeat(frame: &Frame) -> bool {
+    frame.len() == 5
+        && is_field(frame, 0, 35, b"0")
+        && is_field(frame, 1, 49, b"A")
+        && is_field(frame, 2, 56, b"B")
+        && is_field(frame, 3, 34, b"2")
+        && is_field(frame, 4, 52, b"20240102-14:30:00.000")
 }
 
 /// Feeds a piece, and counts the heartbeats among the next three frames.
@@ -77,10 +86,65 @@ fn the_last_byte_is_waited_for(rt: HostRuntime) -> Result<(), Fail> {
     let (most, last) = HEARTBEAT.split_at(HEARTBEAT.len() - 1);
     assert_eq!(rt; feed(&mut reader, most)?, 0);
     assert_eq!(rt; (reader.skipped(), reader.garbled()), (0, 0));
-    reader.feed(last)?;
-    assert!(rt; reader.advance());
-    let frame = reader.lend()?;
-    assert!(rt; frame.as_ref().map_or(false, |frame| is_heartbeat(frame)));
+    assert_eq!(rt; feed(&mut reader, last)?, 1);
+    Ok(())
+}
+
+#[test]
+fn a_frame_may_be_cut_anywhere(rt: HostRuntime) -> Result<(), Fail> {
+    let mut reader = FrameReader::new(rt.alloc());
+    for end in 0..HEARTBEAT.len() {
+        let (front, back) = HEARTBEAT.split_at(end);
+        assert_eq!(rt; feed(&mut reader, front)?, 0);
+        assert_eq!(rt; feed(&mut reader, back)?, 1);
+    }
+    assert_eq!(rt; (reader.skipped(), reader.garbled()), (0, 0));
+    Ok(())
+}
+
+#[test]
+fn a_frame_has_none_of_the_last_ones_fields(rt: HostRuntime) -> Result<(), Fail> {
+    let mut reader = FrameReader::new(rt.alloc());
+    reader.feed(REJECT)?;
+    reader.feed(HEARTBEAT)?;
+    reader.feed(REJECT)?;
+    for count in [7, 5, 7] {
+        let frame = reader.next()?.ok_or("a frame")?;
+        assert_eq!(rt; frame.len(), count);
+        let expected = if count == 7 {
+            Some(b"no".as_slice())
+        } else {
+            None
+        };
+        assert_eq!(rt; frame.get(58), expected);
+    }
+    assert!(rt; reader.next()?.is_none());
+    Ok(())
+}
+
+#[test]
+fn a_text_of_fields_is_a_frame(rt: HostRuntime) -> Result<(), Fail> {
+    let mut places: Vec<Place> = Vec::new(rt.alloc());
+    let text = b"58=a\x011=\x01999999=b=c\x0158=d\x01";
+    let frame = Frame::read(text, &mut places)?.ok_or("a frame")?;
+    assert_eq!(rt; frame.len(), 4);
+    assert!(rt; is_field(&frame, 1, 1, b""));
+    assert!(rt; is_field(&frame, 2, 999_999, b"b=c"));
+    assert_eq!(rt; frame.get(58), Some(b"a".as_slice()));
+    assert_eq!(rt; frame.get(10), None);
+    let others: [&[u8]; 6] = [
+        b"58=a",
+        b"58=a\x01\x01",
+        b"058=a\x01",
+        b"0=a\x01",
+        b"1000000=a\x01",
+        b"58\x01",
+    ];
+    for other in others {
+        assert!(rt; Frame::read(other, &mut places)?.is_none());
+    }
+    let nothing = Frame::read(b"", &mut places)?.ok_or("a frame")?;
+    assert_eq!(rt; nothing.len(), 0);
     Ok(())
 }
 

@@ -1,7 +1,8 @@
 use Rattle.std.proofs.Common.{◌≡◌, take}
 use Rattle.std.specs.Prelude.{filter}
+use Rattle.fix_text.specs.FrameFields.{fields_in}
 use Rattle.fix_tags.specs.App.{is_app_tag}
 use Rattle.fix_tags.proofs.read.app_fields.Given as goal
 
-abbrev pub invariant-loop-field : goal.invariant-loop-field
-invariant-loop-field l = l.kept.items ≡ filter (λ f. is_app_tag f.tag) (take l.field-index l.fields)
+abbrev pub invariant-loop-index : goal.invariant-loop-index
+invariant-loop-index l = l.kept.items ≡ filter (λ f. is_app_tag f.tag) (take l.index (fields_in l.frame))

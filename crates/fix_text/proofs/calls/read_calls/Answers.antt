@@ -8,4 +8,4 @@ pub returns-clause-calls : goal.returns-clause-calls
 returns-clause-calls c = IfOk-weaker c.make_calls.result _ _ (λ replay is. subst (IsReplay c.args.calls.now start) (sym is) (replay_is c.args.calls.now start)) c.make_calls.ensures.replay
 
 pub returns-clause-first : goal.returns-clause-first
-returns-clause-first c = IfOk-weaker c.make_calls.result _ _ (λ replay is. subst (λ (r : Replayed). AreFirst (bytes_fed c.args.calls.now) r.frames r.reader.stream) (sym is) (replay_first c.args.calls.now)) c.make_calls.ensures.replay
+returns-clause-first c = IfOk-weaker c.make_calls.result _ _ (λ replay is. subst (λ (r : Replayed). AreFirst (bytes_fed c.args.calls.now) r.frames r.stream) (sym is) (replay_first c.args.calls.now)) c.make_calls.ensures.replay

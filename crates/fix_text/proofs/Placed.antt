@@ -1,0 +1,150 @@
+-- The places of fields in a text, as a loop finds them one after the other.
+use Rattle.std.proofs.Common.{◌≡◌, ℕ, ◌+◌, ◌-◌, ◌*◌, ◌<◌, ◌≤◌, Bool, true, false, cond, eqb, ltb, leb, List, [], ◌∷◌, ◌++◌, length, get_or, take, drop, map, Option, Some, None, Result, Ok, Err, inl, inr, refl, sym, ap, ◌∙◌, arith, append_assoc}
+use Rattle.std.specs.Prelude.{◌&&◌, ◌||◌, slice_range, is_some, is_ok, is_err, slice_get}
+use Rattle.std.specs.Char.{is_ascii_digit}
+use Rattle.std.proofs.lemmas.Bool.{and_from, or_parts, le-leb, eq-eqb, ne_eqb}
+use Rattle.std.proofs.lemmas.List.{length-append, length-take-le, length-drop, take-append-drop, drop-drop, drop_at, drop-map, drop_more, map-append, take_more}
+use Rattle.std.proofs.lemmas.Option.{slice_get_within, get_or_from_slice_get}
+use Rattle.std.proofs.lemmas.List.Folds.{list_all-append}
+use Rattle.fix_text.specs.declared.place.Place.{Place}
+use Rattle.fix_text.specs.Tagged.{Tagged, value_of}
+use Rattle.fix_text.specs.Text.{holds_soh}
+use Rattle.fix_text.specs.Reading.{field_from, field_of, fields_of, with_field}
+use Rattle.fix_text.specs.Placing.{field_at, fields_at, is_within, AreWithin}
+use Rattle.fix_text.proofs.Readers.{chosen}
+use Rattle.fix_text.proofs.FieldLists.{with_front, fields_of-part, reads_one}
+use Rattle.fix_text.proofs.Places.{part_found}
+
+some_is : (x y : Tagged) → ◌≡◌ {A = Option Tagged} (Some x) (Some y) → x ≡ y
+some_is x y e = cc
+
+-- a field's value is the end of its part
+pub value_behind : (tag : ℕ) (part : List ℕ) (field : Tagged) → field_from tag part ≡ Some field → (front : List ℕ) × (part ≡ front ++ field.value)
+unfolding field_from
+value_behind tag [] field is = absurd cc
+value_behind tag (byte ∷ part) field is =
+    elim (chosen (eqb byte 61) _ _ (Some field) is) [
+      | inl equals ↦ elim (chosen (ltb 0 tag) (Some (record { tag = tag; value = part })) None (Some field) equals.1) [
+        | inl hit ↦ (byte ∷ [], ap (λ (f : Tagged). byte ∷ f.value) (some_is (record { tag = tag; value = part }) field hit.1))
+        | inr miss ↦ absurd cc
+      ]
+      | inr digit ↦ elim (chosen (is_ascii_digit byte && ltb 0 (10 * tag + (byte - 48)) && leb (10 * tag + (byte - 48)) 999999) (field_from (10 * tag + (byte - 48)) part) None (Some field) digit.1) [
+        | inl hit ↦ let later = value_behind (10 * tag + (byte - 48)) part field hit.1 in (byte ∷ later.0, ap (λ (t : List ℕ). byte ∷ t) later.1)
+        | inr miss ↦ absurd cc
+      ]
+    ]
+
+-- where a field and what follows it lie in a text
+pub record LiesIn (text : List ℕ) (at : ℕ) (part rest : List ℕ) (field : Tagged) : Type 0 where
+  pub fits : length field.value ≤ length part
+  pub end : at + length part + 1 ≤ length text
+  pub value : slice_range text (at + length part - length field.value) (at + length part) ≡ field.value
+  pub left : drop (at + length part + 1) text ≡ rest
+
+pub lies_in : (text : List ℕ) (at : ℕ) (part rest : List ℕ) (field : Tagged) → at ≤ length text → drop at text ≡ part ++ 1 ∷ rest → Some field ≡ field_of part → LiesIn text at part rest field
+lies_in text at part rest field within parted is =
+    let behind = value_behind 0 part field (sym is) in
+    let sized = ap length behind.1 in
+    let split = length-append behind.0 field.value in
+    let long = length-append part (1 ∷ rest) in
+    let dropped = length-drop at text in
+    let same : text ≡ (take at text ++ behind.0) ++ (field.value ++ 1 ∷ rest) =
+    sym (take-append-drop at text) ∙ ap (λ (t : List ℕ). take at text ++ t) (parted ∙ ap (λ (p : List ℕ). p ++ 1 ∷ rest) behind.1 ∙ append_assoc behind.0 field.value (1 ∷ rest)) ∙ sym (append_assoc (take at text) behind.0 (field.value ++ 1 ∷ rest)) in
+    let front = length-append (take at text) behind.0 in
+    let taken = length-take-le at text within in
+    let size = ap length parted in
+    record {
+      fits = omega (arith, sized, split);
+      end = omega (arith, size, long, dropped);
+      value = part_found text (take at text ++ behind.0) field.value (1 ∷ rest) _ _ same (omega (arith, front, taken, sized, split)) (omega (arith, sized, split));
+      left = ap (λ (n : ℕ). drop n text) (let e : at + length part + 1 ≡ at + (length part + 1) = omega arith in e) ∙ sym (drop-drop (length part + 1) at text) ∙ ap (drop (length part + 1)) parted ∙ ap (drop (length part + 1)) (sym (append_assoc part (1 ∷ []) rest)) ∙ drop_at (part ++ 1 ∷ []) rest (length part + 1) (omega (arith, length-append part (1 ∷ [])));
+    }
+
+-- the place of that field
+abbrev pub place_of : ℕ → List ℕ → Tagged → Place
+place_of at part field = record { tag = field.tag; start = at + length part - length field.value; end = at + length part }
+
+-- ---- a turn of the loop
+
+fields_more : (text : List ℕ) (places : List Place) (at : ℕ) (part rest : List ℕ) (field : Tagged) → LiesIn text at part rest field → fields_at text (places ++ place_of at part field ∷ []) ≡ fields_at text places ++ field ∷ []
+fields_more text places at part rest field lies =
+    map-append (field_at text) places (place_of at part field ∷ [])
+    ∙ ap (λ (value : List ℕ). fields_at text places ++ record { tag = field.tag; value = value } ∷ []) lies.value
+
+pub place_read : {A E : Type 0} (pushed : Result A E) (full : Bool) (text : List ℕ) (places : List Place) (at : ℕ) (part rest : List ℕ) (field : Tagged) (total : Option (List Tagged))
+    → LiesIn text at part rest field → drop at text ≡ part ++ 1 ∷ rest → holds_soh part ≡ false → Some field ≡ field_of part
+    → (full ≡ false → with_front (fields_at text places) (fields_of (drop at text)) ≡ total)
+    → (full || is_err pushed) ≡ false → with_front (fields_at text (cond (is_ok pushed) (places ++ place_of at part field ∷ []) places)) (fields_of (drop (at + length part + 1) text)) ≡ total
+place_read (Err e) full text places at part rest field total lies parted none is so_far room =
+    absurd (true_not_false (or_parts full true room).1) where
+      true_not_false : true ≡ false → ⊥
+      true_not_false e = cc
+place_read (Ok x) full text places at part rest field total lies parted none is so_far room =
+    ap (λ (bytes : List ℕ). with_front (fields_at text (places ++ place_of at part field ∷ [])) (fields_of bytes)) lies.left
+    ∙ ap (λ (front : List Tagged). with_front front (fields_of rest)) (fields_more text places at part rest field lies)
+    ∙ reads_one (fields_at text places) (drop at text) part rest field total parted none (sym is) (so_far (or_parts full false room).0)
+
+some_with : (field : Tagged) (read : Option (List Tagged)) → is_some (with_field (Some field) read) ≡ is_some read
+some_with field None = refl
+some_with field (Some later) = refl
+
+pub some_read : (text : List ℕ) (at : ℕ) (part rest : List ℕ) (field : Tagged) (total : Bool) → LiesIn text at part rest field → drop at text ≡ part ++ 1 ∷ rest → holds_soh part ≡ false → Some field ≡ field_of part
+    → is_some (fields_of (drop at text)) ≡ total → is_some (fields_of (drop (at + length part + 1) text)) ≡ total
+some_read text at part rest field total lies parted none is so_far =
+    ap (λ (bytes : List ℕ). is_some (fields_of bytes)) lies.left
+    ∙ sym (some_with field (fields_of rest))
+    ∙ ap (λ (f : Option Tagged). is_some (with_field f (fields_of rest))) is
+    ∙ ap is_some (sym (ap fields_of parted ∙ fields_of-part part rest none))
+    ∙ so_far
+
+pub within_more : {A E : Type 0} (pushed : Result A E) (text : List ℕ) (places : List Place) (at : ℕ) (part rest : List ℕ) (field : Tagged) → LiesIn text at part rest field → AreWithin text places
+    → AreWithin text (cond (is_ok pushed) (places ++ place_of at part field ∷ []) places)
+within_more (Err e) text places at part rest field lies each = each
+within_more (Ok x) text places at part rest field lies each =
+    let ordered : leb (at + length part - length field.value) (at + length part) ≡ true = le-leb _ _ (omega arith) in
+    let ends : leb (at + length part) (length text) ≡ true = le-leb _ _ (omega (arith, lies.end)) in
+    let here : is_within text (place_of at part field) ≡ true = and_from _ _ ordered ends in
+    list_all-append (is_within text) places (place_of at part field ∷ []) ∙ and_from _ _ each (and_from _ _ here refl)
+
+-- ---- its exits
+
+pub no_fields : (read total : Option (List Tagged)) → read ≡ None → is_some read ≡ is_some total → None ≡ total
+no_fields read None none so_far = refl
+no_fields read (Some fields) none so_far = absurd (false_not_true (ap is_some (sym none) ∙ so_far)) where
+  false_not_true : false ≡ true → ⊥
+  false_not_true e = cc
+
+-- ---- a look-up
+
+-- the field at a place, before those of the later places
+pub field_here : (text : List ℕ) (places : List Place) (k : ℕ) (d : Place) → k < length places → drop k (fields_at text places) ≡ field_at text (get_or places k d) ∷ drop (k + 1) (fields_at text places)
+field_here text places k d within =
+    drop-map (field_at text) k places ∙ ap (map (field_at text)) (drop_more places k d within)
+    ∙ ap (λ (later : List Tagged). field_at text (get_or places k d) ∷ later) (sym (drop-map (field_at text) (k + 1) places))
+
+value_found : (field : Tagged) (later : List Tagged) (tag : ℕ) → field.tag ≡ tag → value_of (field ∷ later) tag ≡ Some field.value
+value_found field later tag hit =
+    let same : eqb field.tag tag ≡ true = eq-eqb _ _ hit in
+    rw same refl
+
+value_not_found : (field : Tagged) (later : List Tagged) (tag : ℕ) → (field.tag ≡ tag → ⊥) → value_of (field ∷ later) tag ≡ value_of later tag
+value_not_found field later tag miss =
+    let other : eqb field.tag tag ≡ false = ne_eqb _ _ miss in
+    rw other refl
+
+pub value_here : (text : List ℕ) (places : List Place) (k : ℕ) (d : Place) (tag : ℕ) (total : Option (List ℕ)) → k < length places → (get_or places k d).tag ≡ tag → value_of (drop k (fields_at text places)) tag ≡ total
+    → Some (slice_range text (get_or places k d).start (get_or places k d).end) ≡ total
+value_here text places k d tag total within hit so_far =
+    sym (value_found (field_at text (get_or places k d)) (drop (k + 1) (fields_at text places)) tag hit)
+    ∙ ap (λ (fields : List Tagged). value_of fields tag) (sym (field_here text places k d within)) ∙ so_far
+
+pub value_later : (text : List ℕ) (places : List Place) (k : ℕ) (d : Place) (tag : ℕ) (total : Option (List ℕ)) → k < length places → ((get_or places k d).tag ≡ tag → ⊥) → value_of (drop k (fields_at text places)) tag ≡ total
+    → value_of (drop (k + 1) (fields_at text places)) tag ≡ total
+value_later text places k d tag total within miss so_far =
+    sym (value_not_found (field_at text (get_or places k d)) (drop (k + 1) (fields_at text places)) tag miss)
+    ∙ ap (λ (fields : List Tagged). value_of fields tag) (sym (field_here text places k d within)) ∙ so_far
+
+-- the fields up to a place, with the field there
+pub take_field : (fields : List Tagged) (k : ℕ) (field : Tagged) → slice_get fields k ≡ Some field → take (k + 1) fields ≡ take k fields ++ field ∷ []
+take_field fields k field is =
+    take_more fields k field (slice_get_within fields k field is) ∙ ap (λ (f : Tagged). take k fields ++ f ∷ []) (get_or_from_slice_get fields k field field is)
