@@ -172,6 +172,6 @@ written_fits s law report view range view_range =
     FitsMessage-within 3 64 (report_fields s report view) fit (omega arith)
 
 -- a report can be written into a message, in at most 1,000 bytes
-pub report_fits : (s : SpellingParts) → IsSpelling s → (report : Report) (fields : List Tagged) → IsReportOf s report fields → FitsMessage fields
-report_fits s law report fields is =
-    subst FitsMessage (sym is.fields_are) (written_fits s law report is.view is.in_range is.view_in_range)
+pub report_fits : (s : SpellingParts) → IsSpelling s → (report : Report) (view : OrderViewParts) (fields : List Tagged) → IsReportOf s report view fields → FitsMessage fields
+report_fits s law report view fields is =
+    subst FitsMessage (sym is.fields_are) (written_fits s law report view is.in_range is.view_in_range)

@@ -77,7 +77,7 @@ written_again s law id exec kind view range =
     rw (own, law.id_reads_back id range.id, range.exec, kind_again s law id exec kind view range.kind) refl
 
 -- what is written of a report is read as it
-pub report_reads_back : (s : SpellingParts) → IsSpelling s → (report : Report) (fields : List Tagged) → IsReportOf s report fields → report_read_of s fields ≡ Ok report
-report_reads_back s law report fields is =
+pub report_reads_back : (s : SpellingParts) → IsSpelling s → (report : Report) (view : OrderViewParts) (fields : List Tagged) → IsReportOf s report view fields → report_read_of s fields ≡ Ok report
+report_reads_back s law report view fields is =
     subst (λ (fields : List Tagged). report_read_of s fields ≡ Ok report) (sym is.fields_are)
-    (written_again s law report.id report.exec report.kind is.view is.in_range)
+    (written_again s law report.id report.exec report.kind view is.in_range)

@@ -17,6 +17,7 @@ pub trait Dialect {
     ghost use Rattle.leg.specs.declared.leg.Leg.{Leg};
     ghost use Rattle.dialect.specs.declared.fault.DialectFault.{DialectFault};
     ghost use Rattle.dialect.specs.declared.report.Report.{Report};
+    ghost use Rattle.dialect.specs.OrderView.{OrderViewParts};
     ghost use Rattle.dialect.specs.Dialect.{Appends, IsMarked, FitsMessage};
 
     // The fields that may be written for a leg, whatever the stamp.
@@ -28,8 +29,8 @@ pub trait Dialect {
     // The field that marks a leg of a sweep.
     ghost mark: { Self → Tagged };
 
-    // The fields that may be written for a report, whatever else its exchange knows of the order.
-    ghost IsReport: { Self → Report → List Tagged → Type 0 };
+    // The fields that may be written for a report, beside what its exchange knows of the order.
+    ghost IsReport: { Self → Report → OrderViewParts → List Tagged → Type 0 };
 
     // The report that fields say, or the first fault.
     ghost report_read: { Self → List Tagged → Result Report DialectFault };
@@ -62,7 +63,7 @@ pub trait Dialect {
     ) -> Result<(), DialectFault>
         requires { view.now.leg.id ≡ report.now.id }
         ensures ok { OnOk result
-            (Appends (IsReport self.now report.now) fields.old.items fields.new.items) }
+            (Appends (IsReport self.now report.now view.now) fields.old.items fields.new.items) }
         ensures only { IsOkUnless result DialectFault.OutOfMemory }
         ensures err { OnErr result (fields.new.items ≡ fields.old.items) };
 
@@ -85,10 +86,10 @@ pub trait Dialect {
         IsOrder d leg fields → FitsMessage fields };
 
     // What was written of a report is read back.
-    ghost report_reads_back: { (d : Self) (report : Report) (fields : List Tagged) →
-        IsReport d report fields → report_read d fields ≡ Ok report };
+    ghost report_reads_back: { (d : Self) (report : Report) (view : OrderViewParts) (fields : List Tagged) →
+        IsReport d report view fields → report_read d fields ≡ Ok report };
 
     // A report can be written into a message, in at most 1,000 bytes.
-    ghost report_fits: { (d : Self) (report : Report) (fields : List Tagged) →
-        IsReport d report fields → FitsMessage fields };
+    ghost report_fits: { (d : Self) (report : Report) (view : OrderViewParts) (fields : List Tagged) →
+        IsReport d report view fields → FitsMessage fields };
 }

@@ -4,6 +4,7 @@ ghost use Rattle.std.specs.Prelude.{◌≡◌, List};
 ghost use Rattle.fix_text.specs.Tagged.{Tagged};
 ghost use Rattle.leg.specs.declared.leg.Leg.{Leg};
 ghost use Rattle.dialect.specs.declared.report.Report.{Report};
+ghost use Rattle.dialect.specs.OrderView.{OrderViewParts};
 
 use crate::dialect::Dialect;
 
@@ -13,8 +14,8 @@ pub fn orders_tell_legs_apart<D: Dialect>(dialect: &D)
         D.IsOrder dialect.now a fields → D.IsOrder dialect.now b fields → a ≡ b }
 {}
 
-/// Two reports that differ have different fields.
+/// Two reports that differ have different fields, whatever their exchanges know beside them.
 pub fn reports_tell_apart<D: Dialect>(dialect: &D)
-    ensures { (a b : Report) (fields : List Tagged) →
-        D.IsReport dialect.now a fields → D.IsReport dialect.now b fields → a ≡ b }
+    ensures { (a b : Report) (beside_a beside_b : OrderViewParts) (fields : List Tagged) →
+        D.IsReport dialect.now a beside_a fields → D.IsReport dialect.now b beside_b fields → a ≡ b }
 {}

@@ -20,7 +20,8 @@ use std::alloc::{AllocError, Global};
 /// How many fields an order has at most.
 const MAX_ORDER_LEN: usize = 10;
 
-fn id_in<S: Spelling>(spelling: &S, fields: &[FieldRef<'_>]) -> Result<LegId, DialectFault>
+/// The leg that ClOrdID (11) names.
+pub(crate) fn id_in<S: Spelling>(spelling: &S, fields: &[FieldRef<'_>]) -> Result<LegId, DialectFault>
     ensures { result ≡ required_as (S.spelling spelling.now).id_of fields.now 11 }
 {
     let text = required(fields, CL_ORD_ID)?;

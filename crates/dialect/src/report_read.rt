@@ -13,19 +13,11 @@ use crate::field_value::required;
 use crate::fill::Fill;
 use crate::last_px::LastPx;
 use crate::limit::read_order_shares;
+use crate::order::id_in;
 use crate::report::{Report, ReportKind};
 use crate::report_tag::{EXEC_ID, EXEC_REF_ID, EXEC_TYPE, LAST_PX, LAST_QTY};
 use crate::spelling::Spelling;
-use crate::tag::CL_ORD_ID;
 use fix_text::FieldRef;
-use leg::LegId;
-
-fn id_in<S: Spelling>(spelling: &S, fields: &[FieldRef<'_>]) -> Result<LegId, DialectFault>
-    ensures { result ≡ required_as (S.spelling spelling.now).id_of fields.now 11 }
-{
-    let text = required(fields, CL_ORD_ID)?;
-    spelling.read_id(text).ok_or(DialectFault::Bad(CL_ORD_ID))
-}
 
 fn exec_id_in(fields: &[FieldRef<'_>], tag: u32) -> Result<ExecId, DialectFault>
     ensures { result ≡ required_as (free_text_of 64) fields.now tag }

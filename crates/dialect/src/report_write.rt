@@ -154,7 +154,7 @@ pub(crate) fn write_report<S: Spelling>(
 ) -> Result<(), DialectFault>
     requires { view.now.leg.id ≡ report.now.id }
     ensures ok { OnOk result
-        (Appends (IsReportOf (S.spelling spelling.now) report.now) fields.old.items fields.new.items) }
+        (Appends (IsReportOf (S.spelling spelling.now) report.now view.now) fields.old.items fields.new.items) }
     ensures only { IsOkUnless result DialectFault.OutOfMemory }
     ensures err { OnErr result (fields.new.items ≡ fields.old.items) }
     ensures exact { OnOk result (fields.new.items

@@ -29,7 +29,7 @@ impl<S: Spelling> Dialect for S {
 
     ghost mark = { λ d. (S.spelling d).mark };
 
-    ghost IsReport = { λ d report fields. IsReportOf (S.spelling d) report fields };
+    ghost IsReport = { λ d report view fields. IsReportOf (S.spelling d) report view fields };
 
     ghost report_read = { λ d fields. report_read_of (S.spelling d) fields };
 
@@ -66,7 +66,7 @@ impl<S: Spelling> Dialect for S {
     ) -> Result<(), DialectFault>
         requires { view.now.leg.id ≡ report.now.id }
         ensures ok { OnOk result
-            (Appends (IsReportOf (S.spelling self.now) report.now) fields.old.items fields.new.items) }
+            (Appends (IsReportOf (S.spelling self.now) report.now view.now) fields.old.items fields.new.items) }
         ensures only { IsOkUnless result DialectFault.OutOfMemory }
         ensures err { OnErr result (fields.new.items ≡ fields.old.items) }
         ensures exact { OnOk result (fields.new.items
@@ -85,7 +85,7 @@ impl<S: Spelling> Dialect for S {
 
     ghost order_fits = { λ d leg fields is. order_fits_of (S.spelling d) leg fields (S.is_spelling d) is };
 
-    ghost report_reads_back = { λ d report fields is. report_back_of (S.spelling d) (S.is_spelling d) report fields is };
+    ghost report_reads_back = { λ d report view fields is. report_back_of (S.spelling d) (S.is_spelling d) report view fields is };
 
-    ghost report_fits = { λ d report fields is. report_fits_of (S.spelling d) (S.is_spelling d) report fields is };
+    ghost report_fits = { λ d report view fields is. report_fits_of (S.spelling d) (S.is_spelling d) report view fields is };
 }

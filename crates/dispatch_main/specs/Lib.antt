@@ -1,1 +1,2 @@
 pub mod OrderFrame
+pub mod DialectName

@@ -11,7 +11,6 @@ use crate::order::frame::{read_order_frame, write_order_frame};
 use crate::order::options::read_options;
 use crate::order::order_fault::OrderFault;
 use crate::order::request::Request;
-use dialect::Plain;
 use leg::Leg;
 use std::alloc::Global;
 use std::convert::AsStr;
@@ -41,9 +40,10 @@ pub fn order_run<S: AsStr, W: Write, E: Write>(
 
 fn order<S: AsStr, W: Write>(alloc: Global, words: &[S], out: &mut W) -> Result<(), ProgramFault> {
     let options = read_options(alloc, words)?;
+    let dialect = options.dialect;
     let Request { leg, header } = Request::new(&options)?;
-    let frame = write_order_frame(alloc, &Plain, &leg, header)?;
-    let read = match read_order_frame(alloc, &Plain, &frame) {
+    let frame = write_order_frame(alloc, &dialect, &leg, header)?;
+    let read = match read_order_frame(alloc, &dialect, &frame) {
         Ok(read) => read,
         Err(OrderFault::OutOfMemory) => return Err(ProgramFault::OutOfMemory),
         // What was written is read back.

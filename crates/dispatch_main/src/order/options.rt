@@ -1,17 +1,21 @@
 //! The options of `dispatch order`, as text.
+ghost use Rattle.std.specs.Prelude.{◌≡◌};
+ghost use Rattle.dispatch_main.specs.DialectName.{dialect_named};
 
 use crate::fault::ProgramFault;
 use clap::error::ErrorKind;
 use clap::{Arg, ArgMatches, Command};
+use dialect::AnyDialect;
 use std::alloc::{AllocError, Global};
 use std::convert::AsStr;
 
 /// The dialects that `--dialect` takes.
-static DIALECTS: [&str; 1] = ["plain"];
+static DIALECTS: [&str; 3] = ["plain", "split", "coded"];
 
 /// The values of the options, each as it was written.
 #[derive(Drop)]
 pub struct Options<'a> {
+    pub dialect: AnyDialect,
     pub sweep: &'a str,
     pub leg: &'a str,
     pub symbol: &'a str,
@@ -75,6 +79,18 @@ fn value<'a>(matches: &ArgMatches<'a>, name: &'static str) -> Result<&'a str, Pr
     matches.get_str(name).ok_or(ProgramFault::NoValue(name))
 }
 
+/// The dialect of a name that the command line takes.
+fn dialect_of(name: &str) -> Option<AnyDialect>
+    ensures { result ≡ dialect_named name.now }
+{
+    match name {
+        "plain" => Some(AnyDialect::Plain),
+        "split" => Some(AnyDialect::Split4),
+        "coded" => Some(AnyDialect::Coded),
+        _ => None,
+    }
+}
+
 /// The options in these words. A missing, unknown or repeated option and a dialect that isn't there are
 /// faults of the command line.
 pub fn read_options<'a, S: AsStr>(
@@ -83,7 +99,9 @@ pub fn read_options<'a, S: AsStr>(
 ) -> Result<Options<'a>, ProgramFault> {
     let command = command(alloc)?;
     let matches = command.try_get_matches_from(words).map_err(fault_of)?;
+    let name = value(&matches, "dialect")?;
     Ok(Options {
+        dialect: dialect_of(name).ok_or(ProgramFault::BadValue("dialect"))?,
         sweep: value(&matches, "sweep")?,
         leg: value(&matches, "leg")?,
         symbol: value(&matches, "symbol")?,

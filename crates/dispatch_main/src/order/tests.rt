@@ -53,6 +53,24 @@ fn writes_the_worked_orders(rt: HostRuntime) -> Result<(), Fail> {
     Ok(())
 }
 
+#[test]
+fn writes_the_worked_order_in_each_dialect(rt: HostRuntime) -> Result<(), Fail> {
+    let alloc = rt.alloc();
+    let split = run_changed(alloc, "plain", "split")?;
+    assert_eq!(rt; split.status, 0);
+    assert_eq!(rt;
+        split.out.as_slice(),
+        b"8=FIX.4.4|9=139|35=D|49=A|56=B|34=4|52=20240102-14:30:00.000|11=000000000012-03|18=f|38=100|40=2|44=10.2500|54=1|55=BRK|65=B|59=3|60=20240102-14:30:00.000|10=239|\nS12L3 BRK.B buy 100 102500\n".as_slice()
+    );
+    let coded = run_changed(alloc, "plain", "coded")?;
+    assert_eq!(rt; coded.status, 0);
+    assert_eq!(rt;
+        coded.out.as_slice(),
+        b"8=FIX.4.4|9=141|35=D|49=A|56=B|34=4|52=20240102-14:30:00.000|11=000000000000000c03|9001=Y|38=100|40=2|44=10.2500|54=1|55=BRK/B|59=3|60=20240102-14:30:00.000|10=133|\nS12L3 BRK.B buy 100 102500\n".as_slice()
+    );
+    Ok(())
+}
+
 /// Each option with its own value, its name, and values that are bad.
 const BAD: [(&str, &str, &[&str]); 10] = [
     (
@@ -180,8 +198,8 @@ fn a_command_line_that_is_none(rt: HostRuntime) -> Result<(), Fail> {
             b"dispatch: error: the argument '--leg <N>' cannot be used multiple times\n",
         ),
         (
-            "order --dialect split --sweep 0",
-            b"dispatch: error: invalid value 'split' for '--dialect <D>'\n",
+            "order --dialect fixt --sweep 0",
+            b"dispatch: error: invalid value 'fixt' for '--dialect <D>'\n",
         ),
         (
             "order --help",
