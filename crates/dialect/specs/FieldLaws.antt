@@ -1,9 +1,8 @@
--- Lemmas: fields that are known by their tags and values, and how long they are.
-use Rattle.std.proofs.Common.{◌≡◌, ◌==◌, ℕ, ◌+◌, ◌*◌, ◌≤◌, Bool, true, ◌&&◌, not, List, [], ◌∷◌, length, map, decimal, Some, refl, sym, ap₂, subst, ◌∙◌, arith, length-append}
+-- Fields that are known by their tags and values, and lemmas: how long they are.
+use Rattle.std.proofs.Common.{◌≡◌, ◌==◌, ℕ, ◌+◌, ◌*◌, ◌≤◌, Bool, true, ◌&&◌, not, List, [], ◌∷◌, length, decimal, Some, refl, arith, length-append}
 use Rattle.std.specs.List.{AllByRecursion, list_all}
-use Rattle.std.proofs.lemmas.Bool.{and_parts, and_from, not-true, eq-eqb, cond-true}
+use Rattle.std.proofs.lemmas.Bool.{and_parts, and_from}
 use Rattle.std.proofs.lemmas.Bool.Decides.{nat_tests}
-use Rattle.std.proofs.lemmas.Option.{same_Some}
 use Rattle.std.proofs.lemmas.Fmt.{length-decimal-le}
 use Rattle.fix_text.specs.Tagged.{Tagged, value_of}
 use Rattle.fix_text.specs.Text.{field_text, fields_text, is_writable_tag, is_writable_value}
@@ -16,34 +15,9 @@ use Rattle.dialect.specs.Dialect.{FitsMessage}
 abbrev pub has_no : ℕ → List Tagged → Bool
 has_no tag fields = list_all (λ f. not (tag == f.tag)) fields
 
--- no two fields have one tag
-abbrev pub has_distinct_tags : List Tagged → Bool
-has_distinct_tags [] = true
-has_distinct_tags (first ∷ fields) = has_no first.tag fields && has_distinct_tags fields
-
 -- each field is the first of its tag in this list
 abbrev pub AreIn : List Tagged → List Tagged → Type 0
 AreIn fields expected = AllByRecursion (λ f. value_of fields f.tag ≡ Some f.value) expected
-
-without_front : (front : Tagged) (fields expected : List Tagged) → has_no front.tag expected ≡ true → AreIn (front ∷ fields) expected → AreIn fields expected
-without_front front fields [] none are = tt
-without_front front fields (first ∷ expected) none are =
-    let parts = and_parts _ _ none in
-    (rw (not-true (front.tag == first.tag) parts.0) at are.0, without_front front fields expected parts.1 are.1)
-
--- fields whose tags are these, each once, and whose values are these
-pub fields_are : (expected fields : List Tagged) → has_distinct_tags expected ≡ true → map (λ f. f.tag) fields ≡ map (λ f. f.tag) expected → AreIn fields expected → fields ≡ expected
-fields_are [] [] distinct tags are = refl
-fields_are [] (first ∷ fields) distinct tags are = cc
-fields_are (known ∷ expected) [] distinct tags are = cc
-fields_are (known ∷ expected) (first ∷ fields) distinct tags are =
-    let parts = and_parts (has_no known.tag expected) (has_distinct_tags expected) distinct in
-    let tag : first.tag ≡ known.tag = cc in
-    let more : map (λ f. f.tag) fields ≡ map (λ f. f.tag) expected = cc in
-    let value : first.value ≡ known.value = same_Some _ _ (sym (cond-true (first.tag == known.tag) (Some first.value) (value_of fields known.tag) (eq-eqb _ _ tag)) ∙ are.0) in
-    let others = subst (λ t. has_no t expected ≡ true) (sym tag) parts.0 in
-    let rest = fields_are expected fields parts.1 more (without_front first fields expected others are.1) in
-    ap₂ (λ (x : Tagged) (xs : List Tagged). x ∷ xs) (λ i. record { tag = tag i; value = value i }) rest
 
 -- a value that can be written, of at most 32 bytes
 pub record IsShortValue (value : List ℕ) : Type 0 where
