@@ -21,7 +21,10 @@ use std::alloc::{AllocError, Global};
 const MAX_ORDER_LEN: usize = 10;
 
 /// The leg that ClOrdID (11) names.
-pub(crate) fn id_in<S: Spelling>(spelling: &S, fields: &[FieldRef<'_>]) -> Result<LegId, DialectFault>
+pub(crate) fn id_in<S: Spelling>(
+    spelling: &S,
+    fields: &[FieldRef<'_>],
+) -> Result<LegId, DialectFault>
     ensures { result ≡ required_as (S.spelling spelling.now).id_of fields.now 11 }
 {
     let text = required(fields, CL_ORD_ID)?;
@@ -30,7 +33,10 @@ pub(crate) fn id_in<S: Spelling>(spelling: &S, fields: &[FieldRef<'_>]) -> Resul
 
 /// Reads an order, as a venue spells it.
 #[tactic(auto, unfolding(crate::specs::Order::order_read_of))]
-pub(crate) fn read_order<S: Spelling>(spelling: &S, fields: &[FieldRef<'_>]) -> Result<Leg, DialectFault>
+pub(crate) fn read_order<S: Spelling>(
+    spelling: &S,
+    fields: &[FieldRef<'_>],
+) -> Result<Leg, DialectFault>
     ensures { result ≡ order_read_of (S.spelling spelling.now) fields.now }
 {
     let id = id_in(spelling, fields)?;
