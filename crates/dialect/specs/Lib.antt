@@ -38,3 +38,4 @@ pub mod Coded
 pub mod CodedLaws
 pub mod Any
 pub mod AnyLaws
+pub mod Message

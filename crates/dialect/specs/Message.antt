@@ -1,0 +1,66 @@
+-- A message as a session and an exchange understand it: an envelope whose application fields the dialect has read.
+use Rattle.std.specs.Prelude.{ℕ, Bool, List, [], ◌∷◌, Option, Result, ◌==◌, if◌then◌else◌}
+use Rattle.fix_text.specs.Tagged.{Tagged}
+use Rattle.fix_tags.specs.declared.body.Body.{Body}
+use Rattle.fix_tags.specs.declared.body.Body.TheVariants as body
+use Rattle.fix_tags.specs.declared.envelope.Envelope.{Envelope}
+use Rattle.leg.specs.declared.leg.Leg.{Leg}
+use Rattle.dialect.specs.declared.fault.DialectFault.{DialectFault}
+use Rattle.dialect.specs.declared.report.Report.{Report}
+
+-- what a message says (FIX 4.4 Volume 2, session messages; Volume 4, NewOrderSingle and ExecutionReport)
+pub data Content : Type 0 where
+  Logon : (heart : ℕ) (reset : Bool) (next : Option ℕ) → Content
+  Heartbeat : (id : Option (List ℕ)) → Content
+  TestRequest : (id : List ℕ) → Content
+  ResendRequest : (begin last : ℕ) → Content
+  Reject : (number : ℕ) → Content
+  GapFill : (new_number : ℕ) → Content
+  Reset : (new_number : ℕ) → Content
+  Logout : Content
+  BusinessReject : (number : Option ℕ) → Content
+  -- an application message of kind `D`, with the leg that the dialect reads, or its fault
+  Order : (read : Result Leg DialectFault) → Content
+  -- one of kind `8`, with the report that the dialect reads, or its fault
+  OrderReport : (read : Result Report DialectFault) → Content
+  -- one of another kind
+  Other : Content
+
+pub record Message : Type 0 where
+  -- SenderCompID (49) and TargetCompID (56)
+  pub from : List ℕ
+  pub to : List ℕ
+  -- MsgSeqNum (34)
+  pub number : ℕ
+  -- PossDupFlag (43)
+  pub poss_dup : Bool
+  pub content : Content
+
+-- how a dialect reads orders and reports
+pub record Readers : Type 0 where
+  pub order : List Tagged → Result Leg DialectFault
+  pub report : List Tagged → Result Report DialectFault
+
+-- what an application message of one kind says
+abbrev pub application : Readers → List ℕ → List Tagged → Content
+application read (c ∷ []) fields =
+    if c == 68 then Order (read.order fields)
+    else (if c == 56 then OrderReport (read.report fields) else Other)
+application read kind fields = Other
+
+-- what a body says
+abbrev pub content_of : Readers → Body → Content
+content_of read (body.Logon heart reset next) = Logon heart reset next
+content_of read (body.Heartbeat id) = Heartbeat id
+content_of read (body.TestRequest id) = TestRequest id
+content_of read (body.ResendRequest begin last) = ResendRequest begin last
+content_of read (body.Reject number) = Reject number
+content_of read (body.GapFill new_number) = GapFill new_number
+content_of read (body.Reset new_number) = Reset new_number
+content_of read body.Logout = Logout
+content_of read (body.BusinessReject number) = BusinessReject number
+content_of read (body.App kind fields) = application read kind fields
+
+-- an envelope as a message
+abbrev pub seen : Readers → Envelope → Message
+seen read e = record { from = e.sender; to = e.target; number = e.number; poss_dup = e.poss_dup; content = content_of read e.body }

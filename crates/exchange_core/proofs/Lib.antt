@@ -1,0 +1,11 @@
+pub mod Entries
+pub mod Step
+pub mod Resends
+pub mod Takes
+pub mod ActsKeep
+pub mod Forward
+pub mod Sound
+pub mod SharesLaws
+pub mod Closing
+pub mod Answers
+pub mod Counted

@@ -1,0 +1,110 @@
+-- The exchange as the rules see it.
+use Rattle.std.specs.Prelude.{◌≡◌, suc, ◌∷◌, ◌⊎◌, Bool, true, false, ℕ, ◌≤◌, List, [], ◌++◌, length, map, Option, Some, None, Ok}
+use Rattle.leg.specs.declared.leg.Leg.{Leg}
+use Rattle.dialect.specs.Message.{Content, Message, Logon, Reject, GapFill, Logout, OrderReport}
+use Rattle.exchange_core.specs.Acceptance.{Carried, Intake, Standing, LiveIsLast, May}
+use Rattle.exchange_core.specs.Own.{Own, Admin, Reported, Refused, next_number, exec_id}
+use Rattle.exchange_core.specs.Exchange.{ExchangeParts, Answer}
+
+-- the report or the refusal that an own number carries, if it carries one
+abbrev pub kept : Own → Option Content
+kept Admin = None
+kept (Reported report view) = Some (OrderReport (Ok report))
+kept (Refused number) = Some (Reject number)
+
+-- what it has taken
+abbrev pub intake_of : ExchangeParts → Intake
+intake_of x = record {
+  expected = x.expected;
+  live = x.live;
+  last = x.last;
+  accepted = map (λ order. order.leg) x.orders;
+  closed_at = x.closed_at;
+}
+
+-- it answers and refuses at once, so nothing is left to be answered or refused later
+abbrev pub standing : ExchangeParts → Standing
+standing x = record { intake = intake_of x; tests = []; refusable = []; own = map kept x.own }
+
+-- a message in its connection
+abbrev pub carried : ℕ → Message → Carried
+carried connection m = record { connection = connection; number = m.number; content = m.content }
+
+-- what it writes goes into one connection, and nowhere if there is none
+abbrev pub into : Option ℕ → List Message → List Carried
+into None messages = []
+into (Some connection) messages = map (carried connection) messages
+
+-- the live connection is the last one
+abbrev pub IsSound : ExchangeParts → Type 0
+IsSound x = LiveIsLast (intake_of x)
+
+-- the legs of the orders accepted
+abbrev pub legs_of : ExchangeParts → List Leg
+legs_of x = map (λ order. order.leg) x.orders
+
+-- the second is after the first: numbers don't fall, and what was accepted and what own numbers were used for stays,
+-- with more behind it, of own numbers at most two in a step
+pub record IsAfter (x y : ExchangeParts) : Type 0 where
+  pub config : y.config ≡ x.config
+  pub expected : x.expected ≤ y.expected
+  pub last : x.last ≤ y.last
+  pub accepted : (more : List Leg) × (legs_of y ≡ legs_of x ++ more)
+  pub own : (more : List Own) × (y.own ≡ x.own ++ more) × (length more ≤ 2)
+
+-- every own number used is below the one that no message may have
+abbrev pub IsNumbered : ExchangeParts → Type 0
+IsNumbered x = next_number x.own ≤ x.config.max_number
+
+abbrev pub is_logon : Content → Bool
+is_logon (Logon heart reset next) = true
+is_logon content = false
+
+-- the mark of the close is as it was, or was set by a Logout: the connection ended, and it is the count of the orders
+pub record IsClosedBy (content : Content) (y : ExchangeParts) : Type 0 where
+  pub logout : content ≡ Logout
+  pub ended : y.live ≡ None
+  pub mark : y.closed_at ≡ Some (length y.orders)
+
+abbrev pub IsMarked : ExchangeParts → Content → ExchangeParts → Type 0
+IsMarked x content y = (y.closed_at ≡ x.closed_at) ⊎ IsClosedBy content y
+
+-- what is done with a message: the rules allow it, the exchange goes on from where it was and stays sound, its numbers
+-- stay below the limit, and only a Logout sets the mark of the close
+pub record IsAnswer (x : ExchangeParts) (connection : ℕ) (m : Message) (a : Answer) : Type 0 where
+  pub allowed : May (standing x) (Some (carried connection m)) (standing a.0) (into (Some connection) a.1)
+  pub after : IsAfter x a.0
+  pub sound : IsSound a.0
+  pub numbered : IsNumbered x → IsNumbered a.0
+  pub marked : IsMarked x m.content a.0
+
+-- an act that was not refused: the rules allow it, it changes nothing of what was taken, and it uses a number only
+-- where one is left
+pub record IsAct (x : ExchangeParts) (a : Answer) : Type 0 where
+  pub allowed : May (standing x) None (standing a.0) (into x.live a.1)
+  pub after : IsAfter x a.0
+  pub taken : intake_of a.0 ≡ intake_of x
+  pub sound : IsSound a.0
+  pub numbered : IsNumbered x → IsNumbered a.0
+
+-- the expected number is one that a message may name
+pub record IsExpectable (x : ExchangeParts) : Type 0 where
+  pub from : 1 ≤ x.expected
+  pub to : x.expected ≤ 999_999_999
+
+-- the new number of a gap fill is in the range that is read
+abbrev pub IsFillInRange : Content → Type 0
+IsFillInRange (GapFill new_number) = new_number ≤ 999_999_999
+IsFillInRange content = Unit {0}
+
+-- the numbers of a message are in the ranges that are read
+pub record IsInRange (m : Message) : Type 0 where
+  pub number : m.number ≤ 999_999_998
+  pub fill : IsFillInRange m.content
+
+-- each report has the ExecID of its place among the reports, of which there were so many before
+abbrev pub AreCounted : ℕ → List Own → Type 0
+AreCounted count [] = Unit {0}
+AreCounted count (Admin ∷ own) = AreCounted count own
+AreCounted count (Reported report view ∷ own) = (report.exec ≡ exec_id (suc count)) × AreCounted (suc count) own
+AreCounted count (Refused number ∷ own) = AreCounted count own

@@ -1,0 +1,81 @@
+-- The exchange's own numbers: what each was used for, and what a resend request is answered with (FIX 4.4 Volume 2,
+-- "Resend Request" and "Sequence Reset").
+use Rattle.std.specs.Prelude.{ℕ, suc, ◌+◌, ◌-◌, min, Bool, true, false, ◌&&◌, ◌||◌, List, [], ◌∷◌, ◌++◌, length, take, drop, codes, decimal, Option, Some, None, Ok, ◌==◌, nat_le, if◌then◌else◌}
+use Rattle.fix_tags.specs.Config.{ConfigParts}
+use Rattle.dialect.specs.declared.report.Report.{Report}
+use Rattle.dialect.specs.Message.{Content, Message, Reject, GapFill, OrderReport}
+use Rattle.dialect.specs.OrderView.{OrderViewParts}
+
+-- what an own number was used for: a message of the session, a report with the order as it was then, or the refusal of
+-- a message by its number
+pub data Own : Type 0 where
+  Admin : Own
+  Reported : (report : Report) (view : OrderViewParts) → Own
+  Refused : (number : ℕ) → Own
+
+-- Own numbers begin at 1, and what they were used for is listed in their order.
+
+-- the next number, and whether so many are left below the one that no message may have
+abbrev pub next_number : List Own → ℕ
+next_number own = suc (length own)
+
+abbrev pub has_numbers : ℕ → ConfigParts → List Own → Bool
+has_numbers count config own = nat_le (next_number own + count) config.max_number
+
+-- how many reports there are
+abbrev pub report_count : List Own → ℕ
+report_count [] = 0
+report_count (Admin ∷ own) = report_count own
+report_count (Reported report view ∷ own) = suc (report_count own)
+report_count (Refused number ∷ own) = report_count own
+
+-- the count of the next report, this one included, and an ExecID (17): `E` and a count
+abbrev pub next_exec : List Own → ℕ
+next_exec own = suc (report_count own)
+
+abbrev pub exec_id : ℕ → List ℕ
+exec_id count = codes "E" ++ decimal count
+
+-- a message to the peer, sent for the first time
+abbrev pub message_of : ConfigParts → ℕ → Content → Message
+message_of config number content =
+    record { from = config.me; to = config.peer; number = number; poss_dup = false; content = content }
+
+-- a message to the peer under a number that it may have seen before (43=Y)
+abbrev pub again : ConfigParts → ℕ → Content → Message
+again config number content = record (message_of config number content) { poss_dup = true }
+
+-- a gap fill over the numbers from the first one that is open, if there is one, to the one before this
+abbrev pub closing_fill : ConfigParts → Option ℕ → ℕ → List Message
+closing_fill config None number = []
+closing_fill config (Some first) number = again config first (GapFill number) ∷ []
+
+-- the first number of an open run of messages of the session, where this one carries on or begins it
+abbrev pub run_from : Option ℕ → ℕ → ℕ
+run_from None number = number
+run_from (Some first) number = first
+
+-- the messages of these numbers, of which the first has this number, where a run may be open: each report and refusal
+-- again, and each run of the rest by one gap fill
+abbrev pub resent : ConfigParts → Option ℕ → ℕ → List Own → List Message
+resent config run number [] = closing_fill config run number
+resent config run number (Admin ∷ own) = resent config (Some (run_from run number)) (suc number) own
+resent config run number (Reported report view ∷ own) =
+    closing_fill config run number ++ again config number (OrderReport (Ok report)) ∷ resent config None (suc number) own
+resent config run number (Refused refused ∷ own) =
+    closing_fill config run number ++ again config number (Reject refused) ∷ resent config None (suc number) own
+
+-- the last number of a range that is asked for, where 0 means all that was sent
+abbrev pub range_end : ℕ → ℕ → ℕ
+range_end sent last = if last == 0 then sent else min sent last
+
+-- whether a range is one of numbers that were sent
+abbrev pub is_range : ℕ → ℕ → ℕ → Bool
+is_range sent begin last = nat_le 1 begin && nat_le begin sent && (last == 0 || nat_le begin last)
+
+-- what the request for a range is answered with
+abbrev pub answer_to : ConfigParts → List Own → ℕ → ℕ → List Message
+answer_to config own begin last =
+    if is_range (length own) begin last
+    then resent config None begin (drop (begin - 1) (take (range_end (length own) last) own))
+    else []

@@ -1,0 +1,4 @@
+pub mod Later
+pub mod Ranges
+pub mod Due
+pub mod Settled

@@ -1,0 +1,58 @@
+-- How the numbers sent go on from one log to a later one.
+use Rattle.std.specs.Prelude.{◌≡◌, ◌≢◌, ◌≤◌, ◌<◌, ◌⊎◌, ◌+◌, ℕ, Bool, true, false, ◌&&◌, List, [], ◌∷◌, ◌++◌, Some, if◌then◌else◌}
+use Rattle.leg.specs.LegId.{LegIdParts}
+use Rattle.leg.specs.declared.leg_state.LegState.{LegState}
+use Rattle.leg.specs.declared.leg_state.LegState.TheVariants.{Queued, Doubt, Taken, Withdrawn}
+use Rattle.resend.specs.Log.{SentLeg, Entry, FillParts, last_number, entry_at, is_doubt}
+use Rattle.resend.specs.Log.Entry.{Admin, Sent}
+
+-- a leg in doubt stays so or is settled, and any other keeps its state
+abbrev pub MayBecome : LegState → LegState → Type 0
+MayBecome old new = (new ≡ old) ⊎ ((old ≡ Doubt) × ((new ≡ Taken) ⊎ (new ≡ Withdrawn)))
+
+-- the same leg, perhaps settled since
+pub record IsLegLater (old new : SentLeg) : Type 0 where
+  pub ordinal : new.ordinal ≡ old.ordinal
+  pub id : new.id ≡ old.id
+  pub state : MayBecome old.state new.state
+
+-- each number that was spent stays spent on the same thing, and others were only added behind
+pub record IsLater (old new : List Entry) : Type 0 where
+  pub last : last_number old ≤ last_number new
+  pub admin : (number : ℕ) → entry_at number old ≡ Some Admin → entry_at number new ≡ Some Admin
+  pub sent : (number : ℕ) (leg : SentLeg) → entry_at number old ≡ Some (Sent leg)
+      → (later : SentLeg) × (entry_at number new ≡ Some (Sent later)) × IsLegLater leg later
+
+-- numbers were added behind, and nothing else was changed
+abbrev pub IsAdded : List Entry → List Entry → Type 0
+IsAdded old new = (more : List Entry) × (new ≡ old ++ more)
+
+-- a leg that is withdrawn was so before: none was withdrawn since
+abbrev pub WithdrawsNone : List Entry → List Entry → Type 0
+WithdrawsNone old new =
+    (number : ℕ) (leg : SentLeg) → entry_at number new ≡ Some (Sent leg) → leg.state ≡ Withdrawn → entry_at number old ≡ Some (Sent leg)
+
+-- the legs that were in doubt and are withdrawn now, in the order of their numbers
+abbrev pub is_withdrawn : LegState → Bool
+is_withdrawn Withdrawn = true
+is_withdrawn Queued = false
+is_withdrawn Doubt = false
+is_withdrawn Taken = false
+
+abbrev pub withdrawn_since : List Entry → List Entry → List LegIdParts
+withdrawn_since [] new = []
+withdrawn_since (Admin ∷ old) [] = []
+withdrawn_since (Admin ∷ old) (entry ∷ new) = withdrawn_since old new
+withdrawn_since (Sent leg ∷ old) [] = []
+withdrawn_since (Sent leg ∷ old) (Admin ∷ new) = withdrawn_since old new
+withdrawn_since (Sent leg ∷ old) (Sent now ∷ new) =
+    if is_doubt leg.state && is_withdrawn now.state then leg.id ∷ withdrawn_since old new else withdrawn_since old new
+
+-- a gap fill that answers for numbers which were sent, from begin on, no further than was asked for and than top
+pub record IsFillFor (begin last top : ℕ) (log : List Entry) (fill : FillParts) : Type 0 where
+  pub from_one : 1 ≤ fill.first
+  pub from_begin : fill.first ≡ begin
+  pub forward : fill.first < fill.new_number
+  pub was_sent : fill.new_number ≤ last_number log + 1
+  pub was_asked : last ≢ 0 → fill.new_number ≤ last + 1
+  pub below_top : fill.new_number ≤ top + 1

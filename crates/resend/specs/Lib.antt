@@ -1,0 +1,3 @@
+pub mod Log
+pub mod Judging
+pub mod Later

@@ -1,0 +1,14 @@
+//! The numbers of a session: what each number sent was spent on, and which number is expected.
+#![tactic(auto)]
+
+mod judged;
+mod laws;
+mod log_fault;
+
+pub use judged::Judged;
+pub use laws::{
+    a_number_is_due_where_it_is_expected, later_logs_follow_one_another, settling_leaves_no_doubt,
+    what_is_done_to_a_log_makes_it_later, what_is_taken_is_not_withdrawn,
+    what_was_sent_is_filled_and_no_more,
+};
+pub use log_fault::LogFault;

@@ -1,0 +1,4 @@
+pub mod Grown
+pub mod ExchangeGrows
+pub mod DeskKeeps
+pub mod Happened

@@ -1,0 +1,8 @@
+pub mod World
+pub mod Happening
+pub mod Printed
+pub mod Example
+pub mod SweepTheorem
+pub mod Invariant
+pub mod Growing
+pub mod Script

@@ -1,0 +1,24 @@
+//! What follows from the definitions of the world: each law is the contract of a function that does nothing.
+
+ghost use Rattle.std.specs.Prelude.{◌≡◌, ◌≢◌, ℕ, List, Some, None};
+ghost use Rattle.schedule.specs.declared.event.Event.{Event as AnEvent};
+ghost use Rattle.schedule.specs.World.{World, venue_in};
+ghost use Rattle.schedule.specs.Happening.{happens, run};
+ghost use Rattle.schedule.specs.Growing.{named, IsUntouched, IsWorldLater};
+
+/// An event changes the venue that it names alone, and a release none: the others stay as they were, with their gates
+/// and with how many of their legs left the desk.
+pub fn an_event_changes_one_venue()
+    ensures { (w : World) (event : AnEvent) (u : ℕ) → named event ≢ Some u → IsUntouched u w (happens w event) }
+{}
+
+/// An event at a venue that isn't there changes nothing.
+pub fn an_event_nowhere_changes_nothing()
+    ensures { (w : World) (event : AnEvent) (v : ℕ) → named event ≡ Some v → venue_in w v ≡ None → happens w event ≡ w }
+{}
+
+/// Whatever happens, what was written, accepted, reported, handed to the book and released stands, with more behind it.
+pub fn what_was_done_stands()
+    ensures happens { (w : World) (event : AnEvent) → IsWorldLater w (happens w event) }
+    ensures run { (events : List AnEvent) (w : World) → IsWorldLater w (run events w) }
+{}

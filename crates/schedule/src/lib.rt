@@ -1,0 +1,22 @@
+//! The whole core in one thread: a world of desk, book, sessions and exchanges, and the events that move it. Its rules
+//! are definitions, in `specs/`.
+#![tactic(auto)]
+
+mod act;
+mod event;
+mod laws;
+mod rows;
+
+pub use act::Act;
+pub use event::{Event, FrameNumber};
+pub use laws::{
+    an_event_changes_one_venue, an_event_nowhere_changes_nothing, what_was_done_stands,
+};
+pub use rows::{
+    a_break_with_doubt, a_break_with_none_lost, a_bust, a_close, a_close_answered,
+    a_fill_and_a_cancel, a_reject_after_a_new, a_resend_request_again, a_resend_request_in_doubt,
+    a_script_is_read, bad_lines_are_named, few_numbers, first_frames, frame_of_a_bust,
+    frames_after_a_break, frames_of_a_quiet_session, frames_of_a_resend_request_again,
+    frames_when_told, quiet_test_silent, told_and_settled, told_that_none_is_lost,
+    told_the_next_number, two_venues,
+};

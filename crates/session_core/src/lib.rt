@@ -1,0 +1,20 @@
+//! The dispatcher's session with an exchange: its phases, endings and refusals. Its rules are definitions, in `specs/`.
+#![tactic(auto)]
+
+mod ended;
+mod laws;
+mod phase;
+mod rows;
+mod session_fault;
+
+pub use ended::Ended;
+pub use laws::{
+    a_closed_session_is_over, going_onward_goes_on, other_calls_keep_the_legs,
+    what_is_received_leads_onward,
+};
+pub use phase::Phase;
+pub use rows::{
+    asks_for_what_is_missing, counts_what_is_due, ends_when_up, fills_when_logged_out,
+    goes_on_when_up, is_told_the_next_number, keeps_alive_and_closes, keeps_doubt,
+    logs_on_and_settles, notes_are_confirmed, refuses_calls, withdraws_what_is_asked_for_again,
+};

@@ -1,0 +1,28 @@
+//! Why a call of a session is refused.
+
+use thiserror::Error;
+
+/// Why a call of a session is refused. A refusal leaves the session as it was.
+#[derive(Clone, Copy, Debug, PartialEq, Eq, Error)]
+pub enum SessionFault {
+    /// There is a connection already.
+    #[error("S01 not down")]
+    NotDown,
+    /// The session has ended for good.
+    #[error("S02 closed")]
+    Closed,
+    /// No number is left for the message.
+    #[error("S03 numbers spent")]
+    NumbersSpent,
+    #[error("S04 out of memory")]
+    OutOfMemory,
+    /// A leg is sent in phase `Up` alone.
+    #[error("S05 not up")]
+    NotUp,
+    /// A leg of this ordinal or a higher one was sent.
+    #[error("S06 ordinal not greater")]
+    OrdinalNotGreater,
+    /// There is no connection.
+    #[error("S07 not connected")]
+    NotConnected,
+}

@@ -1,0 +1,11 @@
+pub mod ShareSums
+pub mod OneMore
+pub mod Sound
+pub mod Adding
+pub mod Outcomes
+pub mod Repeats
+pub mod Steps
+pub mod Told
+pub mod LegSteps
+pub mod VenueSums
+pub mod Resolved

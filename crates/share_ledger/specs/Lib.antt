@@ -1,0 +1,5 @@
+pub mod Entries
+pub mod Shares
+pub mod Book
+pub mod Steps
+pub mod Rows

@@ -1,0 +1,12 @@
+//! What became of each leg's shares: the book of the reports and withdrawals.
+#![tactic(auto)]
+
+mod applied;
+mod book_entry;
+mod book_fault;
+pub mod laws;
+pub mod rows;
+
+pub use applied::Applied;
+pub use book_entry::BookEntry;
+pub use book_fault::BookFault;

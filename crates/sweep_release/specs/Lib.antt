@@ -1,0 +1,6 @@
+pub mod Released
+pub mod Desk
+pub mod History
+pub mod Place
+pub mod Laws
+pub mod Rows

@@ -1,0 +1,45 @@
+-- Examples: a desk of two venues, the first with its gate up.
+use Rattle.std.specs.Prelude.{ℕ, zero, suc, List, length, replicate, Option, Some, None, Result, Ok, Err}
+use Rattle.leg.specs.declared.sweep.Routed.{Routed}
+use Rattle.share_ledger.specs.Entries.{opened}
+use Rattle.share_ledger.specs.Book.{BookParts, new_book, open_sweep}
+use Rattle.share_ledger.specs.Rows.{order}
+use Rattle.sweep_release.specs.declared.release_fault.ReleaseFault.{ReleaseFault}
+use Rattle.sweep_release.specs.Desk.{DeskParts, new_desk, release, gate_up, drop_next}
+use Rattle.sweep_release.specs.History.{desk_after}
+use Rattle.sweep_release.specs.Place.{Placed}
+
+-- two venues, gate 0 up and gate 1 down
+abbrev pub two_venues : DeskParts
+two_venues = (gate_up (new_desk 2) 0).1
+
+-- so many orders for venue 0
+abbrev pub orders : ℕ → List Routed
+orders n = replicate n (order 0 10)
+
+-- the desk after a sweep of 32 legs to venue 0 was released so many times
+abbrev pub after_sweeps : ℕ → DeskParts → DeskParts
+after_sweeps zero desk = desk
+after_sweeps (suc n) desk = after_sweeps n (desk_after desk (release desk (orders 32)))
+
+-- venue 0 with all the legs that may be placed there
+abbrev pub full : DeskParts
+full = after_sweeps 8 two_venues
+
+-- the desk after so many legs of venue 0 were dropped
+abbrev pub after_drops : ℕ → DeskParts → DeskParts
+after_drops zero desk = desk
+after_drops (suc n) desk = after_drops n (drop_next desk 0).1
+
+-- a sweep of one leg to venue 0 that was released, so that it is the desk's first
+abbrev pub one_released : DeskParts
+one_released = desk_after two_venues (release two_venues (orders 1))
+
+-- a book of two venues with the same first sweep
+abbrev pub one_opened : BookParts
+one_opened = (open_sweep (new_book 2) 1 (orders 1)).1
+
+-- the number of the sweep in the desk and in the book that took it
+abbrev pub placed_number : Result Placed ReleaseFault → Option (ℕ × ℕ × ℕ)
+placed_number (Ok placed) = Some (placed.receipt.number, length placed.desk.sweeps, length (opened placed.book.entries))
+placed_number (Err fault) = None

@@ -1,0 +1,16 @@
+//! Why a gate isn't put up.
+
+use thiserror::Error;
+
+/// Why a gate isn't put up. The desk is as it was.
+#[derive(Clone, Copy, Debug, PartialEq, Eq, Error)]
+pub enum GateFault {
+    /// Legs are still placed at the venue that were neither taken nor dropped.
+    #[error("G01 not drained")]
+    NotDrained,
+    /// The gate was shut, for good.
+    #[error("G02 closed")]
+    Closed,
+    #[error("G03 out of memory")]
+    OutOfMemory,
+}

@@ -1,0 +1,16 @@
+//! Sweeps placed together or not at all: the desk of released legs and the gates of the venues.
+#![tactic(auto)]
+
+mod desk_entry;
+mod gate;
+mod gate_fault;
+pub mod laws;
+mod receipt;
+mod release_fault;
+pub mod rows;
+
+pub use desk_entry::DeskEntry;
+pub use gate::Gate;
+pub use gate_fault::GateFault;
+pub use receipt::Receipt;
+pub use release_fault::ReleaseFault;
