@@ -62,6 +62,7 @@ pub fn notes_are_confirmed()
     ensures unread { (receive up (from_b 3 (OrderReport (Err NotMarked)))).step.note ≡ Some (note.Unread NotMarked) }
     ensures refused { (receive (sent up 1) (from_b 3 (Reject 3))).step.note ≡ Some (note.Refused leg.id) }
     ensures refused_by_business { (receive (sent up 1) (from_b 3 (BusinessReject (Some 3)))).step.note ≡ Some (note.Refused leg.id) }
+    ensures refused_when_taken { (receive (heard (after_turn (sent up 1) (silent (sent up 1))) (from_b 3 (Heartbeat (Some (codes "F4"))) ∷ [])) (from_b 4 (Reject 3))).step.note ≡ Some (note.Refused leg.id) }
     ensures no_leg_refused { (receive up (from_b 3 (Reject 1))).step.note ≡ None }
     ensures no_number_refused { (receive up (from_b 3 (BusinessReject None))).session.expected ≡ 4 }
     ensures not_counted { (receive up (from_b 3 (OrderReport (Ok report)))).session.expected ≡ 3 }

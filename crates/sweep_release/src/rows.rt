@@ -53,3 +53,8 @@ pub fn a_sweep_is_placed_in_its_own_book()
     ensures wrong { place one_released (new_book 2) (orders 1) ≡ Err ReleaseFault.WrongBook }
     ensures own { placed_number (place one_released one_opened (orders 1)) ≡ Some (2, 2, 2) }
 {}
+
+/// With 10^18 shares released no share more is.
+pub fn a_day_of_shares_is_spent()
+    ensures spent { release (record two_venues { sweeps = (order 1 1000000000000000000 ∷ []) ∷ [] }) (orders 1) ≡ Err ReleaseFault.SweepsSpent }
+{}

@@ -9,3 +9,7 @@ returns-clause-refused c = refl
 pub returns-clause-refused_by_business : goal.returns-clause-refused_by_business
 unfolding digits
 returns-clause-refused_by_business c = refl
+
+pub returns-clause-refused_when_taken : goal.returns-clause-refused_when_taken
+unfolding digits
+returns-clause-refused_when_taken c = refl
