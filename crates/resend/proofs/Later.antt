@@ -64,7 +64,7 @@ later-spend number entry log = later-spent (has_number number log) number entry 
 
 -- what a number was spent on, where some entries are settled
 module _ (test : ℕ → Bool) (state : LegState) where
-  length-settled_where : (first : ℕ) (log : List Entry) → length (settled_where test state first log) ≡ length log
+  pub length-settled_where : (first : ℕ) (log : List Entry) → length (settled_where test state first log) ≡ length log
   length-settled_where first [] = refl
   length-settled_where first (entry ∷ log) = ap suc (length-settled_where (suc first) log)
 

@@ -152,16 +152,16 @@ sent_step w v venue after id (Ok (session, message)) keeps onward =
     put w v venue (session_wrote session (message ∷ []) venue) _ keeps refl (wrote_later venue session (message ∷ []) onward)
 sent_step w v venue after id (Err fault) keeps onward = record { desk = keeps; venues = inl refl }
 
-onward_if : (s : SessionParts) (P : SessionParts → Type 0) (r : Result (SessionParts × Message) SessionFault) → ((t : SessionParts) → P t → IsOnward s t) → IfOk r (λ answer. P answer.0)
+onward_if : (s : SessionParts) (P : SessionParts → Message → Type 0) (r : Result (SessionParts × Message) SessionFault) → ((t : SessionParts) (m : Message) → P t m → IsOnward s t) → IfOk r (λ answer. P answer.0 answer.1)
     → IfOk r (λ answer. IsOnward s answer.0)
-onward_if s P (Ok (session, message)) by holds = by session holds
+onward_if s P (Ok (session, message)) by holds = by session message holds
 onward_if s P (Err fault) by holds = tt
 
 taken_step : (w : World) (v : ℕ) (venue : VenueParts) (left : Option PlacedLeg × DeskParts) → Keeps v w.desk left.1 → StepAt w v venue (taken_world w v venue left)
 taken_step w v venue (None, after) keeps = step-refl w v venue
 taken_step w v venue (Some placed, after) keeps =
     sent_step w v venue after placed.leg.id (send_leg venue.session placed.ordinal placed.leg) keeps
-    (onward_if venue.session (IsSent venue.session placed.ordinal placed.leg) (send_leg venue.session placed.ordinal placed.leg) (λ t sent. sent.keeps.onward) (send_leg_keeps venue.session placed.ordinal placed.leg))
+    (onward_if venue.session (IsSent venue.session placed.ordinal placed.leg) (send_leg venue.session placed.ordinal placed.leg) (λ t m sent. sent.keeps.onward) (send_leg_keeps venue.session placed.ordinal placed.leg))
 
 take_step : (w : World) (v : ℕ) (venue : VenueParts) → StepAt w v venue (takes w v venue)
 take_step w v venue =
@@ -180,7 +180,7 @@ connect_step : (w : World) (v : ℕ) (venue : VenueParts) → StepAt w v venue (
 connect_step w v venue =
     chosen (StepAt w v venue) (may_connect w.desk v) (connected_world w v venue (connect venue.session)) w
     (λ may. connected_step w v venue (connect venue.session)
-    (onward_if venue.session (IsConnection venue.session) (connect venue.session) (λ t made. made.keeps.onward) (connect_keeps venue.session)))
+    (onward_if venue.session (IsConnection venue.session) (connect venue.session) (λ t m made. made.keeps.onward) (connect_keeps venue.session)))
     (λ may_not. step-refl w v venue)
 
 -- ToExchange and ToDispatcher

@@ -15,8 +15,8 @@ pub use laws::{
 pub use rows::{
     a_break_with_doubt, a_break_with_none_lost, a_bust, a_close, a_close_answered,
     a_fill_and_a_cancel, a_reject_after_a_new, a_resend_request_again, a_resend_request_in_doubt,
-    a_script_is_read, bad_lines_are_named, a_session_given_up, what_is_not_possible, few_numbers, first_frames, frame_of_a_bust,
-    frames_after_a_break, frames_of_a_quiet_session, frames_of_a_resend_request_again,
-    frames_when_told, quiet_test_silent, told_and_settled, told_that_none_is_lost,
-    told_the_next_number, two_venues,
+    a_script_is_read, a_session_given_up, bad_lines_are_named, few_numbers, first_frames,
+    frame_of_a_bust, frames_after_a_break, frames_of_a_quiet_session,
+    frames_of_a_resend_request_again, frames_when_told, quiet_test_silent, told_and_settled,
+    told_that_none_is_lost, told_the_next_number, two_venues, what_is_not_possible,
 };

@@ -1,5 +1,5 @@
 -- The calls beside receiving keep the legs as they are.
-use Rattle.std.proofs.Common.{◌≡◌, ◌≤◌, ◌<◌, ◌+◌, ℕ, suc, Bool, true, false, not, nat_lt, List, [], ◌∷◌, ◌++◌, length, Option, Some, None, Result, Ok, Err, refl, sym, ◌∙◌, arith}
+use Rattle.std.proofs.Common.{◌≡◌, ◌≤◌, ◌<◌, ◌+◌, ℕ, suc, Bool, true, false, not, nat_lt, List, [], ◌∷◌, ◌++◌, length, Option, Some, None, Result, Ok, Err, refl, sym, ap, ◌∙◌, arith, length-append}
 use Rattle.std.specs.Prelude.{IfOk}
 use Rattle.std.proofs.lemmas.Bool.Decides.{nat_tests}
 use Rattle.std.proofs.lemmas.List.{append-nil}
@@ -29,22 +29,23 @@ keeps_log s t config log connection expected close_asked =
 pub keeps-refl : (s : SessionParts) → KeepsLegs s s
 keeps-refl s = keeps_log s s refl refl (omega arith) (omega arith) (λ asked. asked)
 
-call_quietly : (s t : SessionParts) → KeepsLegs s t → IsCall s (quietly t)
-call_quietly s t keeps = record { keeps = keeps; note = refl; withdrawn = refl }
+call_quietly : (s t : SessionParts) → KeepsLegs s t → t.log ≡ s.log → IsCall s (quietly t)
+call_quietly s t keeps log = record { keeps = keeps; numbered = ap (λ (l : List Entry). length l + 1) log; note = refl; withdrawn = refl }
 
 -- connect
-logged_on : (s : SessionParts) → s.phase ≡ Down → IfOk (logs_on s) (λ answer. IsConnection s answer.0)
+logged_on : (s : SessionParts) → s.phase ≡ Down → IfOk (logs_on s) (λ answer. IsConnection s answer.0 answer.1)
 logged_on s down =
-    chosen (λ (r : Result (SessionParts × Message) SessionFault). IfOk r (λ answer. IsConnection s answer.0)) (may_write s) _ (Err fault.NumbersSpent)
+    chosen (λ (r : Result (SessionParts × Message) SessionFault). IfOk r (λ answer. IsConnection s answer.0 answer.1)) (may_write s) _ (Err fault.NumbersSpent)
     (λ may. record {
       keeps = keeps_with s (connecting s) refl (Admin ∷ [], refl) (omega arith) (omega arith) (λ asked. asked);
       was_down = down;
-      logs_on = refl;
+      numbered = (refl, omega (arith, length-append s.log (Admin ∷ [])));
+      logs_on = (refl, refl);
       counted = refl;
     })
     (λ spent. tt)
 
-connected_in : (s : SessionParts) (phase : Phase) → s.phase ≡ phase → IfOk (connect_in phase s) (λ answer. IsConnection s answer.0)
+connected_in : (s : SessionParts) (phase : Phase) → s.phase ≡ phase → IfOk (connect_in phase s) (λ answer. IsConnection s answer.0 answer.1)
 connected_in s Down is = logged_on s is
 connected_in s LoggingOn is = tt
 connected_in s Settling is = tt
@@ -53,7 +54,7 @@ connected_in s Closing is = tt
 connected_in s LoggedOut is = tt
 connected_in s Closed is = tt
 
-pub connect_keeps : (s : SessionParts) → IfOk (connect s) (λ answer. IsConnection s answer.0)
+pub connect_keeps : (s : SessionParts) → IfOk (connect s) (λ answer. IsConnection s answer.0 answer.1)
 connect_keeps s = connected_in s s.phase refl
 
 -- send_leg
@@ -64,13 +65,15 @@ entry_at-last (first ∷ log) entry = entry_at-last log entry
 entry_at-next : (log : List Entry) (entry : Entry) → entry_at (length log + 1) (log ++ entry ∷ []) ≡ Some entry
 entry_at-next log entry = (let e : length log + 1 ≡ suc (length log) = omega arith in rw e (entry_at-last log entry))
 
-sent_up : (s : SessionParts) (ordinal : ℕ) (leg : Leg) → s.phase ≡ Up → IfOk (send_up s ordinal leg) (λ answer. IsSent s ordinal leg answer.0)
+sent_up : (s : SessionParts) (ordinal : ℕ) (leg : Leg) → s.phase ≡ Up → IfOk (send_up s ordinal leg) (λ answer. IsSent s ordinal leg answer.0 answer.1)
 sent_up s ordinal leg up =
-    chosen (λ (r : Result (SessionParts × Message) SessionFault). IfOk r (λ answer. IsSent s ordinal leg answer.0)) (not (nat_lt (last_ordinal s.log) ordinal)) (Err fault.OrdinalNotGreater) _
+    chosen (λ (r : Result (SessionParts × Message) SessionFault). IfOk r (λ answer. IsSent s ordinal leg answer.0 answer.1)) (not (nat_lt (last_ordinal s.log) ordinal)) (Err fault.OrdinalNotGreater) _
     (λ low. tt)
-    (λ high. chosen (λ (r : Result (SessionParts × Message) SessionFault). IfOk r (λ answer. IsSent s ordinal leg answer.0)) (may_write s) _ (Err fault.NumbersSpent)
+    (λ high. chosen (λ (r : Result (SessionParts × Message) SessionFault). IfOk r (λ answer. IsSent s ordinal leg answer.0 answer.1)) (may_write s) _ (Err fault.NumbersSpent)
     (λ may. record {
       keeps = keeps_with s (sending s ordinal leg) refl (Sent (record { ordinal = ordinal; id = leg.id; state = Doubt }) ∷ [], refl) (omega arith) (omega arith) (λ asked. asked);
+      numbered = (refl, omega (arith, length-append s.log (Sent (record { ordinal = ordinal; id = leg.id; state = Doubt }) ∷ [])));
+      orders = refl;
       was_up = up;
       above = above_last (last_ordinal s.log) ordinal high;
       in_doubt = entry_at-next s.log (Sent (record { ordinal = ordinal; id = leg.id; state = Doubt }));
@@ -80,7 +83,7 @@ sent_up s ordinal leg up =
     above_last : (last ordinal : ℕ) → not (nat_lt last ordinal) ≡ false → last < ordinal
     above_last last ordinal is = grind (arith, nat_tests, is)
 
-sent_in : (s : SessionParts) (ordinal : ℕ) (leg : Leg) (phase : Phase) → s.phase ≡ phase → IfOk (send_in phase s ordinal leg) (λ answer. IsSent s ordinal leg answer.0)
+sent_in : (s : SessionParts) (ordinal : ℕ) (leg : Leg) (phase : Phase) → s.phase ≡ phase → IfOk (send_in phase s ordinal leg) (λ answer. IsSent s ordinal leg answer.0 answer.1)
 sent_in s ordinal leg Up is = sent_up s ordinal leg is
 sent_in s ordinal leg Down is = tt
 sent_in s ordinal leg LoggingOn is = tt
@@ -89,7 +92,7 @@ sent_in s ordinal leg Closing is = tt
 sent_in s ordinal leg LoggedOut is = tt
 sent_in s ordinal leg Closed is = tt
 
-pub send_leg_keeps : (s : SessionParts) (ordinal : ℕ) (leg : Leg) → IfOk (send_leg s ordinal leg) (λ answer. IsSent s ordinal leg answer.0)
+pub send_leg_keeps : (s : SessionParts) (ordinal : ℕ) (leg : Leg) → IfOk (send_leg s ordinal leg) (λ answer. IsSent s ordinal leg answer.0 answer.1)
 send_leg_keeps s ordinal leg = sent_in s ordinal leg s.phase refl
 
 -- the calls without an answer
@@ -121,31 +124,31 @@ Calls s r = IfOk r (IsCall s)
 pub quiet_keeps : (s : SessionParts) → IfOk (quiet s) (IsCall s)
 quiet_keeps s =
     chosen (Calls s) (not (is_connected s.phase)) (Err fault.NotConnected) _ (λ off. tt)
-    (λ on. chosen (Calls s) (is_still s.phase) (Ok (quietly s)) _ (λ still. call_quietly s s (keeps-refl s))
+    (λ on. chosen (Calls s) (is_still s.phase) (Ok (quietly s)) _ (λ still. call_quietly s s (keeps-refl s) refl)
     (λ going. chosen (Calls s) (may_write s) (Ok (writes (Heartbeat None) (quietly s))) (Err fault.NumbersSpent)
-    (λ may. call_by s (quietly s) (writes (Heartbeat None) (quietly s)) (call_quietly s s (keeps-refl s)) (adds-writes (Heartbeat None) (quietly s)))
+    (λ may. call_by s (quietly s) (writes (Heartbeat None) (quietly s)) (call_quietly s s (keeps-refl s) refl) (adds-writes (Heartbeat None) (quietly s)))
     (λ spent. tt)))
 
 hushed_call : (s : SessionParts) → IsCall s (quietly (hushed s))
-hushed_call s = call_quietly s (hushed s) (keeps_log s (hushed s) refl refl (omega arith) (omega arith) (λ asked. asked))
+hushed_call s = call_quietly s (hushed s) (keeps_log s (hushed s) refl refl (omega arith) (omega arith) (λ asked. asked)) refl
 
 pub silent_keeps : (s : SessionParts) → IfOk (silent s) (IsCall s)
 silent_keeps s =
     chosen (Calls s) (not (is_connected s.phase)) (Err fault.NotConnected) _ (λ off. tt)
     (λ on. chosen (Calls s) s.silent (Ok (ends Silent s)) _
-    (λ again. call_by s (quietly s) (ends Silent s) (call_quietly s s (keeps-refl s)) (adds-ends_turn Silent (quietly s)))
+    (λ again. call_by s (quietly s) (ends Silent s) (call_quietly s s (keeps-refl s) refl) (adds-ends_turn Silent (quietly s)))
     (λ first. chosen (Calls s) (is_still s.phase) (Ok (quietly (hushed s))) _ (λ still. hushed_call s)
     (λ going. chosen (Calls s) (may_write s) (Ok (writes_fence (quietly (hushed s)))) (Err fault.NumbersSpent)
     (λ may. call_by s (quietly (hushed s)) (writes_fence (quietly (hushed s))) (hushed_call s) (adds-writes_fence (quietly (hushed s))))
     (λ spent. tt))))
 
 asked_call : (s : SessionParts) → IsCall s (quietly (asked_to_close s))
-asked_call s = call_quietly s (asked_to_close s) (keeps_log s (asked_to_close s) refl refl (omega arith) (omega arith) (λ asked. refl))
+asked_call s = call_quietly s (asked_to_close s) (keeps_log s (asked_to_close s) refl refl (omega arith) (omega arith) (λ asked. refl)) refl
 
 closes_up_keeps : (s : SessionParts) → IfOk (closes_up s) (IsCall s)
 closes_up_keeps s =
     (let closing : SessionParts = record (asked_to_close s) { phase = Closing; closing_fence = next_out s } in
-    let closing_call = call_quietly s closing (keeps_log s closing refl refl (omega arith) (omega arith) (λ asked. refl)) in
+    let closing_call = call_quietly s closing (keeps_log s closing refl refl (omega arith) (omega arith) (λ asked. refl)) refl in
     chosen (Calls s) (may_write s) (Ok (writes_fence (quietly closing))) (Err fault.NumbersSpent)
     (λ may. call_by s (quietly closing) (writes_fence (quietly closing)) closing_call (adds-writes_fence (quietly closing)))
     (λ spent. tt))
@@ -156,8 +159,8 @@ close_in_keeps s Closed = tt
 close_in_keeps s LoggingOn = asked_call s
 close_in_keeps s Settling = asked_call s
 close_in_keeps s Up = closes_up_keeps s
-close_in_keeps s Closing = call_quietly s s (keeps-refl s)
-close_in_keeps s LoggedOut = call_quietly s s (keeps-refl s)
+close_in_keeps s Closing = call_quietly s s (keeps-refl s) refl
+close_in_keeps s LoggedOut = call_quietly s s (keeps-refl s) refl
 
 pub close_keeps : (s : SessionParts) → IfOk (close s) (IsCall s)
 close_keeps s = close_in_keeps s s.phase

@@ -1,3 +1,4 @@
 pub mod Adding
 pub mod Received
 pub mod Called
+pub mod LoggedOut

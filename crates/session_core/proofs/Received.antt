@@ -1,15 +1,18 @@
 -- A message that is received takes the session onward, and withdraws legs while logging on and while settling alone.
-use Rattle.std.proofs.Common.{◌≡◌, ◌≤◌, ℕ, Bool, true, false, ◌&&◌, not, nat_lt, nat_le, List, [], Option, Some, None, refl, sym, ◌∙◌, arith}
+use Rattle.std.proofs.Common.{◌≡◌, ◌≤◌, ℕ, Bool, true, false, ◌&&◌, not, nat_lt, nat_le, List, [], Option, Some, None, refl, sym, ◌∙◌, arith, length, ◌+◌, ap}
 use Rattle.std.proofs.lemmas.Bool.Decides.{nat_tests}
 use Rattle.leg.specs.LegId.{LegIdParts}
+use Rattle.leg.specs.declared.leg_state.LegState.TheVariants.{Taken, Withdrawn}
 use Rattle.dialect.specs.declared.note.Note.{Note}
 use Rattle.dialect.specs.Message.{Message, Content}
 use Rattle.dialect.specs.Message.Content.{Logon, Heartbeat, TestRequest, ResendRequest, Reject, GapFill, Reset, Logout, BusinessReject, Order, OrderReport, Other}
 use Rattle.resend.specs.declared.judged.Judged.{Judged}
 use Rattle.resend.specs.declared.judged.Judged.TheVariants as judged
 use Rattle.resend.specs.Judging.{judged}
-use Rattle.resend.specs.Log.{FillParts, last_number, take_below, give_up_from, leg_at, is_range, fill_for}
-use Rattle.resend.proofs.Later.{later-refl, later-trans, later-take_below, later-give_up_from, withdraws_none-take_below}
+use Rattle.resend.specs.Log.{Entry, FillParts, last_number, take_below, give_up_from, leg_at, is_range, fill_for}
+use Rattle.resend.specs.Later.{withdrawn_since}
+use Rattle.resend.proofs.Later.{length-settled_where, later-refl, later-trans, later-take_below, later-give_up_from, withdraws_none-take_below}
+use Rattle.resend.proofs.Settled.{since-refl, since-settled, since-take_below}
 use Rattle.resend.proofs.Due.{due_is_expected}
 use Rattle.session_core.specs.declared.phase.Phase.{Phase}
 use Rattle.session_core.specs.declared.phase.Phase.TheVariants.{Down, LoggingOn, Settling, Up, Closing, LoggedOut, Closed}
@@ -18,26 +21,8 @@ use Rattle.session_core.specs.declared.ended.Ended.TheVariants as ended
 use Rattle.session_core.specs.Session.{SessionParts, is_connected, is_logging_on, is_settling, is_logged_out}
 use Rattle.session_core.specs.Turn.{Turn, quietly, writes, writes_fence, fills, settles_at, counts, notes, logs_out, ends, ends_turn}
 use Rattle.session_core.specs.Receiving.{is_logon, is_reset, is_for, counts_if, told_number, is_too_high, settles_told, asks_if, in_phase, logon_row, filled_if, resend_while_settling, resend_later, resend_row, named_fence, passing, passed_in, passes_fence, answers_test, gap_fill_row, refused_leg, refused_row, logout_row, report_note, due_row, ahead_row, asks_missing, ahead_turn, by_number, received, hearing, receive}
-use Rattle.session_core.specs.Onward.{IsOnward, IsReceived, may_withdraw}
-use Rattle.session_core.proofs.Adding.{chosen, adds-writes, adds-writes_fence, adds-asks_if, adds-fills, adds-filled_if, adds-counts, adds-in_phase, adds-ends_turn, adds-logs_out, adds-counts_if, adds-asks_missing, received_by}
-
-not_logging_on : (phase : Phase) → may_withdraw phase ≡ false → is_logging_on phase ≡ false
-not_logging_on Down is = refl
-not_logging_on LoggingOn is = absurd cc
-not_logging_on Settling is = refl
-not_logging_on Up is = refl
-not_logging_on Closing is = refl
-not_logging_on LoggedOut is = refl
-not_logging_on Closed is = refl
-
-not_settling : (phase : Phase) → may_withdraw phase ≡ false → is_settling phase ≡ false
-not_settling Down is = refl
-not_settling LoggingOn is = refl
-not_settling Settling is = absurd cc
-not_settling Up is = refl
-not_settling Closing is = refl
-not_settling LoggedOut is = refl
-not_settling Closed is = refl
+use Rattle.session_core.specs.Onward.{is_told, IsOnward, IsReceived, may_withdraw}
+use Rattle.session_core.proofs.Adding.{Goes, chosen, adds-writes, adds-writes_fence, adds-asks_if, adds-fills, adds-filled_if, adds-counts, adds-in_phase, adds-ends_turn, adds-logs_out, adds-counts_if, adds-asks_missing, received_by}
 
 -- the same log, and an expected number that is no lower
 onward_with : (s t : SessionParts) → t.config ≡ s.config → t.log ≡ s.log → t.connection ≡ s.connection → s.expected ≤ t.expected → t.close_asked ≡ s.close_asked → IsOnward s t
@@ -49,238 +34,239 @@ onward_with s t config log connection expected close_asked = record {
   close_asked = λ asked. close_asked ∙ asked;
 }
 
-received_with : (s : SessionParts) (turn : Turn) → turn.session.config ≡ s.config → turn.session.log ≡ s.log → turn.session.connection ≡ s.connection → s.expected ≤ turn.session.expected
-    → turn.session.close_asked ≡ s.close_asked → turn.step.withdrawn ≡ [] → IsReceived s turn
-received_with s turn config log connection expected close_asked withdrawn = record {
-  onward = onward_with s turn.session config log connection expected close_asked;
-  spares = λ not_now. record { named = withdrawn; settled = rw log (λ number leg is gone. is) };
-}
+told_may : {may : Bool} (on told : Bool) → not on ≡ false → told ≡ true → (on && told) ≡ may → may ≡ true
+told_may true true first told_so is = sym is
+told_may true false first told_so is = absurd cc
+told_may false told first told_so is = absurd cc
 
-received_quietly : (s : SessionParts) → IsReceived s (quietly s)
-received_quietly s = received_with s (quietly s) refl refl refl (omega arith) refl refl
+module _ (may : Bool) where
+  received_with : (s : SessionParts) (turn : Turn) → turn.session.config ≡ s.config → turn.session.log ≡ s.log → turn.session.connection ≡ s.connection → s.expected ≤ turn.session.expected
+      → turn.session.close_asked ≡ s.close_asked → turn.step.withdrawn ≡ [] → turn.step.written ≡ [] → Goes may s turn
+  received_with s turn config log connection expected close_asked withdrawn written = record {
+    onward = onward_with s turn.session config log connection expected close_asked;
+    numbered = rw written (ap (λ (l : List Entry). length l + 1) log);
+    named = withdrawn ∙ sym (rw log (since-refl s.log));
+    spares = λ not_now. record { named = withdrawn; settled = rw log (λ number leg is gone. is) };
+  }
 
-received_ends : (why : Ended) (s : SessionParts) → IsReceived s (ends why s)
-received_ends why s = received_by s (quietly s) (ends why s) (received_quietly s) (adds-ends_turn why (quietly s))
+  received_quietly : (s : SessionParts) → Goes may s (quietly s)
+  received_quietly s = received_with s (quietly s) refl refl refl (omega arith) refl refl refl
 
-received_notes : (note : Note) (s : SessionParts) → IsReceived s (notes note s)
-received_notes note s = received_with s (notes note s) refl refl refl (omega arith) refl refl
+  received_ends : (why : Ended) (s : SessionParts) → Goes may s (ends why s)
+  received_ends why s = received_by may s (quietly s) (ends why s) (received_quietly s) (adds-ends_turn why (quietly s))
 
-received_counts : (s : SessionParts) (turn : Turn) → IsReceived s turn → IsReceived s (counts turn)
-received_counts s turn goes = received_by s turn (counts turn) goes (adds-counts turn)
+  received_notes : (note : Note) (s : SessionParts) → Goes may s (notes note s)
+  received_notes note s = received_with s (notes note s) refl refl refl (omega arith) refl refl refl
 
--- settling, in a phase in which the exchange says what it got
-received_settles : (n : ℕ) (s : SessionParts) → may_withdraw s.phase ≡ true → IsReceived s (settles_at n s)
-received_settles n s now = record {
-  onward = record {
-    config = refl;
-    log = later-trans s.log (take_below n s.log) (give_up_from n (take_below n s.log)) (later-take_below n s.log) (later-give_up_from n (take_below n s.log));
-    connection = omega arith;
-    expected = omega arith;
-    close_asked = λ asked. asked;
-  };
-  spares = λ not_now. absurd (let e = sym now ∙ not_now in cc);
-}
+  received_counts : (s : SessionParts) (turn : Turn) → Goes may s turn → Goes may s (counts turn)
+  received_counts s turn goes = received_by may s turn (counts turn) goes (adds-counts turn)
 
-received_told : (s : SessionParts) (next : Option ℕ) → may_withdraw s.phase ≡ true → IsReceived s (settles_told s next)
-received_told s None now = received_quietly s
-received_told s (Some n) now =
-    chosen (IsReceived s) (nat_le n s.logon_number) _ (settles_at n s)
-    (λ lower. received_by s (settles_at n s) _ (received_settles n s now) (adds-fills _ (settles_at n s)))
-    (λ higher. received_settles n s now)
+  -- settling, in a phase in which the exchange says what it got
+  received_settles : (n : ℕ) (s : SessionParts) → may ≡ true → Goes may s (settles_at n s)
+  received_settles n s now = record {
+    onward = record {
+      config = refl;
+      log = later-trans s.log (take_below n s.log) (give_up_from n (take_below n s.log)) (later-take_below n s.log) (later-give_up_from n (take_below n s.log));
+      connection = omega arith;
+      expected = omega arith;
+      close_asked = λ asked. asked;
+    };
+    numbered = ap (λ (n : ℕ). n + 1) (length-settled_where (λ k. nat_le n k) Withdrawn 1 (take_below n s.log) ∙ length-settled_where (λ k. nat_lt k n) Taken 1 s.log);
+    named = sym (since-settled n s.log);
+    spares = λ not_now. absurd (let e = sym now ∙ not_now in cc);
+  }
 
-logging_on_may : (phase : Phase) → not (is_logging_on phase) ≡ false → may_withdraw phase ≡ true
-logging_on_may Down is = absurd cc
-logging_on_may LoggingOn is = refl
-logging_on_may Settling is = absurd cc
-logging_on_may Up is = absurd cc
-logging_on_may Closing is = absurd cc
-logging_on_may LoggedOut is = absurd cc
-logging_on_may Closed is = absurd cc
+  received_told : (s : SessionParts) (next : Option ℕ) → (is_told next ≡ true → may ≡ true) → Goes may s (settles_told s next)
+  received_told s None now = received_quietly s
+  received_told s (Some n) now =
+      chosen (Goes may s) (nat_le n s.logon_number) _ (settles_at n s)
+      (λ lower. received_by may s (settles_at n s) _ (received_settles n s (now refl)) (adds-fills _ (settles_at n s)))
+      (λ higher. received_settles n s (now refl))
 
-settling_may : (phase : Phase) → is_settling phase ≡ true → may_withdraw phase ≡ true
-settling_may Down is = absurd cc
-settling_may LoggingOn is = absurd cc
-settling_may Settling is = refl
-settling_may Up is = absurd cc
-settling_may Closing is = absurd cc
-settling_may LoggedOut is = absurd cc
-settling_may Closed is = absurd cc
+  received_logon : (due : Bool) (s : SessionParts) (next : Option ℕ) → (is_logging_on s.phase && is_told (told_number s next)) ≡ may → Goes may s (logon_row due s next)
+  received_logon due s next is =
+      chosen (Goes may s) (not (is_logging_on s.phase)) (ends ended.LogonAgain s) _
+      (λ again. received_ends ended.LogonAgain s)
+      (λ first. chosen (Goes may s) (is_too_high s (told_number s next)) (ends ended.BadNextExpected s) _
+      (λ high. received_ends ended.BadNextExpected s)
+      (λ good.
+      (let told = settles_told s (told_number s next) in
+      let counted = counts_if due told in
+      let asked = asks_if (not due) counted in
+      let fenced = writes_fence asked in
+      received_by may s fenced (in_phase Settling fenced)
+      (received_by may s asked fenced
+      (received_by may s counted asked
+      (received_by may s told counted (received_told s (told_number s next) (λ told_so. told_may (is_logging_on s.phase) (is_told (told_number s next)) first told_so is)) (adds-counts_if due told))
+      (adds-asks_if (not due) counted))
+      (adds-writes_fence asked))
+      (adds-in_phase Settling fenced))))
 
-received_logon : (due : Bool) (s : SessionParts) (next : Option ℕ) → IsReceived s (logon_row due s next)
-received_logon due s next =
-    chosen (IsReceived s) (not (is_logging_on s.phase)) (ends ended.LogonAgain s) _
-    (λ again. received_ends ended.LogonAgain s)
-    (λ first. chosen (IsReceived s) (is_too_high s (told_number s next)) (ends ended.BadNextExpected s) _
-    (λ high. received_ends ended.BadNextExpected s)
-    (λ good.
-    (let told = settles_told s (told_number s next) in
-    let counted = counts_if due told in
-    let asked = asks_if (not due) counted in
-    let fenced = writes_fence asked in
-    received_by s fenced (in_phase Settling fenced)
-    (received_by s asked fenced
-    (received_by s counted asked
-    (received_by s told counted (received_told s (told_number s next) (logging_on_may s.phase first)) (adds-counts_if due told))
-    (adds-asks_if (not due) counted))
-    (adds-writes_fence asked))
-    (adds-in_phase Settling fenced))))
+  received_resend_settling : (s : SessionParts) (begin last : ℕ) → may ≡ true → Goes may s (resend_while_settling s begin last)
+  received_resend_settling s begin last now =
+      let settled = settles_at begin s in
+      let filled = filled_if (fill_for begin last (last_number s.log) s.log) settled in
+      received_by may s filled (writes_fence filled)
+      (received_by may s settled filled (received_settles begin s now) (adds-filled_if (fill_for begin last (last_number s.log) s.log) settled))
+      (adds-writes_fence filled)
 
-received_resend_settling : (s : SessionParts) (begin last : ℕ) → may_withdraw s.phase ≡ true → IsReceived s (resend_while_settling s begin last)
-received_resend_settling s begin last now =
-    let settled = settles_at begin s in
-    let filled = filled_if (fill_for begin last (last_number s.log) s.log) settled in
-    received_by s filled (writes_fence filled)
-    (received_by s settled filled (received_settles begin s now) (adds-filled_if (fill_for begin last (last_number s.log) s.log) settled))
-    (adds-writes_fence filled)
+  received_resend_later : (s : SessionParts) (fill : Option FillParts) → Goes may s (resend_later fill s)
+  received_resend_later s None = received_ends ended.ResendInDoubt s
+  received_resend_later s (Some fill) = received_by may s (quietly s) (fills fill (quietly s)) (received_quietly s) (adds-fills fill (quietly s))
 
-received_resend_later : (s : SessionParts) (fill : Option FillParts) → IsReceived s (resend_later fill s)
-received_resend_later s None = received_ends ended.ResendInDoubt s
-received_resend_later s (Some fill) = received_by s (quietly s) (fills fill (quietly s)) (received_quietly s) (adds-fills fill (quietly s))
+  received_resend : (due : Bool) (s : SessionParts) (begin last : ℕ) → is_settling s.phase ≡ may → Goes may s (resend_row due s begin last)
+  received_resend due s begin last is =
+      chosen (Goes may s) (not (is_range (last_number s.log) begin last)) (ends ended.BadResend s) _
+      (λ bad. received_ends ended.BadResend s)
+      (λ good.
+      received_by may s _ _
+      (chosen (Goes may s) (is_settling s.phase) (resend_while_settling s begin last) (resend_later (fill_for begin last s.settled s.log) s)
+      (λ settling. received_resend_settling s begin last (sym is ∙ settling))
+      (λ later. received_resend_later s (fill_for begin last s.settled s.log)))
+      (adds-counts_if due _))
 
-received_resend : (due : Bool) (s : SessionParts) (begin last : ℕ) → IsReceived s (resend_row due s begin last)
-received_resend due s begin last =
-    chosen (IsReceived s) (not (is_range (last_number s.log) begin last)) (ends ended.BadResend s) _
-    (λ bad. received_ends ended.BadResend s)
-    (λ good.
-    received_by s _ _
-    (chosen (IsReceived s) (is_settling s.phase) (resend_while_settling s begin last) (resend_later (fill_for begin last s.settled s.log) s)
-    (λ settling. received_resend_settling s begin last (settling_may s.phase settling))
-    (λ later. received_resend_later s (fill_for begin last s.settled s.log)))
-    (adds-counts_if due _))
+  -- legs below a fence are taken
+  received_passing : (s t : SessionParts) (fence : ℕ) → t.config ≡ s.config → t.log ≡ take_below fence s.log → t.connection ≡ s.connection → t.expected ≡ s.expected → t.close_asked ≡ s.close_asked
+      → Goes may s (quietly t)
+  received_passing s t fence config log connection expected close_asked = record {
+    onward = record {
+      config = config;
+      log = rw log (later-take_below fence s.log);
+      connection = omega arith;
+      expected = omega arith;
+      close_asked = λ asked. close_asked ∙ asked;
+    };
+    numbered = ap (λ (l : List Entry). length l + 1) log ∙ ap (λ (n : ℕ). n + 1) (length-settled_where (λ k. nat_lt k fence) Taken 1 s.log);
+    named = sym (ap (withdrawn_since s.log) log ∙ since-take_below fence s.log);
+    spares = λ not_now. record { named = refl; settled = rw log (withdraws_none-take_below fence s.log) };
+  }
 
--- legs below a fence are taken
-received_passing : (s t : SessionParts) (fence : ℕ) → t.config ≡ s.config → t.log ≡ take_below fence s.log → t.connection ≡ s.connection → t.expected ≡ s.expected → t.close_asked ≡ s.close_asked
-    → IsReceived s (quietly t)
-received_passing s t fence config log connection expected close_asked = record {
-  onward = record {
-    config = config;
-    log = rw log (later-take_below fence s.log);
-    connection = omega arith;
-    expected = omega arith;
-    close_asked = λ asked. close_asked ∙ asked;
-  };
-  spares = λ not_now. record { named = refl; settled = rw log (withdraws_none-take_below fence s.log) };
-}
+  received_quietly_passing : (s : SessionParts) (fence : ℕ) → Goes may s (quietly (passing fence s))
+  received_quietly_passing s fence = received_passing s (passing fence s) fence refl refl refl refl refl
 
-received_quietly_passing : (s : SessionParts) (fence : ℕ) → IsReceived s (quietly (passing fence s))
-received_quietly_passing s fence = received_passing s (passing fence s) fence refl refl refl refl refl
+  received_logs_out : (s : SessionParts) (fence : ℕ) → Goes may s (logs_out (passing fence s))
+  received_logs_out s fence = received_by may s (quietly (passing fence s)) (logs_out (passing fence s)) (received_quietly_passing s fence) (adds-logs_out (passing fence s))
 
-received_logs_out : (s : SessionParts) (fence : ℕ) → IsReceived s (logs_out (passing fence s))
-received_logs_out s fence = received_by s (quietly (passing fence s)) (logs_out (passing fence s)) (received_quietly_passing s fence) (adds-logs_out (passing fence s))
+  received_passed_in : (s : SessionParts) (fence : ℕ) (phase : Phase) → Goes may s (passed_in phase fence (passing fence s))
+  received_passed_in s fence Settling =
+      chosen (Goes may s) s.close_asked (logs_out (passing fence s)) (quietly (record (passing fence s) { phase = Up }))
+      (λ asked. received_logs_out s fence)
+      (λ open_still. received_passing s (record (passing fence s) { phase = Up }) fence refl refl refl refl refl)
+  received_passed_in s fence Closing =
+      chosen (Goes may s) (nat_le s.closing_fence fence) (logs_out (passing fence s)) (quietly (passing fence s))
+      (λ done. received_logs_out s fence)
+      (λ early. received_quietly_passing s fence)
+  received_passed_in s fence Down = received_quietly_passing s fence
+  received_passed_in s fence LoggingOn = received_quietly_passing s fence
+  received_passed_in s fence Up = received_quietly_passing s fence
+  received_passed_in s fence LoggedOut = received_quietly_passing s fence
+  received_passed_in s fence Closed = received_quietly_passing s fence
 
-received_passed_in : (s : SessionParts) (fence : ℕ) (phase : Phase) → IsReceived s (passed_in phase fence (passing fence s))
-received_passed_in s fence Settling =
-    chosen (IsReceived s) s.close_asked (logs_out (passing fence s)) (quietly (record (passing fence s) { phase = Up }))
-    (λ asked. received_logs_out s fence)
-    (λ open_still. received_passing s (record (passing fence s) { phase = Up }) fence refl refl refl refl refl)
-received_passed_in s fence Closing =
-    chosen (IsReceived s) (nat_le s.closing_fence fence) (logs_out (passing fence s)) (quietly (passing fence s))
-    (λ done. received_logs_out s fence)
-    (λ early. received_quietly_passing s fence)
-received_passed_in s fence Down = received_quietly_passing s fence
-received_passed_in s fence LoggingOn = received_quietly_passing s fence
-received_passed_in s fence Up = received_quietly_passing s fence
-received_passed_in s fence LoggedOut = received_quietly_passing s fence
-received_passed_in s fence Closed = received_quietly_passing s fence
+  received_fence : (s : SessionParts) (fence : Option ℕ) → Goes may s (passes_fence s fence)
+  received_fence s None = received_quietly s
+  received_fence s (Some fence) = received_passed_in s fence s.phase
 
-received_fence : (s : SessionParts) (fence : Option ℕ) → IsReceived s (passes_fence s fence)
-received_fence s None = received_quietly s
-received_fence s (Some fence) = received_passed_in s fence s.phase
+  received_test : (s : SessionParts) (id : List ℕ) → Goes may s (answers_test s id)
+  received_test s id =
+      chosen (Goes may s) (is_logged_out s.phase) (quietly s) _
+      (λ over. received_quietly s)
+      (λ going. received_by may s (quietly s) _ (received_quietly s) (adds-writes (Heartbeat (Some id)) (quietly s)))
 
-received_test : (s : SessionParts) (id : List ℕ) → IsReceived s (answers_test s id)
-received_test s id =
-    chosen (IsReceived s) (is_logged_out s.phase) (quietly s) _
-    (λ over. received_quietly s)
-    (λ going. received_by s (quietly s) _ (received_quietly s) (adds-writes (Heartbeat (Some id)) (quietly s)))
+  received_gap_fill : (s : SessionParts) (number new_number : ℕ) → number ≡ s.expected → Goes may s (gap_fill_row s number new_number)
+  received_gap_fill s number new_number due =
+      chosen (Goes may s) (nat_lt number new_number) (quietly (record s { expected = new_number })) (ends ended.BadGapFill s)
+      (λ forward.
+      (let above : s.expected ≤ new_number = grind (arith, nat_tests, forward, due) in
+      received_with s (quietly (record s { expected = new_number })) refl refl refl above refl refl refl))
+      (λ back. received_ends ended.BadGapFill s)
 
-received_gap_fill : (s : SessionParts) (number new_number : ℕ) → number ≡ s.expected → IsReceived s (gap_fill_row s number new_number)
-received_gap_fill s number new_number due =
-    chosen (IsReceived s) (nat_lt number new_number) (quietly (record s { expected = new_number })) (ends ended.BadGapFill s)
-    (λ forward.
-    (let above : s.expected ≤ new_number = grind (arith, nat_tests, forward, due) in
-    received_with s (quietly (record s { expected = new_number })) refl refl refl above refl refl))
-    (λ back. received_ends ended.BadGapFill s)
+  received_refused_leg : (s : SessionParts) (id : Option LegIdParts) → Goes may s (refused_leg s id)
+  received_refused_leg s (Some id) = received_notes _ s
+  received_refused_leg s None = received_counts s (quietly s) (received_quietly s)
 
-received_refused_leg : (s : SessionParts) (id : Option LegIdParts) → IsReceived s (refused_leg s id)
-received_refused_leg s (Some id) = received_notes _ s
-received_refused_leg s None = received_counts s (quietly s) (received_quietly s)
+  received_refused : (s : SessionParts) (number : Option ℕ) → Goes may s (refused_row s number)
+  received_refused s None = received_counts s (quietly s) (received_quietly s)
+  received_refused s (Some number) = received_refused_leg s (leg_at number s.log)
 
-received_refused : (s : SessionParts) (number : Option ℕ) → IsReceived s (refused_row s number)
-received_refused s None = received_counts s (quietly s) (received_quietly s)
-received_refused s (Some number) = received_refused_leg s (leg_at number s.log)
+  received_logout : (s : SessionParts) → Goes may s (logout_row s)
+  received_logout s =
+      chosen (Goes may s) (is_logged_out s.phase) (ends ended.LogoutDone s) _
+      (λ done. received_ends ended.LogoutDone s)
+      (λ first.
+      (let wrote = writes Logout (quietly s) in
+      received_by may s wrote (ends_turn ended.PeerLogout wrote) (received_by may s (quietly s) wrote (received_quietly s) (adds-writes Logout (quietly s))) (adds-ends_turn ended.PeerLogout wrote)))
 
-received_logout : (s : SessionParts) → IsReceived s (logout_row s)
-received_logout s =
-    chosen (IsReceived s) (is_logged_out s.phase) (ends ended.LogoutDone s) _
-    (λ done. received_ends ended.LogoutDone s)
-    (λ first.
-    (let wrote = writes Logout (quietly s) in
-    received_by s wrote (ends_turn ended.PeerLogout wrote) (received_by s (quietly s) wrote (received_quietly s) (adds-writes Logout (quietly s))) (adds-ends_turn ended.PeerLogout wrote)))
+  received_due : (s : SessionParts) (number : ℕ) (content : Content) → may_withdraw s content ≡ may → number ≡ s.expected → Goes may s (due_row s number content)
+  received_due s number (Logon heart reset next) is due = received_logon true s next is
+  received_due s number (ResendRequest begin last) is due = received_resend true s begin last is
+  received_due s number (Heartbeat id) is due = received_counts s (passes_fence s (named_fence s id)) (received_fence s (named_fence s id))
+  received_due s number (TestRequest id) is due = received_counts s (answers_test s id) (received_test s id)
+  received_due s number (GapFill new_number) is due = received_gap_fill s number new_number due
+  received_due s number (Reset new_number) is due = received_ends ended.ResetRefused s
+  received_due s number (Reject refused) is due = received_refused s (Some refused)
+  received_due s number (BusinessReject refused) is due = received_refused s refused
+  received_due s number Logout is due = received_logout s
+  received_due s number (OrderReport read) is due = received_notes (report_note read) s
+  received_due s number (Order read) is due = received_counts s (quietly s) (received_quietly s)
+  received_due s number Other is due = received_counts s (quietly s) (received_quietly s)
 
-received_due : (s : SessionParts) (number : ℕ) (content : Content) → number ≡ s.expected → IsReceived s (due_row s number content)
-received_due s number (Logon heart reset next) due = received_logon true s next
-received_due s number (ResendRequest begin last) due = received_resend true s begin last
-received_due s number (Heartbeat id) due = received_counts s (passes_fence s (named_fence s id)) (received_fence s (named_fence s id))
-received_due s number (TestRequest id) due = received_counts s (answers_test s id) (received_test s id)
-received_due s number (GapFill new_number) due = received_gap_fill s number new_number due
-received_due s number (Reset new_number) due = received_ends ended.ResetRefused s
-received_due s number (Reject refused) due = received_refused s (Some refused)
-received_due s number (BusinessReject refused) due = received_refused s refused
-received_due s number Logout due = received_logout s
-received_due s number (OrderReport read) due = received_notes (report_note read) s
-received_due s number (Order read) due = received_counts s (quietly s) (received_quietly s)
-received_due s number Other due = received_counts s (quietly s) (received_quietly s)
+  received_ahead : (s : SessionParts) (content : Content) → may_withdraw s content ≡ may → Goes may s (ahead_row s content)
+  received_ahead s (Logon heart reset next) is = received_logon false s next is
+  received_ahead s (ResendRequest begin last) is = received_resend false s begin last is
+  received_ahead s (Heartbeat id) is = received_fence s (named_fence s id)
+  received_ahead s Logout is = received_logout s
+  received_ahead s (Reset new_number) is = received_ends ended.ResetRefused s
+  received_ahead s (TestRequest id) is = received_quietly s
+  received_ahead s (GapFill new_number) is = received_quietly s
+  received_ahead s (Reject refused) is = received_quietly s
+  received_ahead s (BusinessReject refused) is = received_quietly s
+  received_ahead s (OrderReport read) is = received_quietly s
+  received_ahead s (Order read) is = received_quietly s
+  received_ahead s Other is = received_quietly s
 
-received_ahead : (s : SessionParts) (content : Content) → IsReceived s (ahead_row s content)
-received_ahead s (Logon heart reset next) = received_logon false s next
-received_ahead s (ResendRequest begin last) = received_resend false s begin last
-received_ahead s (Heartbeat id) = received_fence s (named_fence s id)
-received_ahead s Logout = received_logout s
-received_ahead s (Reset new_number) = received_ends ended.ResetRefused s
-received_ahead s (TestRequest id) = received_quietly s
-received_ahead s (GapFill new_number) = received_quietly s
-received_ahead s (Reject refused) = received_quietly s
-received_ahead s (BusinessReject refused) = received_quietly s
-received_ahead s (OrderReport read) = received_quietly s
-received_ahead s (Order read) = received_quietly s
-received_ahead s Other = received_quietly s
+  received_ahead_turn : (s : SessionParts) (content : Content) → may_withdraw s content ≡ may → Goes may s (ahead_turn s content)
+  received_ahead_turn s content is =
+      chosen (Goes may s) (is_logon content) (ahead_row s content) (asks_missing (ahead_row s content))
+      (λ logon. received_ahead s content is)
+      (λ other. received_by may s (ahead_row s content) (asks_missing (ahead_row s content)) (received_ahead s content is) (adds-asks_missing (ahead_row s content)))
 
-received_ahead_turn : (s : SessionParts) (content : Content) → IsReceived s (ahead_turn s content)
-received_ahead_turn s content =
-    chosen (IsReceived s) (is_logon content) (ahead_row s content) (asks_missing (ahead_row s content))
-    (λ logon. received_ahead s content)
-    (λ other. received_by s (ahead_row s content) (asks_missing (ahead_row s content)) (received_ahead s content) (adds-asks_missing (ahead_row s content)))
+  received_by_number : (s : SessionParts) (m : Message) (how : Judged) → may_withdraw s m.content ≡ may → judged s.expected m.number m.poss_dup ≡ how → Goes may s (by_number s m how)
+  received_by_number s m judged.Due may_is is = received_due s m.number m.content may_is ((due_is_expected s.expected m.number m.poss_dup).0 is)
+  received_by_number s m judged.Ahead may_is is = received_ahead_turn s m.content may_is
+  received_by_number s m judged.Repeat may_is is = received_quietly s
+  received_by_number s m judged.TooLow may_is is = received_ends ended.TooLow s
 
-received_by_number : (s : SessionParts) (m : Message) (how : Judged) → judged s.expected m.number m.poss_dup ≡ how → IsReceived s (by_number s m how)
-received_by_number s m judged.Due is = received_due s m.number m.content ((due_is_expected s.expected m.number m.poss_dup).0 is)
-received_by_number s m judged.Ahead is = received_ahead_turn s m.content
-received_by_number s m judged.Repeat is = received_quietly s
-received_by_number s m judged.TooLow is = received_ends ended.TooLow s
+  received_checked : (s : SessionParts) (m : Message) → may_withdraw s m.content ≡ may → Goes may s (received s m)
+  received_checked s m may_is =
+      chosen (Goes may s) (not (is_for s m)) (ends ended.WrongComp s) _
+      (λ wrong. received_ends ended.WrongComp s)
+      (λ ours. chosen (Goes may s) (is_logging_on s.phase && not (is_logon m.content)) (ends ended.FirstNotLogon s) _
+      (λ early. received_ends ended.FirstNotLogon s)
+      (λ on. chosen (Goes may s) (is_reset m.content) (ends ended.ResetRefused s) _
+      (λ reset. received_ends ended.ResetRefused s)
+      (λ goes_on. received_by_number s m (judged s.expected m.number m.poss_dup) may_is refl)))
 
-received_checked : (s : SessionParts) (m : Message) → IsReceived s (received s m)
-received_checked s m =
-    chosen (IsReceived s) (not (is_for s m)) (ends ended.WrongComp s) _
-    (λ wrong. received_ends ended.WrongComp s)
-    (λ ours. chosen (IsReceived s) (is_logging_on s.phase && not (is_logon m.content)) (ends ended.FirstNotLogon s) _
-    (λ early. received_ends ended.FirstNotLogon s)
-    (λ on. chosen (IsReceived s) (is_reset m.content) (ends ended.ResetRefused s) _
-    (λ reset. received_ends ended.ResetRefused s)
-    (λ goes_on. received_by_number s m (judged s.expected m.number m.poss_dup) refl)))
+  received_hearing : (s : SessionParts) (turn : Turn) → Goes may (hearing s) turn → Goes may s turn
+  received_hearing s turn goes = record {
+    onward = record {
+      config = goes.onward.config;
+      log = goes.onward.log;
+      connection = goes.onward.connection;
+      expected = goes.onward.expected;
+      close_asked = goes.onward.close_asked;
+    };
+    numbered = goes.numbered;
+    named = goes.named;
+    spares = λ not_now. (let spared = goes.spares not_now in record { named = spared.named; settled = spared.settled });
+  }
 
-received_hearing : (s : SessionParts) (turn : Turn) → IsReceived (hearing s) turn → IsReceived s turn
-received_hearing s turn goes = record {
-  onward = record {
-    config = goes.onward.config;
-    log = goes.onward.log;
-    connection = goes.onward.connection;
-    expected = goes.onward.expected;
-    close_asked = goes.onward.close_asked;
-  };
-  spares = λ not_now. (let spared = goes.spares not_now in record { named = spared.named; settled = spared.settled });
-}
+  receive_goes : (s : SessionParts) (m : Message) → may_withdraw s m.content ≡ may → Goes may s (receive s m)
+  receive_goes s m may_is =
+      chosen (Goes may s) (is_connected s.phase) (received (hearing s) m) (quietly s)
+      (λ connected. received_hearing s (received (hearing s) m) (received_checked (hearing s) m may_is))
+      (λ gone. received_quietly s)
 
-pub receive_is_received : (s : SessionParts) (m : Message) → IsReceived s (receive s m)
+pub receive_is_received : (s : SessionParts) (m : Message) → IsReceived s m (receive s m)
 receive_is_received s m =
-    chosen (IsReceived s) (is_connected s.phase) (received (hearing s) m) (quietly s)
-    (λ connected. received_hearing s (received (hearing s) m) (received_checked (hearing s) m))
-    (λ gone. received_quietly s)
+    (let goes = receive_goes (may_withdraw s m.content) s m refl in
+    record { onward = goes.onward; numbered = goes.numbered; named = goes.named; spares = goes.spares })

@@ -9,7 +9,7 @@ ghost use Rattle.session_core.specs.Session.{SessionParts};
 ghost use Rattle.session_core.specs.Turn.{quietly};
 ghost use Rattle.session_core.specs.Receiving.{receive, confirm};
 ghost use Rattle.session_core.specs.Calling.{connect, send_leg, quiet, silent, close, malformed, broken, abandon};
-ghost use Rattle.session_core.specs.Onward.{IsOnward, KeepsLegs, IsConnection, IsSent, IsCall, IsReceived};
+ghost use Rattle.session_core.specs.Onward.{IsOnward, KeepsLegs, IsConnection, IsSent, IsCall, IsReceived, WritesFillAlone};
 
 /// A session is onward from itself, and what is onward from a session that is onward is so too.
 pub fn going_onward_goes_on()
@@ -17,17 +17,18 @@ pub fn going_onward_goes_on()
     ensures transitive { (s t u : SessionParts) → IsOnward s t → IsOnward t u → IsOnward s u }
 {}
 
-/// Whatever message is received, the session goes onward; and a leg is withdrawn only where the exchange says what it
-/// got: in its Logon, or by a resend request while settling.
+/// Whatever message is received, the session goes onward, and numbers are spent on what it writes; and a leg is
+/// withdrawn, and named so, only where the exchange says what it got: by a resend request while settling, or by a Logon
+/// that tells the number which it expects next.
 pub fn what_is_received_leads_onward()
-    ensures { (s : SessionParts) (m : AMessage) → IsReceived s (receive s m) }
+    ensures { (s : SessionParts) (m : AMessage) → IsReceived s m (receive s m) }
 {}
 
-/// Every other call leaves each leg that was sent as it was: numbers are only added, connections and expected numbers
-/// don't go back, and a close that was asked stays asked.
+/// Every other call leaves each leg that was sent as it was: numbers are only added, each for a message that was
+/// written, connections and expected numbers don't go back, and a close that was asked stays asked.
 pub fn other_calls_keep_the_legs()
-    ensures connect { (s : SessionParts) → IfOk (connect s) (λ answer. IsConnection s answer.0) }
-    ensures send_leg { (s : SessionParts) (ordinal : ℕ) (leg : ALeg) → IfOk (send_leg s ordinal leg) (λ answer. IsSent s ordinal leg answer.0) }
+    ensures connect { (s : SessionParts) → IfOk (connect s) (λ answer. IsConnection s answer.0 answer.1) }
+    ensures send_leg { (s : SessionParts) (ordinal : ℕ) (leg : ALeg) → IfOk (send_leg s ordinal leg) (λ answer. IsSent s ordinal leg answer.0 answer.1) }
     ensures confirm { (s : SessionParts) → KeepsLegs s (confirm s) }
     ensures quiet { (s : SessionParts) → IfOk (quiet s) (IsCall s) }
     ensures silent { (s : SessionParts) → IfOk (silent s) (IsCall s) }
@@ -49,4 +50,9 @@ pub fn a_closed_session_is_over()
     ensures broken { (s : SessionParts) → s.phase ≡ phase.Closed → broken s ≡ s }
     ensures confirm { (s : SessionParts) → s.phase ≡ phase.Closed → (confirm s).phase ≡ phase.Closed }
     ensures abandon { (s : SessionParts) → (abandon s).phase ≡ phase.Closed }
+{}
+
+/// Once its Logout was written, a session answers what it receives with a gap fill at most.
+pub fn a_logged_out_session_fills_alone()
+    ensures { (s : SessionParts) (m : AMessage) → s.phase ≡ phase.LoggedOut → WritesFillAlone s (receive s m).step.written }
 {}

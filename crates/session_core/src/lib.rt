@@ -9,8 +9,8 @@ mod session_fault;
 
 pub use ended::Ended;
 pub use laws::{
-    a_closed_session_is_over, going_onward_goes_on, other_calls_keep_the_legs,
-    what_is_received_leads_onward,
+    a_closed_session_is_over, a_logged_out_session_fills_alone, going_onward_goes_on,
+    other_calls_keep_the_legs, what_is_received_leads_onward,
 };
 pub use phase::Phase;
 pub use rows::{
