@@ -63,6 +63,7 @@ fn is_typed(body: &[u8]) -> bool
 
 /// Puts the places of a text's fields into the list, in place of what it held, or answers that the text isn't fields
 /// alone. The text is gone through once; where there is no room for a place the rest of the text still decides.
+#[inline(never)]
 pub fn place_fields(text: &[u8], places: &mut Vec<Place>) -> Result<bool, TextFault>
     ensures placed { IfOk result (λ is. ArePlaced is text.now places.new.items (fields_of text.now)) }
     ensures refusal { IsOkUnless result TextFault.OutOfMemory }
