@@ -95,8 +95,9 @@ fn session_messages(rt: HostRuntime) -> Result<(), Fail> {
     Ok(())
 }
 
-/// A sender, a target, a kind, fields, and what is written.
+/// A number, a sender, a target, a kind, fields, and what is written.
 type AppRow = (
+    u64,
     &'static [u8],
     &'static [u8],
     &'static [u8],
@@ -105,6 +106,7 @@ type AppRow = (
 );
 
 const ORDER: AppRow = (
+    4,
     b"A",
     b"B",
     b"D",
@@ -123,6 +125,7 @@ const ORDER: AppRow = (
 );
 
 const REPORT: AppRow = (
+    4,
     b"B",
     b"A",
     b"8",
@@ -143,11 +146,32 @@ const REPORT: AppRow = (
     b"8=FIX.4.4|9=122|35=8|49=B|56=A|34=4|52=20240102-14:30:00.000|37=O1|17=E2|150=F|39=1|11=S1L1|55=BRK.B|54=1|32=60|31=10.25|151=40|14=60|6=0|10=163|",
 );
 
+const BUST: AppRow = (
+    6,
+    b"B",
+    b"A",
+    b"8",
+    &[
+        (37, b"O1"),
+        (17, b"E4"),
+        (19, b"E2"),
+        (150, b"H"),
+        (39, b"4"),
+        (11, b"S1L1"),
+        (55, b"BRK.B"),
+        (54, b"1"),
+        (151, b"0"),
+        (14, b"0"),
+        (6, b"0"),
+    ],
+    b"8=FIX.4.4|9=111|35=8|49=B|56=A|34=6|52=20240102-14:30:00.000|37=O1|17=E4|19=E2|150=H|39=4|11=S1L1|55=BRK.B|54=1|151=0|14=0|6=0|10=190|",
+);
+
 #[test]
 fn application_messages(rt: HostRuntime) -> Result<(), Fail> {
     let alloc = rt.alloc();
-    for (sender, target, kind, pairs, text) in [ORDER, REPORT] {
-        let envelope = message(sender, target, 4, app(alloc, kind, pairs)?)?;
+    for (number, sender, target, kind, pairs, text) in [ORDER, REPORT, BUST] {
+        let envelope = message(sender, target, number, app(alloc, kind, pairs)?)?;
         let mut written = Vec::new(alloc);
         write_envelope(&envelope, &stamp()?, &mut written)?;
         assert_eq!(rt; shown(alloc, written.as_slice())?.as_slice(), text);
