@@ -4,5 +4,6 @@ pub mod Printed
 pub mod Example
 pub mod SweepTheorem
 pub mod Invariant
+pub mod ReportInvariant
 pub mod Growing
 pub mod Script

@@ -1,12 +1,16 @@
 -- The sweep theorem, as a statement: what holds of the world after every list of events. It isn't proved yet.
-use Rattle.std.specs.Prelude.{◌≡◌, ◌≤◌, ◌<◌, ◌⊎◌, ◌+◌, ℕ, Bool, List, length, map, Some, IfSome}
-use Rattle.std.specs.List.{Contains}
+use Rattle.std.specs.Prelude.{◌≡◌, ◌≤◌, ◌<◌, ◌⊎◌, ◌+◌, ℕ, Bool, List, length, map, Some, IfSome, [], ◌∷◌, take, suc, if◌then◌else◌}
+use Rattle.std.specs.List.{Contains, list_any}
 use Rattle.std.specs.List.Sorted.{IsStrictlyIncreasing}
-use Rattle.leg.specs.declared.leg_state.LegState.TheVariants.{Withdrawn}
+use Rattle.leg.specs.LegId.{LegIdParts}
+use Rattle.leg.specs.declared.sweep.Routed.{Routed}
+use Rattle.leg.specs.declared.leg_state.LegState.TheVariants.{Doubt, Taken, Withdrawn}
 use Rattle.leg.specs.declared.totals.Totals.{Totals}
-use Rattle.share_ledger.specs.Entries.{sweep_shares}
+use Rattle.dialect.specs.declared.note.Note.TheVariants as note
+use Rattle.share_ledger.specs.Entries.{sweep_shares, is_same_leg}
 use Rattle.schedule.specs.declared.event.Event.{Event}
-use Rattle.schedule.specs.World.{World, nth, opening, accepted, released_to, state_of, totals, closed_at}
+use Rattle.schedule.specs.World.{World, nth, opening, accepted, released_to, state_of, totals, closed_at, given, made}
+use Rattle.schedule.specs.Printed.{legs_where, is_withdrawn}
 use Rattle.schedule.specs.Happening.{run}
 
 -- a leg that was released to the venue under this ordinal was withdrawn
@@ -28,25 +32,50 @@ pub record AreGaps (w : World) (v : ℕ) (ordinals : List ℕ) : Type 0 where
 abbrev pub IsClose : World → ℕ → Type 0
 IsClose w v = IfSome (closed_at w v) (λ count. count ≡ length (accepted w v))
 
+-- Settled: a leg that is taken was accepted, and once the exchange took the session's Logout no leg is in doubt
+pub record IsSettled (w : World) (v : ℕ) (ordinals : List ℕ) : Type 0 where
+  pub taken_was_accepted : (ordinal : ℕ) → state_of w v ordinal ≡ Some Taken → Contains ordinals ordinal
+  pub closed_no_doubt : IfSome (closed_at w v) (λ count. (ordinal : ℕ) → state_of w v ordinal ≡ Some Doubt → ⊥)
+
+-- Reports: the notes handed to the book are the exchange's first reports, each once and in order
+pub record AreGiven (w : World) (v : ℕ) : Type 0 where
+  pub count : ℕ
+  pub given : given w v ≡ map (λ report. note.Report report) (take count (made w v))
+
 -- what holds of a venue
 pub record HoldsAt (w : World) (v : ℕ) : Type 0 where
   pub ordinals : List ℕ
   pub order : IsOrder w v ordinals
   pub gaps : AreGaps w v ordinals
   pub close : IsClose w v
+  pub settled : IsSettled w v ordinals
+  pub reports : AreGiven w v
 
--- Shares: the parts of each sweep add up to its legs
+-- the shares of the legs of a sweep that were withdrawn, the first of them having this place
+abbrev pub withdrawn_ids : World → ℕ → List LegIdParts
+withdrawn_ids w v = legs_where is_withdrawn (state_of w v) 1 (released_to w v)
+
+abbrev pub withdrawn_of : World → ℕ → ℕ → List Routed → ℕ
+withdrawn_of w number place [] = 0
+withdrawn_of w number place (routed ∷ legs) =
+    (if list_any (is_same_leg (record { sweep = number; place = place })) (withdrawn_ids w routed.venue)
+    then routed.terms.shares
+    else 0) + withdrawn_of w number (suc place) legs
+
+-- Shares: the parts of each sweep, which are those of the reports and withdrawals in the book, add up to its legs, and the withdrawn part is that of the legs that were withdrawn
 abbrev pub parts_sum : Totals → ℕ
 parts_sum t = t.filled + t.busted + t.cancelled + t.withdrawn + t.still_open
 
-abbrev pub AddsUp : World → ℕ → Type 0
-AddsUp w number =
-    IfSome (nth number w.desk.sweeps) (λ legs. (t : Totals) × (totals w number ≡ Some t) × (parts_sum t ≡ sweep_shares legs))
+pub record AddsUp (w : World) (number : ℕ) (legs : List Routed) : Type 0 where
+  pub parts : Totals
+  pub totals : totals w number ≡ Some parts
+  pub sum : parts_sum parts ≡ sweep_shares legs
+  pub withdrawn : parts.withdrawn ≡ withdrawn_of w number 1 legs
 
 -- what holds of a world
 pub record HoldsOf (w : World) : Type 0 where
   pub venue : (v : ℕ) → HoldsAt w v
-  pub sweep : (number : ℕ) → AddsUp w number
+  pub sweep : (number : ℕ) → IfSome (nth number w.desk.sweeps) (AddsUp w number)
 
 -- a world of up to 16 venues, in which no message has the number max_number
 pub record IsOpening (next : List Bool) (max_number : ℕ) : Type 0 where
