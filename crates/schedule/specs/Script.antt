@@ -11,13 +11,9 @@ use Rattle.dialect.specs.JoinedSymbol.{joined_symbol_of}
 use Rattle.dialect.specs.declared.any_dialect.AnyDialect.{AnyDialect}
 use Rattle.dialect.specs.declared.any_dialect.AnyDialect.TheVariants.{Plain, Split4, Coded}
 use Rattle.schedule.specs.declared.act.Act.TheVariants as act
+use Rattle.schedule.specs.declared.script_venue.ScriptVenue.{ScriptVenue}
 use Rattle.schedule.specs.declared.event.Event.{Event}
 use Rattle.schedule.specs.declared.event.Event.TheVariants as event
-
--- a venue of the first line: its dialect, and whether it is told the next expected number (789)
-pub record ScriptVenue : Type 0 where
-  pub dialect : AnyDialect
-  pub next : Bool
 
 -- the number that no message of a session has, the venues, and the events
 pub record ScriptParts : Type 0 where

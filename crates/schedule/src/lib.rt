@@ -6,6 +6,8 @@ mod act;
 mod event;
 mod laws;
 mod rows;
+mod script_fault;
+mod script_venue;
 
 pub use act::Act;
 pub use event::{Event, FrameNumber};
@@ -20,3 +22,5 @@ pub use rows::{
     frames_of_a_resend_request_again, frames_when_told, quiet_test_silent, told_and_settled,
     told_that_none_is_lost, told_the_next_number, two_venues, what_is_not_possible,
 };
+pub use script_fault::ScriptFault;
+pub use script_venue::ScriptVenue;

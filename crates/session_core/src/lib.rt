@@ -6,6 +6,7 @@ mod laws;
 mod phase;
 mod rows;
 mod session_fault;
+mod step;
 
 pub use ended::Ended;
 pub use laws::{
