@@ -7,11 +7,12 @@ use crate::digits::append_digits;
 use crate::fault::DialectFault;
 use crate::field_value::{is_value, required};
 use crate::fixed_id::{PLACE_DIGITS, read_fixed_id};
-use crate::push::{push_slice, push_text};
+use crate::push::push_text;
 use crate::spelling::Spelling;
 use crate::symbol_text::{joined_symbol_text, read_joined_symbol};
 use crate::tag::{CL_ORD_ID, PRICE, SWEEP_LEG, SYMBOL};
-use crate::text::four_price_text;
+use arrayvec::ArrayVec;
+use fix_tags::price_four_text;
 use fix_text::{Field, FieldRef};
 use leg::{LegId, Symbol};
 use std::alloc::{AllocError, Global};
@@ -37,13 +38,13 @@ const YES: &[u8] = b"Y";
 const SLASH: u8 = b'/';
 
 #[tactic(auto, unfolding(crate::specs::Coded::coded_id_text))]
-fn id_text(alloc: Global, id: &LegId) -> Result<Vec<u8>, AllocError>
-    ensures { IfOk result (λ text. text.items ≡ coded_id_text id.now) }
+fn id_text(id: &LegId) -> ArrayVec<u8, ID_LEN>
+    ensures { result.items ≡ coded_id_text id.now }
 {
-    let mut text = Vec::with_capacity(alloc, ID_LEN)?;
-    append_digits(BASE, SWEEP_DIGITS, id.sweep(), &mut text)?;
-    append_digits(BASE, PLACE_DIGITS, u64::from(id.place()), &mut text)?;
-    Ok(text)
+    let mut text = ArrayVec::new();
+    append_digits(BASE, SWEEP_DIGITS, id.sweep(), &mut text);
+    append_digits(BASE, PLACE_DIGITS, u64::from(id.place()), &mut text);
+    text
 }
 
 /// Reads the sweep's number from the first 16 bytes and the place from the others.
@@ -67,7 +68,7 @@ impl Spelling for Coded {
         id: &LegId,
         fields: &mut Vec<Field>,
     ) -> Result<(), AllocError> {
-        push_text(CL_ORD_ID, id_text(alloc, id)?, fields)
+        push_text(alloc, CL_ORD_ID, id_text(id).as_slice(), fields)
     }
 
     fn read_id(&self, text: &[u8]) -> Option<LegId> {
@@ -75,7 +76,7 @@ impl Spelling for Coded {
     }
 
     fn push_mark(&self, alloc: Global, fields: &mut Vec<Field>) -> Result<(), AllocError> {
-        push_slice(alloc, SWEEP_LEG, YES, fields)
+        push_text(alloc, SWEEP_LEG, YES, fields)
     }
 
     fn is_marked(&self, fields: &[FieldRef<'_>]) -> bool {
@@ -88,7 +89,7 @@ impl Spelling for Coded {
         price: u64,
         fields: &mut Vec<Field>,
     ) -> Result<(), AllocError> {
-        push_text(PRICE, four_price_text(alloc, price)?, fields)
+        push_text(alloc, PRICE, price_four_text(price).as_slice(), fields)
     }
 
     fn push_symbol(
@@ -97,7 +98,12 @@ impl Spelling for Coded {
         symbol: &Symbol,
         fields: &mut Vec<Field>,
     ) -> Result<(), AllocError> {
-        push_text(SYMBOL, joined_symbol_text(alloc, SLASH, symbol)?, fields)
+        push_text(
+            alloc,
+            SYMBOL,
+            joined_symbol_text(SLASH, symbol).as_slice(),
+            fields,
+        )
     }
 
     fn read_symbol(&self, fields: &[FieldRef<'_>]) -> Result<Symbol, DialectFault> {

@@ -1,10 +1,11 @@
 //! Numbers of a fixed width in a base, in the digits 0 to 9 and a to f.
 
-ghost use Rattle.std.specs.Prelude.{◌≡◌, ◌++◌, ◌<◌, ◌≤◌, IfSome, OnOk};
+ghost use Rattle.std.specs.Prelude.{◌≡◌, ◌+◌, ◌++◌, ◌<◌, ◌≤◌, IfSome};
+ghost use Rattle.arrayvec.specs.ArrayVec.{array_vec_len};
 ghost use Rattle.dialect.specs.Digits.{digit, digit_in, digits, number_up_to, fixed_of};
 
+use arrayvec::ArrayVec;
 use leg::MAX_SWEEP;
-use std::alloc::AllocError;
 
 /// The byte of a digit.
 fn digit(value: u64) -> u8
@@ -71,20 +72,21 @@ pub(crate) fn read_fixed(base: u64, width: usize, greatest: u64, text: &[u8]) ->
     Some(number)
 }
 
-/// Appends the last digits of a number, this many, with zeros before them.
-pub(crate) fn append_digits(
+/// Appends the last digits of a number, this many, with zeros before them, to a text that has room for them.
+pub(crate) fn append_digits<const N: usize>(
     base: u64,
     width: usize,
     number: u64,
-    text: &mut Vec<u8>,
-) -> Result<(), AllocError>
+    text: &mut ArrayVec<u8, N>,
+)
     requires low { 1 ≤ base }
     requires high { base ≤ 16 }
-    ensures { OnOk result (text.new.items ≡ text.old.items ++ digits base width number) }
+    requires room { array_vec_len text.old + width ≤ N }
+    ensures value { text.new.items ≡ text.old.items ++ digits base width number }
+    ensures len { array_vec_len text.new ≡ array_vec_len text.old + width }
 {
     if width > 0 {
-        append_digits(base, width - 1, number / base, text)?;
-        text.push(digit(number % base))?;
+        append_digits(base, width - 1, number / base, text);
+        text.push(digit(number % base));
     }
-    Ok(())
 }

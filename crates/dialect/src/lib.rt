@@ -34,7 +34,6 @@ mod split;
 mod split4;
 mod symbol_text;
 mod tag;
-mod text;
 mod time;
 
 pub use any_dialect::AnyDialect;

@@ -8,10 +8,9 @@ ghost use Rattle.dialect.specs.Limit.{order_shares_of, limit_order_in, side_of, 
 
 use crate::fault::DialectFault;
 use crate::field_value::required;
-use crate::push::{push_slice, push_text};
+use crate::push::{push_number, push_text};
 use crate::spelling::Spelling;
 use crate::tag::{ORD_TYPE, ORDER_QTY, PRICE, SIDE};
-use crate::text::number_text;
 use fix_tags::{read_price, read_shares};
 use fix_text::{Field, FieldRef};
 use leg::{Leg, LegId, MAX_SHARES, Side, Symbol, Terms};
@@ -138,8 +137,8 @@ pub(crate) fn push_limit<S: Spelling>(
         ++ limit_fields terms.now.shares ((S.spelling spelling.now).price_text terms.now.price) terms.now.side) }
     ensures err { OnErr result (IsGrown fields.old.items fields.new.items) }
 {
-    push_text(ORDER_QTY, number_text(alloc, terms.shares())?, fields)?;
-    push_slice(alloc, ORD_TYPE, LIMIT_ORDER, fields)?;
+    push_number(alloc, ORDER_QTY, terms.shares(), fields)?;
+    push_text(alloc, ORD_TYPE, LIMIT_ORDER, fields)?;
     spelling.push_price(alloc, terms.price(), fields)?;
-    push_slice(alloc, SIDE, side_text(terms.side()), fields)
+    push_text(alloc, SIDE, side_text(terms.side()), fields)
 }

@@ -4,11 +4,11 @@ use crate::fault::DialectFault;
 use crate::field_value::required;
 use crate::mark::{INTERMARKET_SWEEP, has_instruction};
 use crate::plain_id::{plain_id_text, read_plain_id};
-use crate::push::{push_slice, push_text};
+use crate::push::push_text;
 use crate::spelling::Spelling;
 use crate::symbol_text::{joined_symbol_text, read_joined_symbol};
 use crate::tag::{CL_ORD_ID, EXEC_INST, PRICE, SYMBOL};
-use crate::text::short_price_text;
+use fix_tags::price_short_text;
 use fix_text::{Field, FieldRef};
 use leg::{LegId, Symbol};
 use std::alloc::{AllocError, Global};
@@ -33,7 +33,7 @@ impl Spelling for Plain {
         id: &LegId,
         fields: &mut Vec<Field>,
     ) -> Result<(), AllocError> {
-        push_text(CL_ORD_ID, plain_id_text(alloc, id)?, fields)
+        push_text(alloc, CL_ORD_ID, plain_id_text(id).as_slice(), fields)
     }
 
     fn read_id(&self, text: &[u8]) -> Option<LegId> {
@@ -41,7 +41,7 @@ impl Spelling for Plain {
     }
 
     fn push_mark(&self, alloc: Global, fields: &mut Vec<Field>) -> Result<(), AllocError> {
-        push_slice(alloc, EXEC_INST, INTERMARKET_SWEEP, fields)
+        push_text(alloc, EXEC_INST, INTERMARKET_SWEEP, fields)
     }
 
     fn is_marked(&self, fields: &[FieldRef<'_>]) -> bool {
@@ -54,7 +54,7 @@ impl Spelling for Plain {
         price: u64,
         fields: &mut Vec<Field>,
     ) -> Result<(), AllocError> {
-        push_text(PRICE, short_price_text(alloc, price)?, fields)
+        push_text(alloc, PRICE, price_short_text(price).as_slice(), fields)
     }
 
     fn push_symbol(
@@ -63,7 +63,12 @@ impl Spelling for Plain {
         symbol: &Symbol,
         fields: &mut Vec<Field>,
     ) -> Result<(), AllocError> {
-        push_text(SYMBOL, joined_symbol_text(alloc, POINT, symbol)?, fields)
+        push_text(
+            alloc,
+            SYMBOL,
+            joined_symbol_text(POINT, symbol).as_slice(),
+            fields,
+        )
     }
 
     fn read_symbol(&self, fields: &[FieldRef<'_>]) -> Result<Symbol, DialectFault> {

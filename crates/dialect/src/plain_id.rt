@@ -1,14 +1,14 @@
 //! A leg's number in ClOrdID (11) as Plain spells it, `S12L3`.
 
-ghost use Rattle.std.specs.Prelude.{◌≡◌, IfOk};
+ghost use Rattle.std.specs.Prelude.{◌≡◌};
 ghost use Rattle.dialect.specs.Plain.{numbers_of, plain_id_of};
 ghost use Rattle.leg.specs.LegId.{leg_id_text};
 
 use crate::ordinal::read_ordinal;
 use crate::split::split_round;
-use crate::text::append_number;
+use arrayvec::ArrayVec;
+use itoa::Buffer;
 use leg::{LegId, MAX_PLACE, MAX_SWEEP};
-use std::alloc::{AllocError, Global};
 
 /// The greatest length of a leg's number: `S`, 12 digits, `L` and 2 digits.
 const MAX_LEN: usize = 16;
@@ -35,13 +35,16 @@ pub(crate) fn read_plain_id(text: &[u8]) -> Option<LegId>
 }
 
 /// The one spelling of a leg's number.
-pub(crate) fn plain_id_text(alloc: Global, id: &LegId) -> Result<Vec<u8>, AllocError>
-    ensures { IfOk result (λ text. text.items ≡ leg_id_text id.now) }
+pub(crate) fn plain_id_text(id: &LegId) -> ArrayVec<u8, MAX_LEN>
+    ensures { result.items ≡ leg_id_text id.now }
 {
-    let mut text = Vec::with_capacity(alloc, MAX_LEN)?;
-    text.push(b'S')?;
-    append_number(id.sweep(), &mut text)?;
-    text.push(b'L')?;
-    append_number(u64::from(id.place()), &mut text)?;
-    Ok(text)
+    let mut digits = Buffer::new();
+    let mut text = ArrayVec::new();
+    text.push(b'S');
+    text.try_extend_from_slice(digits.format(id.sweep()).as_bytes())
+        .unwrap();
+    text.push(b'L');
+    text.try_extend_from_slice(digits.format(id.place()).as_bytes())
+        .unwrap();
+    text
 }

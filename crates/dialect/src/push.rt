@@ -1,23 +1,15 @@
 //! Appending one field to a list.
 
-ghost use Rattle.std.specs.Prelude.{◌≡◌, ◌++◌, ◌∷◌, [], Ok, Err, OnOk, OnErr, take};
+ghost use Rattle.std.specs.Prelude.{◌≡◌, ◌++◌, ◌∷◌, [], Ok, Err, OnOk, OnErr, take, decimal};
 ghost use Rattle.dialect.specs.Fields.{field};
 
 use crate::fault::DialectFault;
 use fix_text::Field;
+use itoa::Buffer;
 use std::alloc::{AllocError, Global};
 
-/// Appends a field of this value, which is kept as it is.
-pub(crate) fn push_text(tag: u32, value: Vec<u8>, fields: &mut Vec<Field>) -> Result<(), AllocError>
-    ensures ok { OnOk result (fields.new.items ≡ fields.old.items ++ field tag value.items ∷ []) }
-    ensures err { OnErr result (fields.new.items ≡ fields.old.items) }
-{
-    fields.push(Field::new(tag, value))?;
-    Ok(())
-}
-
 /// Appends a field with a copy of this value.
-pub(crate) fn push_slice(
+pub(crate) fn push_text(
     alloc: Global,
     tag: u32,
     value: &[u8],
@@ -29,6 +21,20 @@ pub(crate) fn push_slice(
     let field = Field::from_slice(alloc, tag, value)?;
     fields.push(field)?;
     Ok(())
+}
+
+/// Appends a field of a number, in the shortest decimal.
+pub(crate) fn push_number(
+    alloc: Global,
+    tag: u32,
+    number: u64,
+    fields: &mut Vec<Field>,
+) -> Result<(), AllocError>
+    ensures ok { OnOk result (fields.new.items ≡ fields.old.items ++ field tag (decimal number) ∷ []) }
+    ensures err { OnErr result (fields.new.items ≡ fields.old.items) }
+{
+    let mut digits = Buffer::new();
+    push_text(alloc, tag, digits.format(number).as_bytes(), fields)
 }
 
 /// Keeps what was appended behind the first `start` fields, or takes it away where memory ran out.

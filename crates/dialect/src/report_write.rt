@@ -8,7 +8,7 @@ ghost use Rattle.dialect.specs.ReportFields.{exec_type_text, ord_status_text, ca
 use crate::fault::DialectFault;
 use crate::limit::side_text;
 use crate::order_view::OrderView;
-use crate::push::{all_or_nothing, push_slice, push_text};
+use crate::push::{all_or_nothing, push_number, push_text};
 use crate::report::{Report, ReportKind};
 use crate::report_tag::{
     AVG_PX, CUM_QTY, EXEC_ID, EXEC_REF_ID, EXEC_TYPE, LAST_PX, LAST_QTY, LEAVES_QTY, ORD_STATUS,
@@ -16,7 +16,6 @@ use crate::report_tag::{
 };
 use crate::spelling::Spelling;
 use crate::tag::SIDE;
-use crate::text::number_text;
 use fix_text::Field;
 use std::alloc::{AllocError, Global};
 
@@ -62,7 +61,7 @@ fn push_cancelled(
 {
     match kind {
         ReportKind::Bust { cancelled_id } => {
-            push_slice(alloc, EXEC_REF_ID, cancelled_id.as_bytes(), fields)
+            push_text(alloc, EXEC_REF_ID, cancelled_id.as_bytes(), fields)
         }
         _ => Ok(()),
     }
@@ -75,8 +74,8 @@ fn push_fill(alloc: Global, kind: &ReportKind, fields: &mut Vec<Field>) -> Resul
 {
     match kind {
         ReportKind::Trade(fill) => {
-            push_text(LAST_QTY, number_text(alloc, fill.shares())?, fields)?;
-            push_slice(alloc, LAST_PX, fill.px().as_bytes(), fields)
+            push_number(alloc, LAST_QTY, fill.shares(), fields)?;
+            push_text(alloc, LAST_PX, fill.px().as_bytes(), fields)
         }
         _ => Ok(()),
     }
@@ -95,11 +94,11 @@ fn push_event<S: Spelling>(
     ensures err { OnErr result (IsGrown fields.old.items fields.new.items) }
 {
     let kind = &report.kind;
-    push_slice(alloc, ORDER_ID, view.order_id().as_bytes(), fields)?;
-    push_slice(alloc, EXEC_ID, report.exec.as_bytes(), fields)?;
+    push_text(alloc, ORDER_ID, view.order_id().as_bytes(), fields)?;
+    push_text(alloc, EXEC_ID, report.exec.as_bytes(), fields)?;
     push_cancelled(alloc, kind, fields)?;
-    push_slice(alloc, EXEC_TYPE, exec_type_text(kind), fields)?;
-    push_slice(
+    push_text(alloc, EXEC_TYPE, exec_type_text(kind), fields)?;
+    push_text(
         alloc,
         ORD_STATUS,
         ord_status_text(kind, view.leaves()),
@@ -118,11 +117,11 @@ fn push_amounts(
     ensures ok { OnOk result (fields.new.items ≡ fields.old.items ++ amount_fields report.now view.now) }
     ensures err { OnErr result (IsGrown fields.old.items fields.new.items) }
 {
-    push_slice(alloc, SIDE, side_text(view.leg().terms.side()), fields)?;
+    push_text(alloc, SIDE, side_text(view.leg().terms.side()), fields)?;
     push_fill(alloc, &report.kind, fields)?;
-    push_text(LEAVES_QTY, number_text(alloc, view.leaves())?, fields)?;
-    push_text(CUM_QTY, number_text(alloc, view.cum())?, fields)?;
-    push_slice(alloc, AVG_PX, NO_AVERAGE, fields)
+    push_number(alloc, LEAVES_QTY, view.leaves(), fields)?;
+    push_number(alloc, CUM_QTY, view.cum(), fields)?;
+    push_text(alloc, AVG_PX, NO_AVERAGE, fields)
 }
 
 /// Appends the report, or on a refused growth only a part of it.

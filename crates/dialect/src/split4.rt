@@ -1,6 +1,6 @@
 //! The dialect Split4.
 
-ghost use Rattle.std.specs.Prelude.{◌≡◌, IfOk};
+ghost use Rattle.std.specs.Prelude.{◌≡◌};
 ghost use Rattle.dialect.specs.Fields.{required_as};
 ghost use Rattle.dialect.specs.Split4.{split4_id_text, split4_id_of, root_of, with_suffix, split4_symbol_in};
 
@@ -9,11 +9,12 @@ use crate::fault::DialectFault;
 use crate::field_value::required;
 use crate::fixed_id::{PLACE_DIGITS, read_fixed_id};
 use crate::mark::{INTERMARKET_SWEEP, has_instruction};
-use crate::push::{push_slice, push_text};
+use crate::push::push_text;
 use crate::spelling::Spelling;
 use crate::split::split_round;
 use crate::tag::{CL_ORD_ID, EXEC_INST, PRICE, SYMBOL, SYMBOL_SFX};
-use crate::text::four_price_text;
+use arrayvec::ArrayVec;
+use fix_tags::price_four_text;
 use fix_text::{Field, FieldRef, first_ref};
 use leg::{LegId, Symbol};
 use std::alloc::{AllocError, Global};
@@ -37,14 +38,14 @@ const DASH: u8 = b'-';
 const ID_LEN: usize = 15;
 
 #[tactic(auto, unfolding(crate::specs::Split4::split4_id_text))]
-fn id_text(alloc: Global, id: &LegId) -> Result<Vec<u8>, AllocError>
-    ensures { IfOk result (λ text. text.items ≡ split4_id_text id.now) }
+fn id_text(id: &LegId) -> ArrayVec<u8, ID_LEN>
+    ensures { result.items ≡ split4_id_text id.now }
 {
-    let mut text = Vec::with_capacity(alloc, ID_LEN)?;
-    append_digits(BASE, SWEEP_DIGITS, id.sweep(), &mut text)?;
-    text.push(DASH)?;
-    append_digits(BASE, PLACE_DIGITS, u64::from(id.place()), &mut text)?;
-    Ok(text)
+    let mut text = ArrayVec::new();
+    append_digits(BASE, SWEEP_DIGITS, id.sweep(), &mut text);
+    text.push(DASH);
+    append_digits(BASE, PLACE_DIGITS, u64::from(id.place()), &mut text);
+    text
 }
 
 /// Reads the two numbers round the first dash.
@@ -91,7 +92,7 @@ impl Spelling for Split4 {
         id: &LegId,
         fields: &mut Vec<Field>,
     ) -> Result<(), AllocError> {
-        push_text(CL_ORD_ID, id_text(alloc, id)?, fields)
+        push_text(alloc, CL_ORD_ID, id_text(id).as_slice(), fields)
     }
 
     fn read_id(&self, text: &[u8]) -> Option<LegId> {
@@ -99,7 +100,7 @@ impl Spelling for Split4 {
     }
 
     fn push_mark(&self, alloc: Global, fields: &mut Vec<Field>) -> Result<(), AllocError> {
-        push_slice(alloc, EXEC_INST, INTERMARKET_SWEEP, fields)
+        push_text(alloc, EXEC_INST, INTERMARKET_SWEEP, fields)
     }
 
     fn is_marked(&self, fields: &[FieldRef<'_>]) -> bool {
@@ -112,7 +113,7 @@ impl Spelling for Split4 {
         price: u64,
         fields: &mut Vec<Field>,
     ) -> Result<(), AllocError> {
-        push_text(PRICE, four_price_text(alloc, price)?, fields)
+        push_text(alloc, PRICE, price_four_text(price).as_slice(), fields)
     }
 
     fn push_symbol(
@@ -121,12 +122,12 @@ impl Spelling for Split4 {
         symbol: &Symbol,
         fields: &mut Vec<Field>,
     ) -> Result<(), AllocError> {
-        push_slice(alloc, SYMBOL, symbol.root(), fields)?;
+        push_text(alloc, SYMBOL, symbol.root(), fields)?;
         let suffix = symbol.suffix();
         if suffix.is_empty() {
             Ok(())
         } else {
-            push_slice(alloc, SYMBOL_SFX, suffix, fields)
+            push_text(alloc, SYMBOL_SFX, suffix, fields)
         }
     }
 

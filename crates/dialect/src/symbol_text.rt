@@ -1,12 +1,12 @@
 //! A symbol in one text: the root and, where there is one, the suffix behind a separator.
 
-ghost use Rattle.std.specs.Prelude.{◌≡◌, IfOk};
+ghost use Rattle.std.specs.Prelude.{◌≡◌};
 ghost use Rattle.leg.specs.Symbol.{joined_text};
 ghost use Rattle.dialect.specs.JoinedSymbol.{joined_symbol_of};
 
 use crate::split::split_round;
+use arrayvec::ArrayVec;
 use leg::Symbol;
-use std::alloc::{AllocError, Global};
 
 /// The greatest length of a symbol: a root of 6 letters, a separator and 3 letters.
 const MAX_LEN: usize = 10;
@@ -31,19 +31,15 @@ pub fn read_symbol(text: &[u8]) -> Option<Symbol>
 }
 
 /// The root and, where there is one, the suffix behind the separator.
-pub(crate) fn joined_symbol_text(
-    alloc: Global,
-    separator: u8,
-    symbol: &Symbol,
-) -> Result<Vec<u8>, AllocError>
-    ensures { IfOk result (λ text. text.items ≡ joined_text separator symbol.now) }
+pub(crate) fn joined_symbol_text(separator: u8, symbol: &Symbol) -> ArrayVec<u8, MAX_LEN>
+    ensures { result.items ≡ joined_text separator symbol.now }
 {
-    let mut text = Vec::with_capacity(alloc, MAX_LEN)?;
-    text.extend_from_slice(symbol.root())?;
+    let mut text = ArrayVec::new();
+    text.try_extend_from_slice(symbol.root()).unwrap();
     let suffix = symbol.suffix();
     if !suffix.is_empty() {
-        text.push(separator)?;
-        text.extend_from_slice(suffix)?;
+        text.push(separator);
+        text.try_extend_from_slice(suffix).unwrap();
     }
-    Ok(text)
+    text
 }

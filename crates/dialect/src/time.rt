@@ -6,10 +6,9 @@ ghost use Rattle.dialect.specs.Fields.{IsGrown};
 
 use crate::fault::DialectFault;
 use crate::field_value::{is_value, required};
-use crate::push::{push_slice, push_text};
+use crate::push::push_text;
 use crate::tag::{TIME_IN_FORCE, TRANSACT_TIME};
-use crate::text::stamp_text;
-use fix_tags::Stamp;
+use fix_tags::{Stamp, stamp_bytes};
 use fix_text::{Field, FieldRef};
 use std::alloc::{AllocError, Global};
 
@@ -37,6 +36,6 @@ pub(crate) fn push_immediate(
     ensures ok { OnOk result (fields.new.items ≡ fields.old.items ++ immediate_fields stamp.now) }
     ensures err { OnErr result (IsGrown fields.old.items fields.new.items) }
 {
-    push_slice(alloc, TIME_IN_FORCE, IMMEDIATE_OR_CANCEL, fields)?;
-    push_text(TRANSACT_TIME, stamp_text(alloc, stamp)?, fields)
+    push_text(alloc, TIME_IN_FORCE, IMMEDIATE_OR_CANCEL, fields)?;
+    push_text(alloc, TRANSACT_TIME, &stamp_bytes(stamp), fields)
 }

@@ -5,18 +5,24 @@ use Rattle.fix_text.specs.Frame.{frame_refusal}
 use Rattle.fix_text.specs.declared.fault.TextFault.{TextFault}
 use Rattle.fix_text.specs.declared.fault.TextFault.TheVariants.{BadTag, BadValue, TooLong, OutOfMemory}
 use Rattle.fix_tags.specs.CompId.{IsCompId}
-use Rattle.fix_tags.specs.Message.{field_fault, envelope_fields, is_too_long, envelope_refusal}
+use Rattle.fix_tags.specs.Message.{AreWritable, field_fault, envelope_fields, is_too_long, envelope_refusal}
 use Rattle.fix_tags.specs.Stamp.{StampParts}
 use Rattle.fix_tags.specs.declared.fault.TagFault.TheVariants as tags
 use Rattle.fix_tags.specs.declared.envelope.Envelope.{Envelope}
 use Rattle.fix_tags.proofs.WritableFields.{good_message, good_tags, good_values}
 
+-- a message without a fault can be written, field by field
+pub writable_message : (e : Envelope) (s : StampParts) → IsCompId e.sender → IsCompId e.target → field_fault e ≡ None → AreWritable (envelope_fields e s)
+writable_message e s sender target none =
+    let good = good_message e s sender target none in
+    (good_tags (envelope_fields e s) good, good_values (envelope_fields e s) good)
+
 -- the only refusal left is that the fields are too long
 pub refusal_is : (e : Envelope) (s : StampParts) → IsCompId e.sender → IsCompId e.target → field_fault e ≡ None
     → frame_refusal (envelope_fields e s) ≡ cond (is_too_long e s) (Some TooLong) None
 refusal_is e s sender target none =
-    let good = good_message e s sender target none in
-    rw (good_tags (envelope_fields e s) good, good_values (envelope_fields e s) good) refl
+    let writable = writable_message e s sender target none in
+    rw (writable.0, writable.1) refl
 
 -- whether the fields were too long, by what was answered
 abbrev pub Outcome : Bool → Result (Unit {0}) TextFault → Type 0

@@ -1,5 +1,5 @@
 -- What a message is written as (FIX 4.4 Volume 2): the fields of its header and of its body.
-use Rattle.std.specs.Prelude.{◌≡◌, Result, Err, MatchOption, IsOkUnless, OnOk, OnErr, ℕ, ◌+◌, ◌<◌, List, [], ◌∷◌, ◌++◌, length, Bool, false, ◌&&◌, ◌||◌, not, ◌==◌, nat_lt, nat_le, Option, Some, None, codes, if◌then◌else◌}
+use Rattle.std.specs.Prelude.{◌≡◌, Result, Err, MatchOption, IsOkUnless, OnOk, OnErr, ℕ, ◌+◌, ◌<◌, List, [], ◌∷◌, ◌++◌, length, Bool, true, false, ◌&&◌, ◌||◌, not, ◌==◌, nat_lt, nat_le, Option, Some, None, codes, if◌then◌else◌}
 use Rattle.std.specs.Fmt.{decimal}
 use Rattle.std.specs.Global.{Vec}
 use Rattle.std.specs.Vec.{vec_len, vec_capacity}
@@ -7,7 +7,7 @@ use Rattle.fix_text.specs.Tagged.{Tagged}
 use Rattle.fix_text.specs.Frame.{frame_text, frame_refusal}
 use Rattle.fix_text.specs.declared.fault.TextFault.{TextFault}
 use Rattle.fix_text.specs.declared.fault.TextFault.TheVariants as text
-use Rattle.fix_text.specs.Text.{fields_text, is_writable_value}
+use Rattle.fix_text.specs.Text.{fields_text, has_writable_tags, has_writable_values, is_writable_value}
 use Rattle.fix_tags.specs.App.{is_app_field}
 use Rattle.fix_tags.specs.Stamp.{StampParts, stamp_text}
 use Rattle.fix_tags.specs.declared.body.Body.{Body}
@@ -174,6 +174,10 @@ is_too_long e stamp = nat_lt 4096 (length (fields_text (envelope_fields e stamp)
 -- why a message can't be written: its first bad tag in written order, or that it is too long
 abbrev pub envelope_refusal : Envelope → StampParts → Option TagFault
 envelope_refusal e stamp = field_fault e or_then (if is_too_long e stamp then Some TooLong else None)
+
+-- fields that can be written one by one: the first is MsgType (35), each tag is one, and no value is empty or holds SOH
+abbrev pub AreWritable : List Tagged → Type 0
+AreWritable fields = (has_writable_tags fields ≡ true) × (has_writable_values fields ≡ true)
 
 -- what a call says that writes these fields as a frame at the end of a buffer: why it refuses, what the buffer holds,
 -- and that it wants memory only where the buffer had no room for the frame

@@ -29,7 +29,9 @@ pub use envelope::{Envelope, EnvelopeRef};
 pub use fault::TagFault;
 pub use flag::{read_flag, write_flag};
 pub use number::{read_number, write_number};
-pub use price::{read_price, write_price_four, write_price_short};
+pub use price::{
+    PriceText, price_four_text, price_short_text, read_price, write_price_four, write_price_short,
+};
 pub use read::read_envelope;
 pub use shares::read_shares;
 pub use stamp::Stamp;

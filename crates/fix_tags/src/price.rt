@@ -103,45 +103,59 @@ fn short_len(price: u64) -> usize
     }
 }
 
-/// Appends the dollars of a price and what is written of its fraction.
+/// A written price.
+pub type PriceText = ArrayVec<u8, MAX_TEXT_LEN>;
+
+/// The dollars of a price and what is written of its fraction.
 #[inline]
-fn write_dollars(price: u64, fraction: &[u8], out: &mut Vec<u8>) -> Result<(), TagFault>
+fn dollars_and(price: u64, fraction: &[u8]) -> PriceText
     requires { length fraction.now ≤ FRACTION_LEN }
-    ensures ok { OnOk result (out.new.items ≡ out.old.items ++ (decimal (price / 10_000) ++ fraction.now)) }
-    ensures err { OnErr result (out.new.items ≡ out.old.items) }
-    ensures only { IsOkUnless result TagFault.OutOfMemory }
-    ensures full { OnErr result
-        (vec_capacity out.old < vec_len out.old + length (decimal (price / 10_000) ++ fraction.now)) }
+    ensures { result.items ≡ decimal (price / 10_000) ++ fraction.now }
 {
-    let mut buffer = Buffer::new();
-    let mut text = ArrayVec::<u8, MAX_TEXT_LEN>::new();
-    text.try_extend_from_slice(buffer.format(price / DOLLAR).as_bytes())
+    let mut dollars = Buffer::new();
+    let mut text = PriceText::new();
+    text.try_extend_from_slice(dollars.format(price / DOLLAR).as_bytes())
         .unwrap();
     text.try_extend_from_slice(fraction).unwrap();
-    append(out, text.as_slice())
+    text
 }
 
-/// Writes a price with no zeros at the end of its decimals, and no point where none are left: `10.25`, `10`.
-/// `OutOfMemory`: `out` is full, and no memory is left.
+/// A price with no zeros at the end of its decimals, and no point where none are left: `10.25`, `10`.
 #[inline]
 #[tactic(auto, unfolding(crate::specs::Price::price_short))]
+pub fn price_short_text(price: u64) -> PriceText
+    ensures { result.items ≡ price_short price }
+{
+    dollars_and(price, &fraction(price)[..short_len(price)])
+}
+
+/// A price with four decimals: `10.2500`, `10.0000`.
+#[inline]
+#[tactic(auto, unfolding(crate::specs::Price::price_four))]
+pub fn price_four_text(price: u64) -> PriceText
+    ensures { result.items ≡ price_four price }
+{
+    dollars_and(price, &fraction(price))
+}
+
+/// Writes a price as `price_short_text` spells it. `OutOfMemory`: `out` is full, and no memory is left.
+#[inline]
 pub fn write_price_short(price: u64, out: &mut Vec<u8>) -> Result<(), TagFault>
     ensures ok { OnOk result (out.new.items ≡ out.old.items ++ price_short price) }
     ensures err { OnErr result (out.new.items ≡ out.old.items) }
     ensures only { IsOkUnless result TagFault.OutOfMemory }
     ensures full { OnErr result (vec_capacity out.old < vec_len out.old + length (price_short price)) }
 {
-    write_dollars(price, &fraction(price)[..short_len(price)], out)
+    append(out, price_short_text(price).as_slice())
 }
 
-/// Writes a price with four decimals: `10.2500`, `10.0000`. `OutOfMemory`: `out` is full, and no memory is left.
+/// Writes a price as `price_four_text` spells it. `OutOfMemory`: `out` is full, and no memory is left.
 #[inline]
-#[tactic(auto, unfolding(crate::specs::Price::price_four))]
 pub fn write_price_four(price: u64, out: &mut Vec<u8>) -> Result<(), TagFault>
     ensures ok { OnOk result (out.new.items ≡ out.old.items ++ price_four price) }
     ensures err { OnErr result (out.new.items ≡ out.old.items) }
     ensures only { IsOkUnless result TagFault.OutOfMemory }
     ensures full { OnErr result (vec_capacity out.old < vec_len out.old + length (price_four price)) }
 {
-    write_dollars(price, &fraction(price), out)
+    append(out, price_four_text(price).as_slice())
 }

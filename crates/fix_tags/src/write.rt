@@ -2,7 +2,7 @@
 ghost use Rattle.std.specs.Prelude.{◌∷◌, Some, None, Err, ◌≡◌, ◌+◌, ◌<◌, ◌++◌, length, vec_len, vec_capacity, if◌then◌else◌, MatchOption, IsOkUnless, OnOk, OnErr, Ok};
 ghost use Rattle.fix_text.specs.Frame.{frame_text};
 ghost use Rattle.fix_tags.specs.CompId.{IsCompId};
-ghost use Rattle.fix_tags.specs.Message.{WritesFrame, field, marks_and_time, kind_of, body_fields, header_fields, field_fault, envelope_fields, is_too_long, envelope_refusal};
+ghost use Rattle.fix_tags.specs.Message.{AreWritable, WritesFrame, field, marks_and_time, kind_of, body_fields, header_fields, field_fault, envelope_fields, is_too_long, envelope_refusal};
 ghost use Rattle.fix_tags.specs.Reading.{reset_or_fill, envelope_read};
 
 use crate::body::Body;
@@ -12,7 +12,7 @@ use crate::stamp::Stamp;
 use crate::stamp_text::stamp_bytes;
 use crate::text::Text;
 use crate::writable::field_fault;
-use fix_text::{FieldRef, TextFault, write_frame_parts};
+use fix_text::{FieldRef, TextFault, write_writable_parts};
 use itoa::Buffer;
 
 /// MsgType (35).
@@ -39,6 +39,7 @@ fn write_logon(
     next: Option<u64>,
     out: &mut Vec<u8>,
 ) -> Result<(), TextFault>
+    requires { AreWritable (head.now ++ body_fields (Body.Logon heart reset next)) }
     ensures { WritesFrame (head.now ++ body_fields (Body.Logon heart reset next)) out.old out.new result }
 {
     let mut heart_digits = Buffer::new();
@@ -46,19 +47,19 @@ fn write_logon(
     let encryption = FieldRef::new(98, b"0");
     let heart = FieldRef::new(108, heart_digits.format(heart).as_bytes());
     match (reset, next) {
-        (false, None) => write_frame_parts(head, &[encryption, heart], &[], out),
+        (false, None) => write_writable_parts(head, &[encryption, heart], &[], out),
         (true, None) => {
             let reset = FieldRef::new(141, b"Y");
-            write_frame_parts(head, &[encryption, heart, reset], &[], out)
+            write_writable_parts(head, &[encryption, heart, reset], &[], out)
         }
         (false, Some(next)) => {
             let next = FieldRef::new(789, next_digits.format(next).as_bytes());
-            write_frame_parts(head, &[encryption, heart, next], &[], out)
+            write_writable_parts(head, &[encryption, heart, next], &[], out)
         }
         (true, Some(next)) => {
             let reset = FieldRef::new(141, b"Y");
             let next = FieldRef::new(789, next_digits.format(next).as_bytes());
-            write_frame_parts(head, &[encryption, heart, reset, next], &[], out)
+            write_writable_parts(head, &[encryption, heart, reset, next], &[], out)
         }
     }
 }
@@ -69,13 +70,14 @@ fn write_resend_request(
     last: u64,
     out: &mut Vec<u8>,
 ) -> Result<(), TextFault>
+    requires { AreWritable (head.now ++ body_fields (Body.ResendRequest begin last)) }
     ensures { WritesFrame (head.now ++ body_fields (Body.ResendRequest begin last)) out.old out.new result }
 {
     let mut begin_digits = Buffer::new();
     let mut last_digits = Buffer::new();
     let begin = FieldRef::new(7, begin_digits.format(begin).as_bytes());
     let last = FieldRef::new(16, last_digits.format(last).as_bytes());
-    write_frame_parts(head, &[begin, last], &[], out)
+    write_writable_parts(head, &[begin, last], &[], out)
 }
 
 fn write_sequence_reset(
@@ -84,22 +86,24 @@ fn write_sequence_reset(
     new_number: u64,
     out: &mut Vec<u8>,
 ) -> Result<(), TextFault>
+    requires { AreWritable (head.now ++ body_fields (reset_or_fill fills new_number)) }
     ensures { WritesFrame (head.now ++ body_fields (reset_or_fill fills new_number)) out.old out.new result }
 {
     let mut digits = Buffer::new();
     let new_number = FieldRef::new(36, digits.format(new_number).as_bytes());
     if fills {
-        return write_frame_parts(head, &[FieldRef::new(123, b"Y"), new_number], &[], out);
+        return write_writable_parts(head, &[FieldRef::new(123, b"Y"), new_number], &[], out);
     }
-    write_frame_parts(head, &[FieldRef::new(123, b"N"), new_number], &[], out)
+    write_writable_parts(head, &[FieldRef::new(123, b"N"), new_number], &[], out)
 }
 
 fn write_reject(head: &[FieldRef<'_>], number: u64, out: &mut Vec<u8>) -> Result<(), TextFault>
+    requires { AreWritable (head.now ++ body_fields (Body.Reject number)) }
     ensures { WritesFrame (head.now ++ body_fields (Body.Reject number)) out.old out.new result }
 {
     let mut digits = Buffer::new();
     let number = FieldRef::new(45, digits.format(number).as_bytes());
-    write_frame_parts(head, &[number], &[], out)
+    write_writable_parts(head, &[number], &[], out)
 }
 
 fn write_business_reject(
@@ -107,25 +111,27 @@ fn write_business_reject(
     number: Option<u64>,
     out: &mut Vec<u8>,
 ) -> Result<(), TextFault>
+    requires { AreWritable (head.now ++ body_fields (Body.BusinessReject number)) }
     ensures { WritesFrame (head.now ++ body_fields (Body.BusinessReject number)) out.old out.new result }
 {
     let mut digits = Buffer::new();
     let kind = FieldRef::new(372, b"D");
     let reason = FieldRef::new(380, b"0");
     match number {
-        None => write_frame_parts(head, &[kind, reason], &[], out),
+        None => write_writable_parts(head, &[kind, reason], &[], out),
         Some(number) => {
             let number = FieldRef::new(45, digits.format(number).as_bytes());
-            write_frame_parts(head, &[number, kind, reason], &[], out)
+            write_writable_parts(head, &[number, kind, reason], &[], out)
         }
     }
 }
 
 /// A body of a TestReqID (112).
 fn write_test_id(head: &[FieldRef<'_>], id: &[u8], out: &mut Vec<u8>) -> Result<(), TextFault>
+    requires { AreWritable (head.now ++ body_fields (Body.TestRequest id.now)) }
     ensures { WritesFrame (head.now ++ body_fields (Body.TestRequest id.now)) out.old out.new result }
 {
-    write_frame_parts(head, &[FieldRef::new(112, id)], &[], out)
+    write_writable_parts(head, &[FieldRef::new(112, id)], &[], out)
 }
 
 fn write_heartbeat(
@@ -133,15 +139,17 @@ fn write_heartbeat(
     id: &Option<Text>,
     out: &mut Vec<u8>,
 ) -> Result<(), TextFault>
+    requires { AreWritable (head.now ++ body_fields (Body.Heartbeat id.now)) }
     ensures { WritesFrame (head.now ++ body_fields (Body.Heartbeat id.now)) out.old out.new result }
 {
     match id {
-        None => write_frame_parts(head, &[], &[], out),
+        None => write_writable_parts(head, &[], &[], out),
         Some(id) => write_test_id(head, id.as_bytes(), out),
     }
 }
 
 fn write_body(head: &[FieldRef<'_>], body: &Body, out: &mut Vec<u8>) -> Result<(), TextFault>
+    requires { AreWritable (head.now ++ body_fields body.now) }
     ensures { WritesFrame (head.now ++ body_fields body.now) out.old out.new result }
 {
     match body {
@@ -153,8 +161,8 @@ fn write_body(head: &[FieldRef<'_>], body: &Body, out: &mut Vec<u8>) -> Result<(
         Body::GapFill { new_number } => write_sequence_reset(head, true, *new_number, out),
         Body::Reset { new_number } => write_sequence_reset(head, false, *new_number, out),
         Body::BusinessReject { number } => write_business_reject(head, *number, out),
-        Body::Logout => write_frame_parts(head, &[], &[], out),
-        Body::App { fields, .. } => write_frame_parts(head, &[], fields.as_slice(), out),
+        Body::Logout => write_writable_parts(head, &[], &[], out),
+        Body::App { fields, .. } => write_writable_parts(head, &[], fields.as_slice(), out),
     }
 }
 
@@ -176,6 +184,7 @@ fn write_with_header<'a>(
     body: &Body,
     out: &mut Vec<u8>,
 ) -> Result<(), TextFault>
+    requires { AreWritable (field 35 texts.kind.now ∷ field 49 texts.sender.now ∷ field 56 texts.target.now ∷ field 34 texts.number.now ∷ marks_and_time poss_dup poss_resend texts.time.now ++ body_fields body.now) }
     ensures { WritesFrame (field 35 texts.entry.kind.now ∷ field 49 texts.entry.sender.now ∷ field 56 texts.entry.target.now ∷ field 34 texts.entry.number.now ∷ marks_and_time poss_dup poss_resend texts.entry.time.now ++ body_fields body.now) out.old out.new result }
 {
     let kind = FieldRef::new(35, texts.kind);

@@ -1,16 +1,20 @@
 //! A field: a tag with its value, owned or lent. Contracts see both as one `Tagged`.
-ghost use Rattle.std.specs.Prelude.{◌≡◌, length, IfOk};
+ghost use Rattle.std.specs.Prelude.{◌≡◌, ◌≤◌, length, IfOk, IsOk};
 ghost use Rattle.std.specs.Option.{option_map};
 ghost use Rattle.fix_text.specs.Tagged.{value_of};
 
+use smallvec::SmallVec;
 use std::alloc::{AllocError, Global};
 use std::marker::Model;
 
-/// A field that owns its value.
+/// The most bytes of a value that lies in its field: as many as the longest time stamp or number has, and some more.
+const INLINE_LEN: usize = 24;
+
+/// A field that owns its value. One of up to 24 bytes lies in the field itself.
 #[derive(Debug, Drop)]
 pub struct Field {
     tag: u32,
-    value: Vec<u8>,
+    value: SmallVec<u8, INLINE_LEN>,
 }
 
 impl Model for Field {
@@ -22,18 +26,22 @@ impl Model for Field {
 }
 
 impl Field {
-    /// A field of this value, which is kept as it is.
+    /// A field of this value. It takes no memory.
     pub fn new(tag: u32, value: Vec<u8>) -> Field
         ensures { result ≡ record { tag = tag; value = value.items } }
     {
-        Field { tag, value }
+        Field {
+            tag,
+            value: SmallVec::from_vec(value),
+        }
     }
 
-    /// A field with a copy of this value.
+    /// A field with a copy of this value. It takes memory only for a value of more than 24 bytes.
     pub fn from_slice(alloc: Global, tag: u32, value: &[u8]) -> Result<Field, AllocError>
-        ensures { IfOk result (λ field. field ≡ record { tag = tag; value = value.now }) }
+        ensures ok { IfOk result (λ field. field ≡ record { tag = tag; value = value.now }) }
+        ensures short { length value.now ≤ 24 → IsOk result }
     {
-        let value = Vec::from_slice(alloc, value)?;
+        let value = SmallVec::from_slice(alloc, value)?;
         Ok(Field { tag, value })
     }
 

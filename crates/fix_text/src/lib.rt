@@ -26,7 +26,7 @@ pub use lists::{FieldRefs, Fields};
 pub use place::Place;
 pub use reader::FrameReader;
 pub use refusal::{MAX_BODY, can_write_tag, can_write_value};
-pub use write::{write_frame, write_frame_parts};
+pub use write::{write_frame, write_frame_parts, write_writable_parts};
 
 #[cfg(test)]
 mod tests;

@@ -1,8 +1,8 @@
 //! Which fields can be written as a frame, and how long their text is.
-ghost use Rattle.std.specs.Prelude.{true, Some, None, Err, ◌≡◌, ◌+◌, ◌≤◌, ◌++◌, min, length, decimal, if◌then◌else◌, IsOkAnd, MatchOption};
+ghost use Rattle.std.specs.Prelude.{true, not, nat_lt, Ok, Err, ◌≡◌, ◌+◌, ◌≤◌, ◌++◌, min, length, decimal, if◌then◌else◌};
 ghost use Rattle.std.specs.List.{list_all, flat_map};
 ghost use Rattle.fix_text.specs.Text.{field_text, fields_text, holds_soh, begins_with_type, is_writable_tag, is_writable_value, has_writable_tags, has_writable_values};
-ghost use Rattle.fix_text.specs.Frame.{frame_refusal};
+ghost use Rattle.fix_text.specs.declared.fault.TextFault.TheVariants.{BadTag, BadValue, TooLong};
 
 use crate::fault::TextFault;
 use crate::field::{Field, FieldRef, Lend};
@@ -82,51 +82,67 @@ pub(crate) fn digit_count(number: u32) -> usize
     }
 }
 
+fn can_write_each_value<F: Lend>(fields: &[F]) -> bool
+    ensures { result ≡ list_all (λ field. is_writable_value (F.tagged field).value) fields.now }
+{
+    fields
+        .iter()
+        .all(|field| can_write_value(field.lend().value()))
+}
+
+fn can_write_values(head: &[FieldRef<'_>], body: &[FieldRef<'_>], rest: &[Field]) -> bool
+    ensures { result ≡ has_writable_values (head.now ++ body.now ++ rest.now) }
+{
+    can_write_each_value(head) && can_write_each_value(body) && can_write_each_value(rest)
+}
+
 /// The length of text that is there and of the written fields, or `TOO_LONG` where it is above the
-/// greatest body; None where a value can't be written.
-fn length_with<F: Lend>(before: usize, fields: &[F]) -> Option<usize>
+/// greatest body.
+fn length_with<F: Lend>(before: usize, fields: &[F]) -> usize
     requires tags { list_all (λ field. is_writable_tag (F.tagged field).tag) fields.now ≡ true }
     requires fits { before ≤ 4097 }
-    ensures { result ≡ (if list_all (λ field. is_writable_value (F.tagged field).value) fields.now then Some (min 4097 (before + length (flat_map (λ field. field_text (F.tagged field)) fields.now))) else None) }
+    ensures { result ≡ min 4097 (before + length (flat_map (λ field. field_text (F.tagged field)) fields.now)) }
 {
     let mut total = before;
     for item in fields {
         let field = item.lend();
-        let value = field.value();
-        if !can_write_value(value) {
-            return None;
-        }
-        total = TOO_LONG.min(total + digit_count(field.tag()) + 1 + value.len() + 1);
+        total = TOO_LONG.min(total + digit_count(field.tag()) + 1 + field.value().len() + 1);
     }
-    Some(total)
+    total
 }
 
-fn length_of(head: &[FieldRef<'_>], body: &[FieldRef<'_>], rest: &[Field]) -> Option<usize>
-    requires { has_writable_tags (head.now ++ body.now ++ rest.now) ≡ true }
-    ensures { let fields = head.now ++ body.now ++ rest.now in
-        result ≡ (if has_writable_values fields then Some (min 4097 (length (fields_text fields))) else None) }
-{
-    let head = length_with(0, head)?;
-    let body = length_with(head, body)?;
-    length_with(body, rest)
-}
-
-/// The length of the text of these fields, or why they can't be written: each fault is tried over
-/// all fields before the next. The bytes are looked at once.
-pub fn checked_length(
+/// The length of the text of fields that can be written one by one, or that it is above the greatest
+/// body.
+pub fn text_length(
     head: &[FieldRef<'_>],
     body: &[FieldRef<'_>],
     rest: &[Field],
 ) -> Result<usize, TextFault>
+    requires tags { has_writable_tags (head.now ++ body.now ++ rest.now) ≡ true }
     ensures { let fields = head.now ++ body.now ++ rest.now in
-        MatchOption (frame_refusal fields) (IsOkAnd result (λ n. (n ≡ length (fields_text fields)) × (n ≤ 4096))) (λ fault. result ≡ Err fault) }
+        result ≡ (if nat_lt 4096 (length (fields_text fields)) then Err TooLong else Ok (length (fields_text fields))) }
+{
+    let length = length_with(length_with(length_with(0, head), body), rest);
+    if length > MAX_BODY {
+        return Err(TextFault::TooLong);
+    }
+    Ok(length)
+}
+
+/// Looks for a field that can't be written: each fault is tried over all fields before the next.
+pub fn check_fields(
+    head: &[FieldRef<'_>],
+    body: &[FieldRef<'_>],
+    rest: &[Field],
+) -> Result<(), TextFault>
+    ensures { let fields = head.now ++ body.now ++ rest.now in
+        result ≡ (if not (has_writable_tags fields) then Err BadTag else (if not (has_writable_values fields) then Err BadValue else Ok tt)) }
 {
     if !can_write_tags(head, body, rest) {
         return Err(TextFault::BadTag);
     }
-    match length_of(head, body, rest) {
-        None => Err(TextFault::BadValue),
-        Some(length) if length <= MAX_BODY => Ok(length),
-        Some(_) => Err(TextFault::TooLong),
+    if !can_write_values(head, body, rest) {
+        return Err(TextFault::BadValue);
     }
+    Ok(())
 }

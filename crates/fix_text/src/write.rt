@@ -1,13 +1,13 @@
 //! Writing a frame: one spelling, appended whole or not at all.
-ghost use Rattle.std.specs.Prelude.{Err, ◌≡◌, ◌+◌, ◌<◌, ◌≤◌, ◌++◌, List, length, drop, vec_len, vec_capacity, IsOkUnless, OnOk, OnErr, MatchOption, ℕ};
+ghost use Rattle.std.specs.Prelude.{true, Err, ◌≡◌, ◌+◌, ◌<◌, ◌≤◌, ◌++◌, List, length, drop, vec_len, vec_capacity, IsOkUnless, OnOk, OnErr, MatchOption, ℕ};
 ghost use Rattle.std.specs.List.{flat_map};
-ghost use Rattle.fix_text.specs.Text.{field_text, fields_text};
+ghost use Rattle.fix_text.specs.Text.{field_text, fields_text, has_writable_tags, has_writable_values};
 ghost use Rattle.fix_text.specs.Frame.{HasRoom, Appends, header_text, trailer_text, framed, frame_text, frame_refusal};
 
 use crate::checksum::sum256;
 use crate::fault::TextFault;
 use crate::field::{Field, FieldRef, Lend};
-use crate::refusal::{checked_length, digit_count};
+use crate::refusal::{check_fields, digit_count, text_length};
 use itoa::Buffer;
 
 /// What stands before the digits of BodyLength: BeginString (8) of FIX 4.4, and tag 9.
@@ -103,6 +103,30 @@ fn push_frame(
     push_trailer(start, out);
 }
 
+/// Appends the one written frame of the fields of `head`, `body` and `rest`, one behind the other, of
+/// which each can be written: the only fault left is that they are too long. Otherwise it is as
+/// `write_frame_parts`, and looks at no value for what it holds.
+pub fn write_writable_parts(
+    head: &[FieldRef<'_>],
+    body: &[FieldRef<'_>],
+    rest: &[Field],
+    out: &mut Vec<u8>,
+) -> Result<(), TextFault>
+    requires tags { has_writable_tags (head.now ++ body.now ++ rest.now) ≡ true }
+    requires values { has_writable_values (head.now ++ body.now ++ rest.now) ≡ true }
+    ensures refusal { MatchOption (frame_refusal (head.now ++ body.now ++ rest.now)) (IsOkUnless result TextFault.OutOfMemory) (λ fault. result ≡ Err fault) }
+    ensures ok { OnOk result (out.new.items ≡ out.old.items ++ frame_text (head.now ++ body.now ++ rest.now)) }
+    ensures err { OnErr result (out.new.items ≡ out.old.items) }
+    ensures full { result ≡ Err TextFault.OutOfMemory → vec_capacity out.old < vec_len out.old + length (frame_text (head.now ++ body.now ++ rest.now)) }
+{
+    let length_of_text = text_length(head, body, rest)?;
+    if out.reserve(frame_length(length_of_text)).is_err() {
+        return Err(TextFault::OutOfMemory);
+    }
+    push_frame(length_of_text, head, body, rest, out);
+    Ok(())
+}
+
 /// Appends the one written frame of the fields of `head`, `body` and `rest`, one behind the other,
 /// as `write_frame` does of one list. So what lies apart, or is lent, need not be copied.
 ///
@@ -118,12 +142,8 @@ pub fn write_frame_parts(
     ensures err { OnErr result (out.new.items ≡ out.old.items) }
     ensures full { result ≡ Err TextFault.OutOfMemory → vec_capacity out.old < vec_len out.old + length (frame_text (head.now ++ body.now ++ rest.now)) }
 {
-    let length_of_text = checked_length(head, body, rest)?;
-    if out.reserve(frame_length(length_of_text)).is_err() {
-        return Err(TextFault::OutOfMemory);
-    }
-    push_frame(length_of_text, head, body, rest, out);
-    Ok(())
+    check_fields(head, body, rest)?;
+    write_writable_parts(head, body, rest, out)
 }
 
 /// Appends the one written frame of these fields (FIX 4.4 Volume 1, "Message Format"): BeginString
