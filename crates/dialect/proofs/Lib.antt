@@ -3,3 +3,4 @@ pub mod PriceRange
 pub mod OrderReading
 pub mod DigitsRead
 pub mod ShortIds
+pub mod PlainIdLength

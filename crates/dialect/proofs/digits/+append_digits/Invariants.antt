@@ -1,4 +1,4 @@
 use Rattle.dialect.proofs.digits.+append_digits.Given as goal
 
 abbrev pub decreases-append_digits : goal.decreases-append_digits
-decreases-append_digits l = l.width
+decreases-append_digits g l = l.width
