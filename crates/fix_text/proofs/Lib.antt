@@ -6,6 +6,7 @@ pub mod FieldLists
 pub mod Readers
 pub mod Turns
 pub mod Places
+pub mod Parts
 pub mod Placed
 pub mod Rewritten
 pub mod Prefixes

@@ -1,19 +1,19 @@
 -- The places of fields in a text, as a loop finds them one after the other.
 use Rattle.std.proofs.Common.{◌≡◌, ℕ, ◌+◌, ◌-◌, ◌*◌, ◌<◌, ◌≤◌, Bool, true, false, cond, eqb, ltb, leb, List, [], ◌∷◌, ◌++◌, length, get_or, take, drop, map, Option, Some, None, Result, Ok, Err, inl, inr, refl, sym, ap, ◌∙◌, arith, append_assoc}
-use Rattle.std.specs.Prelude.{◌&&◌, ◌||◌, slice_range, is_some, is_ok, is_err, slice_get}
+use Rattle.std.specs.Prelude.{IsTrue, ◌&&◌, ◌||◌, slice_range, is_some, is_ok, is_err, slice_get}
 use Rattle.std.specs.Char.{is_ascii_digit}
-use Rattle.std.proofs.lemmas.Bool.{and_from, or_parts, le-leb, eq-eqb, ne_eqb}
-use Rattle.std.proofs.lemmas.List.{length-append, length-take-le, length-drop, take-append-drop, drop-drop, drop_at, drop-map, drop_more, map-append, take_more}
+use Rattle.std.proofs.lemmas.Bool.{and_from, or_parts, eq-eqb, ne_eqb}
+use Rattle.std.proofs.lemmas.List.{length-append, length-take-le, length-drop, take-append-drop, drop-map, drop_more, map-append, take_more}
 use Rattle.std.proofs.lemmas.Option.{slice_get_within, get_or_from_slice_get}
 use Rattle.std.proofs.lemmas.List.Folds.{list_all-append}
 use Rattle.fix_text.specs.declared.place.Place.{Place}
 use Rattle.fix_text.specs.Tagged.{Tagged, value_of}
-use Rattle.fix_text.specs.Text.{holds_soh}
 use Rattle.fix_text.specs.Reading.{field_from, field_of, fields_of, with_field}
 use Rattle.fix_text.specs.Placing.{field_at, fields_at, is_within, AreWithin}
 use Rattle.fix_text.proofs.Readers.{chosen}
 use Rattle.fix_text.proofs.FieldLists.{with_front, fields_of-part, reads_one}
 use Rattle.fix_text.proofs.Places.{part_found}
+use Rattle.fix_text.proofs.Parts.{IsPart}
 
 some_is : (x y : Tagged) → ◌≡◌ {A = Option Tagged} (Some x) (Some y) → x ≡ y
 some_is x y e = cc
@@ -34,77 +34,54 @@ value_behind tag (byte ∷ part) field is =
       ]
     ]
 
--- where a field and what follows it lie in a text
-pub record LiesIn (text : List ℕ) (at : ℕ) (part rest : List ℕ) (field : Tagged) : Type 0 where
-  pub fits : length field.value ≤ length part
-  pub end : at + length part + 1 ≤ length text
-  pub value : slice_range text (at + length part - length field.value) (at + length part) ≡ field.value
-  pub left : drop (at + length part + 1) text ≡ rest
-
-pub lies_in : (text : List ℕ) (at : ℕ) (part rest : List ℕ) (field : Tagged) → at ≤ length text → drop at text ≡ part ++ 1 ∷ rest → Some field ≡ field_of part → LiesIn text at part rest field
-lies_in text at part rest field within parted is =
+-- the value at the end of a part lies at its end in the text too
+pub value_lies : (text : List ℕ) (at end : ℕ) (field : Tagged) → at ≤ end → end ≤ length text → Some field ≡ field_of (slice_range text at end) → (length field.value ≤ end) × (slice_range text (end - length field.value) end ≡ field.value)
+value_lies text at end field ordered within is =
+    let part : List ℕ = slice_range text at end in
+    let back : List ℕ = drop (end - at) (drop at text) in
     let behind = value_behind 0 part field (sym is) in
-    let sized = ap length behind.1 in
-    let split = length-append behind.0 field.value in
-    let long = length-append part (1 ∷ rest) in
-    let dropped = length-drop at text in
-    let same : text ≡ (take at text ++ behind.0) ++ (field.value ++ 1 ∷ rest) =
-    sym (take-append-drop at text) ∙ ap (λ (t : List ℕ). take at text ++ t) (parted ∙ ap (λ (p : List ℕ). p ++ 1 ∷ rest) behind.1 ∙ append_assoc behind.0 field.value (1 ∷ rest)) ∙ sym (append_assoc (take at text) behind.0 (field.value ++ 1 ∷ rest)) in
+    let long : length part ≡ end - at = length-take-le (end - at) (drop at text) (omega (arith, length-drop at text)) in
+    let split : length part ≡ length behind.0 + length field.value = ap length behind.1 ∙ length-append behind.0 field.value in
+    let same : text ≡ (take at text ++ behind.0) ++ (field.value ++ back) =
+    sym (take-append-drop at text)
+    ∙ ap (λ (t : List ℕ). take at text ++ t) (sym (take-append-drop (end - at) (drop at text)) ∙ ap (λ (p : List ℕ). p ++ back) behind.1 ∙ append_assoc behind.0 field.value back)
+    ∙ sym (append_assoc (take at text) behind.0 (field.value ++ back)) in
     let front = length-append (take at text) behind.0 in
-    let taken = length-take-le at text within in
-    let size = ap length parted in
-    record {
-      fits = omega (arith, sized, split);
-      end = omega (arith, size, long, dropped);
-      value = part_found text (take at text ++ behind.0) field.value (1 ∷ rest) _ _ same (omega (arith, front, taken, sized, split)) (omega (arith, sized, split));
-      left = ap (λ (n : ℕ). drop n text) (let e : at + length part + 1 ≡ at + (length part + 1) = omega arith in e) ∙ sym (drop-drop (length part + 1) at text) ∙ ap (drop (length part + 1)) parted ∙ ap (drop (length part + 1)) (sym (append_assoc part (1 ∷ []) rest)) ∙ drop_at (part ++ 1 ∷ []) rest (length part + 1) (omega (arith, length-append part (1 ∷ [])));
-    }
-
--- the place of that field
-abbrev pub place_of : ℕ → List ℕ → Tagged → Place
-place_of at part field = record { tag = field.tag; start = at + length part - length field.value; end = at + length part }
+    let taken = length-take-le at text (omega arith) in
+    (omega (arith, long, split), part_found text (take at text ++ behind.0) field.value back _ _ same (omega (arith, front, taken, long, split)) (omega (arith, long, split)))
 
 -- ---- a turn of the loop
 
-fields_more : (text : List ℕ) (places : List Place) (at : ℕ) (part rest : List ℕ) (field : Tagged) → LiesIn text at part rest field → fields_at text (places ++ place_of at part field ∷ []) ≡ fields_at text places ++ field ∷ []
-fields_more text places at part rest field lies =
-    map-append (field_at text) places (place_of at part field ∷ [])
-    ∙ ap (λ (value : List ℕ). fields_at text places ++ record { tag = field.tag; value = value } ∷ []) lies.value
-
-pub place_read : {A E : Type 0} (pushed : Result A E) (full : Bool) (text : List ℕ) (places : List Place) (at : ℕ) (part rest : List ℕ) (field : Tagged) (total : Option (List Tagged))
-    → LiesIn text at part rest field → drop at text ≡ part ++ 1 ∷ rest → holds_soh part ≡ false → Some field ≡ field_of part
+pub place_read : {A E : Type 0} (pushed : Result A E) (full : Bool) (text : List ℕ) (places : List Place) (at end : ℕ) (place : Place) (total : Option (List Tagged))
+    → IsPart text at end → Some (field_at text place) ≡ field_of (slice_range text at end)
     → (full ≡ false → with_front (fields_at text places) (fields_of (drop at text)) ≡ total)
-    → (full || is_err pushed) ≡ false → with_front (fields_at text (cond (is_ok pushed) (places ++ place_of at part field ∷ []) places)) (fields_of (drop (at + length part + 1) text)) ≡ total
-place_read (Err e) full text places at part rest field total lies parted none is so_far room =
+    → (full || is_err pushed) ≡ false → with_front (fields_at text (cond (is_ok pushed) (places ++ place ∷ []) places)) (fields_of (drop (end + 1) text)) ≡ total
+place_read (Err e) full text places at end place total part is so_far room =
     absurd (true_not_false (or_parts full true room).1) where
       true_not_false : true ≡ false → ⊥
       true_not_false e = cc
-place_read (Ok x) full text places at part rest field total lies parted none is so_far room =
-    ap (λ (bytes : List ℕ). with_front (fields_at text (places ++ place_of at part field ∷ [])) (fields_of bytes)) lies.left
-    ∙ ap (λ (front : List Tagged). with_front front (fields_of rest)) (fields_more text places at part rest field lies)
-    ∙ reads_one (fields_at text places) (drop at text) part rest field total parted none (sym is) (so_far (or_parts full false room).0)
+place_read (Ok x) full text places at end place total part is so_far room =
+    ap (λ (front : List Tagged). with_front front (fields_of (drop (end + 1) text))) (map-append (field_at text) places (place ∷ []))
+    ∙ reads_one (fields_at text places) (drop at text) (slice_range text at end) (drop (end + 1) text) (field_at text place) total part.parted part.whole (sym is) (so_far (or_parts full false room).0)
 
 some_with : (field : Tagged) (read : Option (List Tagged)) → is_some (with_field (Some field) read) ≡ is_some read
 some_with field None = refl
 some_with field (Some later) = refl
 
-pub some_read : (text : List ℕ) (at : ℕ) (part rest : List ℕ) (field : Tagged) (total : Bool) → LiesIn text at part rest field → drop at text ≡ part ++ 1 ∷ rest → holds_soh part ≡ false → Some field ≡ field_of part
-    → is_some (fields_of (drop at text)) ≡ total → is_some (fields_of (drop (at + length part + 1) text)) ≡ total
-some_read text at part rest field total lies parted none is so_far =
-    ap (λ (bytes : List ℕ). is_some (fields_of bytes)) lies.left
-    ∙ sym (some_with field (fields_of rest))
+pub some_read : (text : List ℕ) (at end : ℕ) (field : Tagged) (total : Bool) → IsPart text at end → Some field ≡ field_of (slice_range text at end)
+    → is_some (fields_of (drop at text)) ≡ total → is_some (fields_of (drop (end + 1) text)) ≡ total
+some_read text at end field total part is so_far =
+    let rest : List ℕ = drop (end + 1) text in
+    sym (some_with field (fields_of rest))
     ∙ ap (λ (f : Option Tagged). is_some (with_field f (fields_of rest))) is
-    ∙ ap is_some (sym (ap fields_of parted ∙ fields_of-part part rest none))
+    ∙ ap is_some (sym (ap fields_of part.parted ∙ fields_of-part (slice_range text at end) rest part.whole))
     ∙ so_far
 
-pub within_more : {A E : Type 0} (pushed : Result A E) (text : List ℕ) (places : List Place) (at : ℕ) (part rest : List ℕ) (field : Tagged) → LiesIn text at part rest field → AreWithin text places
-    → AreWithin text (cond (is_ok pushed) (places ++ place_of at part field ∷ []) places)
-within_more (Err e) text places at part rest field lies each = each
-within_more (Ok x) text places at part rest field lies each =
-    let ordered : leb (at + length part - length field.value) (at + length part) ≡ true = le-leb _ _ (omega arith) in
-    let ends : leb (at + length part) (length text) ≡ true = le-leb _ _ (omega (arith, lies.end)) in
-    let here : is_within text (place_of at part field) ≡ true = and_from _ _ ordered ends in
-    list_all-append (is_within text) places (place_of at part field ∷ []) ∙ and_from _ _ each (and_from _ _ here refl)
+pub within_more : {A E : Type 0} (pushed : Result A E) (text : List ℕ) (places : List Place) (place : Place) → IsTrue (is_within text place) → AreWithin text places
+    → AreWithin text (cond (is_ok pushed) (places ++ place ∷ []) places)
+within_more (Err e) text places place here each = each
+within_more (Ok x) text places place here each =
+    list_all-append (is_within text) places (place ∷ []) ∙ and_from _ _ each (and_from _ _ here refl)
 
 -- ---- its exits
 

@@ -1,15 +1,16 @@
 //! The fields of a text, by their places in it.
-ghost use Rattle.std.specs.Prelude.{◌≡◌, ◌++◌, ◌∷◌, None, IfOk, IfSome, IfNone, IsSome, IsOkUnless, OnErr, false, if◌then◌else◌};
+ghost use Rattle.std.specs.Prelude.{◌≡◌, ◌≤◌, ◌++◌, ◌∷◌, None, IfOk, IfSome, IfNone, IsSome, IsOkUnless, IsTrue, OnErr, false, length, slice_range, if◌then◌else◌};
+ghost use Rattle.std.specs.Option.{option_map};
 ghost use Rattle.fix_text.specs.Text.{holds_soh};
 ghost use Rattle.fix_text.specs.Reading.{field_of, fields_of, typed_fields, valid_fields};
-ghost use Rattle.fix_text.specs.Placing.{ArePlaced};
+ghost use Rattle.fix_text.specs.Placing.{ArePlaced, field_at, is_within};
 
 use crate::checksum::sum256;
 use crate::fault::TextFault;
 use crate::field::FieldRef;
 use crate::parse::Whole;
 use crate::place::Place;
-use memchr::memchr;
+use memchr::{memchr, memchr_iter};
 
 const SOH: u8 = 1;
 
@@ -61,6 +62,21 @@ fn is_typed(body: &[u8]) -> bool
     }
 }
 
+/// The place of the field that takes up this part of a text.
+fn place_of(text: &[u8], at: usize, end: usize) -> Option<Place>
+    requires ordered { at ≤ end }
+    requires within { end ≤ length text.now }
+    ensures field { option_map (field_at text.now) result ≡ field_of (slice_range text.now at end) }
+    ensures within { IfSome result (λ place. IsTrue (is_within text.now place)) }
+{
+    let field = field_of(&text[at..end])?;
+    Some(Place {
+        tag: field.tag(),
+        start: end - field.value().len(),
+        end,
+    })
+}
+
 /// Puts the places of a text's fields into the list, in place of what it held, or answers that the text isn't fields
 /// alone. The text is gone through once; where there is no room for a place the rest of the text still decides.
 #[inline(never)]
@@ -72,21 +88,15 @@ pub fn place_fields(text: &[u8], places: &mut Vec<Place>) -> Result<bool, TextFa
     places.clear();
     let mut at = 0usize;
     let mut is_full = false;
-    while at < text.len() {
-        let Some((part, _)) = first_part(&text[at..]) else {
+    for end in memchr_iter(SOH, text) {
+        let Some(place) = place_of(text, at, end) else {
             return Ok(false);
-        };
-        let Some(field) = field_of(part) else {
-            return Ok(false);
-        };
-        let end = at + part.len();
-        let place = Place {
-            tag: field.tag(),
-            start: end - field.value().len(),
-            end,
         };
         is_full |= places.push(place).is_err();
         at = end + 1;
+    }
+    if at < text.len() {
+        return Ok(false);
     }
     if is_full {
         return Err(TextFault::OutOfMemory);
