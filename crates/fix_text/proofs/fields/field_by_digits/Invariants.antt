@@ -1,6 +1,6 @@
 use Rattle.std.proofs.Common.{◌≡◌, ◌≤◌, length}
 use Rattle.fix_text.specs.Reading.{field_from, field_of}
-use Rattle.fix_text.proofs.fields.field_of.Given as goal
+use Rattle.fix_text.proofs.fields.field_by_digits.Given as goal
 
 abbrev pub invariant-loop-rest : goal.invariant-loop-rest
 invariant-loop-rest l = (field_from l.tag l.rest ≡ field_of l.part) × (l.tag ≤ 999999)
