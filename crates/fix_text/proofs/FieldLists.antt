@@ -1,31 +1,16 @@
 -- Fields one after the other, as a loop reads them.
-use Rattle.std.proofs.Common.{◌≡◌, ℕ, zero, suc, ◌+◌, ◌<◌, ◌≤◌, Bool, true, false, cond, eqb, List, [], ◌∷◌, ◌++◌, length, drop, take, Option, Some, None, refl, sym, ap, ◌∙◌, arith, append_assoc}
+use Rattle.std.proofs.Common.{◌≡◌, ℕ, ◌<◌, ◌≤◌, true, false, eqb, List, [], ◌∷◌, ◌++◌, length, Option, Some, None, refl, sym, ap, ◌∙◌, arith, append_assoc}
 use Rattle.std.specs.Prelude.{is_some}
 use Rattle.std.specs.Option.{option_map, option_and_then}
-use Rattle.std.proofs.lemmas.List.{append-nil, take-append-drop, drop_more}
-use Rattle.std.proofs.lemmas.Bool.{eqb-true, or_parts, or_from, false_from_ne_true}
-use Rattle.memchr.specs.Find.{Nowhere, Passes, is_byte}
+use Rattle.std.proofs.lemmas.List.{append-nil}
+use Rattle.std.proofs.lemmas.Bool.{or_parts}
 use Rattle.fix_text.specs.Tagged.{Tagged}
-use Rattle.fix_text.specs.Reading.{field_of, fields_of, fields_of_parts, parts_of, with_byte, with_field, if_typed, typed_fields}
+use Rattle.fix_text.specs.Reading.{field_of, fields_of, fields_of_parts, parts_of, with_byte, with_field}
 use Rattle.fix_text.specs.Text.{holds_soh}
 
 -- what was read before, and what is still read
 abbrev pub with_front : List Tagged → Option (List Tagged) → Option (List Tagged)
 with_front front read = option_map (λ later. front ++ later) read
-
--- no SOH up to a place
-pub no_soh_before : (bytes : List ℕ) (k : ℕ) → k ≤ length bytes → Nowhere (Passes (is_byte 1) bytes) 0 k → holds_soh (take k bytes) ≡ false
-no_soh_before bytes zero le none = refl
-no_soh_before [] (suc k) le none = absurd (omega arith)
-no_soh_before (byte ∷ bytes) (suc k) le none =
-    let later : holds_soh (take k bytes) ≡ false = no_soh_before bytes k (omega arith) (λ j low high p. none (suc j) (omega arith) (omega arith) p) in
-    let here : eqb byte 1 ≡ true → ⊥ = none 0 (omega arith) (omega arith) in
-    or_from (eqb byte 1) (holds_soh (take k bytes)) (false_from_ne_true (eqb byte 1) here) later
-
--- the first SOH parts the bytes
-pub parted_at : (bytes : List ℕ) (k : ℕ) → k < length bytes → Passes (is_byte 1) bytes k → bytes ≡ take k bytes ++ 1 ∷ drop (k + 1) bytes
-parted_at bytes k lt here =
-    sym (take-append-drop k bytes) ∙ ap (λ (t : List ℕ). take k bytes ++ t) (drop_more bytes k 0 lt ∙ ap (λ (b : ℕ). b ∷ drop (k + 1) bytes) (eqb-true _ _ here))
 
 byte_before : (byte : ℕ) (part : List ℕ) (read : Option (List (List ℕ))) → option_and_then (with_byte byte) (option_map (λ parts. part ∷ parts) read) ≡ option_map (λ parts. (byte ∷ part) ∷ parts) read
 byte_before byte part None = refl
@@ -77,31 +62,6 @@ front_of_one front field (Some later) = ap (λ (fields : List Tagged). Some fiel
 
 pub not_fields : (text part rest : List ℕ) → text ≡ part ++ 1 ∷ rest → holds_soh part ≡ false → None ≡ field_of part → fields_of text ≡ None
 not_fields text part rest parted none is = ap fields_of parted ∙ fields_of-part part rest none ∙ ap (λ (f : Option Tagged). with_field f (fields_of rest)) (sym is)
-
--- ---- a body
-
-pub typed_none : (body : List ℕ) → fields_of body ≡ None → typed_fields body ≡ None
-unfolding typed_fields
-typed_none body none = ap (option_and_then if_typed) none
-
-pub typed_no_part : (body : List ℕ) → holds_soh body ≡ false → typed_fields body ≡ None
-unfolding typed_fields fields_of parts_of fields_of_parts
-typed_no_part [] none = refl
-typed_no_part (byte ∷ bytes) none = ap (option_and_then if_typed) (fields_of-none (byte ∷ bytes) (omega arith) none)
-
-begins_first : (field : Tagged) (read : Option (List Tagged)) → option_and_then if_typed (with_field (Some field) read) ≡ cond (eqb field.tag 35) (with_field (Some field) read) None
-begins_first field None = test (eqb field.tag 35) where
-  test : (b : Bool) → ◌≡◌ {A = Option (List Tagged)} None (cond b None None)
-  test true = refl
-  test false = refl
-begins_first field (Some later) = refl
-
--- the first field decides
-pub typed_first : (body part rest : List ℕ) (field : Tagged) → body ≡ part ++ 1 ∷ rest → holds_soh part ≡ false → Some field ≡ field_of part → typed_fields body ≡ cond (eqb field.tag 35) (fields_of body) None
-unfolding typed_fields
-typed_first body part rest field parted none is =
-    let one : fields_of body ≡ with_field (Some field) (fields_of rest) = ap fields_of parted ∙ fields_of-part part rest none ∙ ap (λ (f : Option Tagged). with_field f (fields_of rest)) (sym is) in
-    ap (option_and_then if_typed) one ∙ begins_first field (fields_of rest) ∙ ap (λ (read : Option (List Tagged)). cond (eqb field.tag 35) read None) (sym one)
 
 -- ---- a loop that reads them
 

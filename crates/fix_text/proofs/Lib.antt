@@ -13,6 +13,7 @@ pub mod Prefixes
 pub mod TrailerPrefixes
 pub mod FramePrefixes
 pub mod FieldTexts
+pub mod Typed
 pub mod FrameTexts
 pub mod NextFrames
 pub mod Streams

@@ -10,7 +10,7 @@ use crate::fault::TextFault;
 use crate::field::FieldRef;
 use crate::parse::Whole;
 use crate::place::Place;
-use memchr::{memchr, memchr_iter};
+use memchr::memchr_iter;
 
 const SOH: u8 = 1;
 
@@ -55,26 +55,11 @@ fn field_by_digits(part: &[u8]) -> Option<FieldRef<'_>>
     }
 }
 
-/// The part up to the first SOH, and what follows it.
-fn first_part(bytes: &[u8]) -> Option<(&[u8], &[u8])>
-    ensures some { IfSome result (λ found. (bytes.now ≡ found.0.now ++ 1 ∷ found.1.now) × (holds_soh found.0.now ≡ false)) }
-    ensures none { IfNone result (holds_soh bytes.now ≡ false) }
-{
-    let end = memchr(SOH, bytes)?;
-    Some((&bytes[..end], &bytes[end + 1..]))
-}
-
-/// Whether the first field of a body is MsgType (35).
+/// Whether a body begins with MsgType (35), if it is nothing but fields.
 fn is_typed(body: &[u8]) -> bool
     ensures { typed_fields body.now ≡ (if result then fields_of body.now else None) }
 {
-    let Some((part, _)) = first_part(body) else {
-        return false;
-    };
-    match field_of(part) {
-        Some(first) => first.tag() == 35,
-        None => false,
-    }
+    body.starts_with(b"35=")
 }
 
 /// The place of the field that takes up this part of a text.
