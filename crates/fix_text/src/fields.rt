@@ -1,7 +1,6 @@
 //! The fields of a text, by their places in it.
-ghost use Rattle.std.specs.Prelude.{◌≡◌, ◌≤◌, ◌++◌, ◌∷◌, None, IfOk, IfSome, IfNone, IsSome, IsOkUnless, IsTrue, OnErr, false, length, slice_range, if◌then◌else◌};
+ghost use Rattle.std.specs.Prelude.{◌≡◌, ◌<◌, ◌≤◌, None, IfOk, IfSome, IsSome, IsOkUnless, IsTrue, OnErr, length, slice_range, if◌then◌else◌};
 ghost use Rattle.std.specs.Option.{option_map};
-ghost use Rattle.fix_text.specs.Text.{holds_soh};
 ghost use Rattle.fix_text.specs.Reading.{field_of, fields_of, typed_fields, valid_fields};
 ghost use Rattle.fix_text.specs.Placing.{ArePlaced, field_at, is_within};
 
@@ -84,6 +83,7 @@ pub fn place_fields(text: &[u8], places: &mut Vec<Place>) -> Result<bool, TextFa
     ensures placed { IfOk result (λ is. ArePlaced is text.now places.new.items (fields_of text.now)) }
     ensures refusal { IsOkUnless result TextFault.OutOfMemory }
     ensures some { OnErr result (IsSome (fields_of text.now)) }
+    ensures needed { OnErr result (0 < length text.now) }
 {
     places.clear();
     let mut at = 0usize;

@@ -23,11 +23,12 @@ impl<'a> Frame<'a> {
     ghost use Rattle.fix_text.specs.FrameFields.{fields_in};
 
     /// A frame of any text that is nothing but fields, with `places` as the room for where they lie; what it held is
-    /// dropped. The only refusal is want of memory, which comes only where the text is nothing but fields.
+    /// dropped. The only refusal is want of memory, which comes only where the text is one field or more.
     pub fn read(text: &'a [u8], places: &'a mut Vec<Place>) -> Result<Option<Frame<'a>>, TextFault>
         ensures fields { IfOk result (λ frame. option_map fields_in frame ≡ fields_of text.entry.now) }
         ensures refusal { IsOkUnless result TextFault.OutOfMemory }
         ensures some { OnErr result (IsSome (fields_of text.entry.now)) }
+        ensures needed { OnErr result (0 < length text.entry.now) }
     {
         match place_fields(text, places) {
             Ok(true) => Ok(Some(Frame::of_places(text, places.as_slice()))),

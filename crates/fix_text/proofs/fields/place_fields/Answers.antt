@@ -42,6 +42,7 @@ loop-end-preserved c =
     let is = c.in-Some-place_of.ensures.field in
     rw (c.push.ensures.items, c.is_err-is_full.ensures.value) (record {
       within = omega (arith, found.0.within);
+      pushed = λ _. omega arith;
       left = sym found.1;
       each = within_more c.push.result text c.loop-end.places.items place c.in-Some-place_of.ensures.within loop.each;
       some = some_read text at end _ _ found.0 is loop.some;
