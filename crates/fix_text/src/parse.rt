@@ -60,24 +60,15 @@ impl<'a> Whole<'a> {
     }
 }
 
-#[tactic(auto, unfolding(crate::specs::Reading::literal_at))]
 fn literal_at<'a>(wanted: &[u8], bytes: &'a [u8]) -> Result<&'a [u8], Stop>
     ensures found { result_map_both (λ rest. rest.now) (λ stop. stop) result ≡ literal_at wanted.now bytes.now }
     ensures within { IfOk result (λ rest. length rest.now ≤ length bytes.now) }
 {
-    let mut rest = bytes;
-    for byte in wanted {
-        match rest {
-            [] => return Err(Stop::Short),
-            [first, after @ ..] => {
-                if first != byte {
-                    return Err(Stop::Differs);
-                }
-                rest = after;
-            }
-        }
+    match bytes.strip_prefix(wanted) {
+        Some(rest) => Ok(rest),
+        None if wanted.starts_with(bytes) => Err(Stop::Short),
+        None => Err(Stop::Differs),
     }
-    Ok(rest)
 }
 
 #[tactic(auto, unfolding(crate::specs::Reading::digit_at))]
