@@ -5,6 +5,7 @@ use Rattle.std.specs.Option.{ok_or, option_map}
 use Rattle.std.proofs.lemmas.Bool.Decides.{nat_tests}
 use Rattle.std.proofs.lemmas.List.Elements.{All-nil}
 use Rattle.std.proofs.lemmas.Option.{slice_get-map, same_Some}
+use Rattle.leg.specs.Numbered.{numbered, with_numbered}
 use Rattle.leg.specs.declared.leg.Leg.{Leg}
 use Rattle.dialect.specs.declared.report.ReportKind.{ReportKind}
 use Rattle.dialect.specs.declared.report.ReportKind.TheVariants.{Trade, Canceled, Rejected, Bust}
@@ -13,7 +14,6 @@ use Rattle.exchange_core.specs.declared.exchange_fault.ExchangeFault.{ExchangeFa
 use Rattle.exchange_core.specs.declared.exchange_fault.ExchangeFault.TheVariants.{NoSuchOrder, TooManyShares, Done, NumbersSpent, NotCancelled}
 use Rattle.exchange_core.specs.Acceptance.{Carried, Intake, Standing, IsAccepted, MayKeep, MayWrite, May, IsLast}
 use Rattle.exchange_core.specs.Acceptance as rules
-use Rattle.exchange_core.specs.Places.{entry_at, with_entry}
 use Rattle.exchange_core.specs.Order.{OrderParts, Ending, ByCancel, ByReject, traded, ended_by, busted_at, is_cancelled, view_of}
 use Rattle.exchange_core.specs.Own.{Own, Admin, Reported, next_number, has_numbers, next_exec, exec_id}
 use Rattle.exchange_core.specs.Exchange.{ExchangeParts, Answer, next_report, next_message, drop_connection}
@@ -28,7 +28,7 @@ each P (Ok a) f holds = holds a refl
 each P (Err fault) f holds = tt
 
 -- the legs stay where an order is replaced by one of the same leg
-pub legs_kept : (orders : List OrderParts) (place : ℕ) (old new : OrderParts) → entry_at place orders ≡ Some old → new.leg ≡ old.leg → map (λ (o : OrderParts). o.leg) (with_entry place new orders) ≡ map (λ (o : OrderParts). o.leg) orders
+pub legs_kept : (orders : List OrderParts) (place : ℕ) (old new : OrderParts) → numbered place orders ≡ Some old → new.leg ≡ old.leg → map (λ (o : OrderParts). o.leg) (with_numbered place new orders) ≡ map (λ (o : OrderParts). o.leg) orders
 legs_kept orders zero old new there same = refl
 legs_kept [] (suc i) old new there same = cc
 legs_kept (o ∷ orders) (suc zero) old new there same =
@@ -38,7 +38,7 @@ legs_kept (o ∷ orders) (suc zero) old new there same =
 legs_kept (o ∷ orders) (suc (suc i)) old new there same = ap (λ (legs : List Leg). o.leg ∷ legs) (legs_kept orders (suc i) old new there same)
 
 -- the leg of an order at a place is accepted
-pub is_accepted : (orders : List OrderParts) (place : ℕ) (order : OrderParts) → entry_at place orders ≡ Some order → IsAccepted (map (λ (o : OrderParts). o.leg) orders) order.leg.id
+pub is_accepted : (orders : List OrderParts) (place : ℕ) (order : OrderParts) → numbered place orders ≡ Some order → IsAccepted (map (λ (o : OrderParts). o.leg) orders) order.leg.id
 is_accepted orders zero order there = cc
 is_accepted orders (suc i) order there = record {
   place = i;
@@ -64,7 +64,7 @@ left_by true u ok = refl
 left_by false u ok = cc
 
 -- a report on an order at a place
-pub reported_keeps : (x : ExchangeParts) (place : ℕ) (old new : OrderParts) (kind : ReportKind) → IsSound x → entry_at place x.orders ≡ Some old → new.leg ≡ old.leg → has_numbers 1 x.config x.own ≡ true → IsAct x (reported x place new kind)
+pub reported_keeps : (x : ExchangeParts) (place : ℕ) (old new : OrderParts) (kind : ReportKind) → IsSound x → numbered place x.orders ≡ Some old → new.leg ≡ old.leg → has_numbers 1 x.config x.own ≡ true → IsAct x (reported x place new kind)
 reported_keeps x place old new kind sound there same left =
     let y : ExchangeParts = (reported x place new kind).0 in
     let report = next_report x new kind in
@@ -83,13 +83,13 @@ reported_keeps x place old new kind sound there same left =
       numbered = λ _. one_more x.own entry x.config.max_number (grind (arith, nat_tests, left));
     }
 
-order_there : (x : ExchangeParts) (place : ℕ) (order : OrderParts) (o : Option OrderParts) → entry_at place x.orders ≡ o → ok_or o NoSuchOrder ≡ Ok order → entry_at place x.orders ≡ Some order
+order_there : (x : ExchangeParts) (place : ℕ) (order : OrderParts) (o : Option OrderParts) → numbered place x.orders ≡ o → ok_or o NoSuchOrder ≡ Ok order → numbered place x.orders ≡ Some order
 order_there x place order None is ok = cc
 order_there x place order (Some old) is ok = is ∙ cc
 
 -- what is at a place
-pub at_place : (x : ExchangeParts) (place : ℕ) (order : OrderParts) → order_at x place ≡ Ok order → entry_at place x.orders ≡ Some order
-at_place x place order is = order_there x place order (entry_at place x.orders) refl is
+pub at_place : (x : ExchangeParts) (place : ℕ) (order : OrderParts) → order_at x place ≡ Ok order → numbered place x.orders ≡ Some order
+at_place x place order is = order_there x place order (numbered place x.orders) refl is
 
 pub trade_keeps : (x : ExchangeParts) (place shares : ℕ) (px : List ℕ) → IsSound x → IfOk (trade x place shares px) (IsAct x)
 trade_keeps x place shares px sound =

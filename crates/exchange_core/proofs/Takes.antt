@@ -15,7 +15,7 @@ use Rattle.exchange_core.specs.Order.{OrderParts, new_order, view_of}
 use Rattle.exchange_core.specs.Own.{Own, Admin, Reported, Refused, has_numbers}
 use Rattle.exchange_core.specs.Exchange.{ExchangeParts, Answer, next_report, next_message, request, passed_by, with_connection, with_logon, with_logon_and_request, logon_answer, logon_taken, passed, order_taken, order_refused, logout_taken, test_taken, due_taken, ahead, by_number, resends, received, is_connection, comes, is_for, take}
 use Rattle.exchange_core.specs.Keeping.{kept, intake_of, standing, carried, into, IsSound, legs_of, IsAfter}
-use Rattle.exchange_core.proofs.Entries.{chosen, entry_at-seam}
+use Rattle.exchange_core.proofs.Entries.{chosen, numbered-seam}
 use Rattle.exchange_core.proofs.Step.{in_connection, silent, one, two}
 use Rattle.exchange_core.proofs.Resends.{answer_written}
 
@@ -107,7 +107,7 @@ module _ (x : ExchangeParts) (connection number : ℕ) (live : x.live ≡ Some c
       let legs : legs_of y ≡ legs_of x ++ leg ∷ [] = map-append (λ (order : OrderParts). order.leg) x.orders (new_order leg ∷ []) in
       let accepts : intake_of y ≡ record (intake_of x) { expected = suc x.expected; accepted = legs_of x ++ leg ∷ [] } = ap (λ ls. let i : Intake = record (intake_of x) { expected = suc x.expected; accepted = ls } in i) legs in (
         one x y coming entry connection (OrderReport (Ok report)) (moved content (intake_of y) (rules.order (is_due content) leg refl accepts)) refl
-            (rules.report report refl (record { place = length x.orders; leg = leg; there = entry_at-seam (λ (order : OrderParts). order.leg) x.orders (new_order leg) []; same = refl }))
+            (rules.report report refl (record { place = length x.orders; leg = leg; there = numbered-seam (λ (order : OrderParts). order.leg) x.orders (new_order leg) []; same = refl }))
             last.from (omega (arith, last.same)) (inl refl),
         record { config = refl; expected = omega arith; last = omega arith; accepted = (leg ∷ [], legs); own = (entry ∷ [], refl, omega arith) },
       )

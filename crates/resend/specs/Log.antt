@@ -1,6 +1,7 @@
 -- The numbers sent: what each was spent on, and what a resend request is answered with (FIX 4.4 Volume 2, "Resend Request").
-use Rattle.std.specs.Prelude.{ℕ, zero, suc, ◌+◌, min, Bool, true, false, ◌&&◌, ◌||◌, List, [], ◌∷◌, ◌++◌, length, Option, Some, None, Result, Ok, Err, ◌==◌, nat_lt, nat_le, if◌then◌else◌}
+use Rattle.std.specs.Prelude.{ℕ, suc, ◌+◌, min, Bool, true, false, ◌&&◌, ◌||◌, List, [], ◌∷◌, ◌++◌, length, Option, Some, None, Result, Ok, Err, ◌==◌, nat_lt, nat_le, if◌then◌else◌}
 use Rattle.leg.specs.LegId.{LegIdParts}
+use Rattle.leg.specs.Numbered.{numbered}
 use Rattle.leg.specs.declared.leg_state.LegState.{LegState}
 use Rattle.leg.specs.declared.leg_state.LegState.TheVariants.{Queued, Doubt, Taken, Withdrawn}
 use Rattle.resend.specs.declared.log_fault.LogFault.{LogFault}
@@ -35,13 +36,6 @@ abbrev pub spend : ℕ → Entry → List Entry → Result (ℕ × List Entry) L
 spend max_number entry log =
     if has_number max_number log then Ok (next_number log, log ++ entry ∷ []) else Err NumbersSpent
 
--- what a number was spent on
-abbrev pub entry_at : ℕ → List Entry → Option Entry
-entry_at zero log = None
-entry_at (suc n) [] = None
-entry_at (suc zero) (entry ∷ log) = Some entry
-entry_at (suc (suc n)) (entry ∷ log) = entry_at (suc n) log
-
 -- the leg that a number was spent on
 abbrev pub leg_of : Option Entry → Option LegIdParts
 leg_of (Some (Sent leg)) = Some leg.id
@@ -49,7 +43,7 @@ leg_of (Some Admin) = None
 leg_of None = None
 
 abbrev pub leg_at : ℕ → List Entry → Option LegIdParts
-leg_at number log = leg_of (entry_at number log)
+leg_at number log = leg_of (numbered number log)
 
 -- the legs sent, in the order of their numbers, each with its number, the first entry having this one
 abbrev pub sent_from : ℕ → List Entry → List (ℕ × SentLeg)

@@ -3,12 +3,12 @@ use Rattle.std.proofs.Common.{◌≡◌, ◌==◌, ℕ, zero, suc, Bool, true, f
 use Rattle.std.specs.Option.{ok_or}
 use Rattle.std.proofs.lemmas.Option.{same_Some}
 use Rattle.std.proofs.lemmas.List.{map-append}
+use Rattle.leg.specs.Numbered.{numbered, with_numbered}
 use Rattle.leg.specs.declared.leg.Leg.{Leg}
 use Rattle.dialect.specs.declared.report.ReportKind.{ReportKind}
 use Rattle.dialect.specs.Message.{Message, Content, Logon, TestRequest, GapFill, Logout, Order}
 use Rattle.exchange_core.specs.declared.exchange_fault.ExchangeFault.{ExchangeFault}
 use Rattle.exchange_core.specs.declared.exchange_fault.ExchangeFault.TheVariants.{NoSuchOrder, TooManyShares, Done, NotCancelled}
-use Rattle.exchange_core.specs.Places.{entry_at, with_entry}
 use Rattle.exchange_core.specs.Order.{OrderParts, Ending, ByCancel, ByReject, traded, ended_by, busted_at, is_cancelled, new_order}
 use Rattle.exchange_core.specs.Own.{Own, Admin, has_numbers, next_exec}
 use Rattle.exchange_core.specs.Exchange.{ExchangeParts, Answer, logon_taken, logon_answer, with_connection, due_taken, ahead, by_number, received, is_connection, comes, is_for, take, drop_connection}
@@ -83,8 +83,8 @@ each P (Ok a) f holds = holds a refl
 each P (Err fault) f holds = tt
 
 -- the legs stay where an order is replaced by one of the same leg
-legs_kept : (orders : List OrderParts) (place : ℕ) (old new : OrderParts) → entry_at place orders ≡ Some old → new.leg ≡ old.leg
-    → map (λ (o : OrderParts). o.leg) (with_entry place new orders) ≡ map (λ (o : OrderParts). o.leg) orders
+legs_kept : (orders : List OrderParts) (place : ℕ) (old new : OrderParts) → numbered place orders ≡ Some old → new.leg ≡ old.leg
+    → map (λ (o : OrderParts). o.leg) (with_numbered place new orders) ≡ map (λ (o : OrderParts). o.leg) orders
 legs_kept orders zero old new there same = refl
 legs_kept [] (suc i) old new there same = cc
 legs_kept (o ∷ orders) (suc zero) old new there same =
@@ -101,7 +101,7 @@ reported_grows : (x : ExchangeParts) (place : ℕ) (old new : OrderParts) (kind 
 reported_grows x place old new kind there same =
     let y : ExchangeParts = (reported x place new kind).0 in
     grown x y
-    (grew-same (accepted_by x) (accepted_by y) (legs_kept x.orders place old new (entry_of (entry_at place x.orders) old there) same))
+    (grew-same (accepted_by x) (accepted_by y) (legs_kept x.orders place old new (entry_of (numbered place x.orders) old there) same))
     (_, refl)
 
 trade_grows : (x : ExchangeParts) (place shares : ℕ) (px : List ℕ) → IfOk (trade x place shares px) (Grows x)

@@ -60,11 +60,6 @@ opening next max_number = record {
   venues = map (new_venue max_number) next;
 }
 
--- the element at a place that is counted from 1
-abbrev pub nth : {A : Type 0} → ℕ → List A → Option A
-nth zero xs = None
-nth (suc n) xs = slice_get xs n
-
 -- What is asked of a world. Of a venue that isn't there the answer is the empty list or none.
 
 abbrev pub venue_in : World → ℕ → Option VenueParts

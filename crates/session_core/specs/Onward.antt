@@ -1,10 +1,11 @@
 -- How a session goes on, whatever is called and whatever comes.
 use Rattle.std.specs.Prelude.{◌≡◌, ◌≤◌, ◌<◌, ◌+◌, ◌⊎◌, ℕ, Bool, true, false, ◌&&◌, List, [], ◌∷◌, Ok, Option, Some, None, if◌then◌else◌}
+use Rattle.leg.specs.Numbered.{numbered}
 use Rattle.leg.specs.declared.leg.Leg.{Leg}
 use Rattle.leg.specs.declared.leg_state.LegState.TheVariants.{Doubt}
 use Rattle.dialect.specs.Message.{Message, Content}
 use Rattle.dialect.specs.Message.Content.{Logon, Heartbeat, TestRequest, ResendRequest, Reject, GapFill, Reset, Logout, BusinessReject, Order, OrderReport, Other}
-use Rattle.resend.specs.Log.{FillParts, entry_at, last_ordinal}
+use Rattle.resend.specs.Log.{FillParts, last_ordinal}
 use Rattle.resend.specs.Log.Entry.{Sent}
 use Rattle.resend.specs.Later.{IsLater, IsAdded, WithdrawsNone, withdrawn_since}
 use Rattle.session_core.specs.declared.phase.Phase.TheVariants.{Down, LoggingOn, Up}
@@ -58,11 +59,11 @@ pub record IsConnection (before after : SessionParts) (message : Message) : Type
 -- a leg that was sent: in phase Up alone, with a higher ordinal than any before it, and in doubt under the next number
 pub record IsSent (before : SessionParts) (ordinal : ℕ) (leg : Leg) (after : SessionParts) (message : Message) : Type 0 where
   pub keeps : KeepsLegs before after
-  pub numbered : IsNumbered before (message ∷ []) after
   pub orders : message.content ≡ Order (Ok leg)
   pub was_up : before.phase ≡ Up
   pub above : last_ordinal before.log < ordinal
-  pub in_doubt : entry_at (next_out before) after.log ≡ Some (Sent (record { ordinal = ordinal; id = leg.id; state = Doubt }))
+  pub in_doubt : numbered (next_out before) after.log ≡ Some (Sent (record { ordinal = ordinal; id = leg.id; state = Doubt }))
+  pub numbered : IsNumbered before (message ∷ []) after
 
 -- a number was told
 abbrev pub is_told : Option ℕ → Bool

@@ -1,10 +1,11 @@
 -- What the laws of the desk say.
 use Rattle.std.specs.Prelude.{◌≡◌, ◌≢◌, ℕ, ◌+◌, ◌≤◌, List, [], ◌∷◌, ◌++◌, length, Some}
+use Rattle.leg.specs.Numbered.{numbered}
 use Rattle.leg.specs.declared.leg.Leg.{Leg}
 use Rattle.leg.specs.declared.placed_leg.PlacedLeg.{PlacedLeg}
 use Rattle.leg.specs.declared.sweep.Routed.{Routed}
 use Rattle.share_ledger.specs.declared.book_entry.BookEntry.TheVariants.{Opened}
-use Rattle.share_ledger.specs.Entries.{numbered, sweep_shares}
+use Rattle.share_ledger.specs.Entries.{sweep_shares}
 use Rattle.share_ledger.specs.Book.{BookParts, written, next_sweep}
 use Rattle.sweep_release.specs.Released.{released}
 use Rattle.sweep_release.specs.Desk.{DeskParts, venue_at, placed, placed_legs}
