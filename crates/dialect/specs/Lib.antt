@@ -40,3 +40,4 @@ pub mod Any
 pub mod AnyLaws
 pub mod DialectName
 pub mod Message
+pub mod Addressed

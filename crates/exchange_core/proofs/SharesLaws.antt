@@ -9,12 +9,13 @@ use Rattle.leg.specs.Numbered.{numbered, with_numbered}
 use Rattle.leg.specs.declared.leg.Leg.{Leg}
 use Rattle.dialect.specs.declared.report.ReportKind.{ReportKind}
 use Rattle.dialect.specs.declared.report.ReportKind.TheVariants.{Canceled, Rejected}
+use Rattle.dialect.specs.Addressed.{is_for}
 use Rattle.dialect.specs.Message.{Content, Message, Logon, TestRequest, GapFill, Logout, Order}
 use Rattle.exchange_core.specs.declared.exchange_fault.ExchangeFault.{ExchangeFault}
 use Rattle.exchange_core.specs.declared.exchange_fault.ExchangeFault.TheVariants.{TooManyShares, Done, NoSuchTrade, NotCancelled}
 use Rattle.exchange_core.specs.Order.{OrderParts, TradeParts, Ending, ByCancel, ByReject, new_order, traded, ended_by, busted_at, is_cancelled}
 use Rattle.exchange_core.specs.Own.{Admin, has_numbers, next_exec}
-use Rattle.exchange_core.specs.Exchange.{ExchangeParts, Answer, next_message, request, logon_taken, logon_answer, with_connection, due_taken, ahead, by_number, received, is_connection, comes, is_for, take}
+use Rattle.exchange_core.specs.Exchange.{ExchangeParts, Answer, next_message, request, logon_taken, logon_answer, with_connection, due_taken, ahead, by_number, received, is_connection, comes, take}
 use Rattle.exchange_core.specs.Acts.{◌>>=◌, refused_if, order_at, trade_at, number_left, trade, ended, cancel_rest, reject, bust, test_in, test, not_busted}
 use Rattle.exchange_core.specs.Shares.{live_shares, busted_shares, AddsUp, OrdersAddUp}
 use Rattle.exchange_core.proofs.Entries.{chosen}

@@ -3,9 +3,10 @@ use Rattle.std.proofs.Common.{◌≡◌, ◌==◌, suc, ℕ, ◌+◌, ◌≤◌,
 use Rattle.std.proofs.lemmas.Bool.{and_parts}
 use Rattle.std.proofs.lemmas.Bool.Decides.{nat_tests}
 use Rattle.std.proofs.lemmas.Option.{same_Some}
+use Rattle.dialect.specs.Addressed.{is_for}
 use Rattle.dialect.specs.Message.{Content, Message, Logon, TestRequest, GapFill, Logout, Order}
 use Rattle.exchange_core.specs.Own.{Admin, has_numbers, next_number}
-use Rattle.exchange_core.specs.Exchange.{ExchangeParts, Answer, passed_by, logon_taken, logon_answer, with_connection, due_taken, ahead, next_message, request, by_number, received, is_connection, comes, is_for, take}
+use Rattle.exchange_core.specs.Exchange.{ExchangeParts, Answer, passed_by, logon_taken, logon_answer, with_connection, due_taken, ahead, next_message, request, by_number, received, is_connection, comes, take}
 use Rattle.exchange_core.specs.Keeping.{IsSound, IsAfter, IsExpectable, IsFillInRange, IsInRange, IsNumbered}
 use Rattle.exchange_core.proofs.Entries.{chosen}
 use Rattle.exchange_core.proofs.Takes.{comes_keeps}

@@ -8,12 +8,13 @@ use Rattle.std.proofs.lemmas.List.Elements.{All-nil, All-append}
 use Rattle.leg.specs.declared.leg.Leg.{Leg}
 use Rattle.dialect.specs.declared.fault.DialectFault.{DialectFault}
 use Rattle.dialect.specs.declared.report.ReportKind.TheVariants.{New}
+use Rattle.dialect.specs.Addressed.{is_for}
 use Rattle.dialect.specs.Message.{Content, Message, Logon, Heartbeat, TestRequest, ResendRequest, Reject, GapFill, Logout, Order, OrderReport}
 use Rattle.exchange_core.specs.Acceptance.{Carried, Intake, Standing, IsNewLogon, IsDue, IsOther, Takes, MayMove, Took, MayWrite, May, IsLast}
 use Rattle.exchange_core.specs.Acceptance as rules
 use Rattle.exchange_core.specs.Order.{OrderParts, new_order, view_of}
 use Rattle.exchange_core.specs.Own.{Own, Admin, Reported, Refused, has_numbers}
-use Rattle.exchange_core.specs.Exchange.{ExchangeParts, Answer, next_report, next_message, request, passed_by, with_connection, with_logon, with_logon_and_request, logon_answer, logon_taken, passed, order_taken, order_refused, logout_taken, test_taken, due_taken, ahead, by_number, resends, received, is_connection, comes, is_for, take}
+use Rattle.exchange_core.specs.Exchange.{ExchangeParts, Answer, next_report, next_message, request, passed_by, with_connection, with_logon, with_logon_and_request, logon_answer, logon_taken, passed, order_taken, order_refused, logout_taken, test_taken, due_taken, ahead, by_number, resends, received, is_connection, comes, take}
 use Rattle.exchange_core.specs.Keeping.{kept, intake_of, standing, carried, into, IsSound, legs_of, IsAfter}
 use Rattle.exchange_core.proofs.Entries.{chosen, numbered-seam}
 use Rattle.exchange_core.proofs.Step.{in_connection, silent, one, two}

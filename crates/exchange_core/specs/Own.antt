@@ -3,6 +3,7 @@
 use Rattle.std.specs.Prelude.{ℕ, suc, ◌+◌, ◌-◌, min, Bool, true, false, ◌&&◌, ◌||◌, List, [], ◌∷◌, ◌++◌, length, take, drop, codes, decimal, Option, Some, None, Ok, ◌==◌, nat_le, if◌then◌else◌}
 use Rattle.fix_tags.specs.Config.{ConfigParts}
 use Rattle.dialect.specs.declared.report.Report.{Report}
+use Rattle.dialect.specs.Addressed.{message_of}
 use Rattle.dialect.specs.Message.{Content, Message, Reject, GapFill, OrderReport}
 use Rattle.dialect.specs.OrderView.{OrderViewParts}
 
@@ -36,14 +37,9 @@ next_exec own = suc (report_count own)
 abbrev pub exec_id : ℕ → List ℕ
 exec_id count = codes "E" ++ decimal count
 
--- a message to the peer, sent for the first time
-abbrev pub message_of : ConfigParts → ℕ → Content → Message
-message_of config number content =
-    record { from = config.me; to = config.peer; number = number; poss_dup = false; content = content }
-
 -- a message to the peer under a number that it may have seen before (43=Y)
 abbrev pub again : ConfigParts → ℕ → Content → Message
-again config number content = record (message_of config number content) { poss_dup = true }
+again config number content = message_of config number true content
 
 -- a gap fill over the numbers from the first one that is open, if there is one, to the one before this
 abbrev pub closing_fill : ConfigParts → Option ℕ → ℕ → List Message

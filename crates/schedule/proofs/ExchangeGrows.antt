@@ -6,12 +6,13 @@ use Rattle.std.proofs.lemmas.List.{map-append}
 use Rattle.leg.specs.Numbered.{numbered, with_numbered}
 use Rattle.leg.specs.declared.leg.Leg.{Leg}
 use Rattle.dialect.specs.declared.report.ReportKind.{ReportKind}
+use Rattle.dialect.specs.Addressed.{is_for}
 use Rattle.dialect.specs.Message.{Message, Content, Logon, TestRequest, GapFill, Logout, Order}
 use Rattle.exchange_core.specs.declared.exchange_fault.ExchangeFault.{ExchangeFault}
 use Rattle.exchange_core.specs.declared.exchange_fault.ExchangeFault.TheVariants.{NoSuchOrder, TooManyShares, Done, NotCancelled}
 use Rattle.exchange_core.specs.Order.{OrderParts, Ending, ByCancel, ByReject, traded, ended_by, busted_at, is_cancelled, new_order}
 use Rattle.exchange_core.specs.Own.{Own, Admin, has_numbers, next_exec}
-use Rattle.exchange_core.specs.Exchange.{ExchangeParts, Answer, logon_taken, logon_answer, with_connection, due_taken, ahead, by_number, received, is_connection, comes, is_for, take, drop_connection}
+use Rattle.exchange_core.specs.Exchange.{ExchangeParts, Answer, logon_taken, logon_answer, with_connection, due_taken, ahead, by_number, received, is_connection, comes, take, drop_connection}
 use Rattle.exchange_core.specs.Acts.{◌>>=◌, refused_if, reported, order_at, trade_at, number_left, trade, ended, bust, test_in}
 use Rattle.schedule.specs.declared.act.Act.{Act}
 use Rattle.schedule.specs.declared.act.Act.TheVariants as act

@@ -3,6 +3,7 @@ use Rattle.std.specs.Prelude.{◌≡◌, ◌≤◌, ◌<◌, ◌+◌, ◌⊎◌,
 use Rattle.leg.specs.Numbered.{numbered}
 use Rattle.leg.specs.declared.leg.Leg.{Leg}
 use Rattle.leg.specs.declared.leg_state.LegState.TheVariants.{Doubt}
+use Rattle.dialect.specs.Addressed.{message_of}
 use Rattle.dialect.specs.Message.{Message, Content}
 use Rattle.dialect.specs.Message.Content.{Logon, Heartbeat, TestRequest, ResendRequest, Reject, GapFill, Reset, Logout, BusinessReject, Order, OrderReport, Other}
 use Rattle.resend.specs.Log.{FillParts, last_ordinal}
@@ -10,7 +11,7 @@ use Rattle.resend.specs.Log.Entry.{Sent}
 use Rattle.resend.specs.Later.{IsLater, IsAdded, WithdrawsNone, withdrawn_since}
 use Rattle.session_core.specs.declared.phase.Phase.TheVariants.{Down, LoggingOn, Up}
 use Rattle.session_core.specs.Session.{SessionParts, is_logging_on, is_settling, next_out}
-use Rattle.session_core.specs.Turn.{Turn, message_of}
+use Rattle.session_core.specs.Turn.{Turn}
 use Rattle.session_core.specs.Receiving.{told_number}
 use Rattle.session_core.specs.Calling.{own_next}
 
@@ -88,7 +89,7 @@ may_withdraw s Other = false
 -- nothing is written, or one gap fill
 abbrev pub WritesFillAlone : SessionParts → List Message → Type 0
 WritesFillAlone s written =
-    (written ≡ []) ⊎ ((fill : FillParts) × (written ≡ message_of s fill.first true (GapFill fill.new_number) ∷ []))
+    (written ≡ []) ⊎ ((fill : FillParts) × (written ≡ message_of s.config fill.first true (GapFill fill.new_number) ∷ []))
 
 -- no leg is withdrawn, and none is named so
 pub record SparesLegs (before : SessionParts) (turn : Turn) : Type 0 where

@@ -6,6 +6,7 @@ use Rattle.dialect.specs.declared.fault.DialectFault.{DialectFault}
 use Rattle.dialect.specs.declared.note.Note.{Note}
 use Rattle.dialect.specs.declared.note.Note.TheVariants as note
 use Rattle.dialect.specs.declared.report.Report.{Report}
+use Rattle.dialect.specs.Addressed.{is_for}
 use Rattle.dialect.specs.Message.{Message, Content}
 use Rattle.dialect.specs.Message.Content.{Logon, Heartbeat, TestRequest, ResendRequest, Reject, GapFill, Reset, Logout, BusinessReject, Order, OrderReport, Other}
 use Rattle.resend.specs.declared.judged.Judged.{Judged}
@@ -46,10 +47,6 @@ is_reset (BusinessReject number) = false
 is_reset (Order read) = false
 is_reset (OrderReport read) = false
 is_reset Other = false
-
--- a message is for this session where it is from its peer and to itself
-abbrev pub is_for : SessionParts → Message → Bool
-is_for s m = bytes_eq m.from s.config.peer && bytes_eq m.to s.config.me
 
 -- the message is counted where it is due and the connection goes on
 abbrev pub counts_if : Bool → Turn → Turn
@@ -209,7 +206,7 @@ by_number s m judged.TooLow = ends TooLow s
 -- each check before the number's, in order
 abbrev pub received : SessionParts → Message → Turn
 received s m =
-    if not (is_for s m) then ends WrongComp s
+    if not (is_for s.config m) then ends WrongComp s
     else (if is_logging_on s.phase && not (is_logon m.content) then ends FirstNotLogon s
     else (if is_reset m.content then ends ResetRefused s
     else by_number s m (judged s.expected m.number m.poss_dup)))
