@@ -7,10 +7,11 @@ use Rattle.std.proofs.lemmas.List.{map-append}
 use Rattle.std.proofs.lemmas.List.Elements.{All-nil, All-cons, All-append}
 use Rattle.std.proofs.lemmas.Option.{slice_get_within}
 use Rattle.fix_tags.specs.Config.{ConfigParts}
+use Rattle.fix_tags.specs.Range.{range_end, is_range}
 use Rattle.leg.specs.Numbered.{numbered}
 use Rattle.dialect.specs.Message.{Content, Message, GapFill, Reject, OrderReport}
 use Rattle.exchange_core.specs.Acceptance.{Carried, Standing, fill, MayWrite}
-use Rattle.exchange_core.specs.Own.{Own, Admin, Reported, Refused, again, closing_fill, run_from, resent, range_end, is_range, answer_to}
+use Rattle.exchange_core.specs.Own.{Own, Admin, Reported, Refused, again, closing_fill, run_from, resent, answer_to}
 use Rattle.exchange_core.specs.Keeping.{kept, carried}
 use Rattle.exchange_core.proofs.Entries.{chosen, numbered-seam}
 

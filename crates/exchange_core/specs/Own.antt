@@ -2,6 +2,7 @@
 -- "Resend Request" and "Sequence Reset").
 use Rattle.std.specs.Prelude.{ℕ, suc, ◌+◌, ◌-◌, min, Bool, true, false, ◌&&◌, ◌||◌, List, [], ◌∷◌, ◌++◌, length, take, drop, codes, decimal, Option, Some, None, Ok, ◌==◌, nat_le, if◌then◌else◌}
 use Rattle.fix_tags.specs.Config.{ConfigParts}
+use Rattle.fix_tags.specs.Range.{range_end, is_range}
 use Rattle.dialect.specs.declared.report.Report.{Report}
 use Rattle.dialect.specs.Addressed.{message_of}
 use Rattle.dialect.specs.Message.{Content, Message, Reject, GapFill, OrderReport}
@@ -60,14 +61,6 @@ resent config run number (Reported report view ∷ own) =
     closing_fill config run number ++ again config number (OrderReport (Ok report)) ∷ resent config None (suc number) own
 resent config run number (Refused refused ∷ own) =
     closing_fill config run number ++ again config number (Reject refused) ∷ resent config None (suc number) own
-
--- the last number of a range that is asked for, where 0 means all that was sent
-abbrev pub range_end : ℕ → ℕ → ℕ
-range_end sent last = if last == 0 then sent else min sent last
-
--- whether a range is one of numbers that were sent
-abbrev pub is_range : ℕ → ℕ → ℕ → Bool
-is_range sent begin last = nat_le 1 begin && nat_le begin sent && (last == 0 || nat_le begin last)
 
 -- what the request for a range is answered with
 abbrev pub answer_to : ConfigParts → List Own → ℕ → ℕ → List Message

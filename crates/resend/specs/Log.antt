@@ -1,5 +1,6 @@
 -- The numbers sent: what each was spent on, and what a resend request is answered with (FIX 4.4 Volume 2, "Resend Request").
 use Rattle.std.specs.Prelude.{ℕ, suc, ◌+◌, min, Bool, true, false, ◌&&◌, ◌||◌, List, [], ◌∷◌, ◌++◌, length, Option, Some, None, Result, Ok, Err, ◌==◌, nat_lt, nat_le, if◌then◌else◌}
+use Rattle.fix_tags.specs.Range.{range_end, is_range}
 use Rattle.leg.specs.LegId.{LegIdParts}
 use Rattle.leg.specs.Numbered.{numbered}
 use Rattle.leg.specs.declared.leg_state.LegState.{LegState}
@@ -121,17 +122,13 @@ pub record FillParts : Type 0 where
   pub first : ℕ
   pub new_number : ℕ
 
--- the last number of a range that is asked for, where 0 means all that was sent, and no further than top
-abbrev pub range_end : ℕ → ℕ → ℕ → ℕ
-range_end sent last top = min top (if last == 0 then sent else min sent last)
-
--- whether a range is one of numbers that were sent
-abbrev pub is_range : ℕ → ℕ → ℕ → Bool
-is_range sent begin last = nat_le 1 begin && nat_le begin sent && (last == 0 || nat_le begin last)
+-- the last number that is filled: that of the range that is asked for, and no further than top
+abbrev pub fill_end : ℕ → ℕ → ℕ → ℕ
+fill_end sent last top = min top (range_end sent last)
 
 -- what the request for a range is answered with, cut at top, if the range is one and begins no higher
 abbrev pub fill_for : ℕ → ℕ → ℕ → List Entry → Option FillParts
 fill_for begin last top log =
     if is_range (last_number log) begin last && nat_le begin top
-    then Some (record { first = begin; new_number = range_end (last_number log) last top + 1 })
+    then Some (record { first = begin; new_number = fill_end (last_number log) last top + 1 })
     else None

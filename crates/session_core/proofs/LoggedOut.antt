@@ -1,5 +1,6 @@
 -- After the session's Logout nothing but a gap fill is written.
 use Rattle.std.proofs.Common.{◌≡◌, ◌==◌, ℕ, Bool, true, false, ◌||◌, not, nat_lt, Option, Some, None, refl, sym, ap, subst, ◌∙◌, inl, inr}
+use Rattle.fix_tags.specs.Range.{is_range}
 use Rattle.leg.specs.LegId.{LegIdParts}
 use Rattle.dialect.specs.declared.note.Note.{Note}
 use Rattle.dialect.specs.Addressed.{is_for}
@@ -8,7 +9,7 @@ use Rattle.dialect.specs.Message.Content.{Logon, Heartbeat, TestRequest, ResendR
 use Rattle.resend.specs.declared.judged.Judged.{Judged}
 use Rattle.resend.specs.declared.judged.Judged.TheVariants as judged
 use Rattle.resend.specs.Judging.{judged}
-use Rattle.resend.specs.Log.{FillParts, last_number, leg_at, is_range, fill_for}
+use Rattle.resend.specs.Log.{FillParts, last_number, leg_at, fill_for}
 use Rattle.session_core.specs.declared.phase.Phase.TheVariants.{LoggedOut}
 use Rattle.session_core.specs.declared.ended.Ended.{Ended}
 use Rattle.session_core.specs.declared.ended.Ended.TheVariants as ended

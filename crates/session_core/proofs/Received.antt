@@ -1,6 +1,7 @@
 -- A message that is received takes the session onward, and withdraws legs while logging on and while settling alone.
 use Rattle.std.proofs.Common.{◌≡◌, ◌≤◌, ℕ, Bool, true, false, ◌&&◌, not, nat_lt, nat_le, List, [], Option, Some, None, refl, sym, ◌∙◌, arith, length, ◌+◌, ap}
 use Rattle.std.proofs.lemmas.Bool.Decides.{nat_tests}
+use Rattle.fix_tags.specs.Range.{is_range}
 use Rattle.leg.specs.LegId.{LegIdParts}
 use Rattle.leg.specs.declared.leg_state.LegState.TheVariants.{Taken, Withdrawn}
 use Rattle.dialect.specs.declared.note.Note.{Note}
@@ -10,7 +11,7 @@ use Rattle.dialect.specs.Message.Content.{Logon, Heartbeat, TestRequest, ResendR
 use Rattle.resend.specs.declared.judged.Judged.{Judged}
 use Rattle.resend.specs.declared.judged.Judged.TheVariants as judged
 use Rattle.resend.specs.Judging.{judged}
-use Rattle.resend.specs.Log.{Entry, FillParts, last_number, take_below, give_up_from, leg_at, is_range, fill_for}
+use Rattle.resend.specs.Log.{Entry, FillParts, last_number, take_below, give_up_from, leg_at, fill_for}
 use Rattle.resend.specs.Later.{withdrawn_since}
 use Rattle.resend.proofs.Later.{length-settled_where, later-refl, later-trans, later-take_below, later-give_up_from, withdraws_none-take_below}
 use Rattle.resend.proofs.Settled.{since-refl, since-settled, since-take_below}

@@ -1,6 +1,7 @@
 -- What a session does with a message that it receives: one case a row of the table of `docs/session.md` (FIX 4.4 Volume 2).
 use Rattle.std.specs.Prelude.{ℕ, ◌+◌, Bool, true, false, ◌&&◌, ◌||◌, not, List, [], ◌∷◌, ◌==◌, nat_lt, nat_le, Option, Some, None, Result, Ok, Err, if◌then◌else◌}
 use Rattle.std.specs.Str.{bytes_eq}
+use Rattle.fix_tags.specs.Range.{is_range}
 use Rattle.leg.specs.LegId.{LegIdParts}
 use Rattle.dialect.specs.declared.fault.DialectFault.{DialectFault}
 use Rattle.dialect.specs.declared.note.Note.{Note}
@@ -12,7 +13,7 @@ use Rattle.dialect.specs.Message.Content.{Logon, Heartbeat, TestRequest, ResendR
 use Rattle.resend.specs.declared.judged.Judged.{Judged}
 use Rattle.resend.specs.declared.judged.Judged.TheVariants as judged
 use Rattle.resend.specs.Judging.{judged}
-use Rattle.resend.specs.Log.{FillParts, last_number, take_below, leg_at, is_range, fill_for}
+use Rattle.resend.specs.Log.{FillParts, last_number, take_below, leg_at, fill_for}
 use Rattle.session_core.specs.declared.phase.Phase.{Phase}
 use Rattle.session_core.specs.declared.phase.Phase.TheVariants.{Down, LoggingOn, Settling, Up, Closing, LoggedOut, Closed}
 use Rattle.session_core.specs.declared.ended.Ended.TheVariants.{FirstNotLogon, TooLow, WrongComp, ResetRefused, ResendInDoubt, BadResend, PeerLogout, LogonAgain, BadGapFill, LogoutDone, BadNextExpected}
