@@ -4,7 +4,7 @@ use Rattle.leg.specs.LegId.{LegIdParts}
 use Rattle.leg.specs.Numbered.{numbered}
 use Rattle.leg.specs.declared.leg_state.LegState.{LegState}
 use Rattle.leg.specs.declared.leg_state.LegState.TheVariants.{Queued, Doubt, Taken, Withdrawn}
-use Rattle.resend.specs.Log.{SentLeg, Entry, FillParts, last_number, is_doubt}
+use Rattle.resend.specs.Log.{SentLeg, Entry, GapFillParts, last_number, is_doubt}
 use Rattle.resend.specs.Log.Entry.{Admin, Sent}
 
 -- a leg in doubt stays so or is settled, and any other keeps its state
@@ -50,7 +50,7 @@ withdrawn_since (Sent leg ∷ old) (Sent now ∷ new) =
     if is_doubt leg.state && is_withdrawn now.state then leg.id ∷ withdrawn_since old new else withdrawn_since old new
 
 -- a gap fill that answers for numbers which were sent, from begin on, no further than was asked for and than top
-pub record IsFillFor (begin last top : ℕ) (log : List Entry) (fill : FillParts) : Type 0 where
+pub record IsFillFor (begin last top : ℕ) (log : List Entry) (fill : GapFillParts) : Type 0 where
   pub from_one : 1 ≤ fill.first
   pub from_begin : fill.first ≡ begin
   pub forward : fill.first < fill.new_number

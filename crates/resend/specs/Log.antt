@@ -118,7 +118,7 @@ abbrev pub give_up_from : ℕ → List Entry → List Entry
 give_up_from least log = settled_where (λ number. nat_le least number) Withdrawn 1 log
 
 -- a gap fill: its number is the first that it stands for, and new_number is the next that is sent after it
-pub record FillParts : Type 0 where
+pub record GapFillParts : Type 0 where
   pub first : ℕ
   pub new_number : ℕ
 
@@ -127,7 +127,7 @@ abbrev pub fill_end : ℕ → ℕ → ℕ → ℕ
 fill_end sent last top = min top (range_end sent last)
 
 -- what the request for a range is answered with, cut at top, if the range is one and begins no higher
-abbrev pub fill_for : ℕ → ℕ → ℕ → List Entry → Option FillParts
+abbrev pub fill_for : ℕ → ℕ → ℕ → List Entry → Option GapFillParts
 fill_for begin last top log =
     if is_range (last_number log) begin last && nat_le begin top
     then Some (record { first = begin; new_number = fill_end (last_number log) last top + 1 })

@@ -4,7 +4,7 @@ use Rattle.std.proofs.lemmas.List.{append-nil}
 use Rattle.dialect.specs.Addressed.{message_of}
 use Rattle.dialect.specs.Message.{Message, Content}
 use Rattle.dialect.specs.Message.Content.{TestRequest, ResendRequest, GapFill}
-use Rattle.resend.specs.Log.{Entry, FillParts}
+use Rattle.resend.specs.Log.{Entry, GapFillParts}
 use Rattle.resend.specs.Log.Entry.{Admin}
 use Rattle.resend.specs.Later.{IsLater, IsAdded, WithdrawsNone, withdrawn_since}
 use Rattle.resend.proofs.Later.{later-refl, later-trans, later-append, later-added, withdraws_none-trans, withdraws_none-admin}
@@ -116,10 +116,10 @@ pub adds-asks_if : (b : Bool) (t : Turn) → Adds t (asks_if b t)
 adds-asks_if true t = adds-asks t
 adds-asks_if false t = adds-refl t
 
-pub adds-fills : (fill : FillParts) (t : Turn) → Adds t (fills fill t)
+pub adds-fills : (fill : GapFillParts) (t : Turn) → Adds t (fills fill t)
 adds-fills fill t = record { config = refl; log = inl refl; connection = refl; expected = omega arith; close_asked = refl; withdrawn = refl; note = refl; numbers = ([], new_numbers-append t.step.written (message_of t.session.config fill.first true (GapFill fill.new_number) ∷ []), refl) }
 
-pub adds-filled_if : (fill : Option FillParts) (t : Turn) → Adds t (filled_if fill t)
+pub adds-filled_if : (fill : Option GapFillParts) (t : Turn) → Adds t (filled_if fill t)
 adds-filled_if None t = adds-refl t
 adds-filled_if (Some fill) t = adds-fills fill t
 

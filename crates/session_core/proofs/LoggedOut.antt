@@ -9,7 +9,7 @@ use Rattle.dialect.specs.Message.Content.{Logon, Heartbeat, TestRequest, ResendR
 use Rattle.resend.specs.declared.judged.Judged.{Judged}
 use Rattle.resend.specs.declared.judged.Judged.TheVariants as judged
 use Rattle.resend.specs.Judging.{judged}
-use Rattle.resend.specs.Log.{FillParts, last_number, leg_at, fill_for}
+use Rattle.resend.specs.Log.{GapFillParts, last_number, leg_at, fill_for}
 use Rattle.session_core.specs.declared.phase.Phase.TheVariants.{LoggedOut}
 use Rattle.session_core.specs.declared.ended.Ended.{Ended}
 use Rattle.session_core.specs.declared.ended.Ended.TheVariants as ended
@@ -60,7 +60,7 @@ out_asks_anew s turn is going =
 out_asks_missing : (s : SessionParts) (turn : Turn) → IsOut s turn → IsOut s (asks_missing turn)
 out_asks_missing s turn is = out_unless s asks_anew turn turn.step.ended refl is (out_asks_anew s turn is)
 
-out_later : (s : SessionParts) (fill : Option FillParts) → IsOut s (resend_later fill (out s))
+out_later : (s : SessionParts) (fill : Option GapFillParts) → IsOut s (resend_later fill (out s))
 out_later s None = out_ends s (out s) ended.ResendInDoubt
 out_later s (Some fill) = record { written = inr (fill, refl); phase = λ going. refl }
 

@@ -11,7 +11,7 @@ use Rattle.dialect.specs.Message.Content.{Logon, Heartbeat, TestRequest, ResendR
 use Rattle.resend.specs.declared.judged.Judged.{Judged}
 use Rattle.resend.specs.declared.judged.Judged.TheVariants as judged
 use Rattle.resend.specs.Judging.{judged}
-use Rattle.resend.specs.Log.{Entry, FillParts, last_number, take_below, give_up_from, leg_at, fill_for}
+use Rattle.resend.specs.Log.{Entry, GapFillParts, last_number, take_below, give_up_from, leg_at, fill_for}
 use Rattle.resend.specs.Later.{withdrawn_since}
 use Rattle.resend.proofs.Later.{length-settled_where, later-refl, later-trans, later-take_below, later-give_up_from, withdraws_none-take_below}
 use Rattle.resend.proofs.Settled.{since-refl, since-settled, since-take_below}
@@ -112,7 +112,7 @@ module _ (may : Bool) where
       (received_by may s settled filled (received_settles begin s now) (adds-filled_if (fill_for begin last (last_number s.log) s.log) settled))
       (adds-writes_fence filled)
 
-  received_resend_later : (s : SessionParts) (fill : Option FillParts) → Goes may s (resend_later fill s)
+  received_resend_later : (s : SessionParts) (fill : Option GapFillParts) → Goes may s (resend_later fill s)
   received_resend_later s None = received_ends ended.ResendInDoubt s
   received_resend_later s (Some fill) = received_by may s (quietly s) (fills fill (quietly s)) (received_quietly s) (adds-fills fill (quietly s))
 

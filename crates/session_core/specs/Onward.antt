@@ -6,7 +6,7 @@ use Rattle.leg.specs.declared.leg_state.LegState.TheVariants.{Doubt}
 use Rattle.dialect.specs.Addressed.{message_of}
 use Rattle.dialect.specs.Message.{Message, Content}
 use Rattle.dialect.specs.Message.Content.{Logon, Heartbeat, TestRequest, ResendRequest, Reject, GapFill, Reset, Logout, BusinessReject, Order, OrderReport, Other}
-use Rattle.resend.specs.Log.{FillParts, last_ordinal}
+use Rattle.resend.specs.Log.{GapFillParts, last_ordinal}
 use Rattle.resend.specs.Log.Entry.{Sent}
 use Rattle.resend.specs.Later.{IsLater, IsAdded, WithdrawsNone, withdrawn_since}
 use Rattle.session_core.specs.declared.phase.Phase.TheVariants.{Down, LoggingOn, Up}
@@ -89,7 +89,7 @@ may_withdraw s Other = false
 -- nothing is written, or one gap fill
 abbrev pub WritesFillAlone : SessionParts → List Message → Type 0
 WritesFillAlone s written =
-    (written ≡ []) ⊎ ((fill : FillParts) × (written ≡ message_of s.config fill.first true (GapFill fill.new_number) ∷ []))
+    (written ≡ []) ⊎ ((fill : GapFillParts) × (written ≡ message_of s.config fill.first true (GapFill fill.new_number) ∷ []))
 
 -- no leg is withdrawn, and none is named so
 pub record SparesLegs (before : SessionParts) (turn : Turn) : Type 0 where

@@ -13,7 +13,7 @@ use Rattle.dialect.specs.Message.Content.{Logon, Heartbeat, TestRequest, ResendR
 use Rattle.resend.specs.declared.judged.Judged.{Judged}
 use Rattle.resend.specs.declared.judged.Judged.TheVariants as judged
 use Rattle.resend.specs.Judging.{judged}
-use Rattle.resend.specs.Log.{FillParts, last_number, take_below, leg_at, fill_for}
+use Rattle.resend.specs.Log.{GapFillParts, last_number, take_below, leg_at, fill_for}
 use Rattle.session_core.specs.declared.phase.Phase.{Phase}
 use Rattle.session_core.specs.declared.phase.Phase.TheVariants.{Down, LoggingOn, Settling, Up, Closing, LoggedOut, Closed}
 use Rattle.session_core.specs.declared.ended.Ended.TheVariants.{FirstNotLogon, TooLow, WrongComp, ResetRefused, ResendInDoubt, BadResend, PeerLogout, LogonAgain, BadGapFill, LogoutDone, BadNextExpected}
@@ -83,7 +83,7 @@ logon_row due s next =
     else in_phase Settling (writes_fence (asks_if (not due) (counts_if due (settles_told s (told_number s next))))))
 
 -- ResendRequest, while settling: what was lost is known, so every leg in doubt is settled, the range is filled, and a new fence is written
-abbrev pub filled_if : Option FillParts → Turn → Turn
+abbrev pub filled_if : Option GapFillParts → Turn → Turn
 filled_if None turn = turn
 filled_if (Some fill) turn = fills fill turn
 
@@ -92,7 +92,7 @@ resend_while_settling s begin last =
     writes_fence (filled_if (fill_for begin last (last_number s.log) s.log) (settles_at begin s))
 
 -- later: what was settled is filled, and no more than that
-abbrev pub resend_later : Option FillParts → SessionParts → Turn
+abbrev pub resend_later : Option GapFillParts → SessionParts → Turn
 resend_later None s = ends ResendInDoubt s
 resend_later (Some fill) s = fills fill (quietly s)
 

@@ -5,7 +5,7 @@ use Rattle.dialect.specs.declared.note.Note.{Note}
 use Rattle.dialect.specs.Addressed.{message_of}
 use Rattle.dialect.specs.Message.{Message, Content}
 use Rattle.dialect.specs.Message.Content.{TestRequest, ResendRequest, GapFill, Logout}
-use Rattle.resend.specs.Log.{FillParts, doubt_from, take_below, give_up_from}
+use Rattle.resend.specs.Log.{GapFillParts, doubt_from, take_below, give_up_from}
 use Rattle.resend.specs.Log.Entry.{Admin}
 use Rattle.session_core.specs.declared.phase.Phase.{Phase}
 use Rattle.session_core.specs.declared.phase.Phase.TheVariants.{Down, LoggedOut, Closed}
@@ -71,7 +71,7 @@ asks turn =
     else turn
 
 -- a gap fill is written under the first number that it stands for, as a possible duplicate. It spends no number
-abbrev pub fills : FillParts → Turn → Turn
+abbrev pub fills : GapFillParts → Turn → Turn
 fills fill turn = with_message (message_of turn.session.config fill.first true (GapFill fill.new_number)) turn
 
 -- the legs in doubt below a number are taken, and those under it or above it withdrawn
