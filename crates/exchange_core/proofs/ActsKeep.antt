@@ -16,9 +16,9 @@ use Rattle.exchange_core.specs.Acceptance.{Carried, Intake, Standing, IsAccepted
 use Rattle.exchange_core.specs.Acceptance as rules
 use Rattle.exchange_core.specs.Order.{OrderParts, Ending, ByCancel, ByReject, traded, ended_by, busted_at, is_cancelled, view_of}
 use Rattle.exchange_core.specs.Own.{Own, Admin, Reported, next_number, has_numbers, next_exec, exec_id}
-use Rattle.exchange_core.specs.Exchange.{ExchangeParts, Answer, next_report, next_message, drop_connection}
+use Rattle.exchange_core.specs.Exchange.{ExchangeParts, Answer, next_report, next_message, drop_connection, accepted_by}
 use Rattle.exchange_core.specs.Acts.{◌>>=◌, refused_if, while_live, reported, order_at, trade_at, number_left, trade, ended, cancel_rest, reject, bust, test_id, tested, test_in, test}
-use Rattle.exchange_core.specs.Keeping.{intake_of, standing, into, IsSound, legs_of, IsAfter, IsNumbered, IsAct}
+use Rattle.exchange_core.specs.Keeping.{intake_of, standing, into, IsSound, IsAfter, IsNumbered, IsAct}
 use Rattle.exchange_core.proofs.Step.{silent, kept_next, written_next, MaySayNext}
 use Rattle.exchange_core.proofs.Takes.{after_same, after_used}
 
@@ -69,9 +69,9 @@ reported_keeps x place old new kind sound there same left =
     let y : ExchangeParts = (reported x place new kind).0 in
     let report = next_report x new kind in
     let entry : Own = Reported report (view_of place new) in
-    let legs : legs_of y ≡ legs_of x = legs_kept x.orders place old new there same in
+    let legs : accepted_by y ≡ accepted_by x = legs_kept x.orders place old new there same in
     let stays : intake_of y ≡ intake_of x = ap (λ ls. let i : Intake = record (intake_of x) { accepted = ls } in i) legs in
-    let accepted : IsAccepted (legs_of x) new.leg.id = subst (λ (leg : Leg). IsAccepted (legs_of x) leg.id) (sym same) (is_accepted x.orders place old there) in
+    let accepted : IsAccepted (accepted_by x) new.leg.id = subst (λ (leg : Leg). IsAccepted (accepted_by x) leg.id) (sym same) (is_accepted x.orders place old there) in
     record {
       allowed = kept_next x y None entry (into x.live (while_live x.live (next_message x (OrderReport (Ok report)) ∷ [])))
           (rules.stays stays) refl

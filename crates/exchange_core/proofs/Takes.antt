@@ -14,8 +14,8 @@ use Rattle.exchange_core.specs.Acceptance.{Carried, Intake, Standing, IsNewLogon
 use Rattle.exchange_core.specs.Acceptance as rules
 use Rattle.exchange_core.specs.Order.{OrderParts, new_order, view_of}
 use Rattle.exchange_core.specs.Own.{Own, Admin, Reported, Refused, has_numbers}
-use Rattle.exchange_core.specs.Exchange.{ExchangeParts, Answer, next_report, next_message, request, passed_by, with_connection, with_logon, with_logon_and_request, logon_answer, logon_taken, passed, order_taken, order_refused, logout_taken, test_taken, due_taken, ahead, by_number, resends, received, is_connection, comes, take}
-use Rattle.exchange_core.specs.Keeping.{kept, intake_of, standing, carried, into, IsSound, legs_of, IsAfter}
+use Rattle.exchange_core.specs.Exchange.{ExchangeParts, Answer, next_report, next_message, request, passed_by, with_connection, with_logon, with_logon_and_request, logon_answer, logon_taken, passed, order_taken, order_refused, logout_taken, test_taken, due_taken, ahead, by_number, resends, received, is_connection, comes, take, accepted_by}
+use Rattle.exchange_core.specs.Keeping.{kept, intake_of, standing, carried, into, IsSound, IsAfter}
 use Rattle.exchange_core.proofs.Entries.{chosen, numbered-seam}
 use Rattle.exchange_core.proofs.Step.{in_connection, silent, one, two}
 use Rattle.exchange_core.proofs.Resends.{answer_written}
@@ -30,17 +30,17 @@ after_same x y config expected last orders own = record {
   config = config;
   expected = expected;
   last = last;
-  accepted = ([], rw orders (sym (append-nil (legs_of x))));
+  accepted = ([], rw orders (sym (append-nil (accepted_by x))));
   own = ([], rw own (sym (append-nil x.own)), omega arith);
 }
 
 -- where own numbers are used
-pub after_used : (x y : ExchangeParts) (more : List Own) → y.config ≡ x.config → x.expected ≤ y.expected → x.last ≤ y.last → legs_of y ≡ legs_of x → y.own ≡ x.own ++ more → length more ≤ 2 → IsAfter x y
+pub after_used : (x y : ExchangeParts) (more : List Own) → y.config ≡ x.config → x.expected ≤ y.expected → x.last ≤ y.last → accepted_by y ≡ accepted_by x → y.own ≡ x.own ++ more → length more ≤ 2 → IsAfter x y
 after_used x y more config expected last orders own few = record {
   config = config;
   expected = expected;
   last = last;
-  accepted = ([], orders ∙ sym (append-nil (legs_of x)));
+  accepted = ([], orders ∙ sym (append-nil (accepted_by x)));
   own = (more, own, few);
 }
 
@@ -83,8 +83,8 @@ module _ (x : ExchangeParts) (connection number : ℕ) (live : x.live ≡ Some c
   logged_out =
       let coming : Option Carried = Some (in_connection connection number Logout) in
       let y : ExchangeParts = (logout_taken x).0 in
-      let count : length (legs_of x) ≡ length x.orders = length-map x.orders (λ order. order.leg) in
-      let mark : intake_of y ≡ record (intake_of x) { expected = suc x.expected; live = None; closed_at = Some (length (legs_of x)) } = ap (λ n. let i : Intake = record (intake_of x) { expected = suc x.expected; live = None; closed_at = Some n } in i) (sym count) in (
+      let count : length (accepted_by x) ≡ length x.orders = length-map x.orders (λ order. order.leg) in
+      let mark : intake_of y ≡ record (intake_of x) { expected = suc x.expected; live = None; closed_at = Some (length (accepted_by x)) } = ap (λ n. let i : Intake = record (intake_of x) { expected = suc x.expected; live = None; closed_at = Some n } in i) (sym count) in (
         one x y coming Admin connection Logout (moved Logout (intake_of y) (rules.logout (is_due Logout) refl mark)) refl (rules.plain refl) last.from (omega (arith, last.same)) (inr (refl, rules.logout (length x.orders) refl refl)),
         after_used x y (Admin ∷ []) refl (omega arith) (omega arith) refl refl (omega arith),
       )
@@ -105,8 +105,8 @@ module _ (x : ExchangeParts) (connection number : ℕ) (live : x.live ≡ Some c
       let y : ExchangeParts = (order_taken x leg).0 in
       let report = next_report x (new_order leg) New in
       let entry : Own = Reported report (view_of (suc (length x.orders)) (new_order leg)) in
-      let legs : legs_of y ≡ legs_of x ++ leg ∷ [] = map-append (λ (order : OrderParts). order.leg) x.orders (new_order leg ∷ []) in
-      let accepts : intake_of y ≡ record (intake_of x) { expected = suc x.expected; accepted = legs_of x ++ leg ∷ [] } = ap (λ ls. let i : Intake = record (intake_of x) { expected = suc x.expected; accepted = ls } in i) legs in (
+      let legs : accepted_by y ≡ accepted_by x ++ leg ∷ [] = map-append (λ (order : OrderParts). order.leg) x.orders (new_order leg ∷ []) in
+      let accepts : intake_of y ≡ record (intake_of x) { expected = suc x.expected; accepted = accepted_by x ++ leg ∷ [] } = ap (λ ls. let i : Intake = record (intake_of x) { expected = suc x.expected; accepted = ls } in i) legs in (
         one x y coming entry connection (OrderReport (Ok report)) (moved content (intake_of y) (rules.order (is_due content) leg refl accepts)) refl
             (rules.report report refl (record { place = length x.orders; leg = leg; there = numbered-seam (λ (order : OrderParts). order.leg) x.orders (new_order leg) []; same = refl }))
             last.from (omega (arith, last.same)) (inl refl),

@@ -1,5 +1,5 @@
 -- An exchange: what it does with each message it gets (FIX 4.4 Volume 2).
-use Rattle.std.specs.Prelude.{ℕ, suc, max, Bool, true, false, ◌&&◌, List, [], ◌∷◌, ◌++◌, length, Option, Some, None, Ok, Err, ◌==◌, nat_lt, nat_le, if◌then◌else◌}
+use Rattle.std.specs.Prelude.{ℕ, suc, max, Bool, true, false, ◌&&◌, List, [], ◌∷◌, ◌++◌, length, map, Option, Some, None, Ok, Err, ◌==◌, nat_lt, nat_le, if◌then◌else◌}
 use Rattle.fix_tags.specs.Config.{ConfigParts}
 use Rattle.leg.specs.declared.leg.Leg.{Leg}
 use Rattle.dialect.specs.declared.report.Report.{Report}
@@ -38,6 +38,10 @@ new_exchange config = record {
   own = [];
   asked = 0;
 }
+
+-- the legs of the orders that it accepted, in order
+abbrev pub accepted_by : ExchangeParts → List Leg
+accepted_by x = map (λ order. order.leg) x.orders
 
 -- the exchange afterwards, and what it wrote
 abbrev pub Answer : Type 0

@@ -12,11 +12,10 @@ use Rattle.exchange_core.specs.declared.exchange_fault.ExchangeFault.{ExchangeFa
 use Rattle.exchange_core.specs.declared.exchange_fault.ExchangeFault.TheVariants.{NoSuchOrder, TooManyShares, Done, NotCancelled}
 use Rattle.exchange_core.specs.Order.{OrderParts, Ending, ByCancel, ByReject, traded, ended_by, busted_at, is_cancelled, new_order}
 use Rattle.exchange_core.specs.Own.{Own, Admin, has_numbers, next_exec}
-use Rattle.exchange_core.specs.Exchange.{ExchangeParts, Answer, logon_taken, logon_answer, with_connection, due_taken, ahead, by_number, received, is_connection, comes, take, drop_connection}
+use Rattle.exchange_core.specs.Exchange.{ExchangeParts, Answer, logon_taken, logon_answer, with_connection, due_taken, ahead, by_number, received, is_connection, comes, take, drop_connection, accepted_by}
 use Rattle.exchange_core.specs.Acts.{◌>>=◌, refused_if, reported, order_at, trade_at, number_left, trade, ended, bust, test_in}
 use Rattle.schedule.specs.declared.act.Act.{Act}
 use Rattle.schedule.specs.declared.act.Act.TheVariants as act
-use Rattle.schedule.specs.World.{accepted_by}
 use Rattle.schedule.specs.Happening.{act_of}
 use Rattle.schedule.specs.Growing.{HasGrown}
 use Rattle.schedule.proofs.Grown.{chosen, grew-same, grown, grown-refl}

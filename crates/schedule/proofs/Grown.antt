@@ -6,9 +6,9 @@ use Rattle.std.proofs.lemmas.List.{append-nil}
 use Rattle.dialect.specs.declared.report.Report.{Report}
 use Rattle.exchange_core.specs.Own.{Own}
 use Rattle.exchange_core.specs.Own.Own.{Admin, Reported, Refused}
-use Rattle.exchange_core.specs.Exchange.{ExchangeParts}
+use Rattle.exchange_core.specs.Exchange.{ExchangeParts, accepted_by}
 use Rattle.session_core.proofs.Adding.{onward-refl, onward-trans}
-use Rattle.schedule.specs.World.{World, VenueParts, accepted_by, reports_in}
+use Rattle.schedule.specs.World.{World, VenueParts, reports_in}
 use Rattle.schedule.specs.Growing.{Grew, HasGrown, IsVenueLater, IsWorldLater}
 
 -- a choice by a test has what both choices have

@@ -1,10 +1,10 @@
 -- What an event may change, and what only grows.
 use Rattle.std.specs.Prelude.{◌≡◌, ℕ, List, ◌++◌, length, Option, Some, None, slice_get}
 use Rattle.session_core.specs.Onward.{IsOnward}
-use Rattle.exchange_core.specs.Exchange.{ExchangeParts}
+use Rattle.exchange_core.specs.Exchange.{ExchangeParts, accepted_by}
 use Rattle.schedule.specs.declared.event.Event.{Event}
 use Rattle.schedule.specs.declared.event.Event.TheVariants as event
-use Rattle.schedule.specs.World.{World, VenueParts, venue_in, accepted_by, reports_in}
+use Rattle.schedule.specs.World.{World, VenueParts, venue_in, reports_in}
 
 -- the venue that an event names, if it names one
 abbrev pub named : Event → Option ℕ

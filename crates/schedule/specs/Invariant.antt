@@ -12,7 +12,8 @@ use Rattle.resend.specs.Log.Entry.{Admin, Sent}
 use Rattle.session_core.specs.declared.phase.Phase.{Phase}
 use Rattle.session_core.specs.declared.phase.Phase.TheVariants as phase
 use Rattle.session_core.specs.Turn.{fence_id}
-use Rattle.schedule.specs.World.{VenueParts, Frame, accepted_by}
+use Rattle.exchange_core.specs.Exchange.{accepted_by}
+use Rattle.schedule.specs.World.{VenueParts, Frame}
 
 -- the number was spent on this leg
 abbrev pub IsSent : VenueParts → ℕ → SentLeg → Type 0

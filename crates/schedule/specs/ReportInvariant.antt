@@ -12,12 +12,13 @@ use Rattle.dialect.specs.declared.report.ReportKind.{ReportKind}
 use Rattle.dialect.specs.declared.report.ReportKind.TheVariants.{New, Trade, Canceled, Rejected, Expired, Bust}
 use Rattle.dialect.specs.OrderView.{OrderViewParts}
 use Rattle.dialect.specs.Message.{Content, Reject, GapFill, OrderReport}
+use Rattle.exchange_core.specs.Exchange.{accepted_by}
 use Rattle.exchange_core.specs.Own.{Own, Reported, Refused, exec_id}
 use Rattle.share_ledger.specs.declared.book_entry.BookEntry.{BookEntry}
 use Rattle.share_ledger.specs.declared.book_entry.BookEntry.TheVariants.{Opened, Withdrawn, Moved}
 use Rattle.share_ledger.specs.Entries.{opened, is_same_leg}
 use Rattle.share_ledger.specs.Entries as entries
-use Rattle.schedule.specs.World.{World, VenueParts, Frame, accepted_by, released_to, given, made, reports_in, state_of}
+use Rattle.schedule.specs.World.{World, VenueParts, Frame, released_to, given, made, reports_in, state_of}
 use Rattle.schedule.specs.Printed.{is_withdrawn}
 
 -- the exchange wrote it under this number

@@ -4,7 +4,7 @@ use Rattle.fix_tags.specs.Range.{is_range}
 use Rattle.leg.specs.LegId.{LegIdParts}
 use Rattle.dialect.specs.declared.note.Note.{Note}
 use Rattle.dialect.specs.Addressed.{is_for}
-use Rattle.dialect.specs.Message.{Message, Content}
+use Rattle.dialect.specs.Message.{Message, Content, is_logon}
 use Rattle.dialect.specs.Message.Content.{Logon, Heartbeat, TestRequest, ResendRequest, Reject, GapFill, Reset, Logout, BusinessReject, Order, OrderReport, Other}
 use Rattle.resend.specs.declared.judged.Judged.{Judged}
 use Rattle.resend.specs.declared.judged.Judged.TheVariants as judged
@@ -15,7 +15,7 @@ use Rattle.session_core.specs.declared.ended.Ended.{Ended}
 use Rattle.session_core.specs.declared.ended.Ended.TheVariants as ended
 use Rattle.session_core.specs.Session.{SessionParts, is_logged_out}
 use Rattle.session_core.specs.Turn.{Turn, quietly, counts, notes, asks, ends, unless_ended}
-use Rattle.session_core.specs.Receiving.{is_logon, is_reset, counts_if, resend_later, resend_row, named_fence, passing, passes_fence, gap_fill_row, refused_leg, refused_row, report_note, due_row, ahead_row, asks_missing, asks_anew, ahead_turn, by_number, received, hearing, receive}
+use Rattle.session_core.specs.Receiving.{is_reset, counts_if, resend_later, resend_row, named_fence, passing, passes_fence, gap_fill_row, refused_leg, refused_row, report_note, due_row, ahead_row, asks_missing, asks_anew, ahead_turn, by_number, received, hearing, receive}
 use Rattle.session_core.specs.Onward.{WritesFillAlone}
 use Rattle.session_core.proofs.Adding.{chosen}
 

@@ -6,7 +6,7 @@ use Rattle.leg.specs.LegId.{LegIdParts}
 use Rattle.leg.specs.declared.leg_state.LegState.TheVariants.{Taken, Withdrawn}
 use Rattle.dialect.specs.declared.note.Note.{Note}
 use Rattle.dialect.specs.Addressed.{is_for}
-use Rattle.dialect.specs.Message.{Message, Content}
+use Rattle.dialect.specs.Message.{Message, Content, is_logon}
 use Rattle.dialect.specs.Message.Content.{Logon, Heartbeat, TestRequest, ResendRequest, Reject, GapFill, Reset, Logout, BusinessReject, Order, OrderReport, Other}
 use Rattle.resend.specs.declared.judged.Judged.{Judged}
 use Rattle.resend.specs.declared.judged.Judged.TheVariants as judged
@@ -22,7 +22,7 @@ use Rattle.session_core.specs.declared.ended.Ended.{Ended}
 use Rattle.session_core.specs.declared.ended.Ended.TheVariants as ended
 use Rattle.session_core.specs.Session.{SessionParts, is_connected, is_logging_on, is_settling, is_logged_out}
 use Rattle.session_core.specs.Turn.{Turn, quietly, writes, writes_fence, fills, settles_at, counts, notes, logs_out, ends, ends_turn}
-use Rattle.session_core.specs.Receiving.{is_logon, is_reset, counts_if, told_number, is_too_high, settles_told, asks_if, in_phase, logon_row, filled_if, resend_while_settling, resend_later, resend_row, named_fence, passing, passed_in, passes_fence, answers_test, gap_fill_row, refused_leg, refused_row, logout_row, report_note, due_row, ahead_row, asks_missing, ahead_turn, by_number, received, hearing, receive}
+use Rattle.session_core.specs.Receiving.{is_reset, counts_if, told_number, is_too_high, settles_told, asks_if, in_phase, logon_row, filled_if, resend_while_settling, resend_later, resend_row, named_fence, passing, passed_in, passes_fence, answers_test, gap_fill_row, refused_leg, refused_row, logout_row, report_note, due_row, ahead_row, asks_missing, ahead_turn, by_number, received, hearing, receive}
 use Rattle.session_core.specs.Onward.{is_told, IsOnward, IsReceived, may_withdraw}
 use Rattle.session_core.proofs.Adding.{Goes, chosen, adds-writes, adds-writes_fence, adds-asks_if, adds-fills, adds-filled_if, adds-counts, adds-in_phase, adds-ends_turn, adds-logs_out, adds-counts_if, adds-asks_missing, received_by}
 

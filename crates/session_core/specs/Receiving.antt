@@ -8,7 +8,7 @@ use Rattle.dialect.specs.declared.note.Note.{Note}
 use Rattle.dialect.specs.declared.note.Note.TheVariants as note
 use Rattle.dialect.specs.declared.report.Report.{Report}
 use Rattle.dialect.specs.Addressed.{is_for}
-use Rattle.dialect.specs.Message.{Message, Content}
+use Rattle.dialect.specs.Message.{Message, Content, is_logon}
 use Rattle.dialect.specs.Message.Content.{Logon, Heartbeat, TestRequest, ResendRequest, Reject, GapFill, Reset, Logout, BusinessReject, Order, OrderReport, Other}
 use Rattle.resend.specs.declared.judged.Judged.{Judged}
 use Rattle.resend.specs.declared.judged.Judged.TheVariants as judged
@@ -19,20 +19,6 @@ use Rattle.session_core.specs.declared.phase.Phase.TheVariants.{Down, LoggingOn,
 use Rattle.session_core.specs.declared.ended.Ended.TheVariants.{FirstNotLogon, TooLow, WrongComp, ResetRefused, ResendInDoubt, BadResend, PeerLogout, LogonAgain, BadGapFill, LogoutDone, BadNextExpected}
 use Rattle.session_core.specs.Session.{SessionParts, is_connected, is_logging_on, is_settling, is_logged_out}
 use Rattle.session_core.specs.Turn.{Turn, quietly, with_session, writes, writes_fence, fence_id, asks, fills, settles_at, counts, notes, logs_out, ends, ends_turn, unless_ended}
-
-abbrev pub is_logon : Content → Bool
-is_logon (Logon heart reset next) = true
-is_logon (Heartbeat id) = false
-is_logon (TestRequest id) = false
-is_logon (ResendRequest begin last) = false
-is_logon (Reject number) = false
-is_logon (GapFill new_number) = false
-is_logon (Reset new_number) = false
-is_logon Logout = false
-is_logon (BusinessReject number) = false
-is_logon (Order read) = false
-is_logon (OrderReport read) = false
-is_logon Other = false
 
 -- the exchange wants to begin its numbers anew: SequenceReset in reset mode, or ResetSeqNumFlag (141) of a Logon
 abbrev pub is_reset : Content → Bool
