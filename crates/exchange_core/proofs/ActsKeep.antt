@@ -20,22 +20,8 @@ use Rattle.exchange_core.specs.Exchange.{ExchangeParts, Answer, next_report, nex
 use Rattle.exchange_core.specs.Acts.{◌>>=◌, refused_if, while_live, reported, order_at, trade_at, number_left, trade, ended, cancel_rest, reject, bust, test_id, tested, test_in, test}
 use Rattle.exchange_core.specs.Keeping.{intake_of, standing, into, IsSound, IsAfter, IsNumbered, IsAct}
 use Rattle.exchange_core.proofs.Step.{silent, kept_next, written_next, MaySayNext}
-use Rattle.exchange_core.proofs.Takes.{after_same, after_used}
-
--- one refusal after the other
-pub each : {A B : Type 0} (P : B → Type 0) (r : Result A ExchangeFault) (f : A → Result B ExchangeFault) → ((a : A) → r ≡ Ok a → IfOk (f a) P) → IfOk (r >>= f) P
-each P (Ok a) f holds = holds a refl
-each P (Err fault) f holds = tt
-
--- the legs stay where an order is replaced by one of the same leg
-pub legs_kept : (orders : List OrderParts) (place : ℕ) (old new : OrderParts) → numbered place orders ≡ Some old → new.leg ≡ old.leg → map (λ (o : OrderParts). o.leg) (with_numbered place new orders) ≡ map (λ (o : OrderParts). o.leg) orders
-legs_kept orders zero old new there same = refl
-legs_kept [] (suc i) old new there same = cc
-legs_kept (o ∷ orders) (suc zero) old new there same =
-    let is : o ≡ old = same_Some o old there in
-    let leg : new.leg ≡ o.leg = same ∙ ap (λ (o : OrderParts). o.leg) (sym is) in
-    ap (λ (leg : Leg). leg ∷ map (λ (o : OrderParts). o.leg) orders) leg
-legs_kept (o ∷ orders) (suc (suc i)) old new there same = ap (λ (legs : List Leg). o.leg ∷ legs) (legs_kept orders (suc i) old new there same)
+use Rattle.exchange_core.proofs.ActsReport.{each, left_by, trade_reports, cancel_rest_reports, reject_reports, bust_reports}
+use Rattle.exchange_core.proofs.After.{after-refl, legs_kept, reported_after, tested_after}
 
 -- the leg of an order at a place is accepted
 pub is_accepted : (orders : List OrderParts) (place : ℕ) (order : OrderParts) → numbered place orders ≡ Some order → IsAccepted (map (λ (o : OrderParts). o.leg) orders) order.leg.id
@@ -58,11 +44,6 @@ written_live x y entry said (Some connection) sound live last own says =
 one_more : (own : List Own) (entry : Own) (max_number : ℕ) → next_number own + 1 ≤ max_number → next_number (own ++ entry ∷ []) ≤ max_number
 one_more own entry max_number left = omega (arith, length-append own (entry ∷ []))
 
--- a number was left
-left_by : (b : Bool) (u : Unit {0}) → refused_if (not b) NumbersSpent ≡ Ok u → b ≡ true
-left_by true u ok = refl
-left_by false u ok = cc
-
 -- a report on an order at a place
 pub reported_keeps : (x : ExchangeParts) (place : ℕ) (old new : OrderParts) (kind : ReportKind) → IsSound x → numbered place x.orders ≡ Some old → new.leg ≡ old.leg → has_numbers 1 x.config x.own ≡ true → IsAct x (reported x place new kind)
 reported_keeps x place old new kind sound there same left =
@@ -77,48 +58,23 @@ reported_keeps x place old new kind sound there same left =
           (rules.stays stays) refl
           (rules.report report refl (subst (λ ls. IsAccepted ls new.leg.id) (sym legs) accepted))
           (written_live x y entry (OrderReport (Ok report)) x.live sound refl refl refl (λ connection. inl refl));
-      after = after_used x y (entry ∷ []) refl (omega arith) (omega arith) legs refl (omega arith);
+      after = reported_after x place old new kind there same;
       taken = stays;
       sound = sound;
       numbered = λ _. one_more x.own entry x.config.max_number (grind (arith, nat_tests, left));
     }
 
-order_there : (x : ExchangeParts) (place : ℕ) (order : OrderParts) (o : Option OrderParts) → numbered place x.orders ≡ o → ok_or o NoSuchOrder ≡ Ok order → numbered place x.orders ≡ Some order
-order_there x place order None is ok = cc
-order_there x place order (Some old) is ok = is ∙ cc
-
--- what is at a place
-pub at_place : (x : ExchangeParts) (place : ℕ) (order : OrderParts) → order_at x place ≡ Ok order → numbered place x.orders ≡ Some order
-at_place x place order is = order_there x place order (numbered place x.orders) refl is
-
 pub trade_keeps : (x : ExchangeParts) (place shares : ℕ) (px : List ℕ) → IsSound x → IfOk (trade x place shares px) (IsAct x)
-trade_keeps x place shares px sound =
-    each (IsAct x) (order_at x place) _
-    (λ order is. each (IsAct x) (refused_if (order.still_open == 0) Done) _
-    (λ going _. each (IsAct x) (refused_if (shares == 0 || nat_lt order.still_open shares) TooManyShares) _
-    (λ enough _. each (IsAct x) (number_left x) _
-    (λ number left. reported_keeps x place order (traded order shares (next_exec x.own)) (Trade (record { shares = shares; px = px })) sound (at_place x place order is) refl (left_by (has_numbers 1 x.config x.own) number left)))))
-
-ended_keeps : (x : ExchangeParts) (place : ℕ) (ending : Ending) (kind : ReportKind) → IsSound x → IfOk (ended x place ending kind) (IsAct x)
-ended_keeps x place ending kind sound =
-    each (IsAct x) (order_at x place) _
-    (λ order is. each (IsAct x) (refused_if (order.still_open == 0) Done) _
-    (λ going _. each (IsAct x) (number_left x) _
-    (λ number left. reported_keeps x place order (ended_by ending order) kind sound (at_place x place order is) refl (left_by (has_numbers 1 x.config x.own) number left))))
+trade_keeps x place shares px sound = trade_reports x (IsAct x) (λ place old new kind there same left. reported_keeps x place old new kind sound there same left) place shares px
 
 pub cancel_rest_keeps : (x : ExchangeParts) (place : ℕ) → IsSound x → IfOk (cancel_rest x place) (IsAct x)
-cancel_rest_keeps x place sound = ended_keeps x place ByCancel Canceled sound
+cancel_rest_keeps x place sound = cancel_rest_reports x (IsAct x) (λ place old new kind there same left. reported_keeps x place old new kind sound there same left) place
 
 pub reject_keeps : (x : ExchangeParts) (place : ℕ) → IsSound x → IfOk (reject x place) (IsAct x)
-reject_keeps x place sound = ended_keeps x place ByReject Rejected sound
+reject_keeps x place sound = reject_reports x (IsAct x) (λ place old new kind there same left. reported_keeps x place old new kind sound there same left) place
 
 pub bust_keeps : (x : ExchangeParts) (place which : ℕ) → IsSound x → IfOk (bust x place which) (IsAct x)
-bust_keeps x place which sound =
-    each (IsAct x) (order_at x place) _
-    (λ order is. each (IsAct x) (refused_if (not (is_cancelled order.ended)) NotCancelled) _
-    (λ cancelled _. each (IsAct x) (trade_at order which) _
-    (λ trade _. each (IsAct x) (number_left x) _
-    (λ number left. reported_keeps x place order (busted_at which trade order) (Bust (exec_id trade.exec)) sound (at_place x place order is) refl (left_by (has_numbers 1 x.config x.own) number left)))))
+bust_keeps x place which sound = bust_reports x (IsAct x) (λ place old new kind there same left. reported_keeps x place old new kind sound there same left) place which
 
 -- the same, for the connection that is live
 record TestKeeps (x : ExchangeParts) (live : Option ℕ) (a : Answer) : Type 0 where
@@ -131,7 +87,7 @@ record TestKeeps (x : ExchangeParts) (live : Option ℕ) (a : Answer) : Type 0 w
 test_keeps_in : (x : ExchangeParts) (live : Option ℕ) → IsSound x → x.live ≡ live → IfOk (test_in live x) (TestKeeps x live)
 test_keeps_in x None sound is = record {
   allowed = silent x x None (rules.stays refl) refl;
-  after = after_same x x refl (omega arith) (omega arith) refl refl;
+  after = after-refl x;
   taken = refl;
   sound = sound;
   numbered = λ numbered. numbered;
@@ -144,7 +100,7 @@ test_keeps_in x (Some connection) sound is =
     record {
       allowed = kept_next x y None Admin (into (Some connection) (next_message x said ∷ [])) (rules.stays refl) refl (rules.plain refl)
           (written_live x y Admin said (Some connection) sound is refl refl (λ c. inr (refl, rules.test (test_id (next_number x.own)) refl)));
-      after = after_used x y (Admin ∷ []) refl (omega arith) (omega arith) refl refl (omega arith);
+      after = tested_after x;
       taken = refl;
       sound = sound;
       numbered = λ _. one_more x.own Admin x.config.max_number (grind (arith, nat_tests, left_by (has_numbers 1 x.config x.own) number left));

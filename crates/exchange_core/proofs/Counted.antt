@@ -13,7 +13,7 @@ use Rattle.exchange_core.specs.Exchange.{ExchangeParts, Answer, next_report, nex
 use Rattle.exchange_core.specs.Acts.{refused_if, order_at, trade_at, number_left, trade, ended, cancel_rest, reject, bust, test_in, test}
 use Rattle.exchange_core.specs.Keeping.{AreCounted}
 use Rattle.exchange_core.proofs.Entries.{chosen}
-use Rattle.exchange_core.proofs.ActsKeep.{each}
+use Rattle.exchange_core.proofs.ActsReport.{each}
 
 -- a number that carries no report
 more_admin : (count : ℕ) (own : List Own) → AreCounted count own → AreCounted count (own ++ Admin ∷ [])

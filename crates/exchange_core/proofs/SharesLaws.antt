@@ -19,7 +19,7 @@ use Rattle.exchange_core.specs.Exchange.{ExchangeParts, Answer, next_message, re
 use Rattle.exchange_core.specs.Acts.{◌>>=◌, refused_if, order_at, trade_at, number_left, trade, ended, cancel_rest, reject, bust, test_in, test, not_busted}
 use Rattle.exchange_core.specs.Shares.{live_shares, busted_shares, AddsUp, OrdersAddUp}
 use Rattle.exchange_core.proofs.Entries.{chosen}
-use Rattle.exchange_core.proofs.ActsKeep.{each, at_place}
+use Rattle.exchange_core.proofs.ActsReport.{each, at_place}
 
 pub new_adds : (leg : Leg) → AddsUp (new_order leg)
 new_adds leg = record { parts = omega arith; filled = refl; busted = refl }

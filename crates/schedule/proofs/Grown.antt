@@ -11,11 +11,6 @@ use Rattle.session_core.proofs.Adding.{onward-refl, onward-trans}
 use Rattle.schedule.specs.World.{World, VenueParts, reports_in}
 use Rattle.schedule.specs.Growing.{Grew, HasGrown, IsVenueLater, IsWorldLater}
 
--- a choice by a test has what both choices have
-pub chosen : {A : Type 0} (P : A → Type 0) (b : Bool) (x y : A) → (b ≡ true → P x) → (b ≡ false → P y) → P (if b then x else y)
-chosen P true x y on off = on refl
-chosen P false x y on off = off refl
-
 pub grew-same : {A : Type 0} (old new : List A) → new ≡ old → Grew old new
 grew-same old new same = ([], same ∙ sym (append-nil old))
 

@@ -18,6 +18,7 @@ use Rattle.session_core.proofs.Adding.{onward-refl, onward-trans}
 use Rattle.session_core.proofs.Received.{receive_is_received}
 use Rattle.session_core.proofs.Called.{connect_keeps, send_leg_keeps, confirm_keeps, quiet_keeps, silent_keeps, close_keeps, broken_keeps, abandon_keeps}
 use Rattle.exchange_core.specs.declared.exchange_fault.ExchangeFault.{ExchangeFault}
+use Rattle.exchange_core.proofs.Entries.{chosen}
 use Rattle.exchange_core.specs.Exchange.{Answer, take, drop_connection}
 use Rattle.share_ledger.specs.declared.book_fault.BookFault.{BookFault}
 use Rattle.share_ledger.specs.Book.{BookParts, open_sweep}
@@ -31,7 +32,7 @@ use Rattle.schedule.specs.declared.event.Event.TheVariants as event
 use Rattle.schedule.specs.World.{World, VenueParts, Frame, venue_in}
 use Rattle.schedule.specs.Happening.{with_venue, at_venue, in_connection, session_wrote, exchange_wrote, is_session_up, released_world, dropped_world, sent_world, taken_world, may_connect, connected_world, to_exchange, session_turn, to_dispatcher, noted, act_of, acted_world, called_world, closed_world, connects, takes, goes_up, happens, run}
 use Rattle.schedule.specs.Growing.{named, Grew, HasGrown, IsVenueLater, IsWorldLater, IsUntouched}
-use Rattle.schedule.proofs.Grown.{chosen, grew-same, grew-refl, grown-refl, venue_later-refl, world_later-refl, world_later-trans, slice_get-set_other, length-slice_set, venue_set}
+use Rattle.schedule.proofs.Grown.{grew-same, grew-refl, grown-refl, venue_later-refl, world_later-refl, world_later-trans, slice_get-set_other, length-slice_set, venue_set}
 use Rattle.schedule.proofs.ExchangeGrows.{take_grows, drop_connection_grows, act_grows}
 use Rattle.schedule.proofs.DeskKeeps.{Keeps, keeps-refl, gate_up_keeps, gate_down_keeps, shut_keeps, take_keeps, drop_next_keeps}
 
