@@ -1,23 +1,21 @@
 -- What the exchange does by itself is what the rules allow.
-use Rattle.std.proofs.Common.{◌≡◌, ◌==◌, ℕ, zero, suc, ◌+◌, ◌≤◌, Bool, true, false, not, ◌||◌, nat_lt, inl, inr, List, [], ◌∷◌, ◌++◌, map, Option, Some, None, Result, Ok, Err, IfOk, refl, sym, ap, subst, ◌∙◌, arith, length-append}
+use Rattle.std.proofs.Common.{◌≡◌, ℕ, zero, suc, ◌+◌, ◌≤◌, true, inl, inr, List, [], ◌∷◌, ◌++◌, map, Option, Some, None, Result, Ok, Err, IfOk, refl, sym, ap, subst, ◌∙◌, arith, length-append}
 use Rattle.std.specs.List.{All}
-use Rattle.std.specs.Option.{ok_or, option_map}
+use Rattle.std.specs.Option.{option_map}
 use Rattle.std.proofs.lemmas.Bool.Decides.{nat_tests}
 use Rattle.std.proofs.lemmas.List.Elements.{All-nil}
-use Rattle.std.proofs.lemmas.Option.{slice_get-map, same_Some}
-use Rattle.leg.specs.Numbered.{numbered, with_numbered}
+use Rattle.std.proofs.lemmas.Option.{slice_get-map}
+use Rattle.leg.specs.Numbered.{numbered}
 use Rattle.leg.specs.declared.leg.Leg.{Leg}
 use Rattle.dialect.specs.declared.report.ReportKind.{ReportKind}
-use Rattle.dialect.specs.declared.report.ReportKind.TheVariants.{Trade, Canceled, Rejected, Bust}
 use Rattle.dialect.specs.Message.{Content, TestRequest, OrderReport}
 use Rattle.exchange_core.specs.declared.exchange_fault.ExchangeFault.{ExchangeFault}
-use Rattle.exchange_core.specs.declared.exchange_fault.ExchangeFault.TheVariants.{NoSuchOrder, TooManyShares, Done, NumbersSpent, NotCancelled}
-use Rattle.exchange_core.specs.Acceptance.{Carried, Intake, Standing, IsAccepted, MayKeep, MayWrite, May, IsLast}
+use Rattle.exchange_core.specs.Acceptance.{Intake, IsAccepted, MayWrite, May, IsLast}
 use Rattle.exchange_core.specs.Acceptance as rules
-use Rattle.exchange_core.specs.Order.{OrderParts, Ending, ByCancel, ByReject, traded, ended_by, busted_at, is_cancelled, view_of}
-use Rattle.exchange_core.specs.Own.{Own, Admin, Reported, next_number, has_numbers, next_exec, exec_id}
+use Rattle.exchange_core.specs.Order.{OrderParts, view_of}
+use Rattle.exchange_core.specs.Own.{Own, Admin, Reported, next_number, has_numbers}
 use Rattle.exchange_core.specs.Exchange.{ExchangeParts, Answer, next_report, next_message, drop_connection, accepted_by}
-use Rattle.exchange_core.specs.Acts.{◌>>=◌, refused_if, while_live, reported, order_at, trade_at, number_left, trade, ended, cancel_rest, reject, bust, test_id, tested, test_in, test}
+use Rattle.exchange_core.specs.Acts.{while_live, reported, number_left, trade, cancel_rest, reject, bust, test_id, tested, test_in, test}
 use Rattle.exchange_core.specs.Keeping.{intake_of, standing, into, IsSound, IsAfter, IsNumbered, IsAct}
 use Rattle.exchange_core.proofs.Step.{silent, kept_next, written_next, MaySayNext}
 use Rattle.exchange_core.proofs.ActsReport.{each, left_by, trade_reports, cancel_rest_reports, reject_reports, bust_reports}

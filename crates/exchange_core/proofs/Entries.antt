@@ -1,5 +1,5 @@
 -- Entries of lists that grow at their end.
-use Rattle.std.proofs.Common.{◌≡◌, ℕ, zero, suc, Bool, true, false, List, [], ◌∷◌, ◌++◌, length, map, Some, refl, if◌then◌else◌}
+use Rattle.std.proofs.Common.{◌≡◌, suc, Bool, true, false, List, [], ◌∷◌, ◌++◌, length, map, Some, refl, if◌then◌else◌}
 use Rattle.leg.specs.Numbered.{numbered}
 
 -- a choice by a test has what both choices have

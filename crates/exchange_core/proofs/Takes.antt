@@ -1,16 +1,16 @@
 -- What the exchange does with a message is what the rules allow.
-use Rattle.std.proofs.Common.{◌≡◌, ◌==◌, ℕ, suc, ◌≤◌, ◌<◌, max, Bool, true, false, ◌&&◌, nat_le, nat_lt, inl, inr, List, [], ◌∷◌, ◌++◌, length, map, Option, Some, None, Ok, Err, refl, sym, ap, ◌∙◌, if◌then◌else◌, arith}
+use Rattle.std.proofs.Common.{◌≡◌, ◌==◌, ℕ, suc, ◌≤◌, ◌<◌, max, Bool, true, false, ◌&&◌, nat_le, nat_lt, inl, inr, List, [], ◌∷◌, ◌++◌, length, map, Option, Some, None, Ok, Err, refl, sym, ap, if◌then◌else◌, arith}
 use Rattle.std.specs.List.{All}
 use Rattle.std.proofs.lemmas.Bool.{and_parts}
 use Rattle.std.proofs.lemmas.Bool.Decides.{nat_tests}
-use Rattle.std.proofs.lemmas.List.{map-append, append-nil, length-map}
+use Rattle.std.proofs.lemmas.List.{map-append, length-map}
 use Rattle.std.proofs.lemmas.List.Elements.{All-nil, All-append}
 use Rattle.leg.specs.declared.leg.Leg.{Leg}
 use Rattle.dialect.specs.declared.fault.DialectFault.{DialectFault}
 use Rattle.dialect.specs.declared.report.ReportKind.TheVariants.{New}
 use Rattle.dialect.specs.Addressed.{is_for}
 use Rattle.dialect.specs.Message.{Content, Message, Logon, Heartbeat, TestRequest, ResendRequest, Reject, GapFill, Logout, Order, OrderReport}
-use Rattle.exchange_core.specs.Acceptance.{Carried, Intake, Standing, IsNewLogon, IsDue, IsOther, Takes, MayMove, Took, MayWrite, May, IsLast}
+use Rattle.exchange_core.specs.Acceptance.{Carried, Intake, Standing, IsDue, IsOther, Takes, MayMove, Took, MayWrite, May, IsLast}
 use Rattle.exchange_core.specs.Acceptance as rules
 use Rattle.exchange_core.specs.Order.{OrderParts, new_order, view_of}
 use Rattle.exchange_core.specs.Own.{Own, Admin, Reported, Refused, has_numbers}
@@ -79,8 +79,8 @@ module _ (x : ExchangeParts) (connection number : ℕ) (live : x.live ≡ Some c
       let legs : accepted_by y ≡ accepted_by x ++ leg ∷ [] = map-append (λ (order : OrderParts). order.leg) x.orders (new_order leg ∷ []) in
       let accepts : intake_of y ≡ record (intake_of x) { expected = suc x.expected; accepted = accepted_by x ++ leg ∷ [] } = ap (λ ls. let i : Intake = record (intake_of x) { expected = suc x.expected; accepted = ls } in i) legs in
       one x y coming entry connection (OrderReport (Ok report)) (moved content (intake_of y) (rules.order (is_due content) leg refl accepts)) refl
-          (rules.report report refl (record { place = length x.orders; leg = leg; there = numbered-seam (λ (order : OrderParts). order.leg) x.orders (new_order leg) []; same = refl }))
-          last.from (omega (arith, last.same)) (inl refl)
+      (rules.report report refl (record { place = length x.orders; leg = leg; there = numbered-seam (λ (order : OrderParts). order.leg) x.orders (new_order leg) []; same = refl }))
+      last.from (omega (arith, last.same)) (inl refl)
 
   due_keeps : (content : Content) → Keeps x (Some (in_connection connection number content)) connection (due_taken x content)
   due_keeps (Order (Ok leg)) = ordered leg

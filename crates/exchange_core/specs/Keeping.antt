@@ -1,7 +1,7 @@
 -- The exchange as the rules see it.
-use Rattle.std.specs.Prelude.{◌≡◌, suc, ◌∷◌, ◌⊎◌, Bool, true, false, ℕ, ◌≤◌, List, [], ◌++◌, length, map, Option, Some, None, Ok}
+use Rattle.std.specs.Prelude.{◌≡◌, suc, ◌∷◌, ◌⊎◌, ℕ, ◌≤◌, List, [], ◌++◌, length, map, Option, Some, None, Ok}
 use Rattle.leg.specs.declared.leg.Leg.{Leg}
-use Rattle.dialect.specs.Message.{Content, Message, Logon, Reject, GapFill, Logout, OrderReport}
+use Rattle.dialect.specs.Message.{Content, Message, Reject, GapFill, Logout, OrderReport}
 use Rattle.exchange_core.specs.Acceptance.{Carried, Intake, Standing, LiveIsLast, May}
 use Rattle.exchange_core.specs.Own.{Own, Admin, Reported, Refused, next_number, exec_id}
 use Rattle.exchange_core.specs.Exchange.{ExchangeParts, Answer, accepted_by}

@@ -1,6 +1,6 @@
 -- The exchange's own numbers: what each was used for, and what a resend request is answered with (FIX 4.4 Volume 2,
 -- "Resend Request" and "Sequence Reset").
-use Rattle.std.specs.Prelude.{ℕ, suc, ◌+◌, ◌-◌, min, Bool, true, false, ◌&&◌, ◌||◌, List, [], ◌∷◌, ◌++◌, length, take, drop, codes, decimal, Option, Some, None, Ok, ◌==◌, nat_le, if◌then◌else◌}
+use Rattle.std.specs.Prelude.{ℕ, suc, ◌+◌, ◌-◌, Bool, true, List, [], ◌∷◌, ◌++◌, length, take, drop, codes, decimal, Option, Some, None, Ok, nat_le, if◌then◌else◌}
 use Rattle.fix_tags.specs.Config.{ConfigParts}
 use Rattle.fix_tags.specs.Range.{range_end, is_range}
 use Rattle.dialect.specs.declared.report.Report.{Report}

@@ -1,5 +1,5 @@
 -- What is written in the book: the sweeps that were opened, the legs that were withdrawn, and the notes of each venue.
-use Rattle.std.specs.Prelude.{ℕ, zero, suc, Bool, false, ◌&&◌, ◌||◌, List, [], ◌∷◌, Option, Some, None, option_and_then, slice_get, sum_by, ◌==◌, bytes_eq, if◌then◌else◌}
+use Rattle.std.specs.Prelude.{ℕ, Bool, false, ◌&&◌, ◌||◌, List, [], ◌∷◌, Option, Some, None, option_and_then, sum_by, ◌==◌, bytes_eq, if◌then◌else◌}
 use Rattle.leg.specs.LegId.{LegIdParts}
 use Rattle.leg.specs.Numbered.{numbered}
 use Rattle.leg.specs.declared.sweep.Routed.{Routed}
