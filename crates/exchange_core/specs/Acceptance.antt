@@ -2,6 +2,7 @@
 -- "Ordered Message Processing", "Logon", "Test Request", "Resend Request", "Sequence Reset" and "Logout").
 use Rattle.std.specs.Prelude.{◌≡◌, ◌==◌, if◌then◌else◌, ℕ, suc, ◌+◌, ◌<◌, ◌≤◌, max, ◌⊎◌, Bool, List, [], ◌∷◌, ◌++◌, length, Option, Some, None, Result, Ok, Err, All, Contains, slice_get}
 use Rattle.leg.specs.declared.leg.Leg.{Leg}
+use Rattle.leg.specs.Growing.{Grew}
 use Rattle.leg.specs.LegId.{LegIdParts}
 use Rattle.leg.specs.Numbered.{numbered}
 use Rattle.dialect.specs.declared.fault.DialectFault.{DialectFault}
@@ -202,4 +203,4 @@ pub record May (s : Standing) (coming : Option Carried) (t : Standing) (written 
 pub record IsForward (s t : Intake) : Type 0 where
   pub expected : s.expected ≤ t.expected
   pub last : s.last ≤ t.last
-  pub accepted : (more : List Leg) × (t.accepted ≡ s.accepted ++ more)
+  pub accepted : Grew s.accepted t.accepted

@@ -1,6 +1,6 @@
 -- The exchange as the rules see it.
 use Rattle.std.specs.Prelude.{◌≡◌, suc, ◌∷◌, ◌⊎◌, ℕ, ◌≤◌, List, [], ◌++◌, length, map, Option, Some, None, Ok}
-use Rattle.leg.specs.declared.leg.Leg.{Leg}
+use Rattle.leg.specs.Growing.{Grew}
 use Rattle.dialect.specs.Message.{Content, Message, Reject, GapFill, Logout, OrderReport}
 use Rattle.exchange_core.specs.Acceptance.{Carried, Intake, Standing, LiveIsLast, May}
 use Rattle.exchange_core.specs.Own.{Own, Admin, Reported, Refused, next_number, exec_id}
@@ -45,7 +45,7 @@ pub record IsAfter (x y : ExchangeParts) : Type 0 where
   pub config : y.config ≡ x.config
   pub expected : x.expected ≤ y.expected
   pub last : x.last ≤ y.last
-  pub accepted : (more : List Leg) × (accepted_by y ≡ accepted_by x ++ more)
+  pub accepted : Grew (accepted_by x) (accepted_by y)
   pub own : (more : List Own) × (y.own ≡ x.own ++ more) × (length more ≤ 2)
 
 -- every own number used is below the one that no message may have

@@ -3,6 +3,7 @@
 ghost use Rattle.std.specs.Prelude.{◌≡◌, ◌+◌, ◌++◌, ◌≤◌, ℕ, false, List, [], Option, None, Some, IfOk};
 ghost use Rattle.dialect.specs.Message.{Content, Message, is_logon};
 ghost use Rattle.fix_tags.specs.Config.{ConfigParts, IsConfig};
+ghost use Rattle.leg.specs.Growing.{Grew};
 ghost use Rattle.leg.specs.declared.leg.Leg.{Leg};
 ghost use Rattle.exchange_core.specs.Acceptance.{Carried, Standing, opening, May, IsForward, LiveIsLast};
 ghost use Rattle.exchange_core.specs.Acts as acts;
@@ -50,7 +51,7 @@ pub fn the_rules_go_forward()
     ensures live { (s t : Standing) (coming : Option Carried) (written : List Carried) →
         May s coming t written → LiveIsLast s.intake → LiveIsLast t.intake }
     ensures own { (s t : Standing) (coming : Option Carried) (written : List Carried) →
-        May s coming t written → (more : List (Option Content)) × (t.own ≡ s.own ++ more) }
+        May s coming t written → Grew s.own t.own }
 {}
 
 /// The expected number stays one that a message may name.

@@ -7,3 +7,4 @@ pub mod Venue
 pub mod Sweep
 pub mod Split
 pub mod Numbered
+pub mod Growing

@@ -6,9 +6,10 @@ use Rattle.leg.specs.Numbered.{numbered}
 use Rattle.leg.specs.declared.leg_state.LegState.{LegState}
 use Rattle.leg.specs.declared.leg_state.LegState.TheVariants.{Queued, Doubt, Taken, Withdrawn}
 use Rattle.leg.proofs.Numbered.{numbered-append}
+use Rattle.leg.specs.Growing.{Grew}
 use Rattle.resend.specs.Log.{SentLeg, Entry, has_number, spend, is_doubt, settled_as, entry_settled, settled_where, take_below, give_up_from}
 use Rattle.resend.specs.Log.Entry.{Admin, Sent}
-use Rattle.resend.specs.Later.{MayBecome, IsLegLater, IsLater, IsAdded, WithdrawsNone}
+use Rattle.resend.specs.Later.{MayBecome, IsLegLater, IsLater, WithdrawsNone}
 
 -- a log is later than itself, and what is later than a later one is later
 pub later-refl : (log : List Entry) → IsLater log log
@@ -105,7 +106,7 @@ pub later-give_up_from : (number : ℕ) (log : List Entry) → IsLater log (give
 later-give_up_from number log = later-settled_where (λ n. nat_le number n) Withdrawn (inr refl) log
 
 -- logs to which numbers were added, or in which legs were taken, withdraw none
-pub later-added : (old new : List Entry) → IsAdded old new → IsLater old new
+pub later-added : (old new : List Entry) → Grew old new → IsLater old new
 later-added old new added = rw added.1 (later-append old added.0)
 
 pub withdraws_none-trans : (a b c : List Entry) → WithdrawsNone a b → WithdrawsNone b c → WithdrawsNone a c

@@ -1,5 +1,5 @@
 -- How the numbers sent go on from one log to a later one.
-use Rattle.std.specs.Prelude.{◌≡◌, ◌≢◌, ◌≤◌, ◌<◌, ◌⊎◌, ◌+◌, ℕ, Bool, true, false, ◌&&◌, List, [], ◌∷◌, ◌++◌, Some, if◌then◌else◌}
+use Rattle.std.specs.Prelude.{◌≡◌, ◌≢◌, ◌≤◌, ◌<◌, ◌⊎◌, ◌+◌, ℕ, Bool, true, false, ◌&&◌, List, [], ◌∷◌, Some, if◌then◌else◌}
 use Rattle.leg.specs.LegId.{LegIdParts}
 use Rattle.leg.specs.Numbered.{numbered}
 use Rattle.leg.specs.declared.leg_state.LegState.{LegState}
@@ -23,10 +23,6 @@ pub record IsLater (old new : List Entry) : Type 0 where
   pub admin : (number : ℕ) → numbered number old ≡ Some Admin → numbered number new ≡ Some Admin
   pub sent : (number : ℕ) (leg : SentLeg) → numbered number old ≡ Some (Sent leg)
       → (later : SentLeg) × (numbered number new ≡ Some (Sent later)) × IsLegLater leg later
-
--- numbers were added behind, and nothing else was changed
-abbrev pub IsAdded : List Entry → List Entry → Type 0
-IsAdded old new = (more : List Entry) × (new ≡ old ++ more)
 
 -- a leg that is withdrawn was so before: none was withdrawn since
 abbrev pub WithdrawsNone : List Entry → List Entry → Type 0

@@ -3,13 +3,14 @@ use Rattle.std.proofs.Common.{◌≡◌, ℕ, zero, suc, List, [], ◌∷◌, �
 use Rattle.std.specs.Prelude.{slice_get, slice_set}
 use Rattle.std.proofs.lemmas.Option.{same_Some}
 use Rattle.std.proofs.lemmas.List.{append-nil}
+use Rattle.leg.specs.Growing.{Grew}
 use Rattle.dialect.specs.declared.report.Report.{Report}
 use Rattle.exchange_core.specs.Own.{Own}
 use Rattle.exchange_core.specs.Own.Own.{Admin, Reported, Refused}
 use Rattle.exchange_core.specs.Exchange.{ExchangeParts, accepted_by}
 use Rattle.session_core.proofs.Adding.{onward-refl, onward-trans}
 use Rattle.schedule.specs.World.{World, VenueParts, reports_in}
-use Rattle.schedule.specs.Growing.{Grew, HasGrown, IsVenueLater, IsWorldLater}
+use Rattle.schedule.specs.Growing.{HasGrown, IsVenueLater, IsWorldLater}
 
 pub grew-same : {A : Type 0} (old new : List A) → new ≡ old → Grew old new
 grew-same old new same = ([], same ∙ sym (append-nil old))

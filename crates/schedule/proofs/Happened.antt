@@ -7,6 +7,7 @@ use Rattle.leg.specs.LegId.{LegIdParts}
 use Rattle.leg.specs.Numbered.{numbered}
 use Rattle.leg.specs.declared.placed_leg.PlacedLeg.{PlacedLeg}
 use Rattle.leg.specs.declared.sweep.Routed.{Routed}
+use Rattle.leg.specs.Growing.{Grew}
 use Rattle.dialect.specs.Message.{Message}
 use Rattle.session_core.specs.declared.session_fault.SessionFault.{SessionFault}
 use Rattle.session_core.specs.Session.{SessionParts, is_connected}
@@ -31,7 +32,7 @@ use Rattle.schedule.specs.declared.event.Event.{Event}
 use Rattle.schedule.specs.declared.event.Event.TheVariants as event
 use Rattle.schedule.specs.World.{World, VenueParts, Frame, venue_in}
 use Rattle.schedule.specs.Happening.{with_venue, at_venue, in_connection, session_wrote, exchange_wrote, is_session_up, released_world, dropped_world, sent_world, taken_world, may_connect, connected_world, to_exchange, session_turn, to_dispatcher, noted, act_of, acted_world, called_world, closed_world, connects, takes, goes_up, happens, run}
-use Rattle.schedule.specs.Growing.{named, Grew, HasGrown, IsVenueLater, IsWorldLater, IsUntouched}
+use Rattle.schedule.specs.Growing.{named, HasGrown, IsVenueLater, IsWorldLater, IsUntouched}
 use Rattle.schedule.proofs.Grown.{grew-same, grew-refl, grown-refl, venue_later-refl, world_later-refl, world_later-trans, slice_get-set_other, length-slice_set, venue_set}
 use Rattle.schedule.proofs.ExchangeGrows.{take_grows, drop_connection_grows, act_grows}
 use Rattle.schedule.proofs.DeskKeeps.{Keeps, keeps-refl, gate_up_keeps, gate_down_keeps, shut_keeps, take_keeps, drop_next_keeps}

@@ -1,12 +1,13 @@
 -- Parts of a turn that add numbers of the session, and nothing else.
 use Rattle.std.proofs.Common.{◌≡◌, ◌≤◌, ◌⊎◌, ◌+◌, ℕ, Bool, true, false, List, [], ◌∷◌, ◌++◌, length, Option, Some, None, refl, sym, ap, subst, ◌∙◌, inl, inr, append_assoc, length-append, if◌then◌else◌, arith}
 use Rattle.std.proofs.lemmas.List.{append-nil}
+use Rattle.leg.specs.Growing.{Grew}
 use Rattle.dialect.specs.Addressed.{message_of}
 use Rattle.dialect.specs.Message.{Message, Content}
 use Rattle.dialect.specs.Message.Content.{TestRequest, ResendRequest, GapFill}
 use Rattle.resend.specs.Log.{Entry, GapFillParts}
 use Rattle.resend.specs.Log.Entry.{Admin}
-use Rattle.resend.specs.Later.{IsLater, IsAdded, WithdrawsNone, withdrawn_since}
+use Rattle.resend.specs.Later.{IsLater, WithdrawsNone, withdrawn_since}
 use Rattle.resend.proofs.Later.{later-refl, later-trans, later-append, later-added, withdraws_none-trans, withdraws_none-admin}
 use Rattle.resend.proofs.Settled.{since-append}
 use Rattle.session_core.specs.declared.phase.Phase.{Phase}
@@ -194,13 +195,13 @@ received_by may s t u goes adds = record {
       });
 }
 
-added-one_more : (first old new : List Entry) → IsAdded first old → OneMore old new → IsAdded first new
+added-one_more : (first old new : List Entry) → Grew first old → OneMore old new → Grew first new
 added-one_more first old new added (inl same) = (added.0, same ∙ added.1)
 added-one_more first old new added (inr more) =
     (added.0 ++ Admin ∷ [], more ∙ (ap (λ log. log ++ Admin ∷ []) added.1 ∙ append_assoc first added.0 (Admin ∷ [])))
 
 -- where the log has numbers added, nothing else has to be said of it
-pub keeps_with : (s t : SessionParts) → t.config ≡ s.config → IsAdded s.log t.log → s.connection ≤ t.connection → s.expected ≤ t.expected → (s.close_asked ≡ true → t.close_asked ≡ true) → KeepsLegs s t
+pub keeps_with : (s t : SessionParts) → t.config ≡ s.config → Grew s.log t.log → s.connection ≤ t.connection → s.expected ≤ t.expected → (s.close_asked ≡ true → t.close_asked ≡ true) → KeepsLegs s t
 keeps_with s t config added connection expected close_asked = record {
   onward = record { config = config; log = later-added s.log t.log added; connection = connection; expected = expected; close_asked = close_asked };
   added = added;

@@ -3,12 +3,13 @@ use Rattle.std.specs.Prelude.{◌≡◌, ◌≤◌, ◌<◌, ◌+◌, ◌⊎◌,
 use Rattle.leg.specs.Numbered.{numbered}
 use Rattle.leg.specs.declared.leg.Leg.{Leg}
 use Rattle.leg.specs.declared.leg_state.LegState.TheVariants.{Doubt}
+use Rattle.leg.specs.Growing.{Grew}
 use Rattle.dialect.specs.Addressed.{message_of}
 use Rattle.dialect.specs.Message.{Message, Content}
 use Rattle.dialect.specs.Message.Content.{Logon, Heartbeat, TestRequest, ResendRequest, Reject, GapFill, Reset, Logout, BusinessReject, Order, OrderReport, Other}
 use Rattle.resend.specs.Log.{GapFillParts, last_ordinal}
 use Rattle.resend.specs.Log.Entry.{Sent}
-use Rattle.resend.specs.Later.{IsLater, IsAdded, WithdrawsNone, withdrawn_since}
+use Rattle.resend.specs.Later.{IsLater, WithdrawsNone, withdrawn_since}
 use Rattle.session_core.specs.declared.phase.Phase.TheVariants.{Down, LoggingOn, Up}
 use Rattle.session_core.specs.Session.{SessionParts, is_logging_on, is_settling, next_out}
 use Rattle.session_core.specs.Turn.{Turn}
@@ -26,7 +27,7 @@ pub record IsOnward (before after : SessionParts) : Type 0 where
 -- onward, and each leg that was sent is as it was: numbers were only added
 pub record KeepsLegs (before after : SessionParts) : Type 0 where
   pub onward : IsOnward before after
-  pub added : IsAdded before.log after.log
+  pub added : Grew before.log after.log
 
 -- the numbers of messages that were written for the first time; a gap fill comes as a possible duplicate, under a number that was spent before
 abbrev pub new_numbers : List Message → List ℕ
