@@ -38,4 +38,6 @@ pub mod Coded
 pub mod CodedLaws
 pub mod Any
 pub mod AnyLaws
+pub mod DialectName
 pub mod Message
+pub mod Addressed

@@ -1,5 +1,5 @@
 -- A message as a session and an exchange understand it: an envelope whose application fields the dialect has read.
-use Rattle.std.specs.Prelude.{ℕ, Bool, List, [], ◌∷◌, Option, Result, ◌==◌, if◌then◌else◌}
+use Rattle.std.specs.Prelude.{ℕ, Bool, true, false, List, [], ◌∷◌, Option, Result, ◌==◌, if◌then◌else◌}
 use Rattle.fix_text.specs.Tagged.{Tagged}
 use Rattle.fix_tags.specs.declared.body.Body.{Body}
 use Rattle.fix_tags.specs.declared.body.Body.TheVariants as body
@@ -25,6 +25,21 @@ pub data Content : Type 0 where
   OrderReport : (read : Result Report DialectFault) → Content
   -- one of another kind
   Other : Content
+
+-- whether it is a Logon
+abbrev pub is_logon : Content → Bool
+is_logon (Logon heart reset next) = true
+is_logon (Heartbeat id) = false
+is_logon (TestRequest id) = false
+is_logon (ResendRequest begin last) = false
+is_logon (Reject number) = false
+is_logon (GapFill new_number) = false
+is_logon (Reset new_number) = false
+is_logon Logout = false
+is_logon (BusinessReject number) = false
+is_logon (Order read) = false
+is_logon (OrderReport read) = false
+is_logon Other = false
 
 pub record Message : Type 0 where
   -- SenderCompID (49) and TargetCompID (56)

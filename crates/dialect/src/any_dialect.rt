@@ -1,5 +1,8 @@
 //! Any of the dialects, where it is known only when the program runs which one it is.
 
+ghost use Rattle.std.specs.Prelude.{◌≡◌};
+ghost use Rattle.dialect.specs.DialectName.{dialect_named};
+
 use crate::coded::Coded;
 use crate::fault::DialectFault;
 use crate::plain::Plain;
@@ -15,6 +18,20 @@ pub enum AnyDialect {
     Plain,
     Split4,
     Coded,
+}
+
+impl AnyDialect {
+    /// The dialect of a name: `plain`, `split` or `coded`.
+    pub fn named(name: &str) -> Option<AnyDialect>
+        ensures { result ≡ dialect_named name.now }
+    {
+        match name {
+            "plain" => Some(AnyDialect::Plain),
+            "split" => Some(AnyDialect::Split4),
+            "coded" => Some(AnyDialect::Coded),
+            _ => None,
+        }
+    }
 }
 
 impl Spelling for AnyDialect {

@@ -1,2 +1,1 @@
 pub mod OrderFrame
-pub mod DialectName

@@ -1,44 +1,28 @@
 -- What the exchange does by itself is what the rules allow.
-use Rattle.std.proofs.Common.{◌≡◌, ◌==◌, ℕ, zero, suc, ◌+◌, ◌≤◌, Bool, true, false, not, ◌||◌, nat_lt, inl, inr, List, [], ◌∷◌, ◌++◌, map, Option, Some, None, Result, Ok, Err, IfOk, refl, sym, ap, subst, ◌∙◌, arith, length-append}
+use Rattle.std.proofs.Common.{◌≡◌, ℕ, zero, suc, ◌+◌, ◌≤◌, true, inl, inr, List, [], ◌∷◌, ◌++◌, map, Option, Some, None, Result, Ok, Err, IfOk, refl, sym, ap, subst, ◌∙◌, arith, length-append}
 use Rattle.std.specs.List.{All}
-use Rattle.std.specs.Option.{ok_or, option_map}
+use Rattle.std.specs.Option.{option_map}
 use Rattle.std.proofs.lemmas.Bool.Decides.{nat_tests}
 use Rattle.std.proofs.lemmas.List.Elements.{All-nil}
-use Rattle.std.proofs.lemmas.Option.{slice_get-map, same_Some}
+use Rattle.std.proofs.lemmas.Option.{slice_get-map}
+use Rattle.leg.specs.Numbered.{numbered}
 use Rattle.leg.specs.declared.leg.Leg.{Leg}
 use Rattle.dialect.specs.declared.report.ReportKind.{ReportKind}
-use Rattle.dialect.specs.declared.report.ReportKind.TheVariants.{Trade, Canceled, Rejected, Bust}
 use Rattle.dialect.specs.Message.{Content, TestRequest, OrderReport}
 use Rattle.exchange_core.specs.declared.exchange_fault.ExchangeFault.{ExchangeFault}
-use Rattle.exchange_core.specs.declared.exchange_fault.ExchangeFault.TheVariants.{NoSuchOrder, TooManyShares, Done, NumbersSpent, NotCancelled}
-use Rattle.exchange_core.specs.Acceptance.{Carried, Intake, Standing, IsAccepted, MayKeep, MayWrite, May, IsLast}
+use Rattle.exchange_core.specs.Acceptance.{Intake, IsAccepted, MayWrite, May, IsLast}
 use Rattle.exchange_core.specs.Acceptance as rules
-use Rattle.exchange_core.specs.Places.{entry_at, with_entry}
-use Rattle.exchange_core.specs.Order.{OrderParts, Ending, ByCancel, ByReject, traded, ended_by, busted_at, is_cancelled, view_of}
-use Rattle.exchange_core.specs.Own.{Own, Admin, Reported, next_number, has_numbers, next_exec, exec_id}
-use Rattle.exchange_core.specs.Exchange.{ExchangeParts, Answer, next_report, next_message, drop_connection}
-use Rattle.exchange_core.specs.Acts.{◌>>=◌, refused_if, while_live, reported, order_at, trade_at, number_left, trade, ended, cancel_rest, reject, bust, test_id, tested, test_in, test}
-use Rattle.exchange_core.specs.Keeping.{intake_of, standing, into, IsSound, legs_of, IsAfter, IsNumbered, IsAct}
+use Rattle.exchange_core.specs.Order.{OrderParts, view_of}
+use Rattle.exchange_core.specs.Own.{Own, Admin, Reported, next_number, has_numbers}
+use Rattle.exchange_core.specs.Exchange.{ExchangeParts, Answer, next_report, next_message, drop_connection, accepted_by}
+use Rattle.exchange_core.specs.Acts.{while_live, reported, number_left, trade, cancel_rest, reject, bust, test_id, tested, test_in, test}
+use Rattle.exchange_core.specs.Keeping.{intake_of, standing, into, IsSound, IsAfter, IsNumbered, IsAct}
 use Rattle.exchange_core.proofs.Step.{silent, kept_next, written_next, MaySayNext}
-use Rattle.exchange_core.proofs.Takes.{after_same, after_used}
-
--- one refusal after the other
-pub each : {A B : Type 0} (P : B → Type 0) (r : Result A ExchangeFault) (f : A → Result B ExchangeFault) → ((a : A) → r ≡ Ok a → IfOk (f a) P) → IfOk (r >>= f) P
-each P (Ok a) f holds = holds a refl
-each P (Err fault) f holds = tt
-
--- the legs stay where an order is replaced by one of the same leg
-pub legs_kept : (orders : List OrderParts) (place : ℕ) (old new : OrderParts) → entry_at place orders ≡ Some old → new.leg ≡ old.leg → map (λ (o : OrderParts). o.leg) (with_entry place new orders) ≡ map (λ (o : OrderParts). o.leg) orders
-legs_kept orders zero old new there same = refl
-legs_kept [] (suc i) old new there same = cc
-legs_kept (o ∷ orders) (suc zero) old new there same =
-    let is : o ≡ old = same_Some o old there in
-    let leg : new.leg ≡ o.leg = same ∙ ap (λ (o : OrderParts). o.leg) (sym is) in
-    ap (λ (leg : Leg). leg ∷ map (λ (o : OrderParts). o.leg) orders) leg
-legs_kept (o ∷ orders) (suc (suc i)) old new there same = ap (λ (legs : List Leg). o.leg ∷ legs) (legs_kept orders (suc i) old new there same)
+use Rattle.exchange_core.proofs.ActsReport.{each, left_by, trade_reports, cancel_rest_reports, reject_reports, bust_reports}
+use Rattle.exchange_core.proofs.After.{after-refl, legs_kept, reported_after, tested_after}
 
 -- the leg of an order at a place is accepted
-pub is_accepted : (orders : List OrderParts) (place : ℕ) (order : OrderParts) → entry_at place orders ≡ Some order → IsAccepted (map (λ (o : OrderParts). o.leg) orders) order.leg.id
+pub is_accepted : (orders : List OrderParts) (place : ℕ) (order : OrderParts) → numbered place orders ≡ Some order → IsAccepted (map (λ (o : OrderParts). o.leg) orders) order.leg.id
 is_accepted orders zero order there = cc
 is_accepted orders (suc i) order there = record {
   place = i;
@@ -58,67 +42,37 @@ written_live x y entry said (Some connection) sound live last own says =
 one_more : (own : List Own) (entry : Own) (max_number : ℕ) → next_number own + 1 ≤ max_number → next_number (own ++ entry ∷ []) ≤ max_number
 one_more own entry max_number left = omega (arith, length-append own (entry ∷ []))
 
--- a number was left
-left_by : (b : Bool) (u : Unit {0}) → refused_if (not b) NumbersSpent ≡ Ok u → b ≡ true
-left_by true u ok = refl
-left_by false u ok = cc
-
 -- a report on an order at a place
-pub reported_keeps : (x : ExchangeParts) (place : ℕ) (old new : OrderParts) (kind : ReportKind) → IsSound x → entry_at place x.orders ≡ Some old → new.leg ≡ old.leg → has_numbers 1 x.config x.own ≡ true → IsAct x (reported x place new kind)
+pub reported_keeps : (x : ExchangeParts) (place : ℕ) (old new : OrderParts) (kind : ReportKind) → IsSound x → numbered place x.orders ≡ Some old → new.leg ≡ old.leg → has_numbers 1 x.config x.own ≡ true → IsAct x (reported x place new kind)
 reported_keeps x place old new kind sound there same left =
     let y : ExchangeParts = (reported x place new kind).0 in
     let report = next_report x new kind in
     let entry : Own = Reported report (view_of place new) in
-    let legs : legs_of y ≡ legs_of x = legs_kept x.orders place old new there same in
+    let legs : accepted_by y ≡ accepted_by x = legs_kept x.orders place old new there same in
     let stays : intake_of y ≡ intake_of x = ap (λ ls. let i : Intake = record (intake_of x) { accepted = ls } in i) legs in
-    let accepted : IsAccepted (legs_of x) new.leg.id = subst (λ (leg : Leg). IsAccepted (legs_of x) leg.id) (sym same) (is_accepted x.orders place old there) in
+    let accepted : IsAccepted (accepted_by x) new.leg.id = subst (λ (leg : Leg). IsAccepted (accepted_by x) leg.id) (sym same) (is_accepted x.orders place old there) in
     record {
       allowed = kept_next x y None entry (into x.live (while_live x.live (next_message x (OrderReport (Ok report)) ∷ [])))
           (rules.stays stays) refl
           (rules.report report refl (subst (λ ls. IsAccepted ls new.leg.id) (sym legs) accepted))
           (written_live x y entry (OrderReport (Ok report)) x.live sound refl refl refl (λ connection. inl refl));
-      after = after_used x y (entry ∷ []) refl (omega arith) (omega arith) legs refl (omega arith);
+      after = reported_after x place old new kind there same;
       taken = stays;
       sound = sound;
       numbered = λ _. one_more x.own entry x.config.max_number (grind (arith, nat_tests, left));
     }
 
-order_there : (x : ExchangeParts) (place : ℕ) (order : OrderParts) (o : Option OrderParts) → entry_at place x.orders ≡ o → ok_or o NoSuchOrder ≡ Ok order → entry_at place x.orders ≡ Some order
-order_there x place order None is ok = cc
-order_there x place order (Some old) is ok = is ∙ cc
-
--- what is at a place
-pub at_place : (x : ExchangeParts) (place : ℕ) (order : OrderParts) → order_at x place ≡ Ok order → entry_at place x.orders ≡ Some order
-at_place x place order is = order_there x place order (entry_at place x.orders) refl is
-
 pub trade_keeps : (x : ExchangeParts) (place shares : ℕ) (px : List ℕ) → IsSound x → IfOk (trade x place shares px) (IsAct x)
-trade_keeps x place shares px sound =
-    each (IsAct x) (order_at x place) _
-    (λ order is. each (IsAct x) (refused_if (order.still_open == 0) Done) _
-    (λ going _. each (IsAct x) (refused_if (shares == 0 || nat_lt order.still_open shares) TooManyShares) _
-    (λ enough _. each (IsAct x) (number_left x) _
-    (λ number left. reported_keeps x place order (traded order shares (next_exec x.own)) (Trade (record { shares = shares; px = px })) sound (at_place x place order is) refl (left_by (has_numbers 1 x.config x.own) number left)))))
-
-ended_keeps : (x : ExchangeParts) (place : ℕ) (ending : Ending) (kind : ReportKind) → IsSound x → IfOk (ended x place ending kind) (IsAct x)
-ended_keeps x place ending kind sound =
-    each (IsAct x) (order_at x place) _
-    (λ order is. each (IsAct x) (refused_if (order.still_open == 0) Done) _
-    (λ going _. each (IsAct x) (number_left x) _
-    (λ number left. reported_keeps x place order (ended_by ending order) kind sound (at_place x place order is) refl (left_by (has_numbers 1 x.config x.own) number left))))
+trade_keeps x place shares px sound = trade_reports x (IsAct x) (λ place old new kind there same left. reported_keeps x place old new kind sound there same left) place shares px
 
 pub cancel_rest_keeps : (x : ExchangeParts) (place : ℕ) → IsSound x → IfOk (cancel_rest x place) (IsAct x)
-cancel_rest_keeps x place sound = ended_keeps x place ByCancel Canceled sound
+cancel_rest_keeps x place sound = cancel_rest_reports x (IsAct x) (λ place old new kind there same left. reported_keeps x place old new kind sound there same left) place
 
 pub reject_keeps : (x : ExchangeParts) (place : ℕ) → IsSound x → IfOk (reject x place) (IsAct x)
-reject_keeps x place sound = ended_keeps x place ByReject Rejected sound
+reject_keeps x place sound = reject_reports x (IsAct x) (λ place old new kind there same left. reported_keeps x place old new kind sound there same left) place
 
 pub bust_keeps : (x : ExchangeParts) (place which : ℕ) → IsSound x → IfOk (bust x place which) (IsAct x)
-bust_keeps x place which sound =
-    each (IsAct x) (order_at x place) _
-    (λ order is. each (IsAct x) (refused_if (not (is_cancelled order.ended)) NotCancelled) _
-    (λ cancelled _. each (IsAct x) (trade_at order which) _
-    (λ trade _. each (IsAct x) (number_left x) _
-    (λ number left. reported_keeps x place order (busted_at which trade order) (Bust (exec_id trade.exec)) sound (at_place x place order is) refl (left_by (has_numbers 1 x.config x.own) number left)))))
+bust_keeps x place which sound = bust_reports x (IsAct x) (λ place old new kind there same left. reported_keeps x place old new kind sound there same left) place which
 
 -- the same, for the connection that is live
 record TestKeeps (x : ExchangeParts) (live : Option ℕ) (a : Answer) : Type 0 where
@@ -131,7 +85,7 @@ record TestKeeps (x : ExchangeParts) (live : Option ℕ) (a : Answer) : Type 0 w
 test_keeps_in : (x : ExchangeParts) (live : Option ℕ) → IsSound x → x.live ≡ live → IfOk (test_in live x) (TestKeeps x live)
 test_keeps_in x None sound is = record {
   allowed = silent x x None (rules.stays refl) refl;
-  after = after_same x x refl (omega arith) (omega arith) refl refl;
+  after = after-refl x;
   taken = refl;
   sound = sound;
   numbered = λ numbered. numbered;
@@ -144,7 +98,7 @@ test_keeps_in x (Some connection) sound is =
     record {
       allowed = kept_next x y None Admin (into (Some connection) (next_message x said ∷ [])) (rules.stays refl) refl (rules.plain refl)
           (written_live x y Admin said (Some connection) sound is refl refl (λ c. inr (refl, rules.test (test_id (next_number x.own)) refl)));
-      after = after_used x y (Admin ∷ []) refl (omega arith) (omega arith) refl refl (omega arith);
+      after = tested_after x;
       taken = refl;
       sound = sound;
       numbered = λ _. one_more x.own Admin x.config.max_number (grind (arith, nat_tests, left_by (has_numbers 1 x.config x.own) number left));

@@ -1,9 +1,10 @@
 -- What the end of a connection and a Logout leave.
 use Rattle.std.proofs.Common.{◌≡◌, ◌==◌, ℕ, Bool, true, false, ◌&&◌, nat_lt, nat_le, inl, inr, [], ◌∷◌, ◌++◌, Option, Some, None, Ok, Err, refl, if◌then◌else◌}
-use Rattle.dialect.specs.Message.{Content, Message, Logon, TestRequest, GapFill, Logout, Order}
+use Rattle.dialect.specs.Addressed.{is_for}
+use Rattle.dialect.specs.Message.{Content, Message, Logon, TestRequest, GapFill, Logout, Order, is_logon}
 use Rattle.exchange_core.specs.Own.{Admin, has_numbers}
-use Rattle.exchange_core.specs.Exchange.{ExchangeParts, Answer, next_message, request, logon_taken, logon_answer, with_connection, due_taken, ahead, by_number, received, is_connection, comes, is_for, take}
-use Rattle.exchange_core.specs.Keeping.{is_logon, IsMarked}
+use Rattle.exchange_core.specs.Exchange.{ExchangeParts, Answer, next_message, request, logon_taken, logon_answer, with_connection, due_taken, ahead, by_number, received, is_connection, comes, take}
+use Rattle.exchange_core.specs.Keeping.{IsMarked}
 use Rattle.exchange_core.proofs.Entries.{chosen}
 
 not_live : (live : Option ℕ) (connection : ℕ) → live ≡ None → is_connection live connection ≡ false

@@ -3,16 +3,17 @@ use Rattle.std.proofs.Common.{◌≡◌, ◌==◌, ℕ, suc, ◌+◌, Bool, true
 use Rattle.dialect.specs.declared.report.Report.{Report}
 use Rattle.dialect.specs.declared.report.ReportKind.{ReportKind}
 use Rattle.dialect.specs.declared.report.ReportKind.TheVariants.{New, Trade, Canceled, Rejected, Bust}
+use Rattle.dialect.specs.Addressed.{is_for}
 use Rattle.dialect.specs.OrderView.{OrderViewParts}
 use Rattle.dialect.specs.Message.{Content, Message, Logon, TestRequest, GapFill, Logout, Order}
 use Rattle.exchange_core.specs.declared.exchange_fault.ExchangeFault.TheVariants.{TooManyShares, Done, NotCancelled}
 use Rattle.exchange_core.specs.Order.{OrderParts, Ending, ByCancel, ByReject, new_order, traded, ended_by, busted_at, is_cancelled, view_of}
 use Rattle.exchange_core.specs.Own.{Own, Admin, Reported, Refused, report_count, has_numbers, next_exec, exec_id}
-use Rattle.exchange_core.specs.Exchange.{ExchangeParts, Answer, next_report, next_message, request, logon_taken, logon_answer, with_connection, due_taken, ahead, by_number, received, is_connection, comes, is_for, take}
+use Rattle.exchange_core.specs.Exchange.{ExchangeParts, Answer, next_report, next_message, request, logon_taken, logon_answer, with_connection, due_taken, ahead, by_number, received, is_connection, comes, take}
 use Rattle.exchange_core.specs.Acts.{refused_if, order_at, trade_at, number_left, trade, ended, cancel_rest, reject, bust, test_in, test}
 use Rattle.exchange_core.specs.Keeping.{AreCounted}
 use Rattle.exchange_core.proofs.Entries.{chosen}
-use Rattle.exchange_core.proofs.ActsKeep.{each}
+use Rattle.exchange_core.proofs.ActsReport.{each}
 
 -- a number that carries no report
 more_admin : (count : ℕ) (own : List Own) → AreCounted count own → AreCounted count (own ++ Admin ∷ [])

@@ -1,4 +1,6 @@
 pub mod Entries
+pub mod ActsReport
+pub mod After
 pub mod Step
 pub mod Resends
 pub mod Takes

@@ -7,26 +7,27 @@ use Rattle.std.proofs.lemmas.List.{map-append}
 use Rattle.std.proofs.lemmas.List.Elements.{All-nil, All-cons, All-append}
 use Rattle.std.proofs.lemmas.Option.{slice_get_within}
 use Rattle.fix_tags.specs.Config.{ConfigParts}
+use Rattle.fix_tags.specs.Range.{range_end, is_range}
+use Rattle.leg.specs.Numbered.{numbered}
 use Rattle.dialect.specs.Message.{Content, Message, GapFill, Reject, OrderReport}
 use Rattle.exchange_core.specs.Acceptance.{Carried, Standing, fill, MayWrite}
-use Rattle.exchange_core.specs.Own.{Own, Admin, Reported, Refused, again, closing_fill, run_from, resent, range_end, is_range, answer_to}
+use Rattle.exchange_core.specs.Own.{Own, Admin, Reported, Refused, again, closing_fill, run_from, resent, answer_to}
 use Rattle.exchange_core.specs.Keeping.{kept, carried}
-use Rattle.exchange_core.specs.Places.{entry_at}
-use Rattle.exchange_core.proofs.Entries.{chosen, entry_at-seam}
+use Rattle.exchange_core.proofs.Entries.{chosen, numbered-seam}
 
 -- the own numbers from this one on carry what these entries do
 abbrev pub AreFrom : List (Option Content) → ℕ → List Own → Type 0
 AreFrom own number [] = Unit {0}
-AreFrom own number (entry ∷ entries) = (entry_at number own ≡ Some (kept entry)) × AreFrom own (suc number) entries
+AreFrom own number (entry ∷ entries) = (numbered number own ≡ Some (kept entry)) × AreFrom own (suc number) entries
 
 -- a number that is used is at most the last one
-pub used : (own : List (Option Content)) (number : ℕ) (entry : Option Content) → entry_at number own ≡ Some entry → number ≤ length own
+pub used : (own : List (Option Content)) (number : ℕ) (entry : Option Content) → numbered number own ≡ Some entry → number ≤ length own
 used own zero entry there = omega arith
 used own (suc before) entry there = let within = slice_get_within own before entry there in omega (arith, within)
 
 -- no number of these carries anything
 abbrev pub ArePlain : List (Option Content) → ℕ → ℕ → Type 0
-ArePlain own first end = (number : ℕ) → first ≤ number → number < end → entry_at number own ≡ Some None
+ArePlain own first end = (number : ℕ) → first ≤ number → number < end → numbered number own ≡ Some None
 
 -- an open run of numbers that carry nothing
 abbrev pub IsRun : List (Option Content) → Option ℕ → ℕ → Type 0
@@ -53,22 +54,22 @@ module _ (s : Standing) (coming : Option Carried) (t : Standing) (connection : �
   closing_written (Some first) number is = All-cons (MayWrite s coming t) (carried connection (again config first (GapFill number))) [] (fill_written first number is) (All-nil (MayWrite s coming t))
 
   -- a report or a refusal, again
-  again_written : (number : ℕ) (content : Content) → entry_at number t.own ≡ Some (Some content) → MayWrite s coming t (carried connection (again config number content))
+  again_written : (number : ℕ) (content : Content) → numbered number t.own ≡ Some (Some content) → MayWrite s coming t (carried connection (again config number content))
   again_written number content there = record { from = from; to = to; content = inl there }
 
-  longer_by : (first number k : ℕ) → ArePlain t.own first number → entry_at number t.own ≡ Some None → first ≤ k → k < suc number → (k < number) ⊎ (k ≡ number) → entry_at k t.own ≡ Some None
+  longer_by : (first number k : ℕ) → ArePlain t.own first number → numbered number t.own ≡ Some None → first ≤ k → k < suc number → (k < number) ⊎ (k ≡ number) → numbered k t.own ≡ Some None
   longer_by first number k plain here low high (inl below) = plain k low below
-  longer_by first number k plain here low high (inr same) = subst (λ n. entry_at n t.own ≡ Some None) (sym same) here
+  longer_by first number k plain here low high (inr same) = subst (λ n. numbered n t.own ≡ Some None) (sym same) here
 
-  longer : (run : Option ℕ) (number : ℕ) → IsRun t.own run number → entry_at number t.own ≡ Some None → IsRun t.own (Some (run_from run number)) (suc number)
+  longer : (run : Option ℕ) (number : ℕ) → IsRun t.own run number → numbered number t.own ≡ Some None → IsRun t.own (Some (run_from run number)) (suc number)
   longer None number is here =
       let last = used t.own number None here in
-      (omega arith, λ k low high. (let same : k ≡ number = omega arith in subst (λ n. entry_at n t.own ≡ Some None) (sym same) here), omega (arith, last))
+      (omega arith, λ k low high. (let same : k ≡ number = omega arith in subst (λ n. numbered n t.own ≡ Some None) (sym same) here), omega (arith, last))
   longer (Some first) number is here =
       let last = used t.own number None here in
       (omega (arith, is.0), λ k low high. longer_by first number k is.1 here low high (below_suc k number high), omega (arith, last))
 
-  closed_then : (run : Option ℕ) (number : ℕ) (content : Content) (more : List Message) → IsRun t.own run number → entry_at number t.own ≡ Some (Some content) → All (MayWrite s coming t) (map (carried connection) more) → All (MayWrite s coming t) (map (carried connection) (closing_fill config run number ++ again config number content ∷ more))
+  closed_then : (run : Option ℕ) (number : ℕ) (content : Content) (more : List Message) → IsRun t.own run number → numbered number t.own ≡ Some (Some content) → All (MayWrite s coming t) (map (carried connection) more) → All (MayWrite s coming t) (map (carried connection) (closing_fill config run number ++ again config number content ∷ more))
   closed_then run number content more is here rest =
       subst (All (MayWrite s coming t)) (sym (map-append (carried connection) (closing_fill config run number) (again config number content ∷ more)))
       (All-append (MayWrite s coming t) (map (carried connection) (closing_fill config run number)) (carried connection (again config number content) ∷ map (carried connection) more)
@@ -90,7 +91,7 @@ are_from front (entry ∷ entries) back =
     let more : AreFrom (map kept (front ++ entry ∷ [] ++ (entries ++ back))) (suc (length (front ++ entry ∷ []))) entries = are_from (front ++ entry ∷ []) entries back in
     let shape : front ++ entry ∷ [] ++ (entries ++ back) ≡ front ++ entry ∷ (entries ++ back) = append_assoc front (entry ∷ []) (entries ++ back) in
     let size : length (front ++ entry ∷ []) ≡ suc (length front) = omega (arith, length-append front (entry ∷ [])) in
-    (entry_at-seam kept front entry (entries ++ back), rw (shape, size) at more)
+    (numbered-seam kept front entry (entries ++ back), rw (shape, size) at more)
 
 -- a list in three parts, and more behind it
 parts_of : (start end : ℕ) (own extra : List Own) → take start (take end own) ++ (drop start (take end own) ++ (drop end own ++ extra)) ≡ own ++ extra

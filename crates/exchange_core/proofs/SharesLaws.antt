@@ -5,20 +5,21 @@ use Rattle.std.specs.Option.{ok_or}
 use Rattle.std.proofs.lemmas.Bool.Decides.{nat_tests}
 use Rattle.std.proofs.lemmas.List.Sums.{sum_by-append, sum_by-set}
 use Rattle.std.proofs.lemmas.Option.{same_Some, slice_get_within, get_or_from_slice_get}
+use Rattle.leg.specs.Numbered.{numbered, with_numbered}
 use Rattle.leg.specs.declared.leg.Leg.{Leg}
 use Rattle.dialect.specs.declared.report.ReportKind.{ReportKind}
 use Rattle.dialect.specs.declared.report.ReportKind.TheVariants.{Canceled, Rejected}
+use Rattle.dialect.specs.Addressed.{is_for}
 use Rattle.dialect.specs.Message.{Content, Message, Logon, TestRequest, GapFill, Logout, Order}
 use Rattle.exchange_core.specs.declared.exchange_fault.ExchangeFault.{ExchangeFault}
 use Rattle.exchange_core.specs.declared.exchange_fault.ExchangeFault.TheVariants.{TooManyShares, Done, NoSuchTrade, NotCancelled}
-use Rattle.exchange_core.specs.Places.{entry_at, with_entry}
 use Rattle.exchange_core.specs.Order.{OrderParts, TradeParts, Ending, ByCancel, ByReject, new_order, traded, ended_by, busted_at, is_cancelled}
 use Rattle.exchange_core.specs.Own.{Admin, has_numbers, next_exec}
-use Rattle.exchange_core.specs.Exchange.{ExchangeParts, Answer, next_message, request, logon_taken, logon_answer, with_connection, due_taken, ahead, by_number, received, is_connection, comes, is_for, take}
+use Rattle.exchange_core.specs.Exchange.{ExchangeParts, Answer, next_message, request, logon_taken, logon_answer, with_connection, due_taken, ahead, by_number, received, is_connection, comes, take}
 use Rattle.exchange_core.specs.Acts.{◌>>=◌, refused_if, order_at, trade_at, number_left, trade, ended, cancel_rest, reject, bust, test_in, test, not_busted}
 use Rattle.exchange_core.specs.Shares.{live_shares, busted_shares, AddsUp, OrdersAddUp}
 use Rattle.exchange_core.proofs.Entries.{chosen}
-use Rattle.exchange_core.proofs.ActsKeep.{each, at_place}
+use Rattle.exchange_core.proofs.ActsReport.{each, at_place}
 
 pub new_adds : (leg : Leg) → AddsUp (new_order leg)
 new_adds leg = record { parts = omega arith; filled = refl; busted = refl }
@@ -44,7 +45,7 @@ live_is trade live = rw live refl
 none_busted : (trade : TradeParts) → trade.is_busted ≡ false → busted_shares trade ≡ 0
 none_busted trade live = rw live refl
 
-pub busted_adds : (order : OrderParts) (which : ℕ) (trade : TradeParts) → AddsUp order → entry_at which order.trades ≡ Some trade → trade.is_busted ≡ false → AddsUp (busted_at which trade order)
+pub busted_adds : (order : OrderParts) (which : ℕ) (trade : TradeParts) → AddsUp order → numbered which order.trades ≡ Some trade → trade.is_busted ≡ false → AddsUp (busted_at which trade order)
 busted_adds order zero trade adds there live = cc
 busted_adds order (suc i) trade adds there live =
     let undone : TradeParts = record trade { is_busted = true } in
@@ -59,7 +60,7 @@ busted_adds order (suc i) trade adds there live =
     }
 
 -- where one order is replaced, or added
-all_with : (orders : List OrderParts) (place : ℕ) (order : OrderParts) → AllByRecursion AddsUp orders → AddsUp order → AllByRecursion AddsUp (with_entry place order orders)
+all_with : (orders : List OrderParts) (place : ℕ) (order : OrderParts) → AllByRecursion AddsUp orders → AddsUp order → AllByRecursion AddsUp (with_numbered place order orders)
 all_with orders zero order all adds = all
 all_with [] (suc i) order all adds = tt
 all_with (o ∷ orders) (suc zero) order all adds = (adds, all.1)
@@ -69,7 +70,7 @@ all_more : (orders : List OrderParts) (order : OrderParts) → AllByRecursion Ad
 all_more [] order all adds = (adds, tt)
 all_more (o ∷ orders) order all adds = (all.0, all_more orders order all.1 adds)
 
-at_adds : (orders : List OrderParts) (place : ℕ) (order : OrderParts) → AllByRecursion AddsUp orders → entry_at place orders ≡ Some order → AddsUp order
+at_adds : (orders : List OrderParts) (place : ℕ) (order : OrderParts) → AllByRecursion AddsUp orders → numbered place orders ≡ Some order → AddsUp order
 at_adds orders zero order all there = cc
 at_adds [] (suc i) order all there = cc
 at_adds (o ∷ orders) (suc zero) order all there = subst AddsUp (same_Some o order there) all.0
@@ -160,7 +161,7 @@ bust_adds x place which all =
     (λ cancelled _. each (λ (a : Answer). OrdersAddUp a.0) (trade_at order which) _
     (λ trade ok. each (λ (a : Answer). OrdersAddUp a.0) (number_left x) _
     (λ number _.
-    let live = found_by (entry_at which order.trades) trade ok in
+    let live = found_by (numbered which order.trades) trade ok in
     all_with x.orders place (busted_at which trade order) all (busted_adds order which trade (at_adds x.orders place order all (at_place x place order is)) live.0 live.1)))))
 
 test_all : (x : ExchangeParts) (live : Option ℕ) → OrdersAddUp x → IfOk (test_in live x) (λ a. OrdersAddUp a.0)

@@ -3,12 +3,13 @@ use Rattle.std.proofs.Common.{◌≡◌, ◌==◌, suc, ℕ, ◌+◌, ◌≤◌,
 use Rattle.std.proofs.lemmas.Bool.{and_parts}
 use Rattle.std.proofs.lemmas.Bool.Decides.{nat_tests}
 use Rattle.std.proofs.lemmas.Option.{same_Some}
+use Rattle.dialect.specs.Addressed.{is_for}
 use Rattle.dialect.specs.Message.{Content, Message, Logon, TestRequest, GapFill, Logout, Order}
 use Rattle.exchange_core.specs.Own.{Admin, has_numbers, next_number}
-use Rattle.exchange_core.specs.Exchange.{ExchangeParts, Answer, passed_by, logon_taken, logon_answer, with_connection, due_taken, ahead, next_message, request, by_number, received, is_connection, comes, is_for, take}
+use Rattle.exchange_core.specs.Exchange.{ExchangeParts, Answer, passed_by, logon_taken, logon_answer, with_connection, due_taken, ahead, next_message, request, by_number, received, is_connection, comes, take}
 use Rattle.exchange_core.specs.Keeping.{IsSound, IsAfter, IsExpectable, IsFillInRange, IsInRange, IsNumbered}
 use Rattle.exchange_core.proofs.Entries.{chosen}
-use Rattle.exchange_core.proofs.Takes.{comes_keeps}
+use Rattle.exchange_core.proofs.After.{comes_after}
 
 pub same_live : (x y : ExchangeParts) → y.live ≡ x.live → y.last ≡ x.last → IsSound x → IsSound y
 same_live x y live last sound = λ connection is. (let old = sound connection (sym live ∙ is) in record { from = old.from; same = old.same ∙ sym last })
@@ -68,7 +69,7 @@ take_numbered x connection m sound numbered =
     chosen (λ (a : Answer). IsNumbered a.0) (is_for x.config m && has_numbers 2 x.config x.own) (comes x connection m.number m.content) (x, [])
     (λ is.
     let parts = and_parts (is_for x.config m) (has_numbers 2 x.config x.own) is in
-    two_more x (comes x connection m.number m.content).0 (comes_keeps x connection m.number m.content sound).1 (grind (arith, nat_tests, parts.1)))
+    two_more x (comes x connection m.number m.content).0 (comes_after x connection m.number m.content) (grind (arith, nat_tests, parts.1)))
     (λ other. numbered)
 
 -- The expected number stays in range.

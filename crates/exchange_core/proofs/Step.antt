@@ -3,13 +3,13 @@ use Rattle.std.proofs.Common.{◌≡◌, ℕ, suc, ◌≤◌, ◌⊎◌, inl, in
 use Rattle.std.specs.List.{All}
 use Rattle.std.proofs.lemmas.List.{append-nil, map-append}
 use Rattle.std.proofs.lemmas.List.Elements.{All-nil, All-cons}
+use Rattle.leg.specs.Numbered.{numbered}
 use Rattle.dialect.specs.Message.{Content}
 use Rattle.exchange_core.specs.Acceptance.{Carried, MayMove, MayAnswer, MayRefuse, MayKeep, plain, MaySay, MayWrite, May}
 use Rattle.exchange_core.specs.Own.{Own, Admin, next_number}
 use Rattle.exchange_core.specs.Exchange.{ExchangeParts}
 use Rattle.exchange_core.specs.Keeping.{kept, intake_of, standing}
-use Rattle.exchange_core.specs.Places.{entry_at}
-use Rattle.exchange_core.proofs.Entries.{entry_at-seam, entry_at-second}
+use Rattle.exchange_core.proofs.Entries.{numbered-seam, numbered-second}
 
 -- a step that writes nothing and uses no number
 pub silent : (x y : ExchangeParts) (coming : Option Carried) → MayMove (intake_of x) coming (intake_of y) → y.own ≡ x.own → May (standing x) coming (standing y) []
@@ -31,7 +31,7 @@ MaySayNext x coming y connection entry said =
     (kept entry ≡ Some said)
     ⊎ ((kept entry ≡ None) × MaySay (standing x) coming (standing y) (in_connection connection (next_number x.own) said))
 
-content_next : (x y : ExchangeParts) (coming : Option Carried) (connection : ℕ) (entry : Own) (said : Content) (there : entry_at (next_number x.own) (map kept y.own) ≡ Some (kept entry)) → MaySayNext x coming y connection entry said → (entry_at (next_number x.own) (map kept y.own) ≡ Some (Some said)) ⊎ ((entry_at (next_number x.own) (map kept y.own) ≡ Some None) × MaySay (standing x) coming (standing y) (in_connection connection (next_number x.own) said))
+content_next : (x y : ExchangeParts) (coming : Option Carried) (connection : ℕ) (entry : Own) (said : Content) (there : numbered (next_number x.own) (map kept y.own) ≡ Some (kept entry)) → MaySayNext x coming y connection entry said → (numbered (next_number x.own) (map kept y.own) ≡ Some (Some said)) ⊎ ((numbered (next_number x.own) (map kept y.own) ≡ Some None) × MaySay (standing x) coming (standing y) (in_connection connection (next_number x.own) said))
 content_next x y coming connection entry said there (inl is) = inl (rw there (rw is refl))
 content_next x y coming connection entry said there (inr says) = inr (rw there (rw says.0 refl), says.1)
 
@@ -52,7 +52,7 @@ kept_next x y coming entry written moves own keeps writes = record {
 -- a message under the next number
 pub written_next : (x y : ExchangeParts) (coming : Option Carried) (entry : Own) (connection : ℕ) (said : Content) → y.own ≡ x.own ++ entry ∷ [] → 1 ≤ connection → connection ≤ y.last → MaySayNext x coming y connection entry said → All (MayWrite (standing x) coming (standing y)) (in_connection connection (next_number x.own) said ∷ [])
 written_next x y coming entry connection said own from to says =
-    let there : entry_at (next_number x.own) (map kept y.own) ≡ Some (kept entry) = rw own (entry_at-seam kept x.own entry []) in
+    let there : numbered (next_number x.own) (map kept y.own) ≡ Some (kept entry) = rw own (numbered-seam kept x.own entry []) in
     All-cons (MayWrite (standing x) coming (standing y)) (in_connection connection (next_number x.own) said) []
     (record { from = from; to = to; content = content_next x y coming connection entry said there says })
     (All-nil (MayWrite (standing x) coming (standing y)))
@@ -67,8 +67,8 @@ pub two : (x y : ExchangeParts) (coming : Option Carried) (connection : ℕ) (fi
 two x y coming connection first second moves own from to says says_second =
     let Keep : Option Content → Type 0 = MayKeep (standing x) coming (standing y) in
     let Write : Carried → Type 0 = MayWrite (standing x) coming (standing y) in
-    let here : entry_at (next_number x.own) (map kept y.own) ≡ Some None = rw own (entry_at-seam kept x.own Admin (Admin ∷ [])) in
-    let next : entry_at (suc (next_number x.own)) (map kept y.own) ≡ Some None = rw own (entry_at-second kept x.own Admin Admin []) in
+    let here : numbered (next_number x.own) (map kept y.own) ≡ Some None = rw own (numbered-seam kept x.own Admin (Admin ∷ [])) in
+    let next : numbered (suc (next_number x.own)) (map kept y.own) ≡ Some None = rw own (numbered-second kept x.own Admin Admin []) in
     record {
       moves = moves;
       tests = All-nil (MayAnswer (standing x) coming (standing y));

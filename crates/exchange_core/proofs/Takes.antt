@@ -1,51 +1,33 @@
 -- What the exchange does with a message is what the rules allow.
-use Rattle.std.proofs.Common.{◌≡◌, ◌==◌, ℕ, suc, ◌≤◌, ◌<◌, max, Bool, true, false, ◌&&◌, nat_le, nat_lt, inl, inr, List, [], ◌∷◌, ◌++◌, length, map, Option, Some, None, Ok, Err, refl, sym, ap, ◌∙◌, if◌then◌else◌, arith}
+use Rattle.std.proofs.Common.{◌≡◌, ◌==◌, ℕ, suc, ◌≤◌, ◌<◌, max, Bool, true, false, ◌&&◌, nat_le, nat_lt, inl, inr, List, [], ◌∷◌, ◌++◌, length, map, Option, Some, None, Ok, Err, refl, sym, ap, if◌then◌else◌, arith}
 use Rattle.std.specs.List.{All}
 use Rattle.std.proofs.lemmas.Bool.{and_parts}
 use Rattle.std.proofs.lemmas.Bool.Decides.{nat_tests}
-use Rattle.std.proofs.lemmas.List.{map-append, append-nil, length-map}
+use Rattle.std.proofs.lemmas.List.{map-append, length-map}
 use Rattle.std.proofs.lemmas.List.Elements.{All-nil, All-append}
 use Rattle.leg.specs.declared.leg.Leg.{Leg}
 use Rattle.dialect.specs.declared.fault.DialectFault.{DialectFault}
 use Rattle.dialect.specs.declared.report.ReportKind.TheVariants.{New}
+use Rattle.dialect.specs.Addressed.{is_for}
 use Rattle.dialect.specs.Message.{Content, Message, Logon, Heartbeat, TestRequest, ResendRequest, Reject, GapFill, Logout, Order, OrderReport}
-use Rattle.exchange_core.specs.Acceptance.{Carried, Intake, Standing, IsNewLogon, IsDue, IsOther, Takes, MayMove, Took, MayWrite, May, IsLast}
+use Rattle.exchange_core.specs.Acceptance.{Carried, Intake, Standing, IsDue, IsOther, Takes, MayMove, Took, MayWrite, May, IsLast}
 use Rattle.exchange_core.specs.Acceptance as rules
 use Rattle.exchange_core.specs.Order.{OrderParts, new_order, view_of}
 use Rattle.exchange_core.specs.Own.{Own, Admin, Reported, Refused, has_numbers}
-use Rattle.exchange_core.specs.Exchange.{ExchangeParts, Answer, next_report, next_message, request, passed_by, with_connection, with_logon, with_logon_and_request, logon_answer, logon_taken, passed, order_taken, order_refused, logout_taken, test_taken, due_taken, ahead, by_number, resends, received, is_connection, comes, is_for, take}
-use Rattle.exchange_core.specs.Keeping.{kept, intake_of, standing, carried, into, IsSound, legs_of, IsAfter}
-use Rattle.exchange_core.proofs.Entries.{chosen, entry_at-seam}
+use Rattle.exchange_core.specs.Exchange.{ExchangeParts, Answer, next_report, next_message, request, passed_by, with_connection, with_logon, with_logon_and_request, logon_answer, logon_taken, passed, order_taken, order_refused, logout_taken, test_taken, due_taken, ahead, by_number, resends, received, is_connection, comes, take, accepted_by}
+use Rattle.exchange_core.specs.Keeping.{kept, intake_of, standing, carried, into, IsSound, IsAfter}
+use Rattle.exchange_core.proofs.Entries.{chosen, numbered-seam}
 use Rattle.exchange_core.proofs.Step.{in_connection, silent, one, two}
 use Rattle.exchange_core.proofs.Resends.{answer_written}
+use Rattle.exchange_core.proofs.After.{by_number_after}
 
--- the step is one that the rules allow, and goes on from where the exchange was
+-- the step is one that the rules allow
 abbrev pub Keeps : ExchangeParts → Option Carried → ℕ → Answer → Type 0
-Keeps x coming connection a = May (standing x) coming (standing a.0) (into (Some connection) a.1) × IsAfter x a.0
-
--- where neither the orders nor the own numbers change
-pub after_same : (x y : ExchangeParts) → y.config ≡ x.config → x.expected ≤ y.expected → x.last ≤ y.last → y.orders ≡ x.orders → y.own ≡ x.own → IsAfter x y
-after_same x y config expected last orders own = record {
-  config = config;
-  expected = expected;
-  last = last;
-  accepted = ([], rw orders (sym (append-nil (legs_of x))));
-  own = ([], rw own (sym (append-nil x.own)), omega arith);
-}
-
--- where own numbers are used
-pub after_used : (x y : ExchangeParts) (more : List Own) → y.config ≡ x.config → x.expected ≤ y.expected → x.last ≤ y.last → legs_of y ≡ legs_of x → y.own ≡ x.own ++ more → length more ≤ 2 → IsAfter x y
-after_used x y more config expected last orders own few = record {
-  config = config;
-  expected = expected;
-  last = last;
-  accepted = ([], orders ∙ sym (append-nil (legs_of x)));
-  own = (more, own, few);
-}
+Keeps x coming connection a = May (standing x) coming (standing a.0) (into (Some connection) a.1)
 
 -- nothing is done
 pub ignored : (x : ExchangeParts) (coming : Option Carried) (connection : ℕ) → Keeps x coming connection (x, [])
-ignored x coming connection = (silent x x coming (rules.stays refl) refl, after_same x x refl (omega arith) (omega arith) refl refl)
+ignored x coming connection = silent x x coming (rules.stays refl) refl
 
 -- A message in its turn.
 module _ (x : ExchangeParts) (connection number : ℕ) (live : x.live ≡ Some connection) (last : IsLast x.last connection) (here : number ≡ x.expected) where
@@ -56,46 +38,36 @@ module _ (x : ExchangeParts) (connection number : ℕ) (live : x.live ≡ Some c
   moved content t takes = rules.takes (in_connection connection number content) refl takes
 
   others : (content : Content) → IsOther content → Keeps x (Some (in_connection connection number content)) connection (passed x, [])
-  others content other = (
-    silent x (passed x) (Some (in_connection connection number content)) (moved content (intake_of (passed x)) (rules.other (is_due content) other refl)) refl,
-    after_same x (passed x) refl (omega arith) (omega arith) refl refl,
-  )
+  others content other =
+      silent x (passed x) (Some (in_connection connection number content)) (moved content (intake_of (passed x)) (rules.other (is_due content) other refl)) refl
 
   filled : (new_number : ℕ) → Keeps x (Some (in_connection connection number (GapFill new_number))) connection (record x { expected = max x.expected new_number }, [])
   filled new_number =
-      let y : ExchangeParts = record x { expected = max x.expected new_number } in (
-        silent x y (Some (in_connection connection number (GapFill new_number))) (moved (GapFill new_number) (intake_of y) (rules.fill (is_due (GapFill new_number)) new_number refl refl)) refl,
-        after_same x y refl (omega arith) (omega arith) refl refl,
-      )
+      let y : ExchangeParts = record x { expected = max x.expected new_number } in
+      silent x y (Some (in_connection connection number (GapFill new_number))) (moved (GapFill new_number) (intake_of y) (rules.fill (is_due (GapFill new_number)) new_number refl refl)) refl
 
   tested : (id : List ℕ) → Keeps x (Some (in_connection connection number (TestRequest id))) connection (test_taken x id)
   tested id =
       let content : Content = TestRequest id in
       let coming : Option Carried = Some (in_connection connection number content) in
       let y : ExchangeParts = (test_taken x id).0 in
-      let took : Took (intake_of x) (intake_of y) coming content = record { message = in_connection connection number content; came = refl; due = is_due content; says = refl; passed = refl } in (
-        one x y coming Admin connection (Heartbeat (Some id)) (moved content (intake_of y) (rules.other (is_due content) tt refl)) refl (rules.plain refl) last.from (omega (arith, last.same)) (inr (refl, rules.answer id refl (inr took))),
-        after_used x y (Admin ∷ []) refl (omega arith) (omega arith) refl refl (omega arith),
-      )
+      let took : Took (intake_of x) (intake_of y) coming content = record { message = in_connection connection number content; came = refl; due = is_due content; says = refl; passed = refl } in
+      one x y coming Admin connection (Heartbeat (Some id)) (moved content (intake_of y) (rules.other (is_due content) tt refl)) refl (rules.plain refl) last.from (omega (arith, last.same)) (inr (refl, rules.answer id refl (inr took)))
 
   logged_out : Keeps x (Some (in_connection connection number Logout)) connection (logout_taken x)
   logged_out =
       let coming : Option Carried = Some (in_connection connection number Logout) in
       let y : ExchangeParts = (logout_taken x).0 in
-      let count : length (legs_of x) ≡ length x.orders = length-map x.orders (λ order. order.leg) in
-      let mark : intake_of y ≡ record (intake_of x) { expected = suc x.expected; live = None; closed_at = Some (length (legs_of x)) } = ap (λ n. let i : Intake = record (intake_of x) { expected = suc x.expected; live = None; closed_at = Some n } in i) (sym count) in (
-        one x y coming Admin connection Logout (moved Logout (intake_of y) (rules.logout (is_due Logout) refl mark)) refl (rules.plain refl) last.from (omega (arith, last.same)) (inr (refl, rules.logout (length x.orders) refl refl)),
-        after_used x y (Admin ∷ []) refl (omega arith) (omega arith) refl refl (omega arith),
-      )
+      let count : length (accepted_by x) ≡ length x.orders = length-map x.orders (λ order. order.leg) in
+      let mark : intake_of y ≡ record (intake_of x) { expected = suc x.expected; live = None; closed_at = Some (length (accepted_by x)) } = ap (λ n. let i : Intake = record (intake_of x) { expected = suc x.expected; live = None; closed_at = Some n } in i) (sym count) in
+      one x y coming Admin connection Logout (moved Logout (intake_of y) (rules.logout (is_due Logout) refl mark)) refl (rules.plain refl) last.from (omega (arith, last.same)) (inr (refl, rules.logout (length x.orders) refl refl))
 
   refused : (content : Content) (fault : DialectFault) → content ≡ Order (Err fault) → IsOther content → Keeps x (Some (in_connection connection number content)) connection (order_refused x)
   refused content fault is other =
       let coming : Option Carried = Some (in_connection connection number content) in
       let y : ExchangeParts = (order_refused x).0 in
-      let took : Took (intake_of x) (intake_of y) coming (Order (Err fault)) = record { message = in_connection connection number content; came = refl; due = is_due content; says = is; passed = refl } in (
-        one x y coming (Refused x.expected) connection (Reject x.expected) (moved content (intake_of y) (rules.other (is_due content) other refl)) refl (rules.reject x.expected refl (inr (Err fault, took, refl))) last.from (omega (arith, last.same)) (inl refl),
-        after_used x y (Refused x.expected ∷ []) refl (omega arith) (omega arith) refl refl (omega arith),
-      )
+      let took : Took (intake_of x) (intake_of y) coming (Order (Err fault)) = record { message = in_connection connection number content; came = refl; due = is_due content; says = is; passed = refl } in
+      one x y coming (Refused x.expected) connection (Reject x.expected) (moved content (intake_of y) (rules.other (is_due content) other refl)) refl (rules.reject x.expected refl (inr (Err fault, took, refl))) last.from (omega (arith, last.same)) (inl refl)
 
   ordered : (leg : Leg) → Keeps x (Some (in_connection connection number (Order (Ok leg)))) connection (order_taken x leg)
   ordered leg =
@@ -104,13 +76,11 @@ module _ (x : ExchangeParts) (connection number : ℕ) (live : x.live ≡ Some c
       let y : ExchangeParts = (order_taken x leg).0 in
       let report = next_report x (new_order leg) New in
       let entry : Own = Reported report (view_of (suc (length x.orders)) (new_order leg)) in
-      let legs : legs_of y ≡ legs_of x ++ leg ∷ [] = map-append (λ (order : OrderParts). order.leg) x.orders (new_order leg ∷ []) in
-      let accepts : intake_of y ≡ record (intake_of x) { expected = suc x.expected; accepted = legs_of x ++ leg ∷ [] } = ap (λ ls. let i : Intake = record (intake_of x) { expected = suc x.expected; accepted = ls } in i) legs in (
-        one x y coming entry connection (OrderReport (Ok report)) (moved content (intake_of y) (rules.order (is_due content) leg refl accepts)) refl
-            (rules.report report refl (record { place = length x.orders; leg = leg; there = entry_at-seam (λ (order : OrderParts). order.leg) x.orders (new_order leg) []; same = refl }))
-            last.from (omega (arith, last.same)) (inl refl),
-        record { config = refl; expected = omega arith; last = omega arith; accepted = (leg ∷ [], legs); own = (entry ∷ [], refl, omega arith) },
-      )
+      let legs : accepted_by y ≡ accepted_by x ++ leg ∷ [] = map-append (λ (order : OrderParts). order.leg) x.orders (new_order leg ∷ []) in
+      let accepts : intake_of y ≡ record (intake_of x) { expected = suc x.expected; accepted = accepted_by x ++ leg ∷ [] } = ap (λ ls. let i : Intake = record (intake_of x) { expected = suc x.expected; accepted = ls } in i) legs in
+      one x y coming entry connection (OrderReport (Ok report)) (moved content (intake_of y) (rules.order (is_due content) leg refl accepts)) refl
+      (rules.report report refl (record { place = length x.orders; leg = leg; there = numbered-seam (λ (order : OrderParts). order.leg) x.orders (new_order leg) []; same = refl }))
+      last.from (omega (arith, last.same)) (inl refl)
 
   due_keeps : (content : Content) → Keeps x (Some (in_connection connection number content)) connection (due_taken x content)
   due_keeps (Order (Ok leg)) = ordered leg
@@ -128,10 +98,7 @@ module _ (x : ExchangeParts) (connection number : ℕ) (live : x.live ≡ Some c
       let y : ExchangeParts = record x { own = x.own ++ Admin ∷ []; asked = x.expected } in
       chosen (Keeps x coming connection) (x.asked == x.expected) (x, []) (y, next_message x (request x) ∷ [])
       (λ asked. ignored x coming connection)
-      (λ new. (
-        one x y coming Admin connection (request x) (rules.stays refl) refl (rules.plain refl) last.from (omega (arith, last.same)) (inr (refl, rules.ask 0 refl)),
-        after_used x y (Admin ∷ []) refl (omega arith) (omega arith) refl refl (omega arith),
-      ))
+      (λ new. one x y coming Admin connection (request x) (rules.stays refl) refl (rules.plain refl) last.from (omega (arith, last.same)) (inr (refl, rules.ask 0 refl)))
 
   numbered : (content : Content) → Keeps x (Some (in_connection connection number content)) connection (by_number x number content)
   numbered content =
@@ -161,11 +128,9 @@ received_keeps x connection number content live last =
     let coming : Option Carried = Some (in_connection connection number content) in
     let next : Answer = by_number x number content in
     let step : Keeps x coming connection next = numbered x connection number live last content in
-    let after : IsAfter x next.0 = step.1 in (
-      written_before (standing x) coming (standing next.0) connection (resends x content) next.1
-          (resends_written x next.0 coming connection content last.from (omega (arith, last.same, after.last)) after.own.0 after.own.1) step.0,
-      after,
-    )
+    let after : IsAfter x next.0 = by_number_after x number content in
+    written_before (standing x) coming (standing next.0) connection (resends x content) next.1
+    (resends_written x next.0 coming connection content last.from (omega (arith, last.same, after.last)) after.own.0 after.own.1) step
 
 -- A Logon of a newer connection.
 module _ (x : ExchangeParts) (connection number heart : ℕ) (reset : Bool) (newer : x.last < connection) (above : x.expected ≤ number) where
@@ -174,24 +139,17 @@ module _ (x : ExchangeParts) (connection number heart : ℕ) (reset : Bool) (new
       rules.takes (in_connection connection number (Logon heart reset next)) refl
       (rules.new_logon (record { heart = heart; reset = reset; next = next; says = refl; newer = newer; number = above }) is)
 
-  passes : x.expected ≤ passed_by x number
-  passes = chosen (λ e. x.expected ≤ e) (number == x.expected) (suc x.expected) x.expected (λ due. omega arith) (λ ahead. omega arith)
-
   answered : (next told : Option ℕ) → rules.TellsExpected (passed_by x number) told → Keeps x (Some (in_connection connection number (Logon heart reset next))) connection (with_logon (with_connection x connection number) heart told)
   answered next told tells =
       let coming : Option Carried = Some (in_connection connection number (Logon heart reset next)) in
-      let y : ExchangeParts = (with_logon (with_connection x connection number) heart told).0 in (
-        one x y coming Admin connection (Logon heart false told) (new_logon next (intake_of y) refl) refl (rules.plain refl) (omega arith) (omega arith) (inr (refl, rules.logon heart false told refl tells)),
-        after_used x y (Admin ∷ []) refl passes (omega arith) refl refl (omega arith),
-      )
+      let y : ExchangeParts = (with_logon (with_connection x connection number) heart told).0 in
+      one x y coming Admin connection (Logon heart false told) (new_logon next (intake_of y) refl) refl (rules.plain refl) (omega arith) (omega arith) (inr (refl, rules.logon heart false told refl tells))
 
   answered_and_asked : Keeps x (Some (in_connection connection number (Logon heart reset None))) connection (with_logon_and_request (with_connection x connection number) heart)
   answered_and_asked =
       let coming : Option Carried = Some (in_connection connection number (Logon heart reset None)) in
-      let y : ExchangeParts = (with_logon_and_request (with_connection x connection number) heart).0 in (
-        two x y coming connection (Logon heart false None) (request y) (new_logon None (intake_of y) refl) refl (omega arith) (omega arith) (rules.logon heart false None refl tt) (rules.ask 0 refl),
-        after_used x y (Admin ∷ Admin ∷ []) refl passes (omega arith) refl refl (omega arith),
-      )
+      let y : ExchangeParts = (with_logon_and_request (with_connection x connection number) heart).0 in
+      two x y coming connection (Logon heart false None) (request y) (new_logon None (intake_of y) refl) refl (omega arith) (omega arith) (rules.logon heart false None refl tt) (rules.ask 0 refl)
 
   by_due : (b : Bool) (next : Option ℕ) → Keeps x (Some (in_connection connection number (Logon heart reset next))) connection (logon_answer (with_connection x connection number) b heart next)
   by_due b (Some next) = answered (Some next) (Some (passed_by x number)) refl

@@ -2,11 +2,12 @@
 -- "Ordered Message Processing", "Logon", "Test Request", "Resend Request", "Sequence Reset" and "Logout").
 use Rattle.std.specs.Prelude.{◌≡◌, ◌==◌, if◌then◌else◌, ℕ, suc, ◌+◌, ◌<◌, ◌≤◌, max, ◌⊎◌, Bool, List, [], ◌∷◌, ◌++◌, length, Option, Some, None, Result, Ok, Err, All, Contains, slice_get}
 use Rattle.leg.specs.declared.leg.Leg.{Leg}
+use Rattle.leg.specs.Growing.{Grew}
 use Rattle.leg.specs.LegId.{LegIdParts}
+use Rattle.leg.specs.Numbered.{numbered}
 use Rattle.dialect.specs.declared.fault.DialectFault.{DialectFault}
 use Rattle.dialect.specs.declared.report.Report.{Report}
 use Rattle.dialect.specs.Message.{Content, Logon, Heartbeat, TestRequest, ResendRequest, Reject, GapFill, Logout, BusinessReject, Order, OrderReport}
-use Rattle.exchange_core.specs.Places.{entry_at}
 
 -- a message in its connection, delivered or written
 pub record Carried : Type 0 where
@@ -157,7 +158,7 @@ GrowsBy Holds old new = (more : List (Option Content)) × All Holds more × (new
 pub record IsGap (own : List (Option Content)) (first new_number : ℕ) : Type 0 where
   pub above : first < new_number
   pub used : new_number ≤ length own + 1
-  pub plain : (number : ℕ) → first ≤ number → number < new_number → entry_at number own ≡ Some None
+  pub plain : (number : ℕ) → first ≤ number → number < new_number → numbered number own ≡ Some None
 
 -- the number that a Logon says it expects next (789) is the expected one, if it says one
 abbrev pub TellsExpected : ℕ → Option ℕ → Type 0
@@ -187,8 +188,8 @@ pub data MaySay (s : Standing) (coming : Option Carried) (t : Standing) (w : Car
 pub record MayWrite (s : Standing) (coming : Option Carried) (t : Standing) (w : Carried) : Type 0 where
   pub from : 1 ≤ w.connection
   pub to : w.connection ≤ t.intake.last
-  pub content : (entry_at w.number t.own ≡ Some (Some w.content))
-      ⊎ ((entry_at w.number t.own ≡ Some None) × MaySay s coming t w)
+  pub content : (numbered w.number t.own ≡ Some (Some w.content))
+      ⊎ ((numbered w.number t.own ≡ Some None) × MaySay s coming t w)
 
 -- one step of an exchange that keeps the rules: how it stood, what came if anything did, how it stands and what it wrote
 pub record May (s : Standing) (coming : Option Carried) (t : Standing) (written : List Carried) : Type 0 where
@@ -202,4 +203,4 @@ pub record May (s : Standing) (coming : Option Carried) (t : Standing) (written 
 pub record IsForward (s t : Intake) : Type 0 where
   pub expected : s.expected ≤ t.expected
   pub last : s.last ≤ t.last
-  pub accepted : (more : List Leg) × (t.accepted ≡ s.accepted ++ more)
+  pub accepted : Grew s.accepted t.accepted

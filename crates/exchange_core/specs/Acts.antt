@@ -1,13 +1,13 @@
 -- What an exchange does by itself (FIX 4.4 Volume 4, ExecutionReport; Volume 2, "Test Request").
 use Rattle.std.specs.Prelude.{ℕ, Bool, true, false, not, ◌||◌, List, [], ◌∷◌, ◌++◌, codes, decimal, Option, Some, None, Result, Ok, Err, ◌==◌, nat_lt, if◌then◌else◌}
 use Rattle.std.specs.Option.{ok_or}
+use Rattle.leg.specs.Numbered.{numbered, with_numbered}
 use Rattle.dialect.specs.declared.report.Report.{Report}
 use Rattle.dialect.specs.declared.report.ReportKind.{ReportKind}
 use Rattle.dialect.specs.declared.report.ReportKind.TheVariants.{Trade, Canceled, Rejected, Bust}
 use Rattle.dialect.specs.Message.{Message, TestRequest, OrderReport}
 use Rattle.exchange_core.specs.declared.exchange_fault.ExchangeFault.{ExchangeFault}
 use Rattle.exchange_core.specs.declared.exchange_fault.ExchangeFault.TheVariants.{NoSuchOrder, TooManyShares, Done, NumbersSpent, NoSuchTrade, NotCancelled}
-use Rattle.exchange_core.specs.Places.{entry_at, with_entry}
 use Rattle.exchange_core.specs.Order.{OrderParts, TradeParts, Ending, ByCancel, ByReject, traded, ended_by, busted_at, is_cancelled, view_of}
 use Rattle.exchange_core.specs.Own.{Admin, Reported, next_number, has_numbers, next_exec, exec_id}
 use Rattle.exchange_core.specs.Exchange.{ExchangeParts, Answer, next_report, next_message}
@@ -32,20 +32,20 @@ while_live (Some connection) messages = messages
 abbrev pub reported : ExchangeParts → ℕ → OrderParts → ReportKind → Answer
 reported x place order kind =
     let report : Report = next_report x order kind in (
-      record x { orders = with_entry place order x.orders; own = x.own ++ Reported report (view_of place order) ∷ [] },
+      record x { orders = with_numbered place order x.orders; own = x.own ++ Reported report (view_of place order) ∷ [] },
       while_live x.live (next_message x (OrderReport (Ok report)) ∷ []),
     )
 
 -- the order at a place, counted from 1
 abbrev pub order_at : ExchangeParts → ℕ → Result OrderParts ExchangeFault
-order_at x place = ok_or (entry_at place x.orders) NoSuchOrder
+order_at x place = ok_or (numbered place x.orders) NoSuchOrder
 
 -- a trade of an order at a place, counted from 1, that is not busted
 abbrev pub not_busted : TradeParts → Result TradeParts ExchangeFault
 not_busted trade = if trade.is_busted then Err NoSuchTrade else Ok trade
 
 abbrev pub trade_at : OrderParts → ℕ → Result TradeParts ExchangeFault
-trade_at order place = ok_or (entry_at place order.trades) NoSuchTrade >>= not_busted
+trade_at order place = ok_or (numbered place order.trades) NoSuchTrade >>= not_busted
 
 -- refused unless a number is left
 abbrev pub number_left : ExchangeParts → Result (Unit {0}) ExchangeFault

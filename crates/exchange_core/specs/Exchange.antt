@@ -1,14 +1,14 @@
 -- An exchange: what it does with each message it gets (FIX 4.4 Volume 2).
-use Rattle.std.specs.Prelude.{ℕ, suc, max, Bool, true, false, ◌&&◌, List, [], ◌∷◌, ◌++◌, length, Option, Some, None, Ok, Err, ◌==◌, nat_lt, nat_le, if◌then◌else◌}
-use Rattle.std.specs.Str.{bytes_eq}
+use Rattle.std.specs.Prelude.{ℕ, suc, max, Bool, true, false, ◌&&◌, List, [], ◌∷◌, ◌++◌, length, map, Option, Some, None, Ok, Err, ◌==◌, nat_lt, nat_le, if◌then◌else◌}
 use Rattle.fix_tags.specs.Config.{ConfigParts}
 use Rattle.leg.specs.declared.leg.Leg.{Leg}
 use Rattle.dialect.specs.declared.report.Report.{Report}
 use Rattle.dialect.specs.declared.report.ReportKind.{ReportKind}
 use Rattle.dialect.specs.declared.report.ReportKind.TheVariants.{New}
+use Rattle.dialect.specs.Addressed.{message_of, is_for}
 use Rattle.dialect.specs.Message.{Content, Message, Logon, Heartbeat, TestRequest, ResendRequest, Reject, GapFill, Logout, Order, OrderReport}
 use Rattle.exchange_core.specs.Order.{OrderParts, new_order, view_of}
-use Rattle.exchange_core.specs.Own.{Own, Admin, Reported, Refused, next_number, has_numbers, next_exec, exec_id, message_of, answer_to}
+use Rattle.exchange_core.specs.Own.{Own, Admin, Reported, Refused, next_number, has_numbers, next_exec, exec_id, answer_to}
 
 pub record ExchangeParts : Type 0 where
   pub config : ConfigParts
@@ -39,6 +39,10 @@ new_exchange config = record {
   asked = 0;
 }
 
+-- the legs of the orders that it accepted, in order
+abbrev pub accepted_by : ExchangeParts → List Leg
+accepted_by x = map (λ order. order.leg) x.orders
+
 -- the exchange afterwards, and what it wrote
 abbrev pub Answer : Type 0
 Answer = ExchangeParts × List Message
@@ -49,7 +53,7 @@ next_report x order kind = record { id = order.leg.id; exec = exec_id (next_exec
 
 -- a message under the next own number
 abbrev pub next_message : ExchangeParts → Content → Message
-next_message x content = message_of x.config (next_number x.own) content
+next_message x content = message_of x.config (next_number x.own) false content
 
 -- the request for everything from the expected number on
 abbrev pub request : ExchangeParts → Content
@@ -72,7 +76,7 @@ with_logon x heart next = (record x { own = x.own ++ Admin ∷ [] }, next_messag
 abbrev pub with_logon_and_request : ExchangeParts → ℕ → Answer
 with_logon_and_request x heart = (
   record x { own = x.own ++ Admin ∷ Admin ∷ []; asked = x.expected },
-  next_message x (Logon heart false None) ∷ message_of x.config (suc (next_number x.own)) (request x) ∷ [],
+  next_message x (Logon heart false None) ∷ message_of x.config (suc (next_number x.own)) false (request x) ∷ [],
 )
 
 -- the answer to a Logon: one that says which number its sender expects next (789) is told which one is expected here,
@@ -158,10 +162,6 @@ comes x connection number (Logon heart reset next) =
     if nat_lt x.last connection && nat_le x.expected number then logon_taken x connection number heart next else (x, [])
 comes x connection number content =
     if is_connection x.live connection then received x number content else (x, [])
-
--- whether a message is from the peer to this exchange
-abbrev pub is_for : ConfigParts → Message → Bool
-is_for config m = bytes_eq m.from config.peer && bytes_eq m.to config.me
 
 -- a message comes in a connection; with fewer than two own numbers left nothing is taken
 abbrev pub take : ExchangeParts → ℕ → Message → Answer

@@ -1,10 +1,10 @@
 -- The exchange as the rules see it.
-use Rattle.std.specs.Prelude.{◌≡◌, suc, ◌∷◌, ◌⊎◌, Bool, true, false, ℕ, ◌≤◌, List, [], ◌++◌, length, map, Option, Some, None, Ok}
-use Rattle.leg.specs.declared.leg.Leg.{Leg}
-use Rattle.dialect.specs.Message.{Content, Message, Logon, Reject, GapFill, Logout, OrderReport}
+use Rattle.std.specs.Prelude.{◌≡◌, suc, ◌∷◌, ◌⊎◌, ℕ, ◌≤◌, List, [], ◌++◌, length, map, Option, Some, None, Ok}
+use Rattle.leg.specs.Growing.{Grew}
+use Rattle.dialect.specs.Message.{Content, Message, Reject, GapFill, Logout, OrderReport}
 use Rattle.exchange_core.specs.Acceptance.{Carried, Intake, Standing, LiveIsLast, May}
 use Rattle.exchange_core.specs.Own.{Own, Admin, Reported, Refused, next_number, exec_id}
-use Rattle.exchange_core.specs.Exchange.{ExchangeParts, Answer}
+use Rattle.exchange_core.specs.Exchange.{ExchangeParts, Answer, accepted_by}
 
 -- the report or the refusal that an own number carries, if it carries one
 abbrev pub kept : Own → Option Content
@@ -18,7 +18,7 @@ intake_of x = record {
   expected = x.expected;
   live = x.live;
   last = x.last;
-  accepted = map (λ order. order.leg) x.orders;
+  accepted = accepted_by x;
   closed_at = x.closed_at;
 }
 
@@ -39,26 +39,18 @@ into (Some connection) messages = map (carried connection) messages
 abbrev pub IsSound : ExchangeParts → Type 0
 IsSound x = LiveIsLast (intake_of x)
 
--- the legs of the orders accepted
-abbrev pub legs_of : ExchangeParts → List Leg
-legs_of x = map (λ order. order.leg) x.orders
-
 -- the second is after the first: numbers don't fall, and what was accepted and what own numbers were used for stays,
 -- with more behind it, of own numbers at most two in a step
 pub record IsAfter (x y : ExchangeParts) : Type 0 where
   pub config : y.config ≡ x.config
   pub expected : x.expected ≤ y.expected
   pub last : x.last ≤ y.last
-  pub accepted : (more : List Leg) × (legs_of y ≡ legs_of x ++ more)
+  pub accepted : Grew (accepted_by x) (accepted_by y)
   pub own : (more : List Own) × (y.own ≡ x.own ++ more) × (length more ≤ 2)
 
 -- every own number used is below the one that no message may have
 abbrev pub IsNumbered : ExchangeParts → Type 0
 IsNumbered x = next_number x.own ≤ x.config.max_number
-
-abbrev pub is_logon : Content → Bool
-is_logon (Logon heart reset next) = true
-is_logon content = false
 
 -- the mark of the close is as it was, or was set by a Logout: the connection ended, and it is the count of the orders
 pub record IsClosedBy (content : Content) (y : ExchangeParts) : Type 0 where

@@ -1,5 +1,4 @@
 pub mod Acceptance
-pub mod Places
 pub mod Order
 pub mod Own
 pub mod Exchange

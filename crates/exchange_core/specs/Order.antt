@@ -1,8 +1,8 @@
 -- An order that the exchange accepted (FIX 4.4 Volume 4, ExecutionReport: OrderID, OrdStatus, CumQty, LeavesQty).
 use Rattle.std.specs.Prelude.{ℕ, ◌+◌, ◌-◌, Bool, true, false, List, [], ◌∷◌, ◌++◌, codes, decimal, Option, Some, None}
+use Rattle.leg.specs.Numbered.{with_numbered}
 use Rattle.leg.specs.declared.leg.Leg.{Leg}
 use Rattle.dialect.specs.OrderView.{OrderViewParts}
-use Rattle.exchange_core.specs.Places.{with_entry}
 
 -- a trade: its shares, the count in the ExecID of its report, and whether it was busted
 pub record TradeParts : Type 0 where
@@ -54,7 +54,7 @@ busted_at place trade order =
     record order {
       filled = order.filled - trade.shares;
       busted = order.busted + trade.shares;
-      trades = with_entry place (record trade { is_busted = true }) order.trades;
+      trades = with_numbered place (record trade { is_busted = true }) order.trades;
     }
 
 -- whether a cancel of its rest ended the order

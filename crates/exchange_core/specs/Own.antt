@@ -1,8 +1,10 @@
 -- The exchange's own numbers: what each was used for, and what a resend request is answered with (FIX 4.4 Volume 2,
 -- "Resend Request" and "Sequence Reset").
-use Rattle.std.specs.Prelude.{ℕ, suc, ◌+◌, ◌-◌, min, Bool, true, false, ◌&&◌, ◌||◌, List, [], ◌∷◌, ◌++◌, length, take, drop, codes, decimal, Option, Some, None, Ok, ◌==◌, nat_le, if◌then◌else◌}
+use Rattle.std.specs.Prelude.{ℕ, suc, ◌+◌, ◌-◌, Bool, true, List, [], ◌∷◌, ◌++◌, length, take, drop, codes, decimal, Option, Some, None, Ok, nat_le, if◌then◌else◌}
 use Rattle.fix_tags.specs.Config.{ConfigParts}
+use Rattle.fix_tags.specs.Range.{range_end, is_range}
 use Rattle.dialect.specs.declared.report.Report.{Report}
+use Rattle.dialect.specs.Addressed.{message_of}
 use Rattle.dialect.specs.Message.{Content, Message, Reject, GapFill, OrderReport}
 use Rattle.dialect.specs.OrderView.{OrderViewParts}
 
@@ -36,14 +38,9 @@ next_exec own = suc (report_count own)
 abbrev pub exec_id : ℕ → List ℕ
 exec_id count = codes "E" ++ decimal count
 
--- a message to the peer, sent for the first time
-abbrev pub message_of : ConfigParts → ℕ → Content → Message
-message_of config number content =
-    record { from = config.me; to = config.peer; number = number; poss_dup = false; content = content }
-
 -- a message to the peer under a number that it may have seen before (43=Y)
 abbrev pub again : ConfigParts → ℕ → Content → Message
-again config number content = record (message_of config number content) { poss_dup = true }
+again config number content = message_of config number true content
 
 -- a gap fill over the numbers from the first one that is open, if there is one, to the one before this
 abbrev pub closing_fill : ConfigParts → Option ℕ → ℕ → List Message
@@ -64,14 +61,6 @@ resent config run number (Reported report view ∷ own) =
     closing_fill config run number ++ again config number (OrderReport (Ok report)) ∷ resent config None (suc number) own
 resent config run number (Refused refused ∷ own) =
     closing_fill config run number ++ again config number (Reject refused) ∷ resent config None (suc number) own
-
--- the last number of a range that is asked for, where 0 means all that was sent
-abbrev pub range_end : ℕ → ℕ → ℕ
-range_end sent last = if last == 0 then sent else min sent last
-
--- whether a range is one of numbers that were sent
-abbrev pub is_range : ℕ → ℕ → ℕ → Bool
-is_range sent begin last = nat_le 1 begin && nat_le begin sent && (last == 0 || nat_le begin last)
 
 -- what the request for a range is answered with
 abbrev pub answer_to : ConfigParts → List Own → ℕ → ℕ → List Message

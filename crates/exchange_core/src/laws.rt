@@ -1,13 +1,14 @@
 //! What follows from the definitions: each law is the contract of a function that does nothing.
 
 ghost use Rattle.std.specs.Prelude.{◌≡◌, ◌+◌, ◌++◌, ◌≤◌, ℕ, false, List, [], Option, None, Some, IfOk};
-ghost use Rattle.dialect.specs.Message.{Content, Message};
+ghost use Rattle.dialect.specs.Message.{Content, Message, is_logon};
 ghost use Rattle.fix_tags.specs.Config.{ConfigParts, IsConfig};
+ghost use Rattle.leg.specs.Growing.{Grew};
 ghost use Rattle.leg.specs.declared.leg.Leg.{Leg};
 ghost use Rattle.exchange_core.specs.Acceptance.{Carried, Standing, opening, May, IsForward, LiveIsLast};
 ghost use Rattle.exchange_core.specs.Acts as acts;
 ghost use Rattle.exchange_core.specs.Exchange.{ExchangeParts, new_exchange, take, drop_connection};
-ghost use Rattle.exchange_core.specs.Keeping.{standing, into, IsSound, IsNumbered, IsAnswer, IsAct, is_logon, IsExpectable, IsInRange, AreCounted};
+ghost use Rattle.exchange_core.specs.Keeping.{standing, into, IsSound, IsNumbered, IsAnswer, IsAct, IsExpectable, IsInRange, AreCounted};
 ghost use Rattle.exchange_core.specs.Order.{OrderParts, view_of};
 ghost use Rattle.exchange_core.specs.Shares.{AddsUp, OrdersAddUp};
 
@@ -50,7 +51,7 @@ pub fn the_rules_go_forward()
     ensures live { (s t : Standing) (coming : Option Carried) (written : List Carried) →
         May s coming t written → LiveIsLast s.intake → LiveIsLast t.intake }
     ensures own { (s t : Standing) (coming : Option Carried) (written : List Carried) →
-        May s coming t written → (more : List (Option Content)) × (t.own ≡ s.own ++ more) }
+        May s coming t written → Grew s.own t.own }
 {}
 
 /// The expected number stays one that a message may name.

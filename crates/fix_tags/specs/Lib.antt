@@ -7,6 +7,7 @@ pub mod Lent
 pub mod Message
 pub mod Number
 pub mod Price
+pub mod Range
 pub mod ReadBack
 pub mod Reading
 pub mod Shares

@@ -5,3 +5,4 @@ pub mod LegIdText
 pub mod SymbolText
 pub mod InRange
 pub mod SplitShares
+pub mod Numbered

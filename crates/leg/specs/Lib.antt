@@ -6,3 +6,5 @@ pub mod Leg
 pub mod Venue
 pub mod Sweep
 pub mod Split
+pub mod Numbered
+pub mod Growing

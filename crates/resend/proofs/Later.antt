@@ -2,11 +2,14 @@
 use Rattle.std.proofs.Common.{◌≡◌, ◌⊎◌, ℕ, zero, suc, Bool, true, false, List, [], ◌∷◌, ◌++◌, length, Some, refl, sym, ap, ◌∙◌, inl, inr, if◌then◌else◌, arith, length-append}
 use Rattle.std.specs.Prelude.{IfOk, nat_lt, nat_le}
 use Rattle.std.proofs.lemmas.Option.{same_Some}
+use Rattle.leg.specs.Numbered.{numbered}
 use Rattle.leg.specs.declared.leg_state.LegState.{LegState}
 use Rattle.leg.specs.declared.leg_state.LegState.TheVariants.{Queued, Doubt, Taken, Withdrawn}
-use Rattle.resend.specs.Log.{SentLeg, Entry, has_number, spend, entry_at, is_doubt, settled_as, entry_settled, settled_where, take_below, give_up_from}
+use Rattle.leg.proofs.Numbered.{numbered-append}
+use Rattle.leg.specs.Growing.{Grew}
+use Rattle.resend.specs.Log.{SentLeg, Entry, has_number, spend, is_doubt, settled_as, entry_settled, settled_where, take_below, give_up_from}
 use Rattle.resend.specs.Log.Entry.{Admin, Sent}
-use Rattle.resend.specs.Later.{MayBecome, IsLegLater, IsLater, IsAdded, WithdrawsNone}
+use Rattle.resend.specs.Later.{MayBecome, IsLegLater, IsLater, WithdrawsNone}
 
 -- a log is later than itself, and what is later than a later one is later
 pub later-refl : (log : List Entry) → IsLater log log
@@ -42,17 +45,11 @@ later-trans a b c first next = record {
 }
 
 -- what was spent stays so where more is added behind
-entry_at-append : (number : ℕ) (log more : List Entry) (entry : Entry) → entry_at number log ≡ Some entry → entry_at number (log ++ more) ≡ Some entry
-entry_at-append zero log more entry is = absurd cc
-entry_at-append (suc n) [] more entry is = absurd cc
-entry_at-append (suc zero) (first ∷ log) more entry is = is
-entry_at-append (suc (suc n)) (first ∷ log) more entry is = entry_at-append (suc n) log more entry is
-
 pub later-append : (log more : List Entry) → IsLater log (log ++ more)
 later-append log more = record {
   last = omega (arith, length-append log more);
-  admin = λ number is. entry_at-append number log more Admin is;
-  sent = λ number leg is. (leg, entry_at-append number log more (Sent leg) is, record { ordinal = refl; id = refl; state = inl refl });
+  admin = λ number is. numbered-append number log more Admin is;
+  sent = λ number leg is. (leg, numbered-append number log more (Sent leg) is, record { ordinal = refl; id = refl; state = inl refl });
 }
 
 later-spent : (b : Bool) (number : ℕ) (entry : Entry) (log : List Entry) → has_number number log ≡ b → IfOk (spend number entry log) (λ spent. IsLater log spent.1)
@@ -68,13 +65,13 @@ module _ (test : ℕ → Bool) (state : LegState) where
   length-settled_where first [] = refl
   length-settled_where first (entry ∷ log) = ap suc (length-settled_where (suc first) log)
 
-  entry_at-settled_where : (first number : ℕ) (log : List Entry) (entry : Entry) → entry_at number log ≡ Some entry
-      → (b : Bool) × (entry_at number (settled_where test state first log) ≡ Some (if b then entry_settled state entry else entry))
-  entry_at-settled_where first zero log entry is = absurd cc
-  entry_at-settled_where first (suc n) [] entry is = absurd cc
-  entry_at-settled_where first (suc zero) (head ∷ log) entry is =
+  numbered-settled_where : (first number : ℕ) (log : List Entry) (entry : Entry) → numbered number log ≡ Some entry
+      → (b : Bool) × (numbered number (settled_where test state first log) ≡ Some (if b then entry_settled state entry else entry))
+  numbered-settled_where first zero log entry is = absurd cc
+  numbered-settled_where first (suc n) [] entry is = absurd cc
+  numbered-settled_where first (suc zero) (head ∷ log) entry is =
       (test first, ap (λ e. Some (if test first then entry_settled state e else e)) (same_Some head entry is))
-  entry_at-settled_where first (suc (suc n)) (head ∷ log) entry is = entry_at-settled_where (suc first) (suc n) log entry is
+  numbered-settled_where first (suc (suc n)) (head ∷ log) entry is = numbered-settled_where (suc first) (suc n) log entry is
 
 admin_kept : (b : Bool) (state : LegState) → Some (if b then entry_settled state Admin else Admin) ≡ Some Admin
 admin_kept true state = refl
@@ -95,9 +92,9 @@ sent_kept false state is leg = (leg, refl, record { ordinal = refl; id = refl; s
 later-settled_where : (test : ℕ → Bool) (state : LegState) → (state ≡ Taken) ⊎ (state ≡ Withdrawn) → (log : List Entry) → IsLater log (settled_where test state 1 log)
 later-settled_where test state is log = record {
   last = omega (arith, length-settled_where test state 1 log);
-  admin = λ number was. (let now = entry_at-settled_where test state 1 number log Admin was in now.1 ∙ admin_kept now.0 state);
+  admin = λ number was. (let now = numbered-settled_where test state 1 number log Admin was in now.1 ∙ admin_kept now.0 state);
   sent = λ number leg was.
-      (let now = entry_at-settled_where test state 1 number log (Sent leg) was in
+      (let now = numbered-settled_where test state 1 number log (Sent leg) was in
       let kept = sent_kept now.0 state is leg in
       (kept.0, now.1 ∙ kept.1, kept.2));
 }
@@ -109,7 +106,7 @@ pub later-give_up_from : (number : ℕ) (log : List Entry) → IsLater log (give
 later-give_up_from number log = later-settled_where (λ n. nat_le number n) Withdrawn (inr refl) log
 
 -- logs to which numbers were added, or in which legs were taken, withdraw none
-pub later-added : (old new : List Entry) → IsAdded old new → IsLater old new
+pub later-added : (old new : List Entry) → Grew old new → IsLater old new
 later-added old new added = rw added.1 (later-append old added.0)
 
 pub withdraws_none-trans : (a b c : List Entry) → WithdrawsNone a b → WithdrawsNone b c → WithdrawsNone a c

@@ -3,7 +3,8 @@ use Rattle.std.proofs.Common.{◌≡◌, ◌≢◌, ◌≤◌, ◌+◌, ◌==◌
 use Rattle.std.specs.Prelude.{IfSome}
 use Rattle.std.proofs.lemmas.Bool.{and_parts, eqb-true}
 use Rattle.std.proofs.lemmas.Bool.Decides.{nat_tests}
-use Rattle.resend.specs.Log.{Entry, last_number, range_end, is_range, fill_for}
+use Rattle.fix_tags.specs.Range.{is_range}
+use Rattle.resend.specs.Log.{Entry, last_number, fill_end, fill_for}
 use Rattle.resend.specs.Later.{IsFillFor}
 
 -- the last number of a range lies in it, and no further than each of its bounds
@@ -23,7 +24,7 @@ range_ends false sent begin last top all low below or =
     record { low = omega arith; was_sent = omega arith; was_asked = λ some. omega arith; below_top = omega arith }
 
 fill_if : (b : Bool) (begin last top : ℕ) (log : List Entry) → (is_range (last_number log) begin last && nat_le begin top) ≡ b
-    → IfSome (if b then Some (record { first = begin; new_number = range_end (last_number log) last top + 1 }) else None) (IsFillFor begin last top log)
+    → IfSome (if b then Some (record { first = begin; new_number = fill_end (last_number log) last top + 1 }) else None) (IsFillFor begin last top log)
 fill_if false begin last top log is = tt
 fill_if true begin last top log is =
     let whole = and_parts (is_range (last_number log) begin last) (nat_le begin top) is in

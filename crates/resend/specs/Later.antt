@@ -1,9 +1,10 @@
 -- How the numbers sent go on from one log to a later one.
-use Rattle.std.specs.Prelude.{◌≡◌, ◌≢◌, ◌≤◌, ◌<◌, ◌⊎◌, ◌+◌, ℕ, Bool, true, false, ◌&&◌, List, [], ◌∷◌, ◌++◌, Some, if◌then◌else◌}
+use Rattle.std.specs.Prelude.{◌≡◌, ◌≢◌, ◌≤◌, ◌<◌, ◌⊎◌, ◌+◌, ℕ, Bool, true, false, ◌&&◌, List, [], ◌∷◌, Some, if◌then◌else◌}
 use Rattle.leg.specs.LegId.{LegIdParts}
+use Rattle.leg.specs.Numbered.{numbered}
 use Rattle.leg.specs.declared.leg_state.LegState.{LegState}
 use Rattle.leg.specs.declared.leg_state.LegState.TheVariants.{Queued, Doubt, Taken, Withdrawn}
-use Rattle.resend.specs.Log.{SentLeg, Entry, FillParts, last_number, entry_at, is_doubt}
+use Rattle.resend.specs.Log.{SentLeg, Entry, GapFillParts, last_number, is_doubt}
 use Rattle.resend.specs.Log.Entry.{Admin, Sent}
 
 -- a leg in doubt stays so or is settled, and any other keeps its state
@@ -19,18 +20,14 @@ pub record IsLegLater (old new : SentLeg) : Type 0 where
 -- each number that was spent stays spent on the same thing, and others were only added behind
 pub record IsLater (old new : List Entry) : Type 0 where
   pub last : last_number old ≤ last_number new
-  pub admin : (number : ℕ) → entry_at number old ≡ Some Admin → entry_at number new ≡ Some Admin
-  pub sent : (number : ℕ) (leg : SentLeg) → entry_at number old ≡ Some (Sent leg)
-      → (later : SentLeg) × (entry_at number new ≡ Some (Sent later)) × IsLegLater leg later
-
--- numbers were added behind, and nothing else was changed
-abbrev pub IsAdded : List Entry → List Entry → Type 0
-IsAdded old new = (more : List Entry) × (new ≡ old ++ more)
+  pub admin : (number : ℕ) → numbered number old ≡ Some Admin → numbered number new ≡ Some Admin
+  pub sent : (number : ℕ) (leg : SentLeg) → numbered number old ≡ Some (Sent leg)
+      → (later : SentLeg) × (numbered number new ≡ Some (Sent later)) × IsLegLater leg later
 
 -- a leg that is withdrawn was so before: none was withdrawn since
 abbrev pub WithdrawsNone : List Entry → List Entry → Type 0
 WithdrawsNone old new =
-    (number : ℕ) (leg : SentLeg) → entry_at number new ≡ Some (Sent leg) → leg.state ≡ Withdrawn → entry_at number old ≡ Some (Sent leg)
+    (number : ℕ) (leg : SentLeg) → numbered number new ≡ Some (Sent leg) → leg.state ≡ Withdrawn → numbered number old ≡ Some (Sent leg)
 
 -- the legs that were in doubt and are withdrawn now, in the order of their numbers
 abbrev pub is_withdrawn : LegState → Bool
@@ -49,7 +46,7 @@ withdrawn_since (Sent leg ∷ old) (Sent now ∷ new) =
     if is_doubt leg.state && is_withdrawn now.state then leg.id ∷ withdrawn_since old new else withdrawn_since old new
 
 -- a gap fill that answers for numbers which were sent, from begin on, no further than was asked for and than top
-pub record IsFillFor (begin last top : ℕ) (log : List Entry) (fill : FillParts) : Type 0 where
+pub record IsFillFor (begin last top : ℕ) (log : List Entry) (fill : GapFillParts) : Type 0 where
   pub from_one : 1 ≤ fill.first
   pub from_begin : fill.first ≡ begin
   pub forward : fill.first < fill.new_number

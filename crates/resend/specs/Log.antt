@@ -1,6 +1,8 @@
 -- The numbers sent: what each was spent on, and what a resend request is answered with (FIX 4.4 Volume 2, "Resend Request").
-use Rattle.std.specs.Prelude.{ℕ, zero, suc, ◌+◌, min, Bool, true, false, ◌&&◌, ◌||◌, List, [], ◌∷◌, ◌++◌, length, Option, Some, None, Result, Ok, Err, ◌==◌, nat_lt, nat_le, if◌then◌else◌}
+use Rattle.std.specs.Prelude.{ℕ, suc, ◌+◌, min, Bool, true, false, ◌&&◌, List, [], ◌∷◌, ◌++◌, length, Option, Some, None, Result, Ok, Err, ◌==◌, nat_lt, nat_le, if◌then◌else◌}
+use Rattle.fix_tags.specs.Range.{range_end, is_range}
 use Rattle.leg.specs.LegId.{LegIdParts}
+use Rattle.leg.specs.Numbered.{numbered}
 use Rattle.leg.specs.declared.leg_state.LegState.{LegState}
 use Rattle.leg.specs.declared.leg_state.LegState.TheVariants.{Queued, Doubt, Taken, Withdrawn}
 use Rattle.resend.specs.declared.log_fault.LogFault.{LogFault}
@@ -35,13 +37,6 @@ abbrev pub spend : ℕ → Entry → List Entry → Result (ℕ × List Entry) L
 spend max_number entry log =
     if has_number max_number log then Ok (next_number log, log ++ entry ∷ []) else Err NumbersSpent
 
--- what a number was spent on
-abbrev pub entry_at : ℕ → List Entry → Option Entry
-entry_at zero log = None
-entry_at (suc n) [] = None
-entry_at (suc zero) (entry ∷ log) = Some entry
-entry_at (suc (suc n)) (entry ∷ log) = entry_at (suc n) log
-
 -- the leg that a number was spent on
 abbrev pub leg_of : Option Entry → Option LegIdParts
 leg_of (Some (Sent leg)) = Some leg.id
@@ -49,7 +44,7 @@ leg_of (Some Admin) = None
 leg_of None = None
 
 abbrev pub leg_at : ℕ → List Entry → Option LegIdParts
-leg_at number log = leg_of (entry_at number log)
+leg_at number log = leg_of (numbered number log)
 
 -- the legs sent, in the order of their numbers, each with its number, the first entry having this one
 abbrev pub sent_from : ℕ → List Entry → List (ℕ × SentLeg)
@@ -123,21 +118,17 @@ abbrev pub give_up_from : ℕ → List Entry → List Entry
 give_up_from least log = settled_where (λ number. nat_le least number) Withdrawn 1 log
 
 -- a gap fill: its number is the first that it stands for, and new_number is the next that is sent after it
-pub record FillParts : Type 0 where
+pub record GapFillParts : Type 0 where
   pub first : ℕ
   pub new_number : ℕ
 
--- the last number of a range that is asked for, where 0 means all that was sent, and no further than top
-abbrev pub range_end : ℕ → ℕ → ℕ → ℕ
-range_end sent last top = min top (if last == 0 then sent else min sent last)
-
--- whether a range is one of numbers that were sent
-abbrev pub is_range : ℕ → ℕ → ℕ → Bool
-is_range sent begin last = nat_le 1 begin && nat_le begin sent && (last == 0 || nat_le begin last)
+-- the last number that is filled: that of the range that is asked for, and no further than top
+abbrev pub fill_end : ℕ → ℕ → ℕ → ℕ
+fill_end sent last top = min top (range_end sent last)
 
 -- what the request for a range is answered with, cut at top, if the range is one and begins no higher
-abbrev pub fill_for : ℕ → ℕ → ℕ → List Entry → Option FillParts
+abbrev pub fill_for : ℕ → ℕ → ℕ → List Entry → Option GapFillParts
 fill_for begin last top log =
     if is_range (last_number log) begin last && nat_le begin top
-    then Some (record { first = begin; new_number = range_end (last_number log) last top + 1 })
+    then Some (record { first = begin; new_number = fill_end (last_number log) last top + 1 })
     else None

@@ -1,12 +1,12 @@
 //! The numbers of a session: what each number sent was spent on, and which number is expected.
 #![tactic(auto)]
 
-mod fill;
+mod gap_fill;
 mod judged;
 mod laws;
 mod log_fault;
 
-pub use fill::Fill;
+pub use gap_fill::GapFill;
 pub use judged::Judged;
 pub use laws::{
     a_number_is_due_where_it_is_expected, later_logs_follow_one_another, settling_leaves_no_doubt,

@@ -3,12 +3,13 @@ use Rattle.std.proofs.Common.{◌≡◌, ◌==◌, ℕ, List, [], ◌∷◌, Opt
 use Rattle.std.specs.Prelude.{slice_get}
 use Rattle.leg.specs.declared.leg.Leg.{Leg}
 use Rattle.leg.specs.declared.placed_leg.PlacedLeg.{PlacedLeg}
+use Rattle.exchange_core.proofs.Entries.{chosen}
 use Rattle.sweep_release.specs.declared.gate.Gate.{Gate}
 use Rattle.sweep_release.specs.declared.gate.Gate.TheVariants.{Up, Down, Shut}
 use Rattle.sweep_release.specs.declared.gate_fault.GateFault.{GateFault}
 use Rattle.sweep_release.specs.declared.gate_fault.GateFault.TheVariants.{NotDrained}
 use Rattle.sweep_release.specs.Desk.{DeskParts, DeskVenue, with_venue, with_gate, gate_of, is_up, is_shut, placed, placed_legs, gate_up, gate_up_from, gate_down, shut, leave, leave_first, take, drop_next}
-use Rattle.schedule.proofs.Grown.{chosen, slice_get-set_other}
+use Rattle.schedule.proofs.Grown.{slice_get-set_other}
 
 -- the sweeps are the same, and the venues but one
 pub record Keeps (v : ℕ) (before after : DeskParts) : Type 0 where

@@ -1,20 +1,16 @@
 -- Growing goes on: it is reflexive and transitive, for lists, exchanges, venues and worlds.
-use Rattle.std.proofs.Common.{◌≡◌, ℕ, zero, suc, Bool, true, false, List, [], ◌∷◌, ◌++◌, length, Some, refl, sym, ap, subst, ◌∙◌, append_assoc, if◌then◌else◌}
+use Rattle.std.proofs.Common.{◌≡◌, ℕ, zero, suc, List, [], ◌∷◌, ◌++◌, length, Some, refl, sym, ap, subst, ◌∙◌, append_assoc}
 use Rattle.std.specs.Prelude.{slice_get, slice_set}
 use Rattle.std.proofs.lemmas.Option.{same_Some}
 use Rattle.std.proofs.lemmas.List.{append-nil}
+use Rattle.leg.specs.Growing.{Grew}
 use Rattle.dialect.specs.declared.report.Report.{Report}
 use Rattle.exchange_core.specs.Own.{Own}
 use Rattle.exchange_core.specs.Own.Own.{Admin, Reported, Refused}
-use Rattle.exchange_core.specs.Exchange.{ExchangeParts}
+use Rattle.exchange_core.specs.Exchange.{ExchangeParts, accepted_by}
 use Rattle.session_core.proofs.Adding.{onward-refl, onward-trans}
-use Rattle.schedule.specs.World.{World, VenueParts, accepted_by, reports_in}
-use Rattle.schedule.specs.Growing.{Grew, HasGrown, IsVenueLater, IsWorldLater}
-
--- a choice by a test has what both choices have
-pub chosen : {A : Type 0} (P : A → Type 0) (b : Bool) (x y : A) → (b ≡ true → P x) → (b ≡ false → P y) → P (if b then x else y)
-chosen P true x y on off = on refl
-chosen P false x y on off = off refl
+use Rattle.schedule.specs.World.{World, VenueParts, reports_in}
+use Rattle.schedule.specs.Growing.{HasGrown, IsVenueLater, IsWorldLater}
 
 pub grew-same : {A : Type 0} (old new : List A) → new ≡ old → Grew old new
 grew-same old new same = ([], same ∙ sym (append-nil old))

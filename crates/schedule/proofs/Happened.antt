@@ -4,8 +4,10 @@ use Rattle.std.specs.Prelude.{slice_get, slice_set}
 use Rattle.std.specs.Option.{option_map_or}
 use Rattle.std.proofs.lemmas.Option.{same_Some}
 use Rattle.leg.specs.LegId.{LegIdParts}
+use Rattle.leg.specs.Numbered.{numbered}
 use Rattle.leg.specs.declared.placed_leg.PlacedLeg.{PlacedLeg}
 use Rattle.leg.specs.declared.sweep.Routed.{Routed}
+use Rattle.leg.specs.Growing.{Grew}
 use Rattle.dialect.specs.Message.{Message}
 use Rattle.session_core.specs.declared.session_fault.SessionFault.{SessionFault}
 use Rattle.session_core.specs.Session.{SessionParts, is_connected}
@@ -17,6 +19,7 @@ use Rattle.session_core.proofs.Adding.{onward-refl, onward-trans}
 use Rattle.session_core.proofs.Received.{receive_is_received}
 use Rattle.session_core.proofs.Called.{connect_keeps, send_leg_keeps, confirm_keeps, quiet_keeps, silent_keeps, close_keeps, broken_keeps, abandon_keeps}
 use Rattle.exchange_core.specs.declared.exchange_fault.ExchangeFault.{ExchangeFault}
+use Rattle.exchange_core.proofs.Entries.{chosen}
 use Rattle.exchange_core.specs.Exchange.{Answer, take, drop_connection}
 use Rattle.share_ledger.specs.declared.book_fault.BookFault.{BookFault}
 use Rattle.share_ledger.specs.Book.{BookParts, open_sweep}
@@ -27,10 +30,10 @@ use Rattle.sweep_release.specs.Desk as desk
 use Rattle.sweep_release.specs.Place.{place_after, place_in_book}
 use Rattle.schedule.specs.declared.event.Event.{Event}
 use Rattle.schedule.specs.declared.event.Event.TheVariants as event
-use Rattle.schedule.specs.World.{World, VenueParts, Frame, nth, venue_in}
+use Rattle.schedule.specs.World.{World, VenueParts, Frame, venue_in}
 use Rattle.schedule.specs.Happening.{with_venue, at_venue, in_connection, session_wrote, exchange_wrote, is_session_up, released_world, dropped_world, sent_world, taken_world, may_connect, connected_world, to_exchange, session_turn, to_dispatcher, noted, act_of, acted_world, called_world, closed_world, connects, takes, goes_up, happens, run}
-use Rattle.schedule.specs.Growing.{named, Grew, HasGrown, IsVenueLater, IsWorldLater, IsUntouched}
-use Rattle.schedule.proofs.Grown.{chosen, grew-same, grew-refl, grown-refl, venue_later-refl, world_later-refl, world_later-trans, slice_get-set_other, length-slice_set, venue_set}
+use Rattle.schedule.specs.Growing.{named, HasGrown, IsVenueLater, IsWorldLater, IsUntouched}
+use Rattle.schedule.proofs.Grown.{grew-same, grew-refl, grown-refl, venue_later-refl, world_later-refl, world_later-trans, slice_get-set_other, length-slice_set, venue_set}
 use Rattle.schedule.proofs.ExchangeGrows.{take_grows, drop_connection_grows, act_grows}
 use Rattle.schedule.proofs.DeskKeeps.{Keeps, keeps-refl, gate_up_keeps, gate_down_keeps, shut_keeps, take_keeps, drop_next_keeps}
 
@@ -266,8 +269,8 @@ event_happened w (event.GateDown v) = at_happened w v (λ venue. record w { desk
 event_happened w (event.Drop v) = at_happened w v (λ venue. dropped_world w (drop_next w.desk v)) (λ venue. drop_step w v venue (drop_next w.desk v) (drop_next_keeps v w.desk))
 event_happened w (event.Take v) = at_happened w v (takes w v) (take_step w v)
 event_happened w (event.Connect v) = at_happened w v (connects w v) (connect_step w v)
-event_happened w (event.ToExchange v frame) = at_happened w v _ (λ venue. to_exchange_step w v venue (nth frame venue.to_exchange))
-event_happened w (event.ToDispatcher v frame) = at_happened w v _ (λ venue. to_dispatcher_step w v venue (nth frame venue.from_exchange))
+event_happened w (event.ToExchange v frame) = at_happened w v _ (λ venue. to_exchange_step w v venue (numbered frame venue.to_exchange))
+event_happened w (event.ToDispatcher v frame) = at_happened w v _ (λ venue. to_dispatcher_step w v venue (numbered frame venue.from_exchange))
 event_happened w (event.Break v) =
     at_happened w v (λ venue. with_venue w v (record venue { session = broken venue.session }))
     (λ venue. put w v venue (record venue { session = broken venue.session }) _ (keeps-refl v w.desk) refl (session_later venue (broken venue.session) (broken_keeps venue.session).onward))

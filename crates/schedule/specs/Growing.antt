@@ -1,10 +1,11 @@
 -- What an event may change, and what only grows.
-use Rattle.std.specs.Prelude.{◌≡◌, ℕ, List, ◌++◌, length, Option, Some, None, slice_get}
+use Rattle.std.specs.Prelude.{◌≡◌, ℕ, length, Option, Some, None, slice_get}
+use Rattle.leg.specs.Growing.{Grew}
 use Rattle.session_core.specs.Onward.{IsOnward}
-use Rattle.exchange_core.specs.Exchange.{ExchangeParts}
+use Rattle.exchange_core.specs.Exchange.{ExchangeParts, accepted_by}
 use Rattle.schedule.specs.declared.event.Event.{Event}
 use Rattle.schedule.specs.declared.event.Event.TheVariants as event
-use Rattle.schedule.specs.World.{World, VenueParts, venue_in, accepted_by, reports_in}
+use Rattle.schedule.specs.World.{World, VenueParts, venue_in, reports_in}
 
 -- the venue that an event names, if it names one
 abbrev pub named : Event → Option ℕ
@@ -23,10 +24,6 @@ named (event.Quiet v) = Some v
 named (event.Silent v) = Some v
 named (event.Close v) = Some v
 named (event.Abandon v) = Some v
-
--- what was there stands, with more behind it or nothing
-abbrev pub Grew : {A : Type 0} → List A → List A → Type 0
-Grew old new = (more : List _) × (new ≡ old ++ more)
 
 -- an exchange later: the legs that it accepted, and what its own numbers were used for, with the reports that it made
 pub record HasGrown (before after : ExchangeParts) : Type 0 where

@@ -2,6 +2,7 @@
 use Rattle.std.specs.Prelude.{ℕ, Bool, true, false, ◌&&◌, not, List, [], ◌∷◌, ◌++◌, map, Option, Some, None, Result, Ok, Err, ◌==◌, slice_set, if◌then◌else◌}
 use Rattle.std.specs.Option.{option_map_or}
 use Rattle.leg.specs.LegId.{LegIdParts}
+use Rattle.leg.specs.Numbered.{numbered}
 use Rattle.leg.specs.declared.placed_leg.PlacedLeg.{PlacedLeg}
 use Rattle.dialect.specs.declared.note.Note.{Note}
 use Rattle.dialect.specs.Message.{Message}
@@ -24,7 +25,7 @@ use Rattle.schedule.specs.declared.act.Act.{Act}
 use Rattle.schedule.specs.declared.act.Act.TheVariants as act
 use Rattle.schedule.specs.declared.event.Event.{Event}
 use Rattle.schedule.specs.declared.event.Event.TheVariants as event
-use Rattle.schedule.specs.World.{World, VenueParts, Frame, nth, venue_in}
+use Rattle.schedule.specs.World.{World, VenueParts, Frame, venue_in}
 
 -- the world with this in a venue's place
 abbrev pub with_venue : World → ℕ → VenueParts → World
@@ -156,8 +157,8 @@ happens w (event.GateDown v) = at_venue w v (λ venue. record w { desk = gate_do
 happens w (event.Drop v) = at_venue w v (λ venue. dropped_world w (drop_next w.desk v))
 happens w (event.Take v) = at_venue w v (takes w v)
 happens w (event.Connect v) = at_venue w v (connects w v)
-happens w (event.ToExchange v frame) = at_venue w v (λ venue. to_exchange w v venue (nth frame venue.to_exchange))
-happens w (event.ToDispatcher v frame) = at_venue w v (λ venue. to_dispatcher w v venue (nth frame venue.from_exchange))
+happens w (event.ToExchange v frame) = at_venue w v (λ venue. to_exchange w v venue (numbered frame venue.to_exchange))
+happens w (event.ToDispatcher v frame) = at_venue w v (λ venue. to_dispatcher w v venue (numbered frame venue.from_exchange))
 happens w (event.Break v) = at_venue w v (λ venue. with_venue w v (record venue { session = broken venue.session }))
 happens w (event.ExchangeBreak v) = at_venue w v (λ venue. with_venue w v (record venue { exchange = drop_connection venue.exchange }))
 happens w (event.Act v act) = at_venue w v (λ venue. acted_world w v venue (act_of act venue.exchange))

@@ -2,30 +2,32 @@
 use Rattle.std.specs.Prelude.{◌≡◌, ◌≤◌, ◌<◌, ◌⊎◌, ℕ, false, List, length, map, Some, None, Ok, IfSome}
 use Rattle.std.specs.List.{Contains}
 use Rattle.std.specs.List.Sorted.{IsStrictlyIncreasing}
+use Rattle.leg.specs.Numbered.{numbered}
 use Rattle.leg.specs.declared.leg.Leg.{Leg}
 use Rattle.leg.specs.declared.leg_state.LegState.TheVariants.{Doubt, Taken, Withdrawn}
 use Rattle.dialect.specs.Message.{Content}
 use Rattle.dialect.specs.Message.Content.{Logon, Heartbeat, TestRequest, ResendRequest, GapFill, Logout, Order}
-use Rattle.resend.specs.Log.{SentLeg, entry_at, next_number}
+use Rattle.resend.specs.Log.{SentLeg, next_number}
 use Rattle.resend.specs.Log.Entry.{Admin, Sent}
 use Rattle.session_core.specs.declared.phase.Phase.{Phase}
 use Rattle.session_core.specs.declared.phase.Phase.TheVariants as phase
 use Rattle.session_core.specs.Turn.{fence_id}
-use Rattle.schedule.specs.World.{VenueParts, Frame, nth, accepted_by}
+use Rattle.exchange_core.specs.Exchange.{accepted_by}
+use Rattle.schedule.specs.World.{VenueParts, Frame}
 
 -- the number was spent on this leg
 abbrev pub IsSent : VenueParts → ℕ → SentLeg → Type 0
-IsSent venue number leg = entry_at number venue.session.log ≡ Some (Sent leg)
+IsSent venue number leg = numbered number venue.session.log ≡ Some (Sent leg)
 
 -- the number was spent on a message of the session
 abbrev pub IsAdmin : VenueParts → ℕ → Type 0
-IsAdmin venue number = entry_at number venue.session.log ≡ Some Admin
+IsAdmin venue number = numbered number venue.session.log ≡ Some Admin
 
 -- a message was written to the exchange in this connection, under this number
 pub record Wrote (venue : VenueParts) (connection number : ℕ) (content : Content) : Type 0 where
   pub place : ℕ
   pub frame : Frame
-  pub there : nth place venue.to_exchange ≡ Some frame
+  pub there : numbered place venue.to_exchange ≡ Some frame
   pub in_connection : frame.connection ≡ connection
   pub under : frame.message.number ≡ number
   pub says : frame.message.content ≡ content
@@ -34,7 +36,7 @@ pub record Wrote (venue : VenueParts) (connection number : ℕ) (content : Conte
 pub record Heard (venue : VenueParts) (connection : ℕ) (content : Content) : Type 0 where
   pub place : ℕ
   pub frame : Frame
-  pub there : nth place venue.from_exchange ≡ Some frame
+  pub there : numbered place venue.from_exchange ≡ Some frame
   pub in_connection : frame.connection ≡ connection
   pub says : frame.message.content ≡ content
 
@@ -45,7 +47,7 @@ pub record HasOrigin (venue : VenueParts) (number connection : ℕ) : Type 0 whe
 
 -- the released leg of an ordinal was accepted
 abbrev pub IsAccepted : VenueParts → List Leg → ℕ → Type 0
-IsAccepted venue released ordinal = (leg : Leg) × (nth ordinal released ≡ Some leg) × Contains (accepted_by venue.exchange) leg
+IsAccepted venue released ordinal = (leg : Leg) × (numbered ordinal released ≡ Some leg) × Contains (accepted_by venue.exchange) leg
 
 -- before every leg of earlier connections is settled
 abbrev pub IsBeforeUp : Phase → Type 0
@@ -70,10 +72,10 @@ pub record Copies (released : List Leg) (left : ℕ) (venue : VenueParts) : Type
   -- numbers and ordinals of legs rise together, and each leg sent is one that left the desk
   pub numbering : (number later : ℕ) (leg next : SentLeg) → IsSent venue number leg → IsSent venue later next → number < later → leg.ordinal < next.ordinal
   pub numbering_of_released : (number : ℕ) (leg : SentLeg) → IsSent venue number leg
-      → (1 ≤ leg.ordinal) × (leg.ordinal ≤ left) × (left ≤ length released) × ((whole : Leg) × (nth leg.ordinal released ≡ Some whole) × (whole.id ≡ leg.id))
+      → (1 ≤ leg.ordinal) × (leg.ordinal ≤ left) × (left ≤ length released) × ((whole : Leg) × (numbered leg.ordinal released ≡ Some whole) × (whole.id ≡ leg.id))
   -- each message but a gap fill has a number that was spent, an order where it was spent on a leg, and no leg has two orders
   pub frames_follow_log : (connection number : ℕ) (leg : Leg) → Wrote venue connection number (Order (Ok leg))
-      → (sent : SentLeg) × IsSent venue number sent × (nth sent.ordinal released ≡ Some leg)
+      → (sent : SentLeg) × IsSent venue number sent × (numbered sent.ordinal released ≡ Some leg)
   pub frames_carry_legs : (connection number : ℕ) (content : Content) (leg : SentLeg) → Wrote venue connection number content → IsSent venue number leg
       → ((whole : Leg) × (content ≡ Order (Ok whole))) ⊎ ((new_number : ℕ) × (content ≡ GapFill new_number))
   pub frames_once : (number connection other : ℕ) → HasOrigin venue number connection → HasOrigin venue number other → connection ≡ other
@@ -81,7 +83,7 @@ pub record Copies (released : List Leg) (left : ℕ) (venue : VenueParts) : Type
   -- the accepted legs are released ones, in order, each sent under a number that the exchange has passed
   pub accepted_ordinals : List ℕ
   pub accepted_in_order : IsStrictlyIncreasing accepted_ordinals
-  pub accepted_are_released : map (λ leg. Some leg) (accepted_by venue.exchange) ≡ map (λ ordinal. nth ordinal released) accepted_ordinals
+  pub accepted_are_released : map (λ leg. Some leg) (accepted_by venue.exchange) ≡ map (λ ordinal. numbered ordinal released) accepted_ordinals
   pub accepted_were_passed : (ordinal : ℕ) → Contains accepted_ordinals ordinal
       → (number : ℕ) × (leg : SentLeg) × IsSent venue number leg × (leg.ordinal ≡ ordinal) × (number < venue.exchange.expected)
   -- no message is of a later connection, and before the session is up no order is of the present one

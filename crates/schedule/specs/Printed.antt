@@ -9,8 +9,9 @@ use Rattle.leg.specs.declared.sweep.Routed.{Routed}
 use Rattle.leg.specs.declared.totals.Totals.{Totals}
 use Rattle.session_core.specs.declared.phase.Phase.{Phase}
 use Rattle.session_core.specs.declared.phase.Phase.TheVariants.{Down, LoggingOn, Settling, Up, Closing, LoggedOut, Closed}
+use Rattle.exchange_core.specs.Exchange.{accepted_by}
 use Rattle.share_ledger.specs.Entries.{sweep_shares}
-use Rattle.schedule.specs.World.{World, VenueParts, accepted_by, released_to, state_of, totals}
+use Rattle.schedule.specs.World.{World, VenueParts, released_to, state_of, totals}
 
 -- texts with a space between any two
 abbrev pub spaced : List (List ℕ) → List ℕ

@@ -3,6 +3,7 @@ use Rattle.std.specs.Prelude.{◌≡◌, ◌≤◌, ◌<◌, ◌+◌, ◌-◌, �
 use Rattle.std.specs.List.{Contains, list_any}
 use Rattle.std.specs.Str.{bytes_eq}
 use Rattle.leg.specs.LegId.{LegIdParts}
+use Rattle.leg.specs.Numbered.{numbered}
 use Rattle.leg.specs.declared.leg.Leg.{Leg}
 use Rattle.dialect.specs.declared.note.Note.{Note}
 use Rattle.dialect.specs.declared.note.Note.TheVariants as note
@@ -11,25 +12,26 @@ use Rattle.dialect.specs.declared.report.ReportKind.{ReportKind}
 use Rattle.dialect.specs.declared.report.ReportKind.TheVariants.{New, Trade, Canceled, Rejected, Expired, Bust}
 use Rattle.dialect.specs.OrderView.{OrderViewParts}
 use Rattle.dialect.specs.Message.{Content, Reject, GapFill, OrderReport}
+use Rattle.exchange_core.specs.Exchange.{accepted_by}
 use Rattle.exchange_core.specs.Own.{Own, Reported, Refused, exec_id}
 use Rattle.share_ledger.specs.declared.book_entry.BookEntry.{BookEntry}
 use Rattle.share_ledger.specs.declared.book_entry.BookEntry.TheVariants.{Opened, Withdrawn, Moved}
 use Rattle.share_ledger.specs.Entries.{opened, is_same_leg}
 use Rattle.share_ledger.specs.Entries as entries
-use Rattle.schedule.specs.World.{World, VenueParts, Frame, nth, accepted_by, released_to, given, made, reports_in, state_of}
+use Rattle.schedule.specs.World.{World, VenueParts, Frame, released_to, given, made, reports_in, state_of}
 use Rattle.schedule.specs.Printed.{is_withdrawn}
 
 -- the exchange wrote it under this number
 pub record HeardUnder (venue : VenueParts) (number : ℕ) (content : Content) : Type 0 where
   pub place : ℕ
   pub frame : Frame
-  pub there : nth place venue.from_exchange ≡ Some frame
+  pub there : numbered place venue.from_exchange ≡ Some frame
   pub under : frame.message.number ≡ number
   pub says : frame.message.content ≡ content
 
 -- what an own number of the exchange was used for
 abbrev pub IsOwn : VenueParts → ℕ → Own → Type 0
-IsOwn venue number own = nth number venue.exchange.own ≡ Some own
+IsOwn venue number own = numbered number venue.exchange.own ≡ Some own
 
 -- a message that carries no report and no refusal
 abbrev pub IsPlain : Content → Type 0
@@ -91,7 +93,7 @@ booked_of v (Moved venue note ∷ entries) = if venue == v then note ∷ booked_
 -- Reports: what the exchange reported reaches the book, each report once and in order
 pub record Reports (w : World) (v : ℕ) (venue : VenueParts) : Type 0 where
   -- reports are counted in the order of their numbers, and no order is refused
-  pub reports_numbered : (count : ℕ) (report : Report) → nth count (made w v) ≡ Some report → report.exec ≡ exec_id count
+  pub reports_numbered : (count : ℕ) (report : Report) → numbered count (made w v) ≡ Some report → report.exec ≡ exec_id count
   pub none_refused : (number refused : ℕ) → IsOwn venue number (Refused refused) → ⊥
   -- a gap fill passes over no report, and a message carries what its number does
   pub reports_in_flight : (first new_number number : ℕ) (report : Report) (view : OrderViewParts) → HeardUnder venue first (GapFill new_number)
@@ -109,6 +111,6 @@ pub record Reports (w : World) (v : ℕ) (venue : VenueParts) : Type 0 where
   pub reports_well_formed : (leg : Leg) → Contains (accepted_by venue.exchange) leg → are_well_formed leg.terms.shares (reports_on leg.id (made w v)) ≡ true
   -- the book holds the notes given, the legs withdrawn, and the sweeps of the desk
   pub book_follows : booked_of v w.book.entries ≡ given w v
-  pub book_withdrew : (ordinal : ℕ) (leg : Leg) → nth ordinal (released_to w v) ≡ Some leg
+  pub book_withdrew : (ordinal : ℕ) (leg : Leg) → numbered ordinal (released_to w v) ≡ Some leg
       → entries.is_withdrawn leg.id w.book.entries ≡ is_withdrawn (state_of w v ordinal)
   pub book_opened : opened w.book.entries ≡ w.desk.sweeps

@@ -8,8 +8,7 @@ use Rattle.leg.specs.declared.side.Side.{Side}
 use Rattle.leg.specs.declared.side.Side.TheVariants.{Buy, Sell}
 use Rattle.leg.specs.declared.sweep.Routed.{Routed}
 use Rattle.dialect.specs.JoinedSymbol.{joined_symbol_of}
-use Rattle.dialect.specs.declared.any_dialect.AnyDialect.{AnyDialect}
-use Rattle.dialect.specs.declared.any_dialect.AnyDialect.TheVariants.{Plain, Split4, Coded}
+use Rattle.dialect.specs.DialectName.{dialect_named}
 use Rattle.schedule.specs.declared.act.Act.TheVariants as act
 use Rattle.schedule.specs.declared.script_venue.ScriptVenue.{ScriptVenue}
 use Rattle.schedule.specs.declared.event.Event.{Event}
@@ -150,12 +149,6 @@ event_of_words venues (name ∷ words) =
     if bytes_eq name (codes "release") then release_of_words words else event_of venues name words
 
 -- a dialect by its name, with `+789` behind it where the venue is told the next expected number
-abbrev pub dialect_named : List ℕ → Option AnyDialect
-dialect_named name =
-    if bytes_eq name (codes "plain") then Some Plain
-    else (if bytes_eq name (codes "split") then Some Split4
-    else (if bytes_eq name (codes "coded") then Some Coded else None))
-
 abbrev pub venue_of_parts : List (List ℕ) → Option ScriptVenue
 venue_of_parts (name ∷ []) = option_map (λ dialect. record { dialect = dialect; next = false }) (dialect_named name)
 venue_of_parts (name ∷ tag ∷ []) =

@@ -3,13 +3,14 @@ use Rattle.std.specs.Prelude.{◌≡◌, ◌≤◌, ◌<◌, ◌⊎◌, ◌+◌,
 use Rattle.std.specs.List.{Contains, list_any}
 use Rattle.std.specs.List.Sorted.{IsStrictlyIncreasing}
 use Rattle.leg.specs.LegId.{LegIdParts}
+use Rattle.leg.specs.Numbered.{numbered}
 use Rattle.leg.specs.declared.sweep.Routed.{Routed}
 use Rattle.leg.specs.declared.leg_state.LegState.TheVariants.{Doubt, Taken, Withdrawn}
 use Rattle.leg.specs.declared.totals.Totals.{Totals}
 use Rattle.dialect.specs.declared.note.Note.TheVariants as note
 use Rattle.share_ledger.specs.Entries.{sweep_shares, is_same_leg}
 use Rattle.schedule.specs.declared.event.Event.{Event}
-use Rattle.schedule.specs.World.{World, nth, opening, accepted, released_to, state_of, totals, closed_at, given, made}
+use Rattle.schedule.specs.World.{World, opening, accepted, released_to, state_of, totals, closed_at, given, made}
 use Rattle.schedule.specs.Printed.{legs_where, is_withdrawn}
 use Rattle.schedule.specs.Happening.{run}
 
@@ -19,7 +20,7 @@ IsWithdrawn w v ordinal = state_of w v ordinal ≡ Some Withdrawn
 
 -- Order: the accepted legs are legs released to the venue, in release order and none twice. These are their ordinals
 pub record IsOrder (w : World) (v : ℕ) (ordinals : List ℕ) : Type 0 where
-  pub released : map (λ leg. Some leg) (accepted w v) ≡ map (λ ordinal. nth ordinal (released_to w v)) ordinals
+  pub released : map (λ leg. Some leg) (accepted w v) ≡ map (λ ordinal. numbered ordinal (released_to w v)) ordinals
   pub in_order : IsStrictlyIncreasing ordinals
 
 -- Gaps: the legs missing before the last accepted one are exactly those withdrawn, and no withdrawn leg is ever accepted
@@ -75,7 +76,7 @@ pub record AddsUp (w : World) (number : ℕ) (legs : List Routed) : Type 0 where
 -- what holds of a world
 pub record HoldsOf (w : World) : Type 0 where
   pub venue : (v : ℕ) → HoldsAt w v
-  pub sweep : (number : ℕ) → IfSome (nth number w.desk.sweeps) (AddsUp w number)
+  pub sweep : (number : ℕ) → IfSome (numbered number w.desk.sweeps) (AddsUp w number)
 
 -- a world of up to 16 venues, in which no message has the number max_number
 pub record IsOpening (next : List Bool) (max_number : ℕ) : Type 0 where

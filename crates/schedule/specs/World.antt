@@ -12,7 +12,7 @@ use Rattle.dialect.specs.Message.{Message}
 use Rattle.session_core.specs.Session.{SessionParts, new_session, leg_state}
 use Rattle.exchange_core.specs.Own.{Own}
 use Rattle.exchange_core.specs.Own.Own.{Admin, Reported, Refused}
-use Rattle.exchange_core.specs.Exchange.{ExchangeParts, new_exchange}
+use Rattle.exchange_core.specs.Exchange.{ExchangeParts, new_exchange, accepted_by}
 use Rattle.share_ledger.specs.Book.{BookParts, new_book}
 use Rattle.share_ledger.specs.Book as book
 use Rattle.sweep_release.specs.Released.{released}
@@ -60,11 +60,6 @@ opening next max_number = record {
   venues = map (new_venue max_number) next;
 }
 
--- the element at a place that is counted from 1
-abbrev pub nth : {A : Type 0} → ℕ → List A → Option A
-nth zero xs = None
-nth (suc n) xs = slice_get xs n
-
 -- What is asked of a world. Of a venue that isn't there the answer is the empty list or none.
 
 abbrev pub venue_in : World → ℕ → Option VenueParts
@@ -74,9 +69,6 @@ abbrev pub of_venue : {A : Type 0} → World → ℕ → A → (VenueParts → A
 of_venue w v default ask = option_map_or ask (venue_in w v) default
 
 -- the orders that the exchange accepted, in order
-abbrev pub accepted_by : ExchangeParts → List Leg
-accepted_by exchange = map (λ order. order.leg) exchange.orders
-
 abbrev pub accepted : World → ℕ → List Leg
 accepted w v = of_venue w v [] (λ venue. accepted_by venue.exchange)
 

@@ -1,17 +1,19 @@
 -- Parts of a turn that add numbers of the session, and nothing else.
 use Rattle.std.proofs.Common.{◌≡◌, ◌≤◌, ◌⊎◌, ◌+◌, ℕ, Bool, true, false, List, [], ◌∷◌, ◌++◌, length, Option, Some, None, refl, sym, ap, subst, ◌∙◌, inl, inr, append_assoc, length-append, if◌then◌else◌, arith}
 use Rattle.std.proofs.lemmas.List.{append-nil}
+use Rattle.leg.specs.Growing.{Grew}
+use Rattle.dialect.specs.Addressed.{message_of}
 use Rattle.dialect.specs.Message.{Message, Content}
 use Rattle.dialect.specs.Message.Content.{TestRequest, ResendRequest, GapFill}
-use Rattle.resend.specs.Log.{Entry, FillParts}
+use Rattle.resend.specs.Log.{Entry, GapFillParts}
 use Rattle.resend.specs.Log.Entry.{Admin}
-use Rattle.resend.specs.Later.{IsLater, IsAdded, WithdrawsNone, withdrawn_since}
+use Rattle.resend.specs.Later.{IsLater, WithdrawsNone, withdrawn_since}
 use Rattle.resend.proofs.Later.{later-refl, later-trans, later-append, later-added, withdraws_none-trans, withdraws_none-admin}
 use Rattle.resend.proofs.Settled.{since-append}
 use Rattle.session_core.specs.declared.phase.Phase.{Phase}
 use Rattle.session_core.specs.declared.ended.Ended.{Ended}
 use Rattle.session_core.specs.Session.{SessionParts, next_out, may_write}
-use Rattle.session_core.specs.Turn.{Turn, quietly, with_session, message_of, with_message, spending, fence_id, fenced, asking, writes, writes_fence, asks, fills, counts, logs_out, ends_turn, unless_ended}
+use Rattle.session_core.specs.Turn.{Turn, quietly, with_session, with_message, spending, fence_id, fenced, asking, writes, writes_fence, asks, fills, counts, logs_out, ends_turn, unless_ended}
 use Rattle.session_core.specs.Receiving.{counts_if, asks_if, in_phase, filled_if, asks_missing, asks_anew}
 use Rattle.session_core.specs.Onward.{IsOnward, KeepsLegs, IsCall, SparesLegs, new_numbers, AreNext, IsNumbered}
 
@@ -84,13 +86,13 @@ one_written t s m config log connection expected close_asked number new = record
 pub adds-writes : (content : Content) (t : Turn) → Adds t (writes content t)
 adds-writes content t =
     chosen (Adds t) (may_write t.session) _ t
-    (λ may. one_written t (spending t.session) (message_of t.session (next_out t.session) false content) refl refl refl (omega arith) refl refl refl)
+    (λ may. one_written t (spending t.session) (message_of t.session.config (next_out t.session) false content) refl refl refl (omega arith) refl refl refl)
     (λ may. adds-refl t)
 
 pub adds-writes_fence : (t : Turn) → Adds t (writes_fence t)
 adds-writes_fence t =
     chosen (Adds t) (may_write t.session) _ t
-    (λ may. one_written t (fenced t.session) (message_of t.session (next_out t.session) false (TestRequest (fence_id (next_out t.session)))) refl refl refl (omega arith) refl refl refl)
+    (λ may. one_written t (fenced t.session) (message_of t.session.config (next_out t.session) false (TestRequest (fence_id (next_out t.session)))) refl refl refl (omega arith) refl refl refl)
     (λ may. adds-refl t)
 
 adds-asking : (t u : Turn) → Adds (with_session (asking t.session) t) u → Adds t u
@@ -115,10 +117,10 @@ pub adds-asks_if : (b : Bool) (t : Turn) → Adds t (asks_if b t)
 adds-asks_if true t = adds-asks t
 adds-asks_if false t = adds-refl t
 
-pub adds-fills : (fill : FillParts) (t : Turn) → Adds t (fills fill t)
-adds-fills fill t = record { config = refl; log = inl refl; connection = refl; expected = omega arith; close_asked = refl; withdrawn = refl; note = refl; numbers = ([], new_numbers-append t.step.written (message_of t.session fill.first true (GapFill fill.new_number) ∷ []), refl) }
+pub adds-fills : (fill : GapFillParts) (t : Turn) → Adds t (fills fill t)
+adds-fills fill t = record { config = refl; log = inl refl; connection = refl; expected = omega arith; close_asked = refl; withdrawn = refl; note = refl; numbers = ([], new_numbers-append t.step.written (message_of t.session.config fill.first true (GapFill fill.new_number) ∷ []), refl) }
 
-pub adds-filled_if : (fill : Option FillParts) (t : Turn) → Adds t (filled_if fill t)
+pub adds-filled_if : (fill : Option GapFillParts) (t : Turn) → Adds t (filled_if fill t)
 adds-filled_if None t = adds-refl t
 adds-filled_if (Some fill) t = adds-fills fill t
 
@@ -193,13 +195,13 @@ received_by may s t u goes adds = record {
       });
 }
 
-added-one_more : (first old new : List Entry) → IsAdded first old → OneMore old new → IsAdded first new
+added-one_more : (first old new : List Entry) → Grew first old → OneMore old new → Grew first new
 added-one_more first old new added (inl same) = (added.0, same ∙ added.1)
 added-one_more first old new added (inr more) =
     (added.0 ++ Admin ∷ [], more ∙ (ap (λ log. log ++ Admin ∷ []) added.1 ∙ append_assoc first added.0 (Admin ∷ [])))
 
 -- where the log has numbers added, nothing else has to be said of it
-pub keeps_with : (s t : SessionParts) → t.config ≡ s.config → IsAdded s.log t.log → s.connection ≤ t.connection → s.expected ≤ t.expected → (s.close_asked ≡ true → t.close_asked ≡ true) → KeepsLegs s t
+pub keeps_with : (s t : SessionParts) → t.config ≡ s.config → Grew s.log t.log → s.connection ≤ t.connection → s.expected ≤ t.expected → (s.close_asked ≡ true → t.close_asked ≡ true) → KeepsLegs s t
 keeps_with s t config added connection expected close_asked = record {
   onward = record { config = config; log = later-added s.log t.log added; connection = connection; expected = expected; close_asked = close_asked };
   added = added;

@@ -3,11 +3,12 @@ use Rattle.std.proofs.Common.{◌≡◌, ◌≤◌, ◌<◌, ◌+◌, ℕ, suc, 
 use Rattle.std.specs.Prelude.{IfOk}
 use Rattle.std.proofs.lemmas.Bool.Decides.{nat_tests}
 use Rattle.std.proofs.lemmas.List.{append-nil}
+use Rattle.leg.specs.Numbered.{numbered}
 use Rattle.leg.specs.declared.leg.Leg.{Leg}
 use Rattle.leg.specs.declared.leg_state.LegState.TheVariants.{Doubt}
 use Rattle.dialect.specs.Message.{Message}
 use Rattle.dialect.specs.Message.Content.{Heartbeat}
-use Rattle.resend.specs.Log.{Entry, entry_at, last_ordinal}
+use Rattle.resend.specs.Log.{Entry, last_ordinal}
 use Rattle.resend.specs.Log.Entry.{Admin, Sent}
 use Rattle.session_core.specs.declared.phase.Phase.{Phase}
 use Rattle.session_core.specs.declared.phase.Phase.TheVariants.{Down, LoggingOn, Settling, Up, Closing, LoggedOut, Closed}
@@ -58,12 +59,12 @@ pub connect_keeps : (s : SessionParts) → IfOk (connect s) (λ answer. IsConnec
 connect_keeps s = connected_in s s.phase refl
 
 -- send_leg
-entry_at-last : (log : List Entry) (entry : Entry) → entry_at (suc (length log)) (log ++ entry ∷ []) ≡ Some entry
-entry_at-last [] entry = refl
-entry_at-last (first ∷ log) entry = entry_at-last log entry
+numbered-last : (log : List Entry) (entry : Entry) → numbered (suc (length log)) (log ++ entry ∷ []) ≡ Some entry
+numbered-last [] entry = refl
+numbered-last (first ∷ log) entry = numbered-last log entry
 
-entry_at-next : (log : List Entry) (entry : Entry) → entry_at (length log + 1) (log ++ entry ∷ []) ≡ Some entry
-entry_at-next log entry = (let e : length log + 1 ≡ suc (length log) = omega arith in rw e (entry_at-last log entry))
+numbered-next : (log : List Entry) (entry : Entry) → numbered (length log + 1) (log ++ entry ∷ []) ≡ Some entry
+numbered-next log entry = (let e : length log + 1 ≡ suc (length log) = omega arith in rw e (numbered-last log entry))
 
 sent_up : (s : SessionParts) (ordinal : ℕ) (leg : Leg) → s.phase ≡ Up → IfOk (send_up s ordinal leg) (λ answer. IsSent s ordinal leg answer.0 answer.1)
 sent_up s ordinal leg up =
@@ -76,7 +77,7 @@ sent_up s ordinal leg up =
       orders = refl;
       was_up = up;
       above = above_last (last_ordinal s.log) ordinal high;
-      in_doubt = entry_at-next s.log (Sent (record { ordinal = ordinal; id = leg.id; state = Doubt }));
+      in_doubt = numbered-next s.log (Sent (record { ordinal = ordinal; id = leg.id; state = Doubt }));
     })
     (λ spent. tt))
   where

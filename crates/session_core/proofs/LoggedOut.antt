@@ -1,19 +1,21 @@
 -- After the session's Logout nothing but a gap fill is written.
 use Rattle.std.proofs.Common.{◌≡◌, ◌==◌, ℕ, Bool, true, false, ◌||◌, not, nat_lt, Option, Some, None, refl, sym, ap, subst, ◌∙◌, inl, inr}
+use Rattle.fix_tags.specs.Range.{is_range}
 use Rattle.leg.specs.LegId.{LegIdParts}
 use Rattle.dialect.specs.declared.note.Note.{Note}
-use Rattle.dialect.specs.Message.{Message, Content}
+use Rattle.dialect.specs.Addressed.{is_for}
+use Rattle.dialect.specs.Message.{Message, Content, is_logon}
 use Rattle.dialect.specs.Message.Content.{Logon, Heartbeat, TestRequest, ResendRequest, Reject, GapFill, Reset, Logout, BusinessReject, Order, OrderReport, Other}
 use Rattle.resend.specs.declared.judged.Judged.{Judged}
 use Rattle.resend.specs.declared.judged.Judged.TheVariants as judged
 use Rattle.resend.specs.Judging.{judged}
-use Rattle.resend.specs.Log.{FillParts, last_number, leg_at, is_range, fill_for}
+use Rattle.resend.specs.Log.{GapFillParts, last_number, leg_at, fill_for}
 use Rattle.session_core.specs.declared.phase.Phase.TheVariants.{LoggedOut}
 use Rattle.session_core.specs.declared.ended.Ended.{Ended}
 use Rattle.session_core.specs.declared.ended.Ended.TheVariants as ended
 use Rattle.session_core.specs.Session.{SessionParts, is_logged_out}
 use Rattle.session_core.specs.Turn.{Turn, quietly, counts, notes, asks, ends, unless_ended}
-use Rattle.session_core.specs.Receiving.{is_logon, is_reset, is_for, counts_if, resend_later, resend_row, named_fence, passing, passes_fence, gap_fill_row, refused_leg, refused_row, report_note, due_row, ahead_row, asks_missing, asks_anew, ahead_turn, by_number, received, hearing, receive}
+use Rattle.session_core.specs.Receiving.{is_reset, counts_if, resend_later, resend_row, named_fence, passing, passes_fence, gap_fill_row, refused_leg, refused_row, report_note, due_row, ahead_row, asks_missing, asks_anew, ahead_turn, by_number, received, hearing, receive}
 use Rattle.session_core.specs.Onward.{WritesFillAlone}
 use Rattle.session_core.proofs.Adding.{chosen}
 
@@ -58,7 +60,7 @@ out_asks_anew s turn is going =
 out_asks_missing : (s : SessionParts) (turn : Turn) → IsOut s turn → IsOut s (asks_missing turn)
 out_asks_missing s turn is = out_unless s asks_anew turn turn.step.ended refl is (out_asks_anew s turn is)
 
-out_later : (s : SessionParts) (fill : Option FillParts) → IsOut s (resend_later fill (out s))
+out_later : (s : SessionParts) (fill : Option GapFillParts) → IsOut s (resend_later fill (out s))
 out_later s None = out_ends s (out s) ended.ResendInDoubt
 out_later s (Some fill) = record { written = inr (fill, refl); phase = λ going. refl }
 
@@ -128,7 +130,7 @@ out_by_number s m judged.TooLow = out_ends s (out s) ended.TooLow
 
 out_received : (s : SessionParts) (m : Message) → IsOut s (received (out s) m)
 out_received s m =
-    chosen (IsOut s) (not (is_for s m)) (ends ended.WrongComp (out s)) _
+    chosen (IsOut s) (not (is_for s.config m)) (ends ended.WrongComp (out s)) _
     (λ wrong. out_ends s (out s) ended.WrongComp)
     (λ ours. chosen (IsOut s) (is_reset m.content) (ends ended.ResetRefused (out s)) _
     (λ reset. out_ends s (out s) ended.ResetRefused)

@@ -1,15 +1,17 @@
 -- A message that is received takes the session onward, and withdraws legs while logging on and while settling alone.
 use Rattle.std.proofs.Common.{◌≡◌, ◌≤◌, ℕ, Bool, true, false, ◌&&◌, not, nat_lt, nat_le, List, [], Option, Some, None, refl, sym, ◌∙◌, arith, length, ◌+◌, ap}
 use Rattle.std.proofs.lemmas.Bool.Decides.{nat_tests}
+use Rattle.fix_tags.specs.Range.{is_range}
 use Rattle.leg.specs.LegId.{LegIdParts}
 use Rattle.leg.specs.declared.leg_state.LegState.TheVariants.{Taken, Withdrawn}
 use Rattle.dialect.specs.declared.note.Note.{Note}
-use Rattle.dialect.specs.Message.{Message, Content}
+use Rattle.dialect.specs.Addressed.{is_for}
+use Rattle.dialect.specs.Message.{Message, Content, is_logon}
 use Rattle.dialect.specs.Message.Content.{Logon, Heartbeat, TestRequest, ResendRequest, Reject, GapFill, Reset, Logout, BusinessReject, Order, OrderReport, Other}
 use Rattle.resend.specs.declared.judged.Judged.{Judged}
 use Rattle.resend.specs.declared.judged.Judged.TheVariants as judged
 use Rattle.resend.specs.Judging.{judged}
-use Rattle.resend.specs.Log.{Entry, FillParts, last_number, take_below, give_up_from, leg_at, is_range, fill_for}
+use Rattle.resend.specs.Log.{Entry, GapFillParts, last_number, take_below, give_up_from, leg_at, fill_for}
 use Rattle.resend.specs.Later.{withdrawn_since}
 use Rattle.resend.proofs.Later.{length-settled_where, later-refl, later-trans, later-take_below, later-give_up_from, withdraws_none-take_below}
 use Rattle.resend.proofs.Settled.{since-refl, since-settled, since-take_below}
@@ -20,7 +22,7 @@ use Rattle.session_core.specs.declared.ended.Ended.{Ended}
 use Rattle.session_core.specs.declared.ended.Ended.TheVariants as ended
 use Rattle.session_core.specs.Session.{SessionParts, is_connected, is_logging_on, is_settling, is_logged_out}
 use Rattle.session_core.specs.Turn.{Turn, quietly, writes, writes_fence, fills, settles_at, counts, notes, logs_out, ends, ends_turn}
-use Rattle.session_core.specs.Receiving.{is_logon, is_reset, is_for, counts_if, told_number, is_too_high, settles_told, asks_if, in_phase, logon_row, filled_if, resend_while_settling, resend_later, resend_row, named_fence, passing, passed_in, passes_fence, answers_test, gap_fill_row, refused_leg, refused_row, logout_row, report_note, due_row, ahead_row, asks_missing, ahead_turn, by_number, received, hearing, receive}
+use Rattle.session_core.specs.Receiving.{is_reset, counts_if, told_number, is_too_high, settles_told, asks_if, in_phase, logon_row, filled_if, resend_while_settling, resend_later, resend_row, named_fence, passing, passed_in, passes_fence, answers_test, gap_fill_row, refused_leg, refused_row, logout_row, report_note, due_row, ahead_row, asks_missing, ahead_turn, by_number, received, hearing, receive}
 use Rattle.session_core.specs.Onward.{is_told, IsOnward, IsReceived, may_withdraw}
 use Rattle.session_core.proofs.Adding.{Goes, chosen, adds-writes, adds-writes_fence, adds-asks_if, adds-fills, adds-filled_if, adds-counts, adds-in_phase, adds-ends_turn, adds-logs_out, adds-counts_if, adds-asks_missing, received_by}
 
@@ -110,7 +112,7 @@ module _ (may : Bool) where
       (received_by may s settled filled (received_settles begin s now) (adds-filled_if (fill_for begin last (last_number s.log) s.log) settled))
       (adds-writes_fence filled)
 
-  received_resend_later : (s : SessionParts) (fill : Option FillParts) → Goes may s (resend_later fill s)
+  received_resend_later : (s : SessionParts) (fill : Option GapFillParts) → Goes may s (resend_later fill s)
   received_resend_later s None = received_ends ended.ResendInDoubt s
   received_resend_later s (Some fill) = received_by may s (quietly s) (fills fill (quietly s)) (received_quietly s) (adds-fills fill (quietly s))
 
@@ -238,7 +240,7 @@ module _ (may : Bool) where
 
   received_checked : (s : SessionParts) (m : Message) → may_withdraw s m.content ≡ may → Goes may s (received s m)
   received_checked s m may_is =
-      chosen (Goes may s) (not (is_for s m)) (ends ended.WrongComp s) _
+      chosen (Goes may s) (not (is_for s.config m)) (ends ended.WrongComp s) _
       (λ wrong. received_ends ended.WrongComp s)
       (λ ours. chosen (Goes may s) (is_logging_on s.phase && not (is_logon m.content)) (ends ended.FirstNotLogon s) _
       (λ early. received_ends ended.FirstNotLogon s)

@@ -2,6 +2,7 @@
 use Rattle.std.specs.Prelude.{ℕ, ◌+◌, true, false, [], ◌∷◌, ◌++◌, Option, Some, None, Result, Ok, Err, nat_lt, not, if◌then◌else◌}
 use Rattle.leg.specs.declared.leg.Leg.{Leg}
 use Rattle.leg.specs.declared.leg_state.LegState.TheVariants.{Doubt}
+use Rattle.dialect.specs.Addressed.{message_of}
 use Rattle.dialect.specs.Message.{Message}
 use Rattle.dialect.specs.Message.Content.{Logon, Heartbeat, Order}
 use Rattle.resend.specs.Log.{last_ordinal}
@@ -13,7 +14,7 @@ use Rattle.session_core.specs.declared.ended.Ended.TheVariants.{Silent, Malforme
 use Rattle.session_core.specs.declared.session_fault.SessionFault.{SessionFault}
 use Rattle.session_core.specs.declared.session_fault.SessionFault.TheVariants as fault
 use Rattle.session_core.specs.Session.{SessionParts, is_connected, is_still, next_out, may_write}
-use Rattle.session_core.specs.Turn.{Turn, quietly, message_of, spending, writes, writes_fence, ends, disconnected}
+use Rattle.session_core.specs.Turn.{Turn, quietly, spending, writes, writes_fence, ends, disconnected}
 
 -- a call that writes one message, and the state after it
 abbrev pub Written : Type 0
@@ -38,7 +39,7 @@ own_next s = if s.config.has_next then Some s.expected else None
 
 abbrev pub logs_on : SessionParts → Written
 logs_on s =
-    if may_write s then Ok (connecting s, message_of s (next_out s) false (Logon s.config.heart false (own_next s)))
+    if may_write s then Ok (connecting s, message_of s.config (next_out s) false (Logon s.config.heart false (own_next s)))
     else Err fault.NumbersSpent
 
 abbrev pub connect_in : Phase → SessionParts → Written
@@ -60,7 +61,7 @@ sending s ordinal leg = record s { log = s.log ++ Sent (record { ordinal = ordin
 abbrev pub send_up : SessionParts → ℕ → Leg → Written
 send_up s ordinal leg =
     if not (nat_lt (last_ordinal s.log) ordinal) then Err fault.OrdinalNotGreater
-    else (if may_write s then Ok (sending s ordinal leg, message_of s (next_out s) false (Order (Ok leg)))
+    else (if may_write s then Ok (sending s ordinal leg, message_of s.config (next_out s) false (Order (Ok leg)))
     else Err fault.NumbersSpent)
 
 abbrev pub send_in : Phase → SessionParts → ℕ → Leg → Written

@@ -1,15 +1,18 @@
 -- How a session goes on, whatever is called and whatever comes.
 use Rattle.std.specs.Prelude.{◌≡◌, ◌≤◌, ◌<◌, ◌+◌, ◌⊎◌, ℕ, Bool, true, false, ◌&&◌, List, [], ◌∷◌, Ok, Option, Some, None, if◌then◌else◌}
+use Rattle.leg.specs.Numbered.{numbered}
 use Rattle.leg.specs.declared.leg.Leg.{Leg}
 use Rattle.leg.specs.declared.leg_state.LegState.TheVariants.{Doubt}
+use Rattle.leg.specs.Growing.{Grew}
+use Rattle.dialect.specs.Addressed.{message_of}
 use Rattle.dialect.specs.Message.{Message, Content}
 use Rattle.dialect.specs.Message.Content.{Logon, Heartbeat, TestRequest, ResendRequest, Reject, GapFill, Reset, Logout, BusinessReject, Order, OrderReport, Other}
-use Rattle.resend.specs.Log.{FillParts, entry_at, last_ordinal}
+use Rattle.resend.specs.Log.{GapFillParts, last_ordinal}
 use Rattle.resend.specs.Log.Entry.{Sent}
-use Rattle.resend.specs.Later.{IsLater, IsAdded, WithdrawsNone, withdrawn_since}
+use Rattle.resend.specs.Later.{IsLater, WithdrawsNone, withdrawn_since}
 use Rattle.session_core.specs.declared.phase.Phase.TheVariants.{Down, LoggingOn, Up}
 use Rattle.session_core.specs.Session.{SessionParts, is_logging_on, is_settling, next_out}
-use Rattle.session_core.specs.Turn.{Turn, message_of}
+use Rattle.session_core.specs.Turn.{Turn}
 use Rattle.session_core.specs.Receiving.{told_number}
 use Rattle.session_core.specs.Calling.{own_next}
 
@@ -24,7 +27,7 @@ pub record IsOnward (before after : SessionParts) : Type 0 where
 -- onward, and each leg that was sent is as it was: numbers were only added
 pub record KeepsLegs (before after : SessionParts) : Type 0 where
   pub onward : IsOnward before after
-  pub added : IsAdded before.log after.log
+  pub added : Grew before.log after.log
 
 -- the numbers of messages that were written for the first time; a gap fill comes as a possible duplicate, under a number that was spent before
 abbrev pub new_numbers : List Message → List ℕ
@@ -58,11 +61,11 @@ pub record IsConnection (before after : SessionParts) (message : Message) : Type
 -- a leg that was sent: in phase Up alone, with a higher ordinal than any before it, and in doubt under the next number
 pub record IsSent (before : SessionParts) (ordinal : ℕ) (leg : Leg) (after : SessionParts) (message : Message) : Type 0 where
   pub keeps : KeepsLegs before after
-  pub numbered : IsNumbered before (message ∷ []) after
   pub orders : message.content ≡ Order (Ok leg)
   pub was_up : before.phase ≡ Up
   pub above : last_ordinal before.log < ordinal
-  pub in_doubt : entry_at (next_out before) after.log ≡ Some (Sent (record { ordinal = ordinal; id = leg.id; state = Doubt }))
+  pub in_doubt : numbered (next_out before) after.log ≡ Some (Sent (record { ordinal = ordinal; id = leg.id; state = Doubt }))
+  pub numbered : IsNumbered before (message ∷ []) after
 
 -- a number was told
 abbrev pub is_told : Option ℕ → Bool
@@ -87,7 +90,7 @@ may_withdraw s Other = false
 -- nothing is written, or one gap fill
 abbrev pub WritesFillAlone : SessionParts → List Message → Type 0
 WritesFillAlone s written =
-    (written ≡ []) ⊎ ((fill : FillParts) × (written ≡ message_of s fill.first true (GapFill fill.new_number) ∷ []))
+    (written ≡ []) ⊎ ((fill : GapFillParts) × (written ≡ message_of s.config fill.first true (GapFill fill.new_number) ∷ []))
 
 -- no leg is withdrawn, and none is named so
 pub record SparesLegs (before : SessionParts) (turn : Turn) : Type 0 where

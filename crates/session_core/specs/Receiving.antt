@@ -1,36 +1,24 @@
 -- What a session does with a message that it receives: one case a row of the table of `docs/session.md` (FIX 4.4 Volume 2).
 use Rattle.std.specs.Prelude.{ℕ, ◌+◌, Bool, true, false, ◌&&◌, ◌||◌, not, List, [], ◌∷◌, ◌==◌, nat_lt, nat_le, Option, Some, None, Result, Ok, Err, if◌then◌else◌}
 use Rattle.std.specs.Str.{bytes_eq}
+use Rattle.fix_tags.specs.Range.{is_range}
 use Rattle.leg.specs.LegId.{LegIdParts}
 use Rattle.dialect.specs.declared.fault.DialectFault.{DialectFault}
 use Rattle.dialect.specs.declared.note.Note.{Note}
 use Rattle.dialect.specs.declared.note.Note.TheVariants as note
 use Rattle.dialect.specs.declared.report.Report.{Report}
-use Rattle.dialect.specs.Message.{Message, Content}
+use Rattle.dialect.specs.Addressed.{is_for}
+use Rattle.dialect.specs.Message.{Message, Content, is_logon}
 use Rattle.dialect.specs.Message.Content.{Logon, Heartbeat, TestRequest, ResendRequest, Reject, GapFill, Reset, Logout, BusinessReject, Order, OrderReport, Other}
 use Rattle.resend.specs.declared.judged.Judged.{Judged}
 use Rattle.resend.specs.declared.judged.Judged.TheVariants as judged
 use Rattle.resend.specs.Judging.{judged}
-use Rattle.resend.specs.Log.{FillParts, last_number, take_below, leg_at, is_range, fill_for}
+use Rattle.resend.specs.Log.{GapFillParts, last_number, take_below, leg_at, fill_for}
 use Rattle.session_core.specs.declared.phase.Phase.{Phase}
 use Rattle.session_core.specs.declared.phase.Phase.TheVariants.{Down, LoggingOn, Settling, Up, Closing, LoggedOut, Closed}
 use Rattle.session_core.specs.declared.ended.Ended.TheVariants.{FirstNotLogon, TooLow, WrongComp, ResetRefused, ResendInDoubt, BadResend, PeerLogout, LogonAgain, BadGapFill, LogoutDone, BadNextExpected}
 use Rattle.session_core.specs.Session.{SessionParts, is_connected, is_logging_on, is_settling, is_logged_out}
 use Rattle.session_core.specs.Turn.{Turn, quietly, with_session, writes, writes_fence, fence_id, asks, fills, settles_at, counts, notes, logs_out, ends, ends_turn, unless_ended}
-
-abbrev pub is_logon : Content → Bool
-is_logon (Logon heart reset next) = true
-is_logon (Heartbeat id) = false
-is_logon (TestRequest id) = false
-is_logon (ResendRequest begin last) = false
-is_logon (Reject number) = false
-is_logon (GapFill new_number) = false
-is_logon (Reset new_number) = false
-is_logon Logout = false
-is_logon (BusinessReject number) = false
-is_logon (Order read) = false
-is_logon (OrderReport read) = false
-is_logon Other = false
 
 -- the exchange wants to begin its numbers anew: SequenceReset in reset mode, or ResetSeqNumFlag (141) of a Logon
 abbrev pub is_reset : Content → Bool
@@ -46,10 +34,6 @@ is_reset (BusinessReject number) = false
 is_reset (Order read) = false
 is_reset (OrderReport read) = false
 is_reset Other = false
-
--- a message is for this session where it is from its peer and to itself
-abbrev pub is_for : SessionParts → Message → Bool
-is_for s m = bytes_eq m.from s.config.peer && bytes_eq m.to s.config.me
 
 -- the message is counted where it is due and the connection goes on
 abbrev pub counts_if : Bool → Turn → Turn
@@ -85,7 +69,7 @@ logon_row due s next =
     else in_phase Settling (writes_fence (asks_if (not due) (counts_if due (settles_told s (told_number s next))))))
 
 -- ResendRequest, while settling: what was lost is known, so every leg in doubt is settled, the range is filled, and a new fence is written
-abbrev pub filled_if : Option FillParts → Turn → Turn
+abbrev pub filled_if : Option GapFillParts → Turn → Turn
 filled_if None turn = turn
 filled_if (Some fill) turn = fills fill turn
 
@@ -94,7 +78,7 @@ resend_while_settling s begin last =
     writes_fence (filled_if (fill_for begin last (last_number s.log) s.log) (settles_at begin s))
 
 -- later: what was settled is filled, and no more than that
-abbrev pub resend_later : Option FillParts → SessionParts → Turn
+abbrev pub resend_later : Option GapFillParts → SessionParts → Turn
 resend_later None s = ends ResendInDoubt s
 resend_later (Some fill) s = fills fill (quietly s)
 
@@ -209,7 +193,7 @@ by_number s m judged.TooLow = ends TooLow s
 -- each check before the number's, in order
 abbrev pub received : SessionParts → Message → Turn
 received s m =
-    if not (is_for s m) then ends WrongComp s
+    if not (is_for s.config m) then ends WrongComp s
     else (if is_logging_on s.phase && not (is_logon m.content) then ends FirstNotLogon s
     else (if is_reset m.content then ends ResetRefused s
     else by_number s m (judged s.expected m.number m.poss_dup)))

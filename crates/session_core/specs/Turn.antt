@@ -2,9 +2,10 @@
 use Rattle.std.specs.Prelude.{ℕ, ◌+◌, Bool, true, false, ◌||◌, List, [], ◌∷◌, ◌++◌, codes, decimal, Option, Some, None, if◌then◌else◌}
 use Rattle.leg.specs.LegId.{LegIdParts}
 use Rattle.dialect.specs.declared.note.Note.{Note}
+use Rattle.dialect.specs.Addressed.{message_of}
 use Rattle.dialect.specs.Message.{Message, Content}
 use Rattle.dialect.specs.Message.Content.{TestRequest, ResendRequest, GapFill, Logout}
-use Rattle.resend.specs.Log.{FillParts, doubt_from, take_below, give_up_from}
+use Rattle.resend.specs.Log.{GapFillParts, doubt_from, take_below, give_up_from}
 use Rattle.resend.specs.Log.Entry.{Admin}
 use Rattle.session_core.specs.declared.phase.Phase.{Phase}
 use Rattle.session_core.specs.declared.phase.Phase.TheVariants.{Down, LoggedOut, Closed}
@@ -31,11 +32,6 @@ quietly s = record { session = s; step = record { written = []; note = None; wit
 abbrev pub with_session : SessionParts → Turn → Turn
 with_session s turn = record turn { session = s }
 
--- a message from this end to the other
-abbrev pub message_of : SessionParts → ℕ → Bool → Content → Message
-message_of s number poss_dup content =
-    record { from = s.config.me; to = s.config.peer; number = number; poss_dup = poss_dup; content = content }
-
 -- a message behind those that are written already
 abbrev pub with_message : Message → Turn → Turn
 with_message message turn = record turn { step = record turn.step { written = turn.step.written ++ message ∷ [] } }
@@ -48,7 +44,7 @@ spending s = record s { log = s.log ++ Admin ∷ [] }
 abbrev pub writes : Content → Turn → Turn
 writes content turn =
     if may_write turn.session
-    then with_message (message_of turn.session (next_out turn.session) false content) (with_session (spending turn.session) turn)
+    then with_message (message_of turn.session.config (next_out turn.session) false content) (with_session (spending turn.session) turn)
     else turn
 
 -- a fence is a TestRequest whose id is `F` and its own number. The exchange answers it once it has taken every message before it
@@ -61,7 +57,7 @@ fenced s = record (spending s) { fences = s.fences ++ next_out s ∷ [] }
 abbrev pub writes_fence : Turn → Turn
 writes_fence turn =
     if may_write turn.session
-    then with_message (message_of turn.session (next_out turn.session) false (TestRequest (fence_id (next_out turn.session)))) (with_session (fenced turn.session) turn)
+    then with_message (message_of turn.session.config (next_out turn.session) false (TestRequest (fence_id (next_out turn.session)))) (with_session (fenced turn.session) turn)
     else turn
 
 -- what is missing is asked for, from the expected number on
@@ -75,8 +71,8 @@ asks turn =
     else turn
 
 -- a gap fill is written under the first number that it stands for, as a possible duplicate. It spends no number
-abbrev pub fills : FillParts → Turn → Turn
-fills fill turn = with_message (message_of turn.session fill.first true (GapFill fill.new_number)) turn
+abbrev pub fills : GapFillParts → Turn → Turn
+fills fill turn = with_message (message_of turn.session.config fill.first true (GapFill fill.new_number)) turn
 
 -- the legs in doubt below a number are taken, and those under it or above it withdrawn
 abbrev pub settling_at : ℕ → SessionParts → SessionParts

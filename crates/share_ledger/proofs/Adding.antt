@@ -4,10 +4,11 @@ use Rattle.std.specs.Prelude.{slice_get, sum_by, option_and_then}
 use Rattle.std.proofs.lemmas.List.{append_assoc, length_push}
 use Rattle.std.proofs.lemmas.List.Sums.{sum_by-cons}
 use Rattle.leg.specs.LegId.{LegIdParts}
+use Rattle.leg.specs.Numbered.{numbered}
 use Rattle.leg.specs.Split.{leg_shares}
 use Rattle.leg.specs.declared.sweep.Routed.{Routed}
 use Rattle.share_ledger.specs.declared.book_entry.BookEntry.{BookEntry}
-use Rattle.share_ledger.specs.Entries.{sweep_shares, opened, numbered, order_of, is_withdrawn}
+use Rattle.share_ledger.specs.Entries.{sweep_shares, opened, order_of, is_withdrawn}
 use Rattle.share_ledger.specs.Book.{BookParts, BookedLeg, new_book, moves_on, leg_parts, booked_from, totals_of, totals, totals_shares, replay}
 use Rattle.share_ledger.proofs.ShareSums.{leg_shares-parts_of}
 use Rattle.share_ledger.proofs.Sound.{IsSound, sound-new, sound-replay}

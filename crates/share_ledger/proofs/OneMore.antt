@@ -1,15 +1,17 @@
 -- What the record says once one more entry is written.
-use Rattle.std.proofs.Common.{◌≡◌, ℕ, zero, suc, Bool, true, false, ◌&&◌, ◌||◌, List, [], ◌∷◌, ◌++◌, Option, Some, None, refl, ap, ◌∙◌, if◌then◌else◌}
-use Rattle.std.specs.Prelude.{slice_get, option_and_then, ◌==◌}
+use Rattle.std.proofs.Common.{◌≡◌, ℕ, Bool, true, false, ◌&&◌, ◌||◌, List, [], ◌∷◌, ◌++◌, Option, Some, None, refl, ap, ◌∙◌, if◌then◌else◌}
+use Rattle.std.specs.Prelude.{option_and_then, ◌==◌}
 use Rattle.std.proofs.lemmas.Bool.{and_parts, eqb-true, eq-eqb}
 use Rattle.std.proofs.lemmas.List.{append-nil}
 use Rattle.leg.specs.LegId.{LegIdParts}
+use Rattle.leg.specs.Numbered.{numbered}
 use Rattle.leg.specs.declared.sweep.Sweep.{Sweep}
 use Rattle.leg.specs.declared.sweep.Routed.{Routed}
+use Rattle.leg.proofs.Numbered.{numbered-append}
 use Rattle.dialect.specs.declared.note.Note.{Note}
 use Rattle.share_ledger.specs.declared.book_entry.BookEntry.{BookEntry}
 use Rattle.share_ledger.specs.declared.book_entry.BookEntry.TheVariants.{Opened, Withdrawn, Moved}
-use Rattle.share_ledger.specs.Entries.{opened, numbered, order_of, is_same_leg, is_withdrawn, is_about, notes_on, has_exec, is_booked}
+use Rattle.share_ledger.specs.Entries.{opened, order_of, is_same_leg, is_withdrawn, is_about, notes_on, has_exec, is_booked}
 
 pub opened-append : (xs ys : List BookEntry) → opened (xs ++ ys) ≡ opened xs ++ opened ys
 opened-append [] ys = refl
@@ -106,16 +108,6 @@ is_same_leg-true a b same =
     let place = eqb-true a.place b.place parts.1 in
     λ i. record { sweep = sweep i; place = place i }
 
--- what has a number keeps it when more comes behind
-slice_get-front : {A : Type 0} (xs ys : List A) (n : ℕ) (x : A) → slice_get xs n ≡ Some x → slice_get (xs ++ ys) n ≡ Some x
-slice_get-front [] ys n x e = cc
-slice_get-front (y ∷ xs) ys zero x e = e
-slice_get-front (y ∷ xs) ys (suc n) x e = slice_get-front xs ys n x e
-
-pub numbered-front : {A : Type 0} (n : ℕ) (xs ys : List A) (x : A) → numbered n xs ≡ Some x → numbered n (xs ++ ys) ≡ Some x
-numbered-front zero xs ys x e = cc
-numbered-front (suc n) xs ys x e = slice_get-front xs ys n x e
-
 order_in : {A B : Type 0} (f : A → Option B) (o p : Option A) (x : B) → ((a : A) → o ≡ Some a → p ≡ Some a) → option_and_then f o ≡ Some x → option_and_then f p ≡ Some x
 order_in f None p x kept e = cc
 order_in f (Some a) p x kept e = ap (option_and_then f) (kept a refl) ∙ e
@@ -126,7 +118,7 @@ order_of-opened id entries sweep routed e =
     let more = opened-append entries (Opened sweep ∷ []) in
     ap (λ sweeps. option_and_then (numbered id.place) (numbered id.sweep sweeps)) more
     ∙ order_in (numbered id.place) (numbered id.sweep (opened entries)) (numbered id.sweep (opened entries ++ sweep.legs ∷ [])) routed
-    (λ legs h. numbered-front id.sweep (opened entries) (sweep.legs ∷ []) legs h) e
+    (λ legs h. numbered-append id.sweep (opened entries) (sweep.legs ∷ []) legs h) e
 
 pub order_of-withdrawn : (id leg : LegIdParts) (entries : List BookEntry) → order_of id (entries ++ Withdrawn leg ∷ []) ≡ order_of id entries
 order_of-withdrawn id leg entries =

@@ -3,6 +3,7 @@ use Rattle.std.proofs.Common.{◌≡◌, ℕ, zero, suc, ◌+◌, ◌-◌, Bool,
 use Rattle.std.specs.Prelude.{◌==◌, slice_get, option_and_then, nat_le}
 use Rattle.std.proofs.lemmas.Bool.{leb-true}
 use Rattle.leg.specs.LegId.{LegIdParts}
+use Rattle.leg.specs.Numbered.{numbered}
 use Rattle.leg.specs.Split.{SplitParts, SplitAnswer}
 use Rattle.leg.specs.declared.fault.LegFault.TheVariants.{Overfill, NotFilled}
 use Rattle.leg.specs.declared.sweep.Routed.{Routed}
@@ -15,7 +16,7 @@ use Rattle.dialect.specs.declared.report.ReportKind.TheVariants.{New, Trade, Bus
 use Rattle.share_ledger.specs.declared.applied.Applied.TheVariants as applied
 use Rattle.share_ledger.specs.declared.book_entry.BookEntry.{BookEntry}
 use Rattle.share_ledger.specs.declared.book_entry.BookEntry.TheVariants.{Moved}
-use Rattle.share_ledger.specs.Entries.{opened, numbered, order_of, is_same_leg, is_withdrawn, is_about, notes_on, is_booked}
+use Rattle.share_ledger.specs.Entries.{opened, order_of, is_same_leg, is_withdrawn, is_about, notes_on, is_booked}
 use Rattle.share_ledger.specs.Shares.{move_of}
 use Rattle.share_ledger.specs.Book.{BookParts, new_book, written, moves_on, leg_parts, all_booked_from, resolved_of, venue_resolved, after_note, apply, replay}
 use Rattle.share_ledger.specs.Steps.{traded_under, split_step}

@@ -4,6 +4,7 @@ use Rattle.std.specs.Prelude.{◌==◌, nat_le}
 use Rattle.std.proofs.lemmas.Bool.{cases_Bool, eqb-true, leb-true}
 use Rattle.std.proofs.lemmas.List.{map-append}
 use Rattle.leg.specs.LegId.{LegIdParts}
+use Rattle.leg.specs.Numbered.{numbered}
 use Rattle.leg.specs.declared.sweep.Sweep.{Sweep}
 use Rattle.leg.specs.declared.sweep.Routed.{Routed}
 use Rattle.dialect.specs.declared.note.Note.{Note}
@@ -13,7 +14,7 @@ use Rattle.share_ledger.specs.declared.applied.Applied.TheVariants as applied
 use Rattle.share_ledger.specs.declared.book_entry.BookEntry.{BookEntry}
 use Rattle.share_ledger.specs.declared.book_entry.BookEntry.TheVariants.{Opened, Withdrawn, Moved}
 use Rattle.share_ledger.specs.declared.book_fault.BookFault.TheVariants.{NotNext, AlreadyMoved, Unfit}
-use Rattle.share_ledger.specs.Entries.{numbered, order_of, is_same_leg, is_withdrawn, is_about, notes_on, is_booked}
+use Rattle.share_ledger.specs.Entries.{order_of, is_same_leg, is_withdrawn, is_about, notes_on, is_booked}
 use Rattle.share_ledger.specs.Shares.{Move, Trades, Busts, Ends, Tells, move_of, parts_of}
 use Rattle.share_ledger.specs.Book.{BookParts, BookAnswer, new_book, written, moves_on, leg_parts, move_answer, leg_answer, answer_to, after_note, apply, is_fit, next_sweep, open_sweep, withdraw, withdraw_order, again, replay}
 use Rattle.share_ledger.proofs.ShareSums.{IsWithin, filled_and_busted, traded-trade, traded-bust, traded-end, traded-told, cancelled-trade, cancelled-bust, cancelled-told, cancelled-end}

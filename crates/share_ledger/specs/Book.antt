@@ -2,6 +2,7 @@
 use Rattle.std.specs.Prelude.{ℕ, suc, ◌+◌, Bool, false, ◌&&◌, List, [], ◌∷◌, ◌++◌, length, map, filter, sum_by, Option, Some, None, Result, Ok, Err, option_map, bytes_eq, not, ◌==◌, nat_le, nat_lt, if◌then◌else◌}
 use Rattle.std.specs.List.{list_all, list_any}
 use Rattle.leg.specs.LegId.{LegIdParts}
+use Rattle.leg.specs.Numbered.{numbered}
 use Rattle.leg.specs.Split.{SplitParts}
 use Rattle.leg.specs.declared.sweep.Routed.{Routed}
 use Rattle.leg.specs.declared.totals.Totals.{Totals}
@@ -13,7 +14,7 @@ use Rattle.share_ledger.specs.declared.book_entry.BookEntry.{BookEntry}
 use Rattle.share_ledger.specs.declared.book_entry.BookEntry.TheVariants.{Opened, Withdrawn, Moved}
 use Rattle.share_ledger.specs.declared.book_fault.BookFault.{BookFault}
 use Rattle.share_ledger.specs.declared.book_fault.BookFault.TheVariants.{NotNext, AlreadyMoved, Unfit}
-use Rattle.share_ledger.specs.Entries.{sweep_shares, opened, numbered, order_of, is_withdrawn, notes_on, is_booked}
+use Rattle.share_ledger.specs.Entries.{sweep_shares, opened, order_of, is_withdrawn, notes_on, is_booked}
 use Rattle.share_ledger.specs.Shares.{Move, Trades, Busts, Ends, Tells, move_of, trades, busted_ids, has_id, parts_of}
 
 -- a book of so many venues, and what was written in it, in order

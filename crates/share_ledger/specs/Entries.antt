@@ -1,6 +1,7 @@
 -- What is written in the book: the sweeps that were opened, the legs that were withdrawn, and the notes of each venue.
-use Rattle.std.specs.Prelude.{ℕ, zero, suc, Bool, false, ◌&&◌, ◌||◌, List, [], ◌∷◌, Option, Some, None, option_and_then, slice_get, sum_by, ◌==◌, bytes_eq, if◌then◌else◌}
+use Rattle.std.specs.Prelude.{ℕ, Bool, false, ◌&&◌, ◌||◌, List, [], ◌∷◌, Option, Some, None, option_and_then, sum_by, ◌==◌, bytes_eq, if◌then◌else◌}
 use Rattle.leg.specs.LegId.{LegIdParts}
+use Rattle.leg.specs.Numbered.{numbered}
 use Rattle.leg.specs.declared.sweep.Routed.{Routed}
 use Rattle.dialect.specs.declared.note.Note.{Note}
 use Rattle.dialect.specs.declared.note.Note.TheVariants as note
@@ -17,11 +18,6 @@ opened [] = []
 opened (Opened sweep ∷ entries) = sweep.legs ∷ opened entries
 opened (Withdrawn id ∷ entries) = opened entries
 opened (Moved venue note ∷ entries) = opened entries
-
--- the one of that number, counted from 1
-abbrev pub numbered : {A : Type 0} → ℕ → List A → Option A
-numbered zero xs = None
-numbered (suc n) xs = slice_get xs n
 
 -- the order of a leg, if its sweep was opened and has such a place
 abbrev pub order_of : LegIdParts → List BookEntry → Option Routed

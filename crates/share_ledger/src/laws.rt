@@ -2,13 +2,14 @@
 
 ghost use Rattle.std.specs.Prelude.{◌≡◌, ◌≢◌, ◌+◌, ℕ, false, List, OnOk, OnErr, IsOk};
 ghost use Rattle.leg.specs.LegId.{LegIdParts};
+ghost use Rattle.leg.specs.Numbered.{numbered};
 ghost use Rattle.leg.specs.Split.{all_open, leg_shares, split_withdraw};
 ghost use Rattle.leg.specs.declared.sweep.Routed.{Routed};
 ghost use Rattle.dialect.specs.Fill.{FillParts};
 ghost use Rattle.dialect.specs.declared.note.Note.{Note as ANote};
 ghost use Rattle.dialect.specs.declared.report.Report.{Report as AReport};
 ghost use Rattle.share_ledger.specs.declared.book_entry.BookEntry.{BookEntry as AnEntry};
-ghost use Rattle.share_ledger.specs.Entries.{sweep_shares, numbered, opened, order_of, is_same_leg, is_about, leg_of_note};
+ghost use Rattle.share_ledger.specs.Entries.{sweep_shares, opened, order_of, is_same_leg, is_about, leg_of_note};
 ghost use Rattle.share_ledger.specs.Shares.{move_of};
 ghost use Rattle.share_ledger.specs.Steps.{split_step};
 ghost use Rattle.share_ledger.specs.Book.{BookParts, new_book, written, moves_on, leg_parts, open_sweep, withdraw, apply, replay, totals, totals_shares, venue_resolved};

@@ -2,9 +2,9 @@
 use Rattle.std.proofs.Common.{◌≡◌, ℕ, zero, suc, ◌+◌, ◌<◌, Bool, true, false, List, [], ◌∷◌, length, drop, Option, Some, None, refl, ap, sym, ◌∙◌, arith, if◌then◌else◌}
 use Rattle.std.specs.Prelude.{◌==◌, slice_get, IfSome}
 use Rattle.std.proofs.lemmas.List.{drop-drop}
+use Rattle.leg.specs.Numbered.{numbered}
 use Rattle.leg.specs.declared.leg.Leg.{Leg}
 use Rattle.leg.specs.declared.placed_leg.PlacedLeg.{PlacedLeg}
-use Rattle.share_ledger.specs.Entries.{numbered}
 use Rattle.sweep_release.specs.declared.gate.Gate.{Gate}
 use Rattle.sweep_release.specs.declared.gate.Gate.TheVariants.{Up, Down, Shut}
 use Rattle.sweep_release.specs.Released.{released}

@@ -1,10 +1,11 @@
 -- What the laws of the desk say.
 use Rattle.std.specs.Prelude.{◌≡◌, ◌≢◌, ℕ, ◌+◌, ◌≤◌, List, [], ◌∷◌, ◌++◌, length, Some}
-use Rattle.leg.specs.declared.leg.Leg.{Leg}
+use Rattle.leg.specs.Numbered.{numbered}
 use Rattle.leg.specs.declared.placed_leg.PlacedLeg.{PlacedLeg}
 use Rattle.leg.specs.declared.sweep.Routed.{Routed}
+use Rattle.leg.specs.Growing.{Grew}
 use Rattle.share_ledger.specs.declared.book_entry.BookEntry.TheVariants.{Opened}
-use Rattle.share_ledger.specs.Entries.{numbered, sweep_shares}
+use Rattle.share_ledger.specs.Entries.{sweep_shares}
 use Rattle.share_ledger.specs.Book.{BookParts, written, next_sweep}
 use Rattle.sweep_release.specs.Released.{released}
 use Rattle.sweep_release.specs.Desk.{DeskParts, venue_at, placed, placed_legs}
@@ -17,8 +18,7 @@ pub record ChangesOnly (venue : ℕ) (before after : DeskParts) : Type 0 where
 
 -- the legs released to a venue before are the first of those released to it after
 abbrev pub OnlyAppends : ℕ → DeskParts → DeskParts → Type 0
-OnlyAppends venue before after =
-    (more : List Leg) × (released venue after.sweeps ≡ released venue before.sweeps ++ more)
+OnlyAppends venue before after = Grew (released venue before.sweeps) (released venue after.sweeps)
 
 -- each leg released to a venue is placed or left, and at most 256 are placed
 pub record IsCounted (desk : DeskParts) (venue : ℕ) : Type 0 where

@@ -1,7 +1,4 @@
 //! The options of `dispatch order`, as text.
-ghost use Rattle.std.specs.Prelude.{◌≡◌};
-ghost use Rattle.dispatch_main.specs.DialectName.{dialect_named};
-
 use crate::fault::ProgramFault;
 use clap::error::ErrorKind;
 use clap::{Arg, ArgMatches, Command};
@@ -79,18 +76,6 @@ fn value<'a>(matches: &ArgMatches<'a>, name: &'static str) -> Result<&'a str, Pr
     matches.get_str(name).ok_or(ProgramFault::NoValue(name))
 }
 
-/// The dialect of a name that the command line takes.
-fn dialect_of(name: &str) -> Option<AnyDialect>
-    ensures { result ≡ dialect_named name.now }
-{
-    match name {
-        "plain" => Some(AnyDialect::Plain),
-        "split" => Some(AnyDialect::Split4),
-        "coded" => Some(AnyDialect::Coded),
-        _ => None,
-    }
-}
-
 /// The options in these words. A missing, unknown or repeated option and a dialect that isn't there are
 /// faults of the command line.
 pub fn read_options<'a, S: AsStr>(
@@ -101,7 +86,7 @@ pub fn read_options<'a, S: AsStr>(
     let matches = command.try_get_matches_from(words).map_err(fault_of)?;
     let name = value(&matches, "dialect")?;
     Ok(Options {
-        dialect: dialect_of(name).ok_or(ProgramFault::BadValue("dialect"))?,
+        dialect: AnyDialect::named(name).ok_or(ProgramFault::BadValue("dialect"))?,
         sweep: value(&matches, "sweep")?,
         leg: value(&matches, "leg")?,
         symbol: value(&matches, "symbol")?,

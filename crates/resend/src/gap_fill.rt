@@ -3,7 +3,7 @@
 /// A gap fill (FIX 4.4 Volume 2, "Sequence Reset"): it is sent under the first number that it stands for, and says which
 /// number comes after the last.
 #[derive(Clone, Copy, Debug, PartialEq, Eq)]
-pub struct Fill {
+pub struct GapFill {
     /// The first number that isn't sent again, from 1.
     pub first: u64,
     /// The number of the next message behind the gap, above `first`.
