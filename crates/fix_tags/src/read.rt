@@ -141,7 +141,7 @@ fn app_fields<'a>(alloc: Global, frame: &Frame<'a>) -> Result<Vec<FieldRef<'a>>,
     for index in 0..frame.len() {
         let field = frame.field(index);
         if is_application_tag(field.tag()) {
-            kept.push(field)?;
+            kept.push_reserved(field);
         }
     }
     Ok(kept)
