@@ -132,8 +132,33 @@ fn body_at(size: usize, bytes: &[u8]) -> Result<(&[u8], &[u8]), Stop>
     Ok(bytes.split_at(size))
 }
 
-#[tactic(auto, unfolding(crate::specs::Reading::trailer_at))]
+#[tactic(auto, unfolding(crate::specs::Reading::trailer_at, crate::specs::Reading::literal_at, crate::specs::Reading::digit_at))]
 fn trailer_at(bytes: &[u8]) -> Result<(u32, &[u8]), Stop>
+    ensures { result_map_both (λ found. (found.0, found.1.now)) (λ stop. stop) result ≡ trailer_at bytes.now }
+{
+    match bytes {
+        [
+            b'1',
+            b'0',
+            b'=',
+            hundreds @ b'0'..=b'9',
+            tens @ b'0'..=b'9',
+            ones @ b'0'..=b'9',
+            SOH,
+            rest @ ..,
+        ] => {
+            let hundreds = u32::from(*hundreds - b'0');
+            let tens = u32::from(*tens - b'0');
+            let ones = u32::from(*ones - b'0');
+            Ok((100 * hundreds + 10 * tens + ones, rest))
+        }
+        _ => trailer_by_steps(bytes),
+    }
+}
+
+/// The same, where it may be cut short or spoilt.
+#[tactic(auto, unfolding(crate::specs::Reading::trailer_at))]
+fn trailer_by_steps(bytes: &[u8]) -> Result<(u32, &[u8]), Stop>
     ensures { result_map_both (λ found. (found.0, found.1.now)) (λ stop. stop) result ≡ trailer_at bytes.now }
 {
     let rest = literal_at(b"10=", bytes)?;
@@ -145,6 +170,7 @@ fn trailer_at(bytes: &[u8]) -> Result<(u32, &[u8]), Stop>
 }
 
 /// The frame at the front of the bytes. It looks at no byte of the body but the last.
+#[inline(never)]
 #[tactic(auto, unfolding(crate::specs::Reading::frame_at))]
 pub fn frame_at(bytes: &[u8]) -> Result<Whole<'_>, Stop>
     ensures { result ≡ frame_at bytes.now }
