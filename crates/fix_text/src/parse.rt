@@ -1,6 +1,7 @@
 //! What stands at the front of bytes: a whole frame, the beginning of one, or neither.
 ghost use Rattle.std.specs.Prelude.{◌≡◌, ◌<◌, ◌≤◌, ◌*◌, ◌+◌, length, IfOk};
 ghost use Rattle.std.specs.Result.{result_map_both};
+ghost use Rattle.fix_text.specs.Grammar.{opening};
 ghost use Rattle.fix_text.specs.Reading.{literal_at, digit_at, length_at, body_at, trailer_at, frame_at};
 
 use crate::refusal::MAX_BODY;
@@ -169,13 +170,39 @@ fn trailer_by_steps(bytes: &[u8]) -> Result<(u32, &[u8]), Stop>
     Ok((100 * hundreds + 10 * tens + ones, rest))
 }
 
+/// What follows the opening of a frame: BeginString (8) of FIX 4.4, and tag 9.
+#[tactic(auto, unfolding(crate::specs::Reading::literal_at))]
+fn opening_at(bytes: &[u8]) -> Result<&[u8], Stop>
+    ensures found { result_map_both (λ rest. rest.now) (λ stop. stop) result ≡ literal_at opening bytes.now }
+    ensures within { IfOk result (λ rest. length rest.now ≤ length bytes.now) }
+{
+    match bytes {
+        [
+            b'8',
+            b'=',
+            b'F',
+            b'I',
+            b'X',
+            b'.',
+            b'4',
+            b'.',
+            b'4',
+            SOH,
+            b'9',
+            b'=',
+            rest @ ..,
+        ] => Ok(rest),
+        _ => literal_at(b"8=FIX.4.4\x019=", bytes),
+    }
+}
+
 /// The frame at the front of the bytes. It looks at no byte of the body but the last.
 #[inline(never)]
 #[tactic(auto, unfolding(crate::specs::Reading::frame_at))]
 pub fn frame_at(bytes: &[u8]) -> Result<Whole<'_>, Stop>
     ensures { result ≡ frame_at bytes.now }
 {
-    let digits = literal_at(b"8=FIX.4.4\x019=", bytes)?;
+    let digits = opening_at(bytes)?;
     let (size, rest) = length_at(digits)?;
     let (body, trailer) = body_at(size, rest)?;
     let (check, rest) = trailer_at(trailer)?;
