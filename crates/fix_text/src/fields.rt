@@ -92,7 +92,9 @@ pub fn place_fields(text: &[u8], places: &mut Vec<Place>) -> Result<bool, TextFa
         let Some(place) = place_of(text, at, end) else {
             return Ok(false);
         };
-        is_full |= places.push(place).is_err();
+        if places.push(place).is_err() {
+            is_full = true;
+        }
         at = end + 1;
     }
     if at < text.len() {

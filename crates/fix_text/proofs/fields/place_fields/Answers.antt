@@ -1,10 +1,13 @@
-use Rattle.std.proofs.Common.{◌≡◌, false, sym, ◌∙◌, arith, drop}
+use Rattle.std.proofs.Common.{◌≡◌, false, sym, ap, ◌∙◌, arith, drop}
+use Rattle.std.specs.Prelude.{◌||◌, is_err}
+use Rattle.std.proofs.Math.Bool.{or-true, or-false}
 use Rattle.std.proofs.lemmas.List.{length-drop}
 use Rattle.fix_text.specs.Text.{holds_soh}
 use Rattle.fix_text.specs.Reading.{fields_of}
 use Rattle.fix_text.proofs.FieldLists.{fields_of-none, not_fields, all_read, nothing_read}
 use Rattle.fix_text.proofs.Placed.{place_read, some_read, within_more, no_fields}
 use Rattle.fix_text.proofs.Parts.{first_part, no_part}
+use Rattle.fix_text.proofs.fields.place_fields.Goals.{then-is_err, else-is_err}
 use Rattle.fix_text.proofs.fields.place_fields.Goals as goal
 
 pub place_of-requires-clause-ordered : goal.place_of-requires-clause-ordered
@@ -40,7 +43,11 @@ loop-end-preserved c =
     let place = c.in-Some-place_of.place in
     let found = first_part text at end _ loop.within (loop.left ∙ c.in-Some.ensures.steps) in
     let is = c.in-Some-place_of.ensures.field in
-    rw (c.push.ensures.items, c.is_err-is_full.ensures.value) (record {
+    let full : c.if-is_err.is_full ≡ (c.loop-end.is_full || is_err c.push.result) = elim c.if-is_err.branch [
+      | then-is_err w ↦ w.is_full-is ∙ sym (ap (λ b. c.loop-end.is_full || b) (sym c.is_err.ensures.value ∙ w.if-is_err.true) ∙ or-true c.loop-end.is_full)
+      | else-is_err w ↦ w.is_full-is ∙ sym (ap (λ b. c.loop-end.is_full || b) (sym c.is_err.ensures.value ∙ w.if-is_err.false) ∙ or-false c.loop-end.is_full)
+    ] in
+    rw (c.push.ensures.items, full) (record {
       within = omega (arith, found.0.within);
       pushed = λ _. omega arith;
       left = sym found.1;
