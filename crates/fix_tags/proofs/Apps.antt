@@ -31,7 +31,7 @@ app_byte c fields outside =
     rw (nought.0, nought.1, one.1, two.1, three.1, four.1, five.1, j.1) refl
 
 -- a kind that is none of the session's is read as the application's
-app_kind : (kind : List ℕ) (fields : List Tagged) → is_session_kind kind ≡ false → body_read kind fields ≡ app_read kind fields
+pub app_kind : (kind : List ℕ) (fields : List Tagged) → is_session_kind kind ≡ false → body_read kind fields ≡ app_read kind fields
 app_kind [] fields outside = refl
 app_kind (c ∷ []) fields outside = app_byte c fields outside
 app_kind (c ∷ d ∷ ds) fields outside = refl

@@ -2,6 +2,7 @@ pub mod AppFields
 pub mod Apps
 pub mod Bodies
 pub mod Decimals
+pub mod Gathered
 pub mod DigitsRead
 pub mod HeaderBack
 pub mod Lookups

@@ -153,6 +153,14 @@ abbrev pub body_read : List ℕ → List Tagged → Result Body TagFault
 body_read (c ∷ []) fields = body_of_byte c fields
 body_read kind fields = app_read kind fields
 
+-- the message of this kind and header, from its marks on
+abbrev pub message_read : List ℕ → List ℕ → List ℕ → ℕ → List Tagged → Result Envelope TagFault
+message_read kind sender target number fields = do
+  poss_dup ← flag_at fields 43
+  poss_resend ← flag_at fields 97
+  body ← body_read kind fields
+  Ok (record { sender = sender; target = target; number = number; poss_dup = poss_dup; poss_resend = poss_resend; body = body })
+
 -- the message of a frame's fields
 unfoldable pub envelope_read : List Tagged → Result Envelope TagFault
 envelope_read fields = do

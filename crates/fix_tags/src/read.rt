@@ -1,12 +1,14 @@
 //! Reading a message from the fields of a frame.
-ghost use Rattle.std.specs.Prelude.{[], ◌∷◌, None, ◌≡◌, filter, IfOk, IsTrue};
+ghost use Rattle.std.specs.Prelude.{[], ◌∷◌, true, false, None, ◌≡◌, filter, IfOk, IsTrue};
 ghost use Rattle.std.specs.Option.{option_map};
 ghost use Rattle.fix_text.specs.FrameFields.{fields_in};
+ghost use Rattle.fix_text.specs.Tagged.{value_of};
 ghost use Rattle.fix_tags.specs.App.{is_app_tag};
 ghost use Rattle.fix_tags.specs.CompId.{comp_id_of};
+ghost use Rattle.fix_tags.specs.Flag.{flag_of};
 ghost use Rattle.fix_tags.specs.Lent.{body_of};
-ghost use Rattle.fix_tags.specs.Reading.{Gives, Reads, required, optional, flag_at, anything, short_text, some_text, number_if, some_number, no_encryption, logon_read, heartbeat_read, test_request_read, resend_request_read, reject_read, sequence_reset_read, business_reject_read, app_read, body_read, envelope_read};
-ghost use Rattle.fix_tags.specs.Message.{is_reference, is_heart, is_message_number, is_next_number};
+ghost use Rattle.fix_tags.specs.Reading.{Gives, Reads, required, optional, or_default, flag_at, anything, short_text, some_text, number_if, some_number, no_encryption, logon_read, heartbeat_read, test_request_read, resend_request_read, reject_read, sequence_reset_read, business_reject_read, body_read, message_read, envelope_read};
+ghost use Rattle.fix_tags.specs.Message.{is_reference, is_heart, is_message_number, is_next_number, is_session_kind};
 
 use crate::body::BodyRef;
 use crate::comp_id::is_comp_id;
@@ -15,7 +17,7 @@ use crate::fault::TagFault;
 use crate::flag::read_flag;
 use crate::limits::{MAX_HEART, MAX_KIND, MAX_MESSAGE_NUMBER, MAX_REFERENCE, MAX_TEST_ID};
 use crate::number::read_number;
-use crate::writable::is_header_tag;
+use crate::writable::{is_header_tag, is_session_kind};
 use fix_text::{FieldRef, FieldRefs, Frame};
 use std::alloc::{AllocError, Global};
 
@@ -40,14 +42,21 @@ fn comp_id_at<'a>(frame: &Frame<'a>, tag: u32) -> Result<&'a [u8], TagFault>
     }
 }
 
+/// The value of a flag, which is N where its field is missing.
+fn flag_in(tag: u32, value: Option<&[u8]>) -> Result<bool, TagFault>
+    ensures { result ≡ or_default tag flag_of false (option_map (λ value. value.now) value.entry) }
+{
+    match value {
+        None => Ok(false),
+        Some(value) => read_flag(value).ok_or(TagFault::BadField(tag)),
+    }
+}
+
 /// A flag, which is N where it is missing.
 fn flag_of_field(frame: &Frame<'_>, tag: u32) -> Result<bool, TagFault>
     ensures { result ≡ flag_at (fields_in frame.now) tag }
 {
-    match frame.get(tag) {
-        None => Ok(false),
-        Some(value) => read_flag(value).ok_or(TagFault::BadField(tag)),
-    }
+    flag_in(tag, frame.get(tag))
 }
 
 fn message_number(frame: &Frame<'_>) -> Result<u64, TagFault>
@@ -133,18 +142,41 @@ fn no_encryption(frame: &Frame<'_>) -> Result<(), TagFault>
     }
 }
 
-/// The fields that aren't the header's nor the frame's.
-fn app_fields<'a>(alloc: Global, frame: &Frame<'a>) -> Result<Vec<FieldRef<'a>>, AllocError>
-    ensures { IfOk result (λ kept. kept.items ≡ filter (λ f. is_app_tag f.tag) (fields_in frame.now)) }
+/// What one pass finds in an application message.
+#[derive(Drop)]
+struct Gathered<'a> {
+    // the value of the first PossDupFlag (43)
+    poss_dup: Option<&'a [u8]>,
+    // the value of the first PossResend (97)
+    poss_resend: Option<&'a [u8]>,
+    // the fields that aren't the header's nor the frame's
+    fields: Vec<FieldRef<'a>>,
+}
+
+fn gather<'a>(alloc: Global, frame: &Frame<'a>) -> Result<Gathered<'a>, AllocError>
+    ensures poss_dup { IfOk result (λ found. option_map (λ value. value.now) found.poss_dup ≡ value_of (fields_in frame.now) 43) }
+    ensures poss_resend { IfOk result (λ found. option_map (λ value. value.now) found.poss_resend ≡ value_of (fields_in frame.now) 97) }
+    ensures fields { IfOk result (λ found. found.fields.items ≡ filter (λ f. is_app_tag f.tag) (fields_in frame.now)) }
 {
-    let mut kept = Vec::with_capacity(alloc, frame.len())?;
+    let mut poss_dup = None;
+    let mut poss_resend = None;
+    let mut fields = Vec::with_capacity(alloc, frame.len())?;
     for index in 0..frame.len() {
         let field = frame.field(index);
-        if is_application_tag(field.tag()) {
-            kept.push_reserved(field);
+        let tag = field.tag();
+        if tag == 43 {
+            poss_dup = poss_dup.or(Some(field.value()));
+        } else if tag == 97 {
+            poss_resend = poss_resend.or(Some(field.value()));
+        } else if is_application_tag(tag) {
+            fields.push_reserved(field);
         }
     }
-    Ok(kept)
+    Ok(Gathered {
+        poss_dup,
+        poss_resend,
+        fields,
+    })
 }
 
 fn is_application_tag(tag: u32) -> bool
@@ -210,17 +242,8 @@ fn business_reject<'a>(frame: &Frame<'a>) -> Result<BodyRef<'a>, TagFault>
     Ok(BodyRef::BusinessReject { number })
 }
 
-fn app<'a>(alloc: Global, kind: &'a [u8], frame: &Frame<'a>) -> Result<BodyRef<'a>, TagFault>
-    ensures { Reads body_of result (app_read kind.entry.now (fields_in frame.now)) }
-{
-    let Ok(kept) = app_fields(alloc, frame) else {
-        return Err(TagFault::OutOfMemory);
-    };
-    let fields = FieldRefs::new(kept);
-    Ok(BodyRef::App { kind, fields })
-}
-
-fn body<'a>(alloc: Global, kind: &'a [u8], frame: &Frame<'a>) -> Result<BodyRef<'a>, TagFault>
+fn session_body<'a>(kind: &'a [u8], frame: &Frame<'a>) -> Result<BodyRef<'a>, TagFault>
+    requires { is_session_kind kind.now ≡ true }
     ensures { Reads body_of result (body_read kind.entry.now (fields_in frame.now)) }
 {
     match kind {
@@ -232,8 +255,65 @@ fn body<'a>(alloc: Global, kind: &'a [u8], frame: &Frame<'a>) -> Result<BodyRef<
         [b'4'] => sequence_reset(frame),
         [b'5'] => Ok(BodyRef::Logout),
         [b'j'] => business_reject(frame),
-        _ => app(alloc, kind, frame),
+        _ => unreachable!(),
     }
+}
+
+/// What stands in the header before the marks.
+#[derive(Clone, Copy)]
+struct Header<'a> {
+    kind: &'a [u8],
+    sender: &'a [u8],
+    target: &'a [u8],
+    number: u64,
+}
+
+fn session_message<'a>(header: Header<'a>, frame: &Frame<'a>) -> Result<EnvelopeRef<'a>, TagFault>
+    requires { is_session_kind header.kind.now ≡ true }
+    ensures { Reads (λ e. e) result (message_read header.entry.kind.now header.entry.sender.now header.entry.target.now header.entry.number (fields_in frame.now)) }
+{
+    let poss_dup = flag_of_field(frame, 43)?;
+    let poss_resend = flag_of_field(frame, 97)?;
+    let body = session_body(header.kind, frame)?;
+    Ok(EnvelopeRef::new(
+        header.sender,
+        header.target,
+        header.number,
+        poss_dup,
+        poss_resend,
+        body,
+    ))
+}
+
+#[tactic(auto, using(crate::proofs::Apps::app_kind))]
+fn app_message<'a>(
+    alloc: Global,
+    header: Header<'a>,
+    frame: &Frame<'a>,
+) -> Result<EnvelopeRef<'a>, TagFault>
+    requires { is_session_kind header.kind.now ≡ false }
+    ensures { Reads (λ e. e) result (message_read header.entry.kind.now header.entry.sender.now header.entry.target.now header.entry.number (fields_in frame.now)) }
+{
+    let Ok(found) = gather(alloc, frame) else {
+        // want of memory is answered only where nothing else is wrong
+        flag_of_field(frame, 43)?;
+        flag_of_field(frame, 97)?;
+        return Err(TagFault::OutOfMemory);
+    };
+    let poss_dup = flag_in(43, found.poss_dup)?;
+    let poss_resend = flag_in(97, found.poss_resend)?;
+    let body = BodyRef::App {
+        kind: header.kind,
+        fields: FieldRefs::new(found.fields),
+    };
+    Ok(EnvelopeRef::new(
+        header.sender,
+        header.target,
+        header.number,
+        poss_dup,
+        poss_resend,
+        body,
+    ))
 }
 
 /// Reads the message of a frame (FIX 4.4 Volume 2, "Standard Message Header" and the messages of the
@@ -253,8 +333,14 @@ pub fn read_envelope<'a>(alloc: Global, frame: &Frame<'a>) -> Result<EnvelopeRef
     if frame.get(52).is_none() {
         return Err(TagFault::Missing(52));
     }
-    let poss_dup = flag_of_field(frame, 43)?;
-    let poss_resend = flag_of_field(frame, 97)?;
-    let body = body(alloc, kind, frame)?;
-    Ok(EnvelopeRef::new(sender, target, number, poss_dup, poss_resend, body))
+    let header = Header {
+        kind,
+        sender,
+        target,
+        number,
+    };
+    if is_session_kind(kind) {
+        return session_message(header, frame);
+    }
+    app_message(alloc, header, frame)
 }

@@ -9,7 +9,7 @@ use crate::fault::TagFault;
 use crate::limits::{MAX_HEART, MAX_KIND, MAX_MESSAGE_NUMBER, MAX_REFERENCE, MAX_TEST_ID};
 use fix_text::{Field, can_write_tag, can_write_value};
 
-fn is_session_kind(kind: &[u8]) -> bool
+pub(crate) fn is_session_kind(kind: &[u8]) -> bool
     ensures { result ≡ is_session_kind kind.now }
 {
     matches!(
