@@ -145,18 +145,18 @@ fn no_encryption(frame: &Frame<'_>) -> Result<(), TagFault>
 /// What one pass finds in an application message.
 #[derive(Drop)]
 struct Gathered<'a> {
-    // the value of the first PossDupFlag (43)
+    /// The value of the first PossDupFlag (43).
     poss_dup: Option<&'a [u8]>,
-    // the value of the first PossResend (97)
+    /// The value of the first PossResend (97).
     poss_resend: Option<&'a [u8]>,
-    // the fields that aren't the header's nor the frame's
+    /// The fields that aren't the header's nor the frame's, in order.
     fields: Vec<FieldRef<'a>>,
 }
 
-fn gather<'a>(alloc: Global, frame: &Frame<'a>) -> Result<Gathered<'a>, AllocError>
-    ensures poss_dup { IfOk result (λ found. option_map (λ value. value.now) found.poss_dup ≡ value_of (fields_in frame.now) 43) }
-    ensures poss_resend { IfOk result (λ found. option_map (λ value. value.now) found.poss_resend ≡ value_of (fields_in frame.now) 97) }
-    ensures fields { IfOk result (λ found. found.fields.items ≡ filter (λ f. is_app_tag f.tag) (fields_in frame.now)) }
+fn gather<'a>(alloc: Global, frame: Frame<'a>) -> Result<Gathered<'a>, AllocError>
+    ensures poss_dup { IfOk result (λ found. option_map (λ value. value.now) found.poss_dup ≡ value_of (fields_in frame.entry) 43) }
+    ensures poss_resend { IfOk result (λ found. option_map (λ value. value.now) found.poss_resend ≡ value_of (fields_in frame.entry) 97) }
+    ensures fields { IfOk result (λ found. found.fields.items ≡ filter (λ f. is_app_tag f.tag) (fields_in frame.entry)) }
 {
     let mut poss_dup = None;
     let mut poss_resend = None;
@@ -268,6 +268,7 @@ struct Header<'a> {
     number: u64,
 }
 
+/// A message of the session. It takes no memory.
 fn session_message<'a>(header: Header<'a>, frame: &Frame<'a>) -> Result<EnvelopeRef<'a>, TagFault>
     requires { is_session_kind header.kind.now ≡ true }
     ensures { Reads (λ e. e) result (message_read header.entry.kind.now header.entry.sender.now header.entry.target.now header.entry.number (fields_in frame.now)) }
@@ -285,6 +286,9 @@ fn session_message<'a>(header: Header<'a>, frame: &Frame<'a>) -> Result<Envelope
     ))
 }
 
+/// An application message, whose marks and fields are found in one pass. It is on a leg's way, and called once: so it is
+/// inlined.
+#[inline(always)]
 #[tactic(auto, using(crate::proofs::Apps::app_kind))]
 fn app_message<'a>(
     alloc: Global,
@@ -294,8 +298,8 @@ fn app_message<'a>(
     requires { is_session_kind header.kind.now ≡ false }
     ensures { Reads (λ e. e) result (message_read header.entry.kind.now header.entry.sender.now header.entry.target.now header.entry.number (fields_in frame.now)) }
 {
-    let Ok(found) = gather(alloc, frame) else {
-        // want of memory is answered only where nothing else is wrong
+    let Ok(found) = gather(alloc, *frame) else {
+        // Want of memory is answered only where nothing else is wrong.
         flag_of_field(frame, 43)?;
         flag_of_field(frame, 97)?;
         return Err(TagFault::OutOfMemory);

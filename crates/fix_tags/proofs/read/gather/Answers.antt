@@ -8,7 +8,7 @@ use Rattle.fix_tags.proofs.read.gather.Goals as goal
 
 pub loop-index-preserved : goal.loop-index-preserved
 loop-index-preserved c =
-    let fields = fields_in c.args.frame.now in
+    let fields = fields_in c.args.frame in
     let loop = c.loop-index.invariant in
     let i : ℕ = c.loop-index.index in
     let field = c.field-field.result in
