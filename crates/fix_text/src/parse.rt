@@ -197,7 +197,6 @@ fn opening_at(bytes: &[u8]) -> Result<&[u8], Stop>
 }
 
 /// The frame at the front of the bytes. It looks at no byte of the body but the last.
-#[inline(never)]
 #[tactic(auto, unfolding(crate::specs::Reading::frame_at))]
 pub fn frame_at(bytes: &[u8]) -> Result<Whole<'_>, Stop>
     ensures { result ≡ frame_at bytes.now }
