@@ -91,6 +91,31 @@ fn length_at(bytes: &[u8]) -> Result<(usize, &[u8]), Stop>
     ensures positive { IfOk result (λ found. 0 < found.0) }
     ensures within { IfOk result (λ found. length found.1.now ≤ length bytes.now) }
 {
+    match bytes {
+        // Most bodies have 100 to 999 bytes.
+        [
+            hundreds @ b'1'..=b'9',
+            tens @ b'0'..=b'9',
+            ones @ b'0'..=b'9',
+            SOH,
+            rest @ ..,
+        ] => {
+            let hundreds = usize::from(*hundreds - b'0');
+            let tens = usize::from(*tens - b'0');
+            let ones = usize::from(*ones - b'0');
+            Ok((10 * (10 * hundreds + tens) + ones, rest))
+        }
+        _ => length_by_digits(bytes),
+    }
+}
+
+/// The same, digit by digit.
+#[tactic(auto, unfolding(crate::specs::Reading::length_at))]
+fn length_by_digits(bytes: &[u8]) -> Result<(usize, &[u8]), Stop>
+    ensures found { result_map_both (λ found. (found.0, found.1.now)) (λ stop. stop) result ≡ length_at 6 0 bytes.now }
+    ensures positive { IfOk result (λ found. 0 < found.0) }
+    ensures within { IfOk result (λ found. length found.1.now ≤ length bytes.now) }
+{
     let mut rest = bytes;
     let mut number = 0usize;
     let mut left = 6u32;

@@ -1,6 +1,6 @@
 use Rattle.std.proofs.Common.{◌≡◌, ◌≤◌, length}
 use Rattle.fix_text.specs.Reading.{length_at}
-use Rattle.fix_text.proofs.parse.length_at.Given as goal
+use Rattle.fix_text.proofs.parse.length_by_digits.Given as goal
 
 abbrev pub invariant-loop-rest : goal.invariant-loop-rest
 invariant-loop-rest l = record {
