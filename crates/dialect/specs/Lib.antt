@@ -41,3 +41,4 @@ pub mod AnyLaws
 pub mod DialectName
 pub mod Message
 pub mod Addressed
+pub mod Outgoing
