@@ -3,11 +3,11 @@ ghost use Rattle.std.specs.Prelude.{◌≡◌, ◌++◌, ◌∷◌, [], IfOk, On
 ghost use Rattle.fix_text.specs.FrameFields.{fields_in};
 ghost use Rattle.fix_text.specs.Calls.{start, after_next, replay_of, replayed, bytes_fed, IsReplay, AreFirst};
 
-use crate::fault::TextFault;
 use crate::field::Field;
 use crate::frame::Frame;
 use crate::lists::Fields;
 use crate::reader::FrameReader;
+use crate::reader_fault::ReaderFault;
 use std::alloc::{AllocError, Global};
 
 /// A call of a reader.
@@ -48,23 +48,23 @@ fn read_next(
     alloc: Global,
     reader: &mut FrameReader,
     frames: &mut Vec<Fields>,
-) -> Result<(), TextFault>
+) -> Result<(), ReaderFault>
     ensures next { OnOk result (record { frames = frames.new.items; stream = reader.new } ≡ after_next (record { frames = frames.old.items; stream = reader.old })) }
-    ensures refusal { IsOkUnless result TextFault.OutOfMemory }
+    ensures refusal { IsOkUnless result ReaderFault.OutOfMemory }
 {
     match reader.next() {
         Err(fault) => Err(fault),
         Ok(None) => Ok(()),
         Ok(Some(frame)) => match add_frame(alloc, &frame, frames) {
             Ok(()) => Ok(()),
-            Err(_) => Err(TextFault::OutOfMemory),
+            Err(_) => Err(ReaderFault::OutOfMemory),
         },
     }
 }
 
-fn make_calls(alloc: Global, calls: &[Call]) -> Result<Replay, TextFault>
+fn make_calls(alloc: Global, calls: &[Call]) -> Result<Replay, ReaderFault>
     ensures replay { IfOk result (λ replay. replayed replay ≡ replay_of calls.now start) }
-    ensures refusal { IsOkUnless result TextFault.OutOfMemory }
+    ensures refusal { IsOkUnless result ReaderFault.OutOfMemory }
 {
     let mut reader = FrameReader::new(alloc);
     let mut frames = Vec::new(alloc);
@@ -78,12 +78,12 @@ fn make_calls(alloc: Global, calls: &[Call]) -> Result<Replay, TextFault>
 }
 
 /// What these calls of a new reader give. The only refusal is want of memory.
-pub fn read_calls(alloc: Global, calls: &[Call]) -> Result<Replay, TextFault>
+pub fn read_calls(alloc: Global, calls: &[Call]) -> Result<Replay, ReaderFault>
     // Each call for the next frame gives the next valid one, if it is there.
     ensures calls { IfOk result (λ replay. IsReplay calls.now start (replayed replay)) }
     // However the bytes were cut, these are the first valid frames of all of them, with the counts of the others.
     ensures first { IfOk result (λ replay. AreFirst (bytes_fed calls.now) (replayed replay).frames (replayed replay).stream) }
-    ensures refusal { IsOkUnless result TextFault.OutOfMemory }
+    ensures refusal { IsOkUnless result ReaderFault.OutOfMemory }
 {
     make_calls(alloc, calls)
 }

@@ -5,10 +5,10 @@ ghost use Rattle.fix_text.specs.Tagged.{value_of};
 ghost use Rattle.fix_text.specs.Reading.{fields_of};
 ghost use Rattle.fix_text.specs.Placing.{fields_at, AreWithin};
 
-use crate::fault::TextFault;
 use crate::field::FieldRef;
 use crate::fields::place_fields;
 use crate::place::Place;
+use crate::reader_fault::ReaderFault;
 
 /// The fields of a text, lent with it: those between BodyLength (9) and CheckSum (10) of a valid frame, if a
 /// `FrameReader` gave it. It owns nothing.
@@ -24,9 +24,12 @@ impl<'a> Frame<'a> {
 
     /// A frame of any text that is nothing but fields, with `places` as the room for where they lie; what it held is
     /// dropped. The only refusal is want of memory, which comes only where the text is one field or more.
-    pub fn read(text: &'a [u8], places: &'a mut Vec<Place>) -> Result<Option<Frame<'a>>, TextFault>
+    pub fn read(
+        text: &'a [u8],
+        places: &'a mut Vec<Place>,
+    ) -> Result<Option<Frame<'a>>, ReaderFault>
         ensures fields { IfOk result (λ frame. option_map fields_in frame ≡ fields_of text.entry.now) }
-        ensures refusal { IsOkUnless result TextFault.OutOfMemory }
+        ensures refusal { IsOkUnless result ReaderFault.OutOfMemory }
         ensures some { OnErr result (IsSome (fields_of text.entry.now)) }
         ensures needed { OnErr result (0 < length text.entry.now) }
     {

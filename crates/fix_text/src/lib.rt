@@ -14,6 +14,7 @@ mod parse;
 mod passed;
 mod place;
 mod reader;
+mod reader_fault;
 mod refusal;
 mod write;
 
@@ -25,6 +26,7 @@ pub use frame::Frame;
 pub use lists::{FieldRefs, Fields};
 pub use place::Place;
 pub use reader::FrameReader;
+pub use reader_fault::ReaderFault;
 pub use refusal::{MAX_BODY, can_write_tag, can_write_value};
 pub use write::{write_frame, write_frame_parts, write_writable_parts};
 

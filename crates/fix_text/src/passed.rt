@@ -2,10 +2,10 @@
 ghost use Rattle.std.specs.Prelude.{◌≡◌, ◌≤◌, ◌*◌, IfOk, IfSome, IsSome, IsOkUnless, OnErr, drop, length, vec_len};
 ghost use Rattle.fix_text.specs.Reading.{next_read};
 
-use crate::fault::TextFault;
 use crate::fields::place_valid_fields;
 use crate::parse::{Stop, frame_at};
 use crate::place::Place;
+use crate::reader_fault::ReaderFault;
 
 /// What was passed: the place behind it, and the counts.
 #[derive(Clone, Copy)]
@@ -44,12 +44,12 @@ impl Passed {
     }
 
     /// Passes on to the end of the next valid frame, with the places of its fields, or to where more bytes are needed.
-    pub fn pass(self, bytes: &[u8], places: &mut Vec<Place>) -> Result<Found, TextFault>
+    pub fn pass(self, bytes: &[u8], places: &mut Vec<Place>) -> Result<Found, ReaderFault>
         requires { self.end ≤ length bytes.now }
         ensures read { IfOk result (λ found. found_in bytes.now places.new.items found.body found.passed ≡ next_read (left_of bytes.now self)) }
         ensures within { IfOk result (λ found. IfSome found.body (λ body. IsBody bytes.now body places.new.items)) }
         ensures end { IfOk result (λ found. found.passed.end ≤ length bytes.now) }
-        ensures refusal { IsOkUnless result TextFault.OutOfMemory }
+        ensures refusal { IsOkUnless result ReaderFault.OutOfMemory }
         ensures some { OnErr result (IsSome (next_read (left_of bytes.now self)).frame) }
     {
         let Passed {

@@ -6,10 +6,10 @@ ghost use Rattle.fix_text.specs.Tagged.{Tagged};
 ghost use Rattle.fix_text.specs.Reading.{next_read, fed, BeginsWritten};
 ghost use Rattle.fix_text.specs.Deciding.{IsNext};
 
-use crate::fault::TextFault;
 use crate::frame::Frame;
 use crate::kept::Kept;
 use crate::passed::Passed;
+use crate::reader_fault::ReaderFault;
 use std::alloc::Global;
 use std::marker::Model;
 
@@ -62,22 +62,22 @@ impl FrameReader {
     }
 
     /// Adds bytes to the end of the stream. The only refusal is want of memory.
-    pub fn feed(&mut self, bytes: &[u8]) -> Result<(), TextFault>
+    pub fn feed(&mut self, bytes: &[u8]) -> Result<(), ReaderFault>
         ensures ok { OnOk result (self.new ≡ fed self.old bytes.now) }
         ensures err { OnErr result (self.new ≡ self.old) }
-        ensures refusal { IsOkUnless result TextFault.OutOfMemory }
+        ensures refusal { IsOkUnless result ReaderFault.OutOfMemory }
         ensures some { OnErr result (0 < length bytes.now) }
     {
         self.passed = self.passed.compact(&mut self.kept.buffer);
         if self.kept.buffer.extend_from_slice(bytes).is_err() {
-            return Err(TextFault::OutOfMemory);
+            return Err(ReaderFault::OutOfMemory);
         }
         Ok(())
     }
 
     /// The next valid frame, lent from what was fed, or `None` where more bytes are needed. The only refusal is want of
     /// memory for the places of such a frame's fields; it leaves the reader as it was.
-    pub fn next(&mut self) -> Result<Option<Frame<'_>>, TextFault>
+    pub fn next(&mut self) -> Result<Option<Frame<'_>>, ReaderFault>
         // The reader's value is then that of `next_read`, or at `Err` the old one.
         ensures* lender { sem 𝓛 (LeavesNext self.entry result) }
         ensures fields { IfOk result (λ frame. option_map fields_in frame ≡ (next_read self.old).frame) }
@@ -87,7 +87,7 @@ impl FrameReader {
         // A written frame is the next one, whatever follows it.
         ensures written { (fields : List Tagged) (rest : List ℕ) → BeginsWritten self.old fields rest
             → IfOk result (λ frame. next_frame frame (next_read self.old).stream ≡ record { frame = Some fields; stream = record self.old { rest = rest } }) }
-        ensures refusal { IsOkUnless result TextFault.OutOfMemory }
+        ensures refusal { IsOkUnless result ReaderFault.OutOfMemory }
         ensures some { OnErr result (IsSome (next_read self.old).frame) }
     {
         let bytes = self.kept.buffer.as_slice();

@@ -1,10 +1,10 @@
 //! Streams with their frames, by rows that were made outside of this program.
 
 use crate::calls::{Call, read_calls};
-use crate::fault::TextFault;
 use crate::frame::Frame;
 use crate::place::Place;
 use crate::reader::FrameReader;
+use crate::reader_fault::ReaderFault;
 use std::alloc::Global;
 use std::test::Fail;
 
@@ -42,7 +42,7 @@ fn is_heartbeat(frame: &Frame) -> bool {
 }
 
 /// Feeds a piece, and counts the heartbeats among the next three frames.
-fn feed(reader: &mut FrameReader, piece: &[u8]) -> Result<u8, TextFault> {
+fn feed(reader: &mut FrameReader, piece: &[u8]) -> Result<u8, ReaderFault> {
     reader.feed(piece)?;
     let mut count = 0u8;
     for _ in 0..3 {
