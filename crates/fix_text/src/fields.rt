@@ -1,8 +1,8 @@
 //! The fields of a text, by their places in it.
-ghost use Rattle.std.specs.Prelude.{◌≡◌, ◌<◌, ◌≤◌, None, IfOk, IfSome, IsSome, IsOkUnless, IsTrue, OnErr, length, slice_range, if◌then◌else◌};
+ghost use Rattle.std.specs.Prelude.{◌≡◌, ◌≤◌, None, IfOk, IfSome, IsOkUnless, IsTrue, OnErr, length, slice_range, vec_capacity, if◌then◌else◌};
 ghost use Rattle.std.specs.Option.{option_map};
 ghost use Rattle.fix_text.specs.Reading.{field_of, fields_of, typed_fields, valid_fields};
-ghost use Rattle.fix_text.specs.Placing.{ArePlaced, field_at, is_within};
+ghost use Rattle.fix_text.specs.Placing.{AreMore, ArePlaced, field_at, is_within};
 
 use crate::checksum::sum256;
 use crate::field::FieldRef;
@@ -82,8 +82,9 @@ fn place_of(text: &[u8], at: usize, end: usize) -> Option<Place>
 pub fn place_fields(text: &[u8], places: &mut Vec<Place>) -> Result<bool, ReaderFault>
     ensures placed { IfOk result (λ is. ArePlaced is text.now places.new.items (fields_of text.now)) }
     ensures refusal { IsOkUnless result ReaderFault.OutOfMemory }
-    ensures some { OnErr result (IsSome (fields_of text.now)) }
-    ensures needed { OnErr result (0 < length text.now) }
+    // Memory is wanted only for more fields than there was room for.
+    ensures full { OnErr result (AreMore (vec_capacity places.old) (fields_of text.now)) }
+    ensures room { vec_capacity places.old ≤ vec_capacity places.new }
 {
     places.clear();
     let mut at = 0usize;
@@ -111,7 +112,8 @@ pub fn place_fields(text: &[u8], places: &mut Vec<Place>) -> Result<bool, Reader
 pub fn place_valid_fields(frame: &Whole, places: &mut Vec<Place>) -> Result<bool, ReaderFault>
     ensures placed { IfOk result (λ is. ArePlaced is frame.now.body places.new.items (valid_fields frame.now)) }
     ensures refusal { IsOkUnless result ReaderFault.OutOfMemory }
-    ensures some { OnErr result (IsSome (valid_fields frame.now)) }
+    ensures full { OnErr result (AreMore (vec_capacity places.old) (valid_fields frame.now)) }
+    ensures room { vec_capacity places.old ≤ vec_capacity places.new }
 {
     if u32::from(sum256(frame.before())) != frame.check() || !is_typed(frame.body()) {
         return Ok(false);

@@ -1,7 +1,6 @@
 //! Fields and frames of FIX 4.4 as bytes: what is written has one spelling, and what is read is lent.
 #![tactic(auto)]
 
-mod calls;
 mod checksum;
 mod fault;
 mod field;
@@ -18,7 +17,6 @@ mod reader_fault;
 mod refusal;
 mod write;
 
-pub use calls::{Call, Replay, read_calls};
 pub use checksum::sum256;
 pub use fault::TextFault;
 pub use field::{Field, FieldRef, first, first_ref};
