@@ -7,6 +7,7 @@ mod field;
 mod fields;
 mod frame;
 mod frame_fields;
+mod frame_parts;
 mod kept;
 pub mod laws;
 mod lists;
