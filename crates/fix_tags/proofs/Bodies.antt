@@ -8,7 +8,7 @@ use Rattle.std.proofs.lemmas.Bool.{and_parts, not-true}
 use Rattle.fix_text.specs.Text.{is_writable_value, is_writable_tag, holds_soh}
 use Rattle.fix_tags.specs.App.{is_app_tag, is_app_field, is_header_tag}
 use Rattle.fix_tags.specs.Flag.{flag_of}
-use Rattle.fix_tags.specs.ReadBack.{number_of-decimal}
+use Rattle.fix_tags.proofs.ReadBack.{number_of-decimal}
 use Rattle.fix_tags.specs.Reading.{required, flag_at, short_text, some_text, number_if, body_read}
 use Rattle.fix_tags.specs.Message.{is_reference, is_heart, is_next_number, is_message_number, is_test_id, unless_ok, ◌or_then◌, header_fields, body_fields, body_fault, app_fault, field, number_field, option_field, flag_field}
 use Rattle.fix_tags.specs.declared.body.Body.TheVariants.{Logon, Heartbeat, TestRequest, ResendRequest, Reject, GapFill, Reset, Logout, BusinessReject}

@@ -8,9 +8,7 @@ pub mod Message
 pub mod Number
 pub mod Price
 pub mod Range
-pub mod ReadBack
 pub mod Reading
+pub mod ReadsBack
 pub mod Shares
-pub mod Spelled
 pub mod Stamp
-pub mod Written

@@ -1,9 +1,10 @@
 //! Writing a message as a frame.
-ghost use Rattle.std.specs.Prelude.{◌∷◌, Some, None, Err, ◌≡◌, ◌+◌, ◌<◌, ◌++◌, length, vec_len, vec_capacity, if◌then◌else◌, MatchOption, IsOkUnless, OnOk, OnErr, Ok};
+ghost use Rattle.std.specs.Prelude.{◌∷◌, Some, None, Err, ◌≡◌, ◌+◌, ◌<◌, ◌++◌, length, vec_len, vec_capacity, if◌then◌else◌, MatchOption, IsOkUnless, OnOk, OnErr};
 ghost use Rattle.fix_text.specs.Frame.{frame_text};
 ghost use Rattle.fix_tags.specs.CompId.{IsCompId};
 ghost use Rattle.fix_tags.specs.Message.{AreWritable, WritesFrame, field, marks_and_time, kind_of, body_fields, header_fields, field_fault, envelope_fields, is_too_long, envelope_refusal};
-ghost use Rattle.fix_tags.specs.Reading.{reset_or_fill, envelope_read};
+ghost use Rattle.fix_tags.specs.Reading.{reset_or_fill};
+ghost use Rattle.fix_tags.specs.ReadsBack.{ReadsBackAs};
 
 use crate::body::Body;
 use crate::envelope::Envelope;
@@ -247,7 +248,7 @@ fn write_faultless(envelope: &Envelope, stamp: &Stamp, out: &mut Vec<u8>) -> Res
     ensures ok { OnOk result (out.new.items ≡ out.old.items ++ frame_text (envelope_fields envelope.now stamp.now)) }
     ensures err { OnErr result (out.new.items ≡ out.old.items) }
     ensures full { result ≡ Err WriteFault.OutOfMemory → vec_capacity out.old < vec_len out.old + length (frame_text (envelope_fields envelope.now stamp.now)) }
-    ensures reads_back { OnOk result (envelope_read (envelope_fields envelope.now stamp.now) ≡ Ok envelope.now) }
+    ensures reads_back { OnOk result (ReadsBackAs envelope.now (frame_text (envelope_fields envelope.now stamp.now))) }
 {
     match write_message(envelope, stamp, out) {
         Ok(()) => Ok(()),
@@ -275,7 +276,7 @@ pub fn write_envelope(
     ensures ok { OnOk result (out.new.items ≡ out.old.items ++ frame_text (envelope_fields envelope.now stamp.now)) }
     ensures err { OnErr result (out.new.items ≡ out.old.items) }
     ensures full { result ≡ Err WriteFault.OutOfMemory → vec_capacity out.old < vec_len out.old + length (frame_text (envelope_fields envelope.now stamp.now)) }
-    ensures reads_back { OnOk result (envelope_read (envelope_fields envelope.now stamp.now) ≡ Ok envelope.now) }
+    ensures reads_back { OnOk result (ReadsBackAs envelope.now (frame_text (envelope_fields envelope.now stamp.now))) }
 {
     match field_fault(envelope) {
         Some(fault) => Err(fault),
