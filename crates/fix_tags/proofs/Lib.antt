@@ -11,6 +11,8 @@ pub mod MessageBack
 pub mod Outcomes
 pub mod ReadBack
 pub mod Spelled
+pub mod Readings
+pub mod Steps
 pub mod StreamBack
 pub mod ValueFaults
 pub mod WritableFields

@@ -1,5 +1,5 @@
 -- A written message is read back from any stream that begins with its frame.
-use Rattle.std.proofs.Common.{◌≡◌, ℕ, ◌≤◌, Bool, true, false, cond, List, length, Some, None, nat_lt, refl, arith}
+use Rattle.std.proofs.Common.{◌≡◌, ℕ, ◌≤◌, Bool, true, false, cond, length, Some, None, nat_lt, refl, arith}
 use Rattle.std.proofs.lemmas.Bool.Decides.{nat_tests}
 use Rattle.fix_text.specs.Frame.{frame_text}
 use Rattle.fix_text.specs.Text.{fields_text}
@@ -9,7 +9,6 @@ use Rattle.fix_tags.specs.Message.{field_fault, envelope_fields, is_too_long, en
 use Rattle.fix_tags.specs.ReadsBack.{ReadsBackAs}
 use Rattle.fix_tags.specs.Stamp.{StampParts}
 use Rattle.fix_tags.specs.declared.envelope.Envelope.{Envelope}
-use Rattle.fix_tags.specs.declared.write_fault.WriteFault.{WriteFault}
 use Rattle.fix_tags.specs.declared.write_fault.WriteFault.TheVariants.{TooLong}
 use Rattle.fix_tags.proofs.Bodies.{or_then-first, or_then-second}
 use Rattle.fix_tags.proofs.MessageBack.{envelope_read-written}

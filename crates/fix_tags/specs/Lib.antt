@@ -9,6 +9,8 @@ pub mod Number
 pub mod Price
 pub mod Range
 pub mod Reading
+pub mod Readable
 pub mod ReadsBack
+pub mod Says
 pub mod Shares
 pub mod Stamp

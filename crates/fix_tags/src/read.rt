@@ -8,6 +8,8 @@ ghost use Rattle.fix_tags.specs.CompId.{comp_id_of};
 ghost use Rattle.fix_tags.specs.Flag.{flag_of};
 ghost use Rattle.fix_tags.specs.Lent.{body_of};
 ghost use Rattle.fix_tags.specs.Reading.{Gives, ReadsEnvelope, required, optional, or_default, flag_at, anything, short_text, some_text, number_if, some_number, no_encryption, logon_read, heartbeat_read, test_request_read, resend_request_read, reject_read, sequence_reset_read, business_reject_read, body_read, message_read, envelope_read};
+ghost use Rattle.fix_tags.specs.Readable.{IsReadable};
+ghost use Rattle.fix_tags.specs.Says.{IsReadingOf};
 ghost use Rattle.fix_tags.specs.Message.{is_reference, is_heart, is_message_number, is_next_number, is_session_kind};
 
 use crate::body::BodyRef;
@@ -329,7 +331,9 @@ fn app_message<'a>(
 /// comes only where nothing else is wrong.
 #[tactic(auto, unfolding(crate::specs::Reading::envelope_read))]
 pub fn read_envelope<'a>(alloc: Global, frame: &Frame<'a>) -> Result<EnvelopeRef<'a>, ReadFault>
-    ensures { ReadsEnvelope result (envelope_read (fields_in frame.now)) }
+    ensures read { ReadsEnvelope result (envelope_read (fields_in frame.now)) }
+    ensures in_range { IfOk result (λ e. IsReadable e) }
+    ensures says { IfOk result (λ e. IsReadingOf e (fields_in frame.now)) }
 {
     let kind = text_at(frame, 35, MAX_KIND)?;
     let sender = comp_id_at(frame, 49)?;
