@@ -8,6 +8,7 @@ pub mod Gathered
 pub mod HeaderBack
 pub mod Lookups
 pub mod MessageBack
+pub mod MessageLaws
 pub mod Outcomes
 pub mod ReadBack
 pub mod Spelled
