@@ -14,12 +14,14 @@ use Rattle.fix_tags.proofs.AppFits.{app_not_refused}
 use Rattle.fix_tags.proofs.StreamBack.{unrefused_reads_back}
 
 -- an application message with at most 3,000 bytes of fields is refused under no header
-pub application_messages_fit : (e : Envelope) (s : StampParts) (kind : List ℕ) (fields : List Tagged) → e.body ≡ App kind fields
+pub application_messages_fit : (e : Envelope) (s : StampParts) (kind : List ℕ) (fields : List Tagged)
+    → e.body ≡ App kind fields
     → is_app_kind kind ≡ true → are_app_fields fields ≡ true → length (fields_text fields) ≤ 3000
     → IsCompId e.sender → IsCompId e.target → is_message_number e.number ≡ true → envelope_refusal e s ≡ None
 application_messages_fit = app_not_refused
 
 -- a message that isn't refused is read back from its frame, whatever follows the frame
-pub written_messages_read_back : (e : Envelope) (s : StampParts) → envelope_refusal e s ≡ None → IsCompId e.sender → IsCompId e.target
+pub written_messages_read_back : (e : Envelope) (s : StampParts) → envelope_refusal e s ≡ None → IsCompId e.sender
+    → IsCompId e.target
     → ReadsBackAs e (frame_text (envelope_fields e s))
 written_messages_read_back = unrefused_reads_back
