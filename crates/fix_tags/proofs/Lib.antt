@@ -11,6 +11,7 @@ pub mod MessageBack
 pub mod MessageLaws
 pub mod Outcomes
 pub mod ReadBack
+pub mod Said
 pub mod Spelled
 pub mod Readings
 pub mod Steps
