@@ -1,11 +1,11 @@
 -- What the fields say is read: the declarative words pin the message.
-use Rattle.std.proofs.Common.{◌≡◌, ◌⊎◌, inl, inr, ℕ, ◌≤◌, Bool, true, false, ◌&&◌, nat_lt, nat_le, List, length, codes, Option, Some, None, Ok, IsSome, refl, sym, ap, ◌∙◌, arith}
+use Rattle.std.proofs.Common.{◌≡◌, inl, inr, ℕ, ◌≤◌, Bool, true, false, ◌&&◌, nat_lt, nat_le, List, length, codes, Option, Some, None, Ok, IsSome, refl, sym, ap, ◌∙◌, arith}
 use Rattle.std.specs.Prelude.{IfSome}
 use Rattle.std.proofs.lemmas.Bool.Decides.{nat_tests}
 use Rattle.fix_text.specs.Tagged.{Tagged, value_of}
 use Rattle.fix_tags.specs.CompId.{comp_id_of}
 use Rattle.fix_tags.specs.Flag.{flag_of}
-use Rattle.fix_tags.specs.Message.{is_between, is_reference, is_heart, is_message_number, is_next_number, kind_of}
+use Rattle.fix_tags.specs.Message.{is_between, is_reference, is_message_number, is_next_number, kind_of}
 use Rattle.fix_tags.specs.Readable.{IsShortText, IsReference, IsNextNumber, IsReadableBody, IsReadable}
 use Rattle.fix_tags.specs.Reading.{required, optional, flag_at, short_text, some_text, number_if, some_number, no_encryption, anything, body_read, envelope_read}
 use Rattle.fix_tags.specs.Says.{SaysNumber, SaysNumberIfAny, SaysFlag, SaysBody, IsReadingOf}
