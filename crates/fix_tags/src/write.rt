@@ -1,17 +1,24 @@
 //! Writing a message as a frame.
-ghost use Rattle.std.specs.Prelude.{◌∷◌, Some, None, Err, ◌≡◌, ◌+◌, ◌<◌, ◌++◌, length, vec_len, vec_capacity, if◌then◌else◌, MatchOption, IsOkUnless, OnOk, OnErr, Ok};
+ghost use Rattle.std.specs.Prelude.{◌∷◌, Some, None, Err, ◌≡◌, ◌+◌, ◌<◌, ◌++◌, length, vec_len, vec_capacity, if◌then◌else◌, MatchOption, IsOkUnless, OnOk, OnErr};
 ghost use Rattle.fix_text.specs.Frame.{frame_text};
 ghost use Rattle.fix_tags.specs.CompId.{IsCompId};
 ghost use Rattle.fix_tags.specs.Message.{AreWritable, WritesFrame, field, marks_and_time, kind_of, body_fields, header_fields, field_fault, envelope_fields, is_too_long, envelope_refusal};
-ghost use Rattle.fix_tags.specs.Reading.{reset_or_fill, envelope_read};
+ghost use Rattle.fix_tags.specs.Reading.{reset_or_fill};
+ghost use Rattle.fix_tags.specs.ReadsBack.{ReadsBackAs};
 
 use crate::body::Body;
 use crate::envelope::Envelope;
-use crate::fault::TagFault;
 use crate::stamp::Stamp;
 use crate::stamp_text::stamp_bytes;
+use crate::tag::{
+    BEGIN_SEQ_NO, BUSINESS_REJECT_REASON, ENCRYPT_METHOD, END_SEQ_NO, GAP_FILL_FLAG, HEART_BT_INT,
+    MSG_SEQ_NUM, MSG_TYPE, NEW_SEQ_NO, NEXT_EXPECTED_MSG_SEQ_NUM, ORIG_SENDING_TIME, POSS_DUP_FLAG,
+    POSS_RESEND, REF_MSG_TYPE, REF_SEQ_NUM, RESET_SEQ_NUM_FLAG, SENDER_COMP_ID, SENDING_TIME,
+    TARGET_COMP_ID, TEST_REQ_ID,
+};
 use crate::text::Text;
 use crate::writable::field_fault;
+use crate::write_fault::WriteFault;
 use fix_text::{FieldRef, TextFault, write_writable_parts};
 use itoa::Buffer;
 
@@ -44,21 +51,27 @@ fn write_logon(
 {
     let mut heart_digits = Buffer::new();
     let mut next_digits = Buffer::new();
-    let encryption = FieldRef::new(98, b"0");
-    let heart = FieldRef::new(108, heart_digits.format(heart).as_bytes());
+    let encryption = FieldRef::new(ENCRYPT_METHOD, b"0");
+    let heart = FieldRef::new(HEART_BT_INT, heart_digits.format(heart).as_bytes());
     match (reset, next) {
         (false, None) => write_writable_parts(head, &[encryption, heart], &[], out),
         (true, None) => {
-            let reset = FieldRef::new(141, b"Y");
+            let reset = FieldRef::new(RESET_SEQ_NUM_FLAG, b"Y");
             write_writable_parts(head, &[encryption, heart, reset], &[], out)
         }
         (false, Some(next)) => {
-            let next = FieldRef::new(789, next_digits.format(next).as_bytes());
+            let next = FieldRef::new(
+                NEXT_EXPECTED_MSG_SEQ_NUM,
+                next_digits.format(next).as_bytes(),
+            );
             write_writable_parts(head, &[encryption, heart, next], &[], out)
         }
         (true, Some(next)) => {
-            let reset = FieldRef::new(141, b"Y");
-            let next = FieldRef::new(789, next_digits.format(next).as_bytes());
+            let reset = FieldRef::new(RESET_SEQ_NUM_FLAG, b"Y");
+            let next = FieldRef::new(
+                NEXT_EXPECTED_MSG_SEQ_NUM,
+                next_digits.format(next).as_bytes(),
+            );
             write_writable_parts(head, &[encryption, heart, reset, next], &[], out)
         }
     }
@@ -75,8 +88,8 @@ fn write_resend_request(
 {
     let mut begin_digits = Buffer::new();
     let mut last_digits = Buffer::new();
-    let begin = FieldRef::new(7, begin_digits.format(begin).as_bytes());
-    let last = FieldRef::new(16, last_digits.format(last).as_bytes());
+    let begin = FieldRef::new(BEGIN_SEQ_NO, begin_digits.format(begin).as_bytes());
+    let last = FieldRef::new(END_SEQ_NO, last_digits.format(last).as_bytes());
     write_writable_parts(head, &[begin, last], &[], out)
 }
 
@@ -90,11 +103,21 @@ fn write_sequence_reset(
     ensures { WritesFrame (head.now ++ body_fields (reset_or_fill fills new_number)) out.old out.new result }
 {
     let mut digits = Buffer::new();
-    let new_number = FieldRef::new(36, digits.format(new_number).as_bytes());
+    let new_number = FieldRef::new(NEW_SEQ_NO, digits.format(new_number).as_bytes());
     if fills {
-        return write_writable_parts(head, &[FieldRef::new(123, b"Y"), new_number], &[], out);
+        return write_writable_parts(
+            head,
+            &[FieldRef::new(GAP_FILL_FLAG, b"Y"), new_number],
+            &[],
+            out,
+        );
     }
-    write_writable_parts(head, &[FieldRef::new(123, b"N"), new_number], &[], out)
+    write_writable_parts(
+        head,
+        &[FieldRef::new(GAP_FILL_FLAG, b"N"), new_number],
+        &[],
+        out,
+    )
 }
 
 fn write_reject(head: &[FieldRef<'_>], number: u64, out: &mut Vec<u8>) -> Result<(), TextFault>
@@ -102,7 +125,7 @@ fn write_reject(head: &[FieldRef<'_>], number: u64, out: &mut Vec<u8>) -> Result
     ensures { WritesFrame (head.now ++ body_fields (Body.Reject number)) out.old out.new result }
 {
     let mut digits = Buffer::new();
-    let number = FieldRef::new(45, digits.format(number).as_bytes());
+    let number = FieldRef::new(REF_SEQ_NUM, digits.format(number).as_bytes());
     write_writable_parts(head, &[number], &[], out)
 }
 
@@ -115,12 +138,12 @@ fn write_business_reject(
     ensures { WritesFrame (head.now ++ body_fields (Body.BusinessReject number)) out.old out.new result }
 {
     let mut digits = Buffer::new();
-    let kind = FieldRef::new(372, b"D");
-    let reason = FieldRef::new(380, b"0");
+    let kind = FieldRef::new(REF_MSG_TYPE, b"D");
+    let reason = FieldRef::new(BUSINESS_REJECT_REASON, b"0");
     match number {
         None => write_writable_parts(head, &[kind, reason], &[], out),
         Some(number) => {
-            let number = FieldRef::new(45, digits.format(number).as_bytes());
+            let number = FieldRef::new(REF_SEQ_NUM, digits.format(number).as_bytes());
             write_writable_parts(head, &[number, kind, reason], &[], out)
         }
     }
@@ -131,7 +154,7 @@ fn write_test_id(head: &[FieldRef<'_>], id: &[u8], out: &mut Vec<u8>) -> Result<
     requires { AreWritable (head.now ++ body_fields (Body.TestRequest id.now)) }
     ensures { WritesFrame (head.now ++ body_fields (Body.TestRequest id.now)) out.old out.new result }
 {
-    write_writable_parts(head, &[FieldRef::new(112, id)], &[], out)
+    write_writable_parts(head, &[FieldRef::new(TEST_REQ_ID, id)], &[], out)
 }
 
 fn write_heartbeat(
@@ -187,14 +210,14 @@ fn write_with_header<'a>(
     requires { AreWritable (field 35 texts.kind.now ∷ field 49 texts.sender.now ∷ field 56 texts.target.now ∷ field 34 texts.number.now ∷ marks_and_time poss_dup poss_resend texts.time.now ++ body_fields body.now) }
     ensures { WritesFrame (field 35 texts.entry.kind.now ∷ field 49 texts.entry.sender.now ∷ field 56 texts.entry.target.now ∷ field 34 texts.entry.number.now ∷ marks_and_time poss_dup poss_resend texts.entry.time.now ++ body_fields body.now) out.old out.new result }
 {
-    let kind = FieldRef::new(35, texts.kind);
-    let sender = FieldRef::new(49, texts.sender);
-    let target = FieldRef::new(56, texts.target);
-    let number = FieldRef::new(34, texts.number);
-    let dup = FieldRef::new(43, b"Y");
-    let resend = FieldRef::new(97, b"Y");
-    let time = FieldRef::new(52, texts.time);
-    let original = FieldRef::new(122, texts.time);
+    let kind = FieldRef::new(MSG_TYPE, texts.kind);
+    let sender = FieldRef::new(SENDER_COMP_ID, texts.sender);
+    let target = FieldRef::new(TARGET_COMP_ID, texts.target);
+    let number = FieldRef::new(MSG_SEQ_NUM, texts.number);
+    let dup = FieldRef::new(POSS_DUP_FLAG, b"Y");
+    let resend = FieldRef::new(POSS_RESEND, b"Y");
+    let time = FieldRef::new(SENDING_TIME, texts.time);
+    let original = FieldRef::new(ORIG_SENDING_TIME, texts.time);
     match (poss_dup, poss_resend) {
         (false, false) => write_body(&[kind, sender, target, number, time], body, out),
         (false, true) => write_body(&[kind, sender, target, number, resend, time], body, out),
@@ -241,18 +264,18 @@ fn write_message(envelope: &Envelope, stamp: &Stamp, out: &mut Vec<u8>) -> Resul
 }
 
 /// The same, with the message's own faults.
-fn write_faultless(envelope: &Envelope, stamp: &Stamp, out: &mut Vec<u8>) -> Result<(), TagFault>
+fn write_faultless(envelope: &Envelope, stamp: &Stamp, out: &mut Vec<u8>) -> Result<(), WriteFault>
     requires { field_fault envelope.now ≡ None }
-    ensures refusal { MatchOption (envelope_refusal envelope.now stamp.now) (IsOkUnless result TagFault.OutOfMemory) (λ fault. result ≡ Err fault) }
+    ensures refusal { MatchOption (envelope_refusal envelope.now stamp.now) (IsOkUnless result WriteFault.OutOfMemory) (λ fault. result ≡ Err fault) }
     ensures ok { OnOk result (out.new.items ≡ out.old.items ++ frame_text (envelope_fields envelope.now stamp.now)) }
     ensures err { OnErr result (out.new.items ≡ out.old.items) }
-    ensures full { result ≡ Err TagFault.OutOfMemory → vec_capacity out.old < vec_len out.old + length (frame_text (envelope_fields envelope.now stamp.now)) }
-    ensures reads_back { OnOk result (envelope_read (envelope_fields envelope.now stamp.now) ≡ Ok envelope.now) }
+    ensures full { result ≡ Err WriteFault.OutOfMemory → vec_capacity out.old < vec_len out.old + length (frame_text (envelope_fields envelope.now stamp.now)) }
+    ensures reads_back { OnOk result (ReadsBackAs envelope.now (frame_text (envelope_fields envelope.now stamp.now))) }
 {
     match write_message(envelope, stamp, out) {
         Ok(()) => Ok(()),
-        Err(TextFault::TooLong) => Err(TagFault::TooLong),
-        Err(TextFault::OutOfMemory) => Err(TagFault::OutOfMemory),
+        Err(TextFault::TooLong) => Err(WriteFault::TooLong),
+        Err(TextFault::OutOfMemory) => Err(WriteFault::OutOfMemory),
         Err(TextFault::BadTag) => unreachable!(),
         Err(TextFault::BadValue) => unreachable!(),
     }
@@ -266,12 +289,16 @@ fn write_faultless(envelope: &Envelope, stamp: &Stamp, out: &mut Vec<u8>) -> Res
 /// application field with a tag of the header or the frame or outside 1 to 999,999, or with an empty
 /// value or SOH in it. Then `TooLong`: the fields take more than 4,096 bytes. Then `OutOfMemory`: `out`
 /// has no room for the frame, and no memory is left. A refusal leaves `out` as it was.
-pub fn write_envelope(envelope: &Envelope, stamp: &Stamp, out: &mut Vec<u8>) -> Result<(), TagFault>
-    ensures refusal { MatchOption (envelope_refusal envelope.now stamp.now) (IsOkUnless result TagFault.OutOfMemory) (λ fault. result ≡ Err fault) }
+pub fn write_envelope(
+    envelope: &Envelope,
+    stamp: &Stamp,
+    out: &mut Vec<u8>,
+) -> Result<(), WriteFault>
+    ensures refusal { MatchOption (envelope_refusal envelope.now stamp.now) (IsOkUnless result WriteFault.OutOfMemory) (λ fault. result ≡ Err fault) }
     ensures ok { OnOk result (out.new.items ≡ out.old.items ++ frame_text (envelope_fields envelope.now stamp.now)) }
     ensures err { OnErr result (out.new.items ≡ out.old.items) }
-    ensures full { result ≡ Err TagFault.OutOfMemory → vec_capacity out.old < vec_len out.old + length (frame_text (envelope_fields envelope.now stamp.now)) }
-    ensures reads_back { OnOk result (envelope_read (envelope_fields envelope.now stamp.now) ≡ Ok envelope.now) }
+    ensures full { result ≡ Err WriteFault.OutOfMemory → vec_capacity out.old < vec_len out.old + length (frame_text (envelope_fields envelope.now stamp.now)) }
+    ensures reads_back { OnOk result (ReadsBackAs envelope.now (frame_text (envelope_fields envelope.now stamp.now))) }
 {
     match field_fault(envelope) {
         Some(fault) => Err(fault),
