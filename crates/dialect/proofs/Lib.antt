@@ -4,3 +4,4 @@ pub mod OrderReading
 pub mod DigitsRead
 pub mod ShortIds
 pub mod PlainIdLength
+pub mod ReportReading

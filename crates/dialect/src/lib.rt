@@ -40,7 +40,7 @@ pub use any_dialect::AnyDialect;
 pub use coded::Coded;
 pub use dialect::Dialect;
 pub use exec_id::{ExecId, MAX_EXEC_ID};
-pub use fault::DialectFault;
+pub use fault::{DialectFault, SpellFault};
 pub use fill::Fill;
 pub use kind::{ORDER_KIND, REPORT_KIND};
 pub use last_px::{LastPx, MAX_LAST_PX};
