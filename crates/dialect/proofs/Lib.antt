@@ -5,3 +5,4 @@ pub mod DigitsRead
 pub mod ShortIds
 pub mod PlainIdLength
 pub mod ReportReading
+pub mod FrameBack

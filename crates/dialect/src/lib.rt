@@ -44,7 +44,10 @@ pub use fault::{DialectFault, SpellFault};
 pub use fill::Fill;
 pub use kind::{ORDER_KIND, REPORT_KIND};
 pub use last_px::{LastPx, MAX_LAST_PX};
-pub use laws::{orders_tell_legs_apart, reports_tell_apart};
+pub use laws::{
+    frames_read_back, orders_tell_legs_apart, reports_tell_apart, writable_messages_are_framed,
+    writable_messages_fit,
+};
 pub use note::Note;
 pub use order_id::{MAX_ORDER_ID, OrderId};
 pub use order_view::OrderView;
