@@ -156,6 +156,11 @@ pub order_marked : (s : SpellingParts) (leg : Leg) (stamp : StampParts) (fields 
 order_marked s leg stamp fields laws is =
     subst (IsMarked s.mark) (sym is.written) (marked s leg stamp laws)
 
+-- it has its stamp
+pub order_timed : (s : SpellingParts) (leg : Leg) (stamp : StampParts) (fields : List Tagged) → IsSpelling s → IsOrderOf s leg stamp fields → value_of fields 60 ≡ Some (stamp_text stamp)
+order_timed s leg stamp fields laws is =
+    subst (λ (fields : List Tagged). value_of fields 60 ≡ Some (stamp_text stamp)) (sym is.written) (looks s leg stamp laws).time
+
 -- it fits a message
 short_front : (s : SpellingParts) (leg : Leg) → IsSpelling s → IsLeg leg → AllByRecursion IsShortField (order_front s leg)
 short_front s leg laws range =

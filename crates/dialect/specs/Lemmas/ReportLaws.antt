@@ -8,6 +8,7 @@ use Rattle.leg.specs.Symbol.{SymbolParts}
 use Rattle.dialect.specs.declared.report.Report.{Report}
 use Rattle.dialect.specs.declared.report.ReportKind.{ReportKind}
 use Rattle.dialect.specs.declared.report.ReportKind.TheVariants.{New, Trade, Canceled, Rejected, Expired, Bust}
+use Rattle.dialect.specs.Dialect.{SaysView}
 use Rattle.dialect.specs.FreeText.{IsFreeText, free_text_of}
 use Rattle.dialect.specs.Lemmas.LimitLaws.{order_shares_of-decimal}
 use Rattle.dialect.specs.OrderView.{OrderViewParts}
@@ -81,3 +82,47 @@ pub report_back : (s : SpellingParts) (report : Report) (view : OrderViewParts) 
 report_back s report view fields law is =
     subst (λ (fields : List Tagged). report_read_of s fields ≡ Ok report) (sym is.written)
     (written_again s law report.id report.exec report.kind view is.in_range)
+
+-- what its exchange knew is said, whatever the kind
+module _ (s : SpellingParts) (law : IsSpelling s) (id : LegIdParts) (exec : List ℕ) (view : OrderViewParts) where
+  view_said : (kind : ReportKind) → SaysView (report_of id exec kind) view (report_fields s (report_of id exec kind) view)
+  view_said New = record {
+    order_id = refl;
+    status = refl;
+    cum = value_of-behind_symbol s law view.leg.terms.symbol 14 (amount_fields (report_of id exec New) view) refl;
+    leaves = value_of-behind_symbol s law view.leg.terms.symbol 151 (amount_fields (report_of id exec New) view) refl;
+  }
+  view_said (Trade fill) = record {
+    order_id = refl;
+    status = refl;
+    cum = value_of-behind_symbol s law view.leg.terms.symbol 14 (amount_fields (report_of id exec (Trade fill)) view) refl;
+    leaves = value_of-behind_symbol s law view.leg.terms.symbol 151 (amount_fields (report_of id exec (Trade fill)) view) refl;
+  }
+  view_said Canceled = record {
+    order_id = refl;
+    status = refl;
+    cum = value_of-behind_symbol s law view.leg.terms.symbol 14 (amount_fields (report_of id exec Canceled) view) refl;
+    leaves = value_of-behind_symbol s law view.leg.terms.symbol 151 (amount_fields (report_of id exec Canceled) view) refl;
+  }
+  view_said Rejected = record {
+    order_id = refl;
+    status = refl;
+    cum = value_of-behind_symbol s law view.leg.terms.symbol 14 (amount_fields (report_of id exec Rejected) view) refl;
+    leaves = value_of-behind_symbol s law view.leg.terms.symbol 151 (amount_fields (report_of id exec Rejected) view) refl;
+  }
+  view_said Expired = record {
+    order_id = refl;
+    status = refl;
+    cum = value_of-behind_symbol s law view.leg.terms.symbol 14 (amount_fields (report_of id exec Expired) view) refl;
+    leaves = value_of-behind_symbol s law view.leg.terms.symbol 151 (amount_fields (report_of id exec Expired) view) refl;
+  }
+  view_said (Bust cancelled_id) = record {
+    order_id = refl;
+    status = refl;
+    cum = value_of-behind_symbol s law view.leg.terms.symbol 14 (amount_fields (report_of id exec (Bust cancelled_id)) view) refl;
+    leaves = value_of-behind_symbol s law view.leg.terms.symbol 151 (amount_fields (report_of id exec (Bust cancelled_id)) view) refl;
+  }
+
+pub report_said : (s : SpellingParts) (report : Report) (view : OrderViewParts) (fields : List Tagged) → IsSpelling s → IsReportOf s report view fields → SaysView report view fields
+report_said s report view fields law is =
+    subst (SaysView report view) (sym is.written) (view_said s law report.id report.exec view report.kind)
