@@ -1,7 +1,7 @@
 -- A message that can be written is refused under no header, and read back from its frame, in any dialect.
 use Rattle.std.proofs.Common.{◌≡◌, ℕ, ◌+◌, ◌*◌, ◌≤◌, Bool, true, false, cond, List, [], ◌∷◌, ◌++◌, length, nat_lt, nat_le, decimal, codes, Option, Some, None, Result, Ok, Err, refl, sym, ap, subst, ◌∙◌, arith, length-append}
 use Rattle.std.specs.List.{AllByRecursion}
-use Rattle.std.proofs.lemmas.Bool.{and_parts, and_from, le-leb}
+use Rattle.std.proofs.lemmas.Bool.{and_parts, and_from}
 use Rattle.std.proofs.lemmas.Bool.Decides.{nat_tests}
 use Rattle.std.proofs.lemmas.Fmt.{length-decimal-le}
 use Rattle.fix_text.specs.Tagged.{Tagged}
@@ -11,7 +11,7 @@ use Rattle.fix_text.specs.Reading.{Stream, next_read}
 use Rattle.fix_text.proofs.Lengths.{length-field_text}
 use Rattle.fix_text.proofs.Rewritten.{next_begins}
 use Rattle.fix_tags.specs.CompId.{IsCompId}
-use Rattle.fix_tags.specs.Message.{is_message_number, is_test_id, kind_of, body_fields, kind_fault, body_fault, field_fault, envelope_fields, envelope_refusal}
+use Rattle.fix_tags.specs.Message.{is_reference, is_message_number, is_heart, is_next_number, is_test_id, kind_of, body_fields, kind_fault, body_fault, field_fault, envelope_fields, envelope_refusal}
 use Rattle.fix_tags.specs.Stamp.{StampParts, IsStamp, stamp_text}
 use Rattle.fix_tags.specs.Written.{length-stamp_text}
 use Rattle.fix_tags.specs.declared.body.Body.{Body}
@@ -59,7 +59,16 @@ test_id_is id range =
     let parts = and_parts (nat_le (length id) 64) (is_writable_value id) range in and_from _ _ parts.1 parts.0
 
 number_is : (n : ℕ) → 1 ≤ n → n ≤ 999999998 → is_message_number n ≡ true
-number_is n low high = and_from _ _ (le-leb 1 n low) (le-leb n 999999998 high)
+number_is n low high = grind (arith, nat_tests)
+
+reference_is : (n : ℕ) → n ≤ 999999999 → is_reference n ≡ true
+reference_is n high = grind (arith, nat_tests)
+
+heart_is : (seconds : ℕ) → seconds ≤ 999999 → is_heart seconds ≡ true
+heart_is seconds high = grind (arith, nat_tests)
+
+next_is : (n : ℕ) → 1 ≤ n → n ≤ 999999999 → is_next_number n ≡ true
+next_is n low high = grind (arith, nat_tests)
 
 -- ---- what is known of the body of a message that can be written
 
@@ -74,35 +83,66 @@ logon_good : (read : Readers) (heart : ℕ) (reset : Bool) (next : Option ℕ) �
     → IsGood read (Logon heart reset next) (body.Logon heart reset next)
 logon_good read heart true None low range = record {
   kind = refl;
-  body = rw (le-leb heart 999999 low) refl;
+  body = rw (heart_is heart low) refl;
   short_kind = omega arith;
-  short = omega (arith, length-small (body_fields (body.Logon heart true None)) ((omega arith, omega arith),
-      ((omega arith, short_number heart (omega arith)), ((omega arith, omega arith), tt))));
+  short = omega (
+    arith,
+    length-small (body_fields (body.Logon heart true None)) (
+      (omega arith, omega arith),
+      ((omega arith, short_number heart (omega arith)), ((omega arith, omega arith), tt)),
+    ),
+  );
   says = refl;
 }
 logon_good read heart false None low range = record {
   kind = refl;
-  body = rw (le-leb heart 999999 low) refl;
+  body = rw (heart_is heart low) refl;
   short_kind = omega arith;
-  short = omega (arith, length-small (body_fields (body.Logon heart false None)) ((omega arith, omega arith),
-      ((omega arith, short_number heart (omega arith)), tt)));
+  short = omega (
+    arith,
+    length-small (body_fields (body.Logon heart false None)) (
+      (omega arith, omega arith),
+      ((omega arith, short_number heart (omega arith)), tt),
+    ),
+  );
   says = refl;
 }
 logon_good read heart true (Some next) low range = record {
   kind = refl;
-  body = rw (le-leb heart 999999 low, le-leb 1 next range.0, le-leb next 999999999 range.1) refl;
+  body = rw (heart_is heart low, next_is next range.0 range.1) refl;
   short_kind = omega arith;
-  short = omega (arith, length-small (body_fields (body.Logon heart true (Some next))) ((omega arith, omega arith),
-      ((omega arith, short_number heart (omega arith)), ((omega arith, omega arith), ((omega arith,
-      short_number next range.1), tt)))));
+  short = omega (
+    arith,
+    length-small (body_fields (body.Logon heart true (Some next))) (
+      (omega arith, omega arith),
+      (
+        (omega arith, short_number heart (omega arith)),
+        (
+          (omega arith, omega arith),
+          (
+            (
+              omega arith,
+              short_number next range.1,
+            ),
+            tt,
+          ),
+        ),
+      ),
+    ),
+  );
   says = refl;
 }
 logon_good read heart false (Some next) low range = record {
   kind = refl;
-  body = rw (le-leb heart 999999 low, le-leb 1 next range.0, le-leb next 999999999 range.1) refl;
+  body = rw (heart_is heart low, next_is next range.0 range.1) refl;
   short_kind = omega arith;
-  short = omega (arith, length-small (body_fields (body.Logon heart false (Some next))) ((omega arith, omega arith),
-      ((omega arith, short_number heart (omega arith)), ((omega arith, short_number next range.1), tt))));
+  short = omega (
+    arith,
+    length-small (body_fields (body.Logon heart false (Some next))) (
+      (omega arith, omega arith),
+      ((omega arith, short_number heart (omega arith)), ((omega arith, short_number next range.1), tt)),
+    ),
+  );
   says = refl;
 }
 
@@ -130,17 +170,25 @@ resend_request_good : (read : Readers) (begin last : ℕ) → IsReference begin 
     → IsGood read (ResendRequest begin last) (body.ResendRequest begin last)
 resend_request_good read begin last first second = record {
   kind = refl;
-  body = rw (le-leb begin 999999999 first, le-leb last 999999999 second) refl;
+  body = rw (reference_is begin first, reference_is last second) refl;
   short_kind = omega arith;
-  short = omega (arith, length-small (body_fields (body.ResendRequest begin last)) ((omega arith,
-      short_number begin first), ((omega arith, short_number last second), tt)));
+  short = omega (
+    arith,
+    length-small (body_fields (body.ResendRequest begin last)) (
+      (
+        omega arith,
+        short_number begin first,
+      ),
+      ((omega arith, short_number last second), tt),
+    ),
+  );
   says = refl;
 }
 
 reject_good : (read : Readers) (number : ℕ) → IsReference number → IsGood read (Reject number) (body.Reject number)
 reject_good read number range = record {
   kind = refl;
-  body = rw (le-leb number 999999999 range) refl;
+  body = rw (reference_is number range) refl;
   short_kind = omega arith;
   short = omega (arith, length-small (body_fields (body.Reject number)) ((omega arith, short_number number range), tt));
   says = refl;
@@ -149,20 +197,42 @@ reject_good read number range = record {
 gap_fill_good : (read : Readers) (number : ℕ) → IsReference number → IsGood read (GapFill number) (body.GapFill number)
 gap_fill_good read number range = record {
   kind = refl;
-  body = rw (le-leb number 999999999 range) refl;
+  body = rw (reference_is number range) refl;
   short_kind = omega arith;
-  short = omega (arith, length-small (body_fields (body.GapFill number)) ((omega arith, omega arith), ((omega arith,
-      short_number number range), tt)));
+  short = omega (
+    arith,
+    length-small (body_fields (body.GapFill number)) (
+      (omega arith, omega arith),
+      (
+        (
+          omega arith,
+          short_number number range,
+        ),
+        tt,
+      ),
+    ),
+  );
   says = refl;
 }
 
 reset_good : (read : Readers) (number : ℕ) → IsReference number → IsGood read (Reset number) (body.Reset number)
 reset_good read number range = record {
   kind = refl;
-  body = rw (le-leb number 999999999 range) refl;
+  body = rw (reference_is number range) refl;
   short_kind = omega arith;
-  short = omega (arith, length-small (body_fields (body.Reset number)) ((omega arith, omega arith), ((omega arith,
-      short_number number range), tt)));
+  short = omega (
+    arith,
+    length-small (body_fields (body.Reset number)) (
+      (omega arith, omega arith),
+      (
+        (
+          omega arith,
+          short_number number range,
+        ),
+        tt,
+      ),
+    ),
+  );
   says = refl;
 }
 
@@ -176,16 +246,29 @@ business_reject_good read beside None range = record {
   kind = refl;
   body = refl;
   short_kind = omega arith;
-  short = omega (arith, length-small (body_fields (body.BusinessReject None)) ((omega arith, omega arith),
-      ((omega arith, omega arith), tt)));
+  short = omega (
+    arith,
+    length-small (body_fields (body.BusinessReject None)) (
+      (omega arith, omega arith),
+      ((omega arith, omega arith), tt),
+    ),
+  );
   says = refl;
 }
 business_reject_good read beside (Some number) range = record {
   kind = refl;
-  body = rw (le-leb number 999999999 range) refl;
+  body = rw (reference_is number range) refl;
   short_kind = omega arith;
-  short = omega (arith, length-small (body_fields (body.BusinessReject (Some number))) ((omega arith,
-      short_number number range), ((omega arith, omega arith), ((omega arith, omega arith), tt))));
+  short = omega (
+    arith,
+    length-small (body_fields (body.BusinessReject (Some number))) (
+      (
+        omega arith,
+        short_number number range,
+      ),
+      ((omega arith, omega arith), ((omega arith, omega arith), tt)),
+    ),
+  );
   says = refl;
 }
 
@@ -244,11 +327,11 @@ good w read stamp beside (BusinessReject number) b agrees range is = good_from r
     (business_reject_good read beside number range)
 good w read stamp beside (Order (Ok leg)) b agrees range is =
     good_from read _ _ b is.body_is (order_good read leg is.fields (agrees.order_fits leg stamp is.fields is.written)
-        (agrees.order_back leg stamp is.fields is.written))
+    (agrees.order_back leg stamp is.fields is.written))
 good w read stamp beside (Order (Err fault)) b agrees range is = absurd range
 good w read stamp (Some view) (OrderReport (Ok report)) b agrees range is =
     good_from read _ _ b is.body_is (report_good read report is.fields
-        (agrees.report_fits report view is.fields is.written) (agrees.report_back report view is.fields is.written))
+    (agrees.report_fits report view is.fields is.written) (agrees.report_back report view is.fields is.written))
 good w read stamp None (OrderReport (Ok report)) b agrees range is = absurd range
 good w read stamp beside (OrderReport (Err fault)) b agrees range is = absurd range
 good w read stamp beside Other b agrees range is = absurd range
@@ -266,7 +349,7 @@ module _ (m : Message) (b : Body) (stamp : StampParts) (kind : kind_fault b ≡ 
   fits_frame : length (fields_text (envelope_fields (envelope_of m b) stamp)) ≤ 4096
   fits_frame =
       let at_most = header_length (envelope_of m b) (stamp_text stamp) (body_fields b) short_kind from to number
-          (omega (arith, length-stamp_text stamp)) in
+      (omega (arith, length-stamp_text stamp)) in
       omega (arith, at_most, short)
 
   unrefused : envelope_refusal (envelope_of m b) stamp ≡ None
@@ -301,7 +384,7 @@ pub frame_back : (w : Writers) (read : Readers) (stamp : StampParts) (out : Outg
 frame_back w read stamp out bytes rest stream agrees range is begins =
     let fine = good w read stamp out.beside out.message.content is.says agrees range.content is.is_body in
     let begins_so : stream.rest ≡ frame_text (envelope_fields
-        (envelope_of out.message is.says) stamp) ++ rest = begins ∙ ap (λ (text : List ℕ). text ++ rest) is.written in
+    (envelope_of out.message is.says) stamp) ++ rest = begins ∙ ap (λ (text : List ℕ). text ++ rest) is.written in
     read_again out.message is.says stamp fine.kind fine.body fine.short_kind fine.short range.from range.to (number_is out.message.number range.number_from range.number_to) read stream rest fine.says begins_so
 
 -- ---- there is a frame
@@ -338,6 +421,7 @@ body_exists w stamp beside Other exist at range = absurd range
 pub frame_exists : (w : Writers) (stamp : StampParts) (out : Outgoing) → Exists w → IsStamp stamp → IsWritable out
     → (bytes : List ℕ) × IsFramed w stamp out bytes
 frame_exists w stamp out exist at range =
-    let written = body_exists w stamp out.beside out.message.content exist at range.content in
-    (frame_text (envelope_fields (envelope_of out.message written.0) stamp),
-        record { says = written.0; is_body = written.1; written = refl })
+    let written = body_exists w stamp out.beside out.message.content exist at range.content in (
+      frame_text (envelope_fields (envelope_of out.message written.0) stamp),
+      record { says = written.0; is_body = written.1; written = refl },
+    )

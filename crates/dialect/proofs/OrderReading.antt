@@ -129,7 +129,7 @@ order_read_of-Ok s fields leg laws e =
     step _ (s.symbol_in fields) leg e3 (λ symbol fourth e4.
     step _ (immediate_in fields) leg e4 (λ v fifth e5.
     subst (λ (leg : Leg). IsReadingOf s leg fields) (same_ok _ leg e5)
-        (parts_say s fields id limit symbol u v laws first second third fourth fifth))))))
+    (parts_say s fields id limit symbol u v laws first second third fourth fifth))))))
 
 pub order_reading : (s : SpellingParts) (fields : List Tagged) (read : Result Leg DialectFault) → IsSpelling s
     → read ≡ order_read_of s fields → IfOk read (λ leg. IsReadingOf s leg fields)

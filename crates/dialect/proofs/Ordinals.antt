@@ -1,24 +1,15 @@
 -- A number that counts from 1 is read from its shortest decimal alone.
-use Rattle.std.proofs.Common.{◌≡◌, ℕ, zero, suc, ◌^◌, ◌<◌, ◌≤◌, Bool, true, false, cond, ◌&&◌, List, [], ◌∷◌, length, get_or, decimal, Option, Some, None, refl, sym, ap, ◌∙◌, arith, rules}
+use Rattle.std.proofs.Common.{◌≡◌, ℕ, zero, suc, ◌^◌, ◌<◌, ◌≤◌, Bool, true, false, cond, ◌&&◌, List, [], ◌∷◌, length, get_or, decimal, Option, Some, None, refl, sym, ap, ◌∙◌, arith}
 use Rattle.std.specs.Char.{is_ascii_digit}
 use Rattle.std.proofs.lemmas.Bool.{and_parts, and_from, ltb-true, eqb-true, cond-false, cond-true, true≢false}
 use Rattle.std.proofs.lemmas.Bool.Decides.{nat_tests}
 use Rattle.std.proofs.lemmas.Fmt.{first_decimal, decimal_digit, decimal-digits_value}
 use Rattle.std.proofs.lemmas.Option.{cond_some}
-use Rattle.std.proofs.lemmas.Str.Parse.{IsNumeralModel, IsDigitsTest, FoldsDigits, numerals_by_fold}
-use Rattle.fix_tags.specs.Digits.{number_after, digits_number, leading_digits, after_digits, all_digits, within}
+use Rattle.fix_tags.specs.Digits.{digits_number, leading_digits, after_digits, all_digits, within}
 use Rattle.fix_tags.specs.Number.{number_of}
+use Rattle.fix_tags.specs.Spelled.{own}
 use Rattle.dialect.specs.Ordinal.{ordinal_of, begins_with_zero}
 use Rattle.dialect.specs.Lemmas.OrdinalLaws.{IsOrdinal, passes, passes-true, passes-false}
-
-all_digits_test : IsDigitsTest (λ ds. all_digits ds ≡ true)
-all_digits_test = search rules
-
-number_folds : FoldsDigits number_after
-number_folds = search rules
-
-own : IsNumeralModel (λ ds. all_digits ds ≡ true) (number_after 0)
-own = numerals_by_fold _ all_digits_test number_after number_folds
 
 -- a text that ends with its leading digits is these digits
 only_digits_by : (b : Bool) (c : ℕ) (cs : List ℕ) → is_ascii_digit c ≡ b

@@ -43,9 +43,10 @@ order_shares_of-Some : (text : List ℕ) (shares : ℕ) → order_shares_of text
 order_shares_of-Some text shares e =
     option_and_then_some _ (shares_of text) shares e (λ n is test.
     let passed = cond_some _ n shares test in
-    let bounds = and_parts _ _ passed.0 in
-    (is ∙ ap Some passed.1,
-        subst IsShares passed.1 (record { low = leb-true _ _ bounds.0; high = leb-true _ _ bounds.1 })))
+    let bounds = and_parts _ _ passed.0 in (
+      is ∙ ap Some passed.1,
+      subst IsShares passed.1 (record { low = leb-true _ _ bounds.0; high = leb-true _ _ bounds.1 }),
+    ))
 
 shares-Ok : (fields : List Tagged) (shares : ℕ) → required_as order_shares_of fields 32 ≡ Ok shares
     → AreShares fields shares
@@ -80,14 +81,14 @@ trade_in-Ok fields kind e =
     step _ (fill_in fields) kind e (λ fill first e1.
     let read = fill_in-Ok fields fill first in
     subst (IsKindRead fields (70 ∷ [])) (same_ok (Trade fill) kind e1)
-        (record { in_range = read.in_range; text_is = refl; detail = read.says }))
+    (record { in_range = read.in_range; text_is = refl; detail = read.says }))
 
 bust_in-Ok : (fields : List Tagged) (kind : ReportKind) → bust_in fields ≡ Ok kind → IsKindRead fields (72 ∷ []) kind
 bust_in-Ok fields kind e =
     step _ (required_as (free_text_of 64) fields 19) kind e (λ id first e1.
     let read = free_text-Ok 64 fields 19 id first in
     subst (IsKindRead fields (72 ∷ [])) (same_ok (Bust id) kind e1)
-        (record { in_range = read.in_range; text_is = refl; detail = read.there }))
+    (record { in_range = read.in_range; text_is = refl; detail = read.there }))
 
 -- one more byte is tried
 tried : (fields : List Tagged) (c code : ℕ) (kind : ReportKind) (b : Bool)
@@ -102,14 +103,14 @@ kind_of_byte-Ok : (fields : List Tagged) (c : ℕ) (kind : ReportKind) → kind_
     → IsKindRead fields (c ∷ []) kind
 kind_of_byte-Ok fields c kind e =
     tried fields c 48 kind (c == 48) _ _ refl e (λ is. subst (IsKindRead fields (48 ∷ [])) (same_ok New kind is)
-        (record { in_range = tt; text_is = refl; detail = tt })) (λ e1.
+    (record { in_range = tt; text_is = refl; detail = tt })) (λ e1.
     tried fields c 70 kind (c == 70) _ _ refl e1 (trade_in-Ok fields kind) (λ e2.
     tried fields c 52 kind (c == 52) _ _ refl e2 (λ is. subst (IsKindRead fields (52 ∷ []))
-        (same_ok Canceled kind is) (record { in_range = tt; text_is = refl; detail = tt })) (λ e3.
+    (same_ok Canceled kind is) (record { in_range = tt; text_is = refl; detail = tt })) (λ e3.
     tried fields c 56 kind (c == 56) _ _ refl e3 (λ is. subst (IsKindRead fields (56 ∷ []))
-        (same_ok Rejected kind is) (record { in_range = tt; text_is = refl; detail = tt })) (λ e4.
+    (same_ok Rejected kind is) (record { in_range = tt; text_is = refl; detail = tt })) (λ e4.
     tried fields c 67 kind (c == 67) _ _ refl e4 (λ is. subst (IsKindRead fields (67 ∷ [])) (same_ok Expired kind is)
-        (record { in_range = tt; text_is = refl; detail = tt })) (λ e5.
+    (record { in_range = tt; text_is = refl; detail = tt })) (λ e5.
     tried fields c 72 kind (c == 72) _ _ refl e5 (bust_in-Ok fields kind) (λ e6. cc))))))
 
 kind_of_text-Ok : (fields : List Tagged) (text : List ℕ) (kind : ReportKind) → kind_of_text fields text ≡ Ok kind
@@ -144,7 +145,7 @@ report_read_of-Ok s fields report laws e =
     step _ (required_as (free_text_of 64) fields 17) report e1 (λ exec second e2.
     step _ (kind_in fields) report e2 (λ kind third e3.
     subst (λ (r : Report). IsReportReadingOf s r fields) (same_ok _ report e3)
-        (parts_say s fields id exec kind laws first second third))))
+    (parts_say s fields id exec kind laws first second third))))
 
 pub report_reading : (s : SpellingParts) (fields : List Tagged) (read : Result Report DialectFault) → IsSpelling s
     → read ≡ report_read_of s fields → IfOk read (λ report. IsReportReadingOf s report fields)

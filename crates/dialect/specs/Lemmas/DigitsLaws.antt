@@ -100,5 +100,11 @@ fixed_of-Some base width greatest text n low high e =
     let high_k : k ≤ greatest = leb-true k greatest to.0 in
     let low_m : 1 ≤ m = leb-true 1 m from.0 in
     let spelled = number_after-Some base 0 width 0 k text low high (omega (arith, long)) read in
-    subst (IsFixed base width greatest text) (to.1 ∙ from.1) (record { low = omega (arith,
-        to.1); high = high_k; text_is = spelled })))
+    subst (IsFixed base width greatest text) (to.1 ∙ from.1) (record {
+      low = omega (
+        arith,
+        to.1,
+      );
+      high = high_k;
+      text_is = spelled;
+    })))

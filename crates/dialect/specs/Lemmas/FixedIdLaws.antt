@@ -28,4 +28,4 @@ fixed_id_of-Some base width sweep_text place_text id low high e =
     let back = fixed_of-Some base 2 32 place_text place low high second in
     let range : IsLegId (record { sweep = sweep; place = place }) = record { sweep_low = front.low; sweep_high = front.high; place_low = back.low; place_high = back.high } in
     subst (IsFixedId base width sweep_text place_text) (same_Some _ _ e2)
-        (record { in_range = range; sweep_is = front.text_is; place_is = back.text_is })))
+    (record { in_range = range; sweep_is = front.text_is; place_is = back.text_is })))

@@ -174,7 +174,7 @@ pub order_timed : (s : SpellingParts) (leg : Leg) (stamp : StampParts) (fields :
     → IsOrderOf s leg stamp fields → value_of fields 60 ≡ Some (stamp_text stamp)
 order_timed s leg stamp fields laws is =
     subst (λ (fields : List Tagged). value_of fields 60 ≡ Some (stamp_text stamp)) (sym is.written)
-        (looks s leg stamp laws).time
+    (looks s leg stamp laws).time
 
 -- it fits a message
 short_front : (s : SpellingParts) (leg : Leg) → IsSpelling s → IsLeg leg

@@ -33,7 +33,7 @@ tags_without-symbol : (tag : ℕ) (tags : List ℕ) → (tags ≡ 55 ∷ []) ⊎
     → tags_without tag (55 ∷ 65 ∷ []) ≡ true → tags_without tag tags ≡ true
 tags_without-symbol tag tags (inl joined) other =
     subst (λ tags. tags_without tag tags ≡ true) (sym joined) (and_from _ _ (and_parts (not
-        (55 == tag)) _ other).0 refl)
+    (55 == tag)) _ other).0 refl)
 tags_without-symbol tag tags (inr parted) other =
     subst (λ tags. tags_without tag tags ≡ true) (sym parted) other
 

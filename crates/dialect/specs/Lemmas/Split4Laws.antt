@@ -110,7 +110,7 @@ symbol_says_by fields text alone symbol None there is sfx e =
     let made = symbol_of-Ok text [] alone is in
     let same = same_ok alone symbol e in
     subst (λ (s : SymbolParts). AreIn fields (split4_symbol_fields s)) same
-        (symbol_are fields alone [] made.suffix_is (there ∙ ap Some (sym made.root_is)) tt)
+    (symbol_are fields alone [] made.suffix_is (there ∙ ap Some (sym made.root_is)) tt)
 symbol_says_by fields text alone symbol (Some []) there is sfx e = cc
 symbol_says_by fields text alone symbol (Some (c ∷ cs)) there is sfx e =
     let root = symbol_of-Ok text [] alone is in
