@@ -5,20 +5,17 @@ mod any_dialect;
 mod coded;
 mod dialect;
 mod digits;
-mod exec_id;
 mod fault;
 mod field_value;
 mod fill;
 mod fixed_id;
 mod free_text;
 mod kind;
-mod last_px;
 mod laws;
 mod limit;
 mod mark;
 mod note;
 mod order;
-mod order_id;
 mod order_view;
 mod ordinal;
 mod plain;
@@ -39,18 +36,19 @@ mod time;
 pub use any_dialect::AnyDialect;
 pub use coded::Coded;
 pub use dialect::Dialect;
-pub use exec_id::{ExecId, MAX_EXEC_ID};
-pub use fault::DialectFault;
+pub use fault::{DialectFault, SpellFault};
 pub use fill::Fill;
+pub use free_text::{ExecId, FreeText, LastPx, MAX_ID, MAX_LAST_PX, OrderId};
 pub use kind::{ORDER_KIND, REPORT_KIND};
-pub use last_px::{LastPx, MAX_LAST_PX};
-pub use laws::{orders_tell_legs_apart, reports_tell_apart};
+pub use laws::{
+    frames_read_back, orders_tell_legs_apart, reports_tell_apart, writable_messages_are_framed,
+    writable_messages_fit,
+};
 pub use note::Note;
-pub use order_id::{MAX_ORDER_ID, OrderId};
 pub use order_view::OrderView;
 pub use plain::Plain;
 pub use report::{Report, ReportKind};
-pub use spelling::Spelling;
+pub use spelling::{IdText, Spelling};
 pub use split4::Split4;
 pub use symbol_text::read_symbol;
 

@@ -1,21 +1,21 @@
 //! A report is written.
 
-ghost use Rattle.std.specs.Prelude.{◌≡◌, ◌++◌, OnOk, OnErr, IsOkUnless};
+ghost use Rattle.std.specs.Prelude.{◌≡◌, ◌++◌, OnOk, OnErr};
 ghost use Rattle.dialect.specs.Dialect.{Appends};
 ghost use Rattle.dialect.specs.Fields.{IsGrown};
 ghost use Rattle.dialect.specs.ReportFields.{exec_type_text, ord_status_text, cancelled_fields, fill_fields, event_fields, amount_fields, report_fields, IsReportOf};
 
-use crate::fault::DialectFault;
+use crate::fault::SpellFault;
 use crate::limit::side_text;
 use crate::order_view::OrderView;
-use crate::push::{all_or_nothing, push_number, push_text};
+use crate::push::{all_or_nothing, push_number, push_short, push_text};
 use crate::report::{Report, ReportKind};
 use crate::report_tag::{
     AVG_PX, CUM_QTY, EXEC_ID, EXEC_REF_ID, EXEC_TYPE, LAST_PX, LAST_QTY, LEAVES_QTY, ORD_STATUS,
     ORDER_ID,
 };
 use crate::spelling::Spelling;
-use crate::tag::SIDE;
+use crate::tag::{CL_ORD_ID, SIDE};
 use fix_text::Field;
 use std::alloc::{AllocError, Global};
 
@@ -104,7 +104,12 @@ fn push_event<S: Spelling>(
         ord_status_text(kind, view.leaves()),
         fields,
     )?;
-    spelling.push_id(alloc, &report.id, fields)
+    push_short(
+        alloc,
+        CL_ORD_ID,
+        spelling.id_text(&report.id).as_slice(),
+        fields,
+    )
 }
 
 /// Appends 54 to 6.
@@ -150,14 +155,11 @@ pub(crate) fn write_report<S: Spelling>(
     report: &Report,
     view: &OrderView,
     fields: &mut Vec<Field>,
-) -> Result<(), DialectFault>
+) -> Result<(), SpellFault>
     requires { view.now.leg.id ≡ report.now.id }
     ensures ok { OnOk result
         (Appends (IsReportOf (S.spelling spelling.now) report.now view.now) fields.old.items fields.new.items) }
-    ensures only { IsOkUnless result DialectFault.OutOfMemory }
     ensures err { OnErr result (fields.new.items ≡ fields.old.items) }
-    ensures exact { OnOk result (fields.new.items
-        ≡ fields.old.items ++ report_fields (S.spelling spelling.now) report.now view.now) }
 {
     // That the report and the view are in range is known once they were read.
     report.in_range();
