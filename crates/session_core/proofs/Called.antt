@@ -1,8 +1,7 @@
 -- The calls beside receiving keep the legs as they are.
-use Rattle.std.proofs.Common.{◌≡◌, ◌≤◌, ◌<◌, ◌+◌, ℕ, suc, Bool, true, false, not, nat_lt, List, [], ◌∷◌, ◌++◌, length, Option, Some, None, refl, sym, ap, ◌∙◌, arith, length-append}
+use Rattle.std.proofs.Common.{◌≡◌, ◌≤◌, ◌<◌, ◌+◌, ℕ, Bool, true, false, not, nat_lt, List, [], ◌∷◌, length, Option, Some, None, refl, sym, ap, ◌∙◌, arith, length-append}
 use Rattle.std.proofs.lemmas.Bool.Decides.{nat_tests}
 use Rattle.std.proofs.lemmas.List.{append-nil}
-use Rattle.leg.specs.Numbered.{numbered}
 use Rattle.leg.specs.declared.leg.Leg.{Leg}
 use Rattle.leg.specs.declared.leg_state.LegState.TheVariants.{Doubt}
 use Rattle.dialect.specs.Message.{Message}
@@ -19,6 +18,7 @@ use Rattle.session_core.specs.Turn.{StepParts, Turn, no_step, quietly, puts, put
 use Rattle.session_core.specs.Receiving.{receive, confirm}
 use Rattle.session_core.specs.Calling.{SessionAnswer, refuses, answers, answers_numbered, connect, connect_in, connecting, logs_on, send_leg, send_in, send_up, sending, quiet, silent, hushed, close, close_in, closing_up, asked_to_close, malformed, broken, abandon}
 use Rattle.session_core.specs.Onward.{OrUnchanged, KeepsLegs, IsCall, IsConnection, SendsLeg}
+use Rattle.session_core.proofs.Legs.{numbered-next}
 use Rattle.session_core.proofs.Adding.{chosen, adds-puts, adds-puts_fence, adds-ends_turn, keeps_with, call_by}
 
 -- the log as it was
@@ -59,13 +59,6 @@ pub connect_keeps : (s : SessionParts) → OrUnchanged s (IsConnection s) (conne
 connect_keeps s = connected_in s s.phase refl
 
 -- send_leg
-numbered-last : (log : List Entry) (entry : Entry) → numbered (suc (length log)) (log ++ entry ∷ []) ≡ Some entry
-numbered-last [] entry = refl
-numbered-last (first ∷ log) entry = numbered-last log entry
-
-numbered-next : (log : List Entry) (entry : Entry) → numbered (length log + 1) (log ++ entry ∷ []) ≡ Some entry
-numbered-next log entry = (let e : length log + 1 ≡ suc (length log) = omega arith in rw e (numbered-last log entry))
-
 sent_up : (s : SessionParts) (ordinal : ℕ) (leg : Leg) → s.phase ≡ Up
     → OrUnchanged s (SendsLeg s ordinal leg) (send_up s ordinal leg)
 sent_up s ordinal leg up =

@@ -1,15 +1,20 @@
 //! What follows from the definitions: each law is the contract of a function that does nothing.
 
-ghost use Rattle.std.specs.Prelude.{◌≡◌, ℕ, None, Err};
+ghost use Rattle.std.specs.Prelude.{◌≡◌, ℕ, None, Err, IfOk};
+ghost use Rattle.fix_tags.specs.Config.{ConfigParts, IsConfig};
+ghost use Rattle.leg.specs.Leg.{IsLeg};
 ghost use Rattle.leg.specs.declared.leg.Leg.{Leg as ALeg};
 ghost use Rattle.dialect.specs.Message.{Message as AMessage};
+ghost use Rattle.dialect.specs.Outgoing.{alone};
+ghost use Rattle.dialect.specs.Writable.{IsWritable};
 ghost use Rattle.session_core.specs.declared.phase.Phase.TheVariants as phase;
 ghost use Rattle.session_core.specs.declared.session_fault.SessionFault.TheVariants as fault;
-ghost use Rattle.session_core.specs.Session.{SessionParts};
+ghost use Rattle.session_core.specs.Session.{SessionParts, new_session};
 ghost use Rattle.session_core.specs.Turn.{quietly};
 ghost use Rattle.session_core.specs.Receiving.{receive, confirm};
 ghost use Rattle.session_core.specs.Calling.{connect, send_leg, quiet, silent, close, malformed, broken, abandon};
 ghost use Rattle.session_core.specs.Onward.{OrUnchanged, IsOnward, KeepsLegs, IsConnection, SendsLeg, IsCall, IsReceived, WritesFillAlone};
+ghost use Rattle.session_core.specs.Sound.{IsSound, IsRead, AreWritable};
 
 /// A session is onward from itself, and what is onward from a session that is onward is so too.
 pub fn going_onward_goes_on()
@@ -56,4 +61,31 @@ pub fn a_closed_session_is_over()
 /// Once its Logout was written, a session answers what it receives with a gap fill at most.
 pub fn a_logged_out_session_fills_alone()
     ensures { (s : SessionParts) (m : AMessage) → s.phase ≡ phase.LoggedOut → WritesFillAlone s (receive s m).step.written }
+{}
+
+/// A session keeps its own promises: its numbers stay in range, its fences above the settled number and, until it is up
+/// or while it closes, above every leg; no leg up to the settled number is in doubt, nor any once its Logout was written;
+/// and the ordinals of its legs rise.
+pub fn a_session_keeps_its_promises()
+    ensures begins { (config : ConfigParts) → IsConfig config → IsSound (new_session config) }
+    ensures connect { (s : SessionParts) → IsSound s → IsSound (connect s).1 }
+    ensures send_leg { (s : SessionParts) (ordinal : ℕ) (leg : ALeg) → IsSound s → IsSound (send_leg s ordinal leg).1 }
+    ensures receive { (s : SessionParts) (m : AMessage) → IsSound s → IsRead m → IsSound (receive s m).session }
+    ensures confirm { (s : SessionParts) → IsSound s → IsSound (confirm s) }
+    ensures quiet { (s : SessionParts) → IsSound s → IsSound (quiet s).1 }
+    ensures silent { (s : SessionParts) → IsSound s → IsSound (silent s).1 }
+    ensures close { (s : SessionParts) → IsSound s → IsSound (close s).1 }
+    ensures malformed { (s : SessionParts) → IsSound s → IsSound (malformed s).1 }
+    ensures broken { (s : SessionParts) → IsSound s → IsSound (broken s) }
+    ensures abandon { (s : SessionParts) → IsSound s → IsSound (abandon s) }
+{}
+
+/// Whatever a session writes can be written.
+pub fn what_a_session_writes_can_be_written()
+    ensures connect { (s : SessionParts) → IsSound s → IfOk (connect s).0 (λ m. IsWritable (alone m)) }
+    ensures send_leg { (s : SessionParts) (ordinal : ℕ) (leg : ALeg) → IsSound s → IsLeg leg → IfOk (send_leg s ordinal leg).0 (λ m. IsWritable (alone m)) }
+    ensures receive { (s : SessionParts) (m : AMessage) → IsSound s → IsRead m → AreWritable (receive s m).step.written }
+    ensures quiet { (s : SessionParts) → IsSound s → IfOk (quiet s).0 (λ step. AreWritable step.written) }
+    ensures silent { (s : SessionParts) → IsSound s → IfOk (silent s).0 (λ step. AreWritable step.written) }
+    ensures close { (s : SessionParts) → IsSound s → IfOk (close s).0 (λ step. AreWritable step.written) }
 {}
