@@ -27,7 +27,8 @@ pub record IsLater (old new : List Entry) : Type 0 where
 -- a leg that is withdrawn was so before: none was withdrawn since
 abbrev pub WithdrawsNone : List Entry → List Entry → Type 0
 WithdrawsNone old new =
-    (number : ℕ) (leg : SentLeg) → numbered number new ≡ Some (Sent leg) → leg.state ≡ Withdrawn → numbered number old ≡ Some (Sent leg)
+    (number : ℕ) (leg : SentLeg) → numbered number new ≡ Some (Sent leg) → leg.state ≡ Withdrawn
+    → numbered number old ≡ Some (Sent leg)
 
 -- the legs that were in doubt and are withdrawn now, in the order of their numbers
 abbrev pub is_withdrawn : LegState → Bool

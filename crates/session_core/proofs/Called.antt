@@ -16,13 +16,14 @@ use Rattle.session_core.specs.declared.session_fault.SessionFault.TheVariants as
 use Rattle.session_core.specs.Session.{SessionParts, is_connected, is_still, may_write}
 use Rattle.session_core.specs.Turn.{StepParts, Turn, no_step, quietly, puts, puts_fence, counting, with_pending, ends, disconnected}
 use Rattle.session_core.specs.Receiving.{receive, confirm}
-use Rattle.session_core.specs.Calling.{SessionAnswer, refuses, answers, answers_numbered, connect, connect_in, connecting, logs_on, send_leg, send_in, send_up, sending, quiet, silent, hushed, close, close_in, closing_up, asked_to_close, malformed, broken, abandon}
+use Rattle.session_core.specs.Calling.{SessionAnswer, refuses, answers, answers_numbered, connect, connect_in, connecting, logs_on, send_leg, send_in, send_up, doubted, sending, quiet, silent, hushed, close, close_in, closing_up, asked_to_close, malformed, broken, abandon}
 use Rattle.session_core.specs.Onward.{OrUnchanged, KeepsLegs, IsCall, IsConnection, SendsLeg}
 use Rattle.session_core.proofs.Legs.{numbered-next}
 use Rattle.session_core.proofs.Adding.{chosen, adds-puts, adds-puts_fence, adds-ends_turn, keeps_with, call_by}
 
 -- the log as it was
-keeps_log : (s t : SessionParts) → t.config ≡ s.config → t.log ≡ s.log → s.connection ≤ t.connection → s.expected ≤ t.expected → (s.close_asked ≡ true → t.close_asked ≡ true) → KeepsLegs s t
+keeps_log : (s t : SessionParts) → t.config ≡ s.config → t.log ≡ s.log → s.connection ≤ t.connection
+    → s.expected ≤ t.expected → (s.close_asked ≡ true → t.close_asked ≡ true) → KeepsLegs s t
 keeps_log s t config log connection expected close_asked =
     keeps_with s t config ([], log ∙ sym (append-nil s.log)) connection expected close_asked
 
@@ -36,7 +37,8 @@ call_quietly s t keeps log =
 -- connect
 logged_on : (s : SessionParts) → s.phase ≡ Down → OrUnchanged s (IsConnection s) (logs_on s)
 logged_on s down =
-    chosen (λ (answer : SessionAnswer Message). OrUnchanged s (IsConnection s) answer) (may_write s) _ (refuses fault.NumbersSpent s)
+    chosen (λ (answer : SessionAnswer Message). OrUnchanged s (IsConnection s) answer) (may_write s) _
+    (refuses fault.NumbersSpent s)
     (λ may. record {
       keeps = keeps_with s (connecting s) refl (Admin ∷ [], refl) (omega arith) (omega arith) (λ asked. asked);
       spends = (refl, omega (arith, length-append s.log (Admin ∷ [])));
@@ -46,7 +48,8 @@ logged_on s down =
     })
     (λ spent. refl)
 
-connected_in : (s : SessionParts) (phase : Phase) → s.phase ≡ phase → OrUnchanged s (IsConnection s) (connect_in phase s)
+connected_in : (s : SessionParts) (phase : Phase) → s.phase ≡ phase
+    → OrUnchanged s (IsConnection s) (connect_in phase s)
 connected_in s Down is = logged_on s is
 connected_in s LoggingOn is = refl
 connected_in s Settling is = refl
@@ -68,12 +71,30 @@ sent_up s ordinal leg up =
     (λ high. chosen (λ (answer : SessionAnswer Message). OrUnchanged s (SendsLeg s ordinal leg) answer)
     (may_write s) _ (refuses fault.NumbersSpent s)
     (λ may. record {
-      keeps = keeps_with s (sending s ordinal leg) refl (Sent (record { ordinal = ordinal; id = leg.id; state = Doubt }) ∷ [], refl) (omega arith) (omega arith) (λ asked. asked);
-      spends = (refl, omega (arith, length-append s.log (Sent (record { ordinal = ordinal; id = leg.id; state = Doubt }) ∷ [])));
+      keeps =
+          keeps_with s (sending s ordinal leg) refl (
+            Sent (record {
+              ordinal = ordinal;
+              id = leg.id;
+              state = Doubt;
+            }) ∷ [],
+            refl,
+          ) (omega arith) (omega arith) (λ asked. asked);
+      spends = (
+        refl,
+        omega (
+          arith,
+          length-append s.log (Sent (record {
+            ordinal = ordinal;
+            id = leg.id;
+            state = Doubt;
+          }) ∷ []),
+        ),
+      );
       orders = refl;
       was_up = up;
       above = above_last (last_ordinal s.log) ordinal high;
-      in_doubt = numbered-next s.log (Sent (record { ordinal = ordinal; id = leg.id; state = Doubt }));
+      in_doubt = numbered-next s.log (Sent (doubted ordinal leg));
     })
     (λ spent. refl))
   where
@@ -102,14 +123,18 @@ confirm_keeps s =
     (λ none_noted. keeps-refl s)
 
 disconnected_keeps : (is_over : Bool) (s : SessionParts) → KeepsLegs s (disconnected is_over s)
-disconnected_keeps is_over s = keeps_log s (disconnected is_over s) refl refl (omega arith) (omega arith) (λ asked. asked)
+disconnected_keeps is_over s =
+    keeps_log s (disconnected is_over s) refl refl (omega arith) (omega arith) (λ asked. asked)
 
 pub broken_keeps : (s : SessionParts) → KeepsLegs s (broken s)
-broken_keeps s = chosen (KeepsLegs s) (is_connected s.phase) (disconnected false s) s (λ on. disconnected_keeps false s) (λ off. keeps-refl s)
+broken_keeps s =
+    chosen (KeepsLegs s) (is_connected s.phase) (disconnected false s) s (λ on. disconnected_keeps false s)
+    (λ off. keeps-refl s)
 
 pub malformed_keeps : (s : SessionParts) → KeepsLegs s (malformed s).1
 malformed_keeps s =
-    chosen (λ (r : Option Ended × SessionParts). KeepsLegs s r.1) (is_connected s.phase) (Some Malformed, disconnected false s) (None, s)
+    chosen (λ (r : Option Ended × SessionParts). KeepsLegs s r.1) (is_connected s.phase)
+    (Some Malformed, disconnected false s) (None, s)
     (λ on. disconnected_keeps false s)
     (λ off. keeps-refl s)
 
@@ -129,28 +154,37 @@ quiet_keeps s =
     chosen (Calls s) (not (is_connected s.phase)) (refuses fault.NotConnected s) _ (λ off. refl)
     (λ on. chosen (Calls s) (is_still s.phase) (answers (quietly s)) _ (λ still. call_quietly s s (keeps-refl s) refl)
     (λ going. numbered_call s (puts (Heartbeat None) (quietly s))
-    (call_by s (quietly s) (puts (Heartbeat None) (quietly s)) (call_quietly s s (keeps-refl s) refl) (adds-puts (Heartbeat None) (quietly s)))))
+    (call_by s (quietly s) (puts (Heartbeat None) (quietly s))
+    (call_quietly s s (keeps-refl s) refl) (adds-puts (Heartbeat None) (quietly s)))))
 
 hushed_call : (s : SessionParts) → IsCall s no_step (hushed s)
-hushed_call s = call_quietly s (hushed s) (keeps_log s (hushed s) refl refl (omega arith) (omega arith) (λ asked. asked)) refl
+hushed_call s =
+    call_quietly s (hushed s) (keeps_log s (hushed s) refl refl (omega arith) (omega arith) (λ asked. asked)) refl
 
 pub silent_keeps : (s : SessionParts) → OrUnchanged s (IsCall s) (silent s)
 silent_keeps s =
     chosen (Calls s) (not (is_connected s.phase)) (refuses fault.NotConnected s) _ (λ off. refl)
     (λ on. chosen (Calls s) s.current.silent (answers (ends Silent s)) _
-    (λ again. call_by s (quietly s) (ends Silent s) (call_quietly s s (keeps-refl s) refl) (adds-ends_turn Silent (quietly s)))
+    (λ again. call_by s (quietly s) (ends Silent s)
+    (call_quietly s s (keeps-refl s) refl) (adds-ends_turn Silent (quietly s)))
     (λ first. chosen (Calls s) (is_still s.phase) (answers (quietly (hushed s))) _ (λ still. hushed_call s)
     (λ going. numbered_call s (puts_fence (quietly (hushed s)))
-    (call_by s (quietly (hushed s)) (puts_fence (quietly (hushed s))) (hushed_call s) (adds-puts_fence (quietly (hushed s)))))))
+    (call_by s (quietly (hushed s)) (puts_fence (quietly (hushed s)))
+    (hushed_call s) (adds-puts_fence (quietly (hushed s)))))))
 
 asked_call : (s : SessionParts) → IsCall s no_step (asked_to_close s)
-asked_call s = call_quietly s (asked_to_close s) (keeps_log s (asked_to_close s) refl refl (omega arith) (omega arith) (λ asked. refl)) refl
+asked_call s =
+    call_quietly s (asked_to_close s)
+    (keeps_log s (asked_to_close s) refl refl (omega arith) (omega arith) (λ asked. refl)) refl
 
 closing_call : (s : SessionParts) → Calls s (answers_numbered s (puts_fence (quietly (closing_up s))))
 closing_call s =
-    (let asked = call_quietly s (closing_up s) (keeps_log s (closing_up s) refl refl (omega arith) (omega arith) (λ asked. refl)) refl in
+    (let asked =
+    call_quietly s (closing_up s)
+    (keeps_log s (closing_up s) refl refl (omega arith) (omega arith) (λ asked. refl)) refl in
     numbered_call s (puts_fence (quietly (closing_up s)))
-    (call_by s (quietly (closing_up s)) (puts_fence (quietly (closing_up s))) asked (adds-puts_fence (quietly (closing_up s)))))
+    (call_by s (quietly (closing_up s)) (puts_fence (quietly (closing_up s)))
+    asked (adds-puts_fence (quietly (closing_up s)))))
 
 close_in_keeps : (s : SessionParts) (phase : Phase) → OrUnchanged s (IsCall s) (close_in phase s)
 close_in_keeps s Down = refl

@@ -37,7 +37,8 @@ use Rattle.session_core.proofs.Legs.{below-no_doubt}
 use Rattle.session_core.proofs.Sound.{all-append, named-holds, stands-up, stands-logged_out, sound-phase, sound-pending, sound-expected, sound-disconnected, sound-spending, sound-fenced, sound-passing, sound-settling_at}
 
 -- a message to the peer, under a number that a message may have
-pub writable : (config : ConfigParts) → IsConfig config → (number : ℕ) (poss_dup : Bool) (content : Content) → 1 ≤ number → number ≤ 999999998 → IsWritableContent None content
+pub writable : (config : ConfigParts) → IsConfig config → (number : ℕ) (poss_dup : Bool) (content : Content)
+    → 1 ≤ number → number ≤ 999999998 → IsWritableContent None content
     → IsWritable (alone (message_of config number poss_dup content))
 writable config is number poss_dup content from to says =
     record { from = is.me; to = is.peer; number_from = from; number_to = to; content = says }
@@ -45,13 +46,17 @@ writable config is number poss_dup content from to says =
 -- the id of a fence is a text that can be written
 pub fence_writable : (number : ℕ) → number ≤ 999999999 → IsFreeText 64 (fence_id number)
 fence_writable number to =
-    (let short : length (decimal number) ≤ 9 = length-decimal-le 9 number (omega arith) (omega (arith, to)) (omega (arith, to)) in
+    (let short : length (decimal number) ≤ 9 =
+    length-decimal-le 9 number (omega arith) (omega (arith, to)) (omega (arith, to)) in
     let fits : nat_le (length (fence_id number)) 64 ≡ true = fits_in (length (decimal number)) short in
-    let text = and_parts (not (length (decimal number) == 0)) _ (is_writable_value-decimal number (omega (arith, to))) in
-    and_from (nat_le (length (fence_id number)) 64) _ fits (and_from (not (length (fence_id number) == 0)) _ (some (length (decimal number))) text.1))
+    let text =
+    and_parts (not (length (decimal number) == 0)) _ (is_writable_value-decimal number (omega (arith, to))) in
+    and_from (nat_le (length (fence_id number)) 64) _ fits
+    (and_from (not (length (fence_id number) == 0)) _ (some (length (decimal number))) text.1))
   where
     fits_in : (n : ℕ) → n ≤ 9 → nat_le (suc n) 64 ≡ true
     fits_in n short = grind (arith, nat_tests, short)
+
     some : (n : ℕ) → not (suc n == 0) ≡ true
     some n = grind (arith, nat_tests)
 
@@ -70,22 +75,26 @@ next_writable s is may =
     let top = is.config.max_number in
     omega (arith, below, top))
 
-one_more : (t : Turn) (m : Message) → AreWritable t.step.written → IsWritable (alone m) → AreWritable (t.step.written ++ m ∷ [])
+one_more : (t : Turn) (m : Message) → AreWritable t.step.written → IsWritable (alone m)
+    → AreWritable (t.step.written ++ m ∷ [])
 one_more t m written says = all-append (λ m. IsWritable (alone m)) t.step.written (m ∷ []) written (says, tt)
 
-pub kept-puts : (content : Content) (t : Turn) → Kept t → may_write t.session ≡ true → IsWritableContent None content → Kept (puts content t)
+pub kept-puts : (content : Content) (t : Turn) → Kept t → may_write t.session ≡ true → IsWritableContent None content
+    → Kept (puts content t)
 kept-puts content t kept may says = record {
   sound = sound-spending t.session kept.sound may;
   written =
       one_more t _ kept.written
-      (writable t.session.config kept.sound.config (next_out t.session) false content (omega arith) (next_writable t.session kept.sound may) says);
+      (writable t.session.config kept.sound.config (next_out t.session) false content (omega arith)
+      (next_writable t.session kept.sound may) says);
 }
 
 pub kept-writes : (content : Content) (t : Turn) → Kept t → IsWritableContent None content → Kept (writes content t)
 kept-writes content t kept says =
     chosen Kept (may_write t.session) (puts content t) t (λ may. kept-puts content t kept may says) (λ spent. kept)
 
-pub fence_message : (s : SessionParts) → IsSound s → may_write s ≡ true → IsWritable (alone (message_of s.config (next_out s) false (TestRequest (fence_id (next_out s)))))
+pub fence_message : (s : SessionParts) → IsSound s → may_write s ≡ true
+    → IsWritable (alone (message_of s.config (next_out s) false (TestRequest (fence_id (next_out s)))))
 fence_message s is may =
     (let low = next_writable s is may in
     writable s.config is.config (next_out s) false (TestRequest (fence_id (next_out s))) (omega arith) low
@@ -103,14 +112,25 @@ kept-writes_fence t kept =
 
 -- what was asked for is nothing that is promised
 same_sound : (s : SessionParts) → IsSound s → IsSound (asking s)
-same_sound s is = record { config = is.config; numbers = is.numbers; expected = is.expected; fences = is.fences; legs = is.legs; phase = is.phase }
+same_sound s is = record {
+  config = is.config;
+  numbers = is.numbers;
+  expected = is.expected;
+  fences = is.fences;
+  legs = is.legs;
+  phase = is.phase;
+}
 
 kept-asks : (t : Turn) → Kept t → Kept (asks t)
 kept-asks t kept =
     chosen Kept (may_write t.session) (puts (ResendRequest t.session.expected 0) (with_session (asking t.session) t)) t
     (λ may.
-    (let asked : Kept (with_session (asking t.session) t) = record { sound = same_sound t.session kept.sound; written = kept.written } in
-    kept-puts (ResendRequest t.session.expected 0) (with_session (asking t.session) t) asked may (kept.sound.expected.to, omega arith)))
+    (let asked : Kept (with_session (asking t.session) t) = record {
+      sound = same_sound t.session kept.sound;
+      written = kept.written;
+    } in
+    kept-puts (ResendRequest t.session.expected 0) (with_session (asking t.session) t) asked may
+    (kept.sound.expected.to, omega arith)))
     (λ spent. kept)
 
 kept-asks_if : (wanted : Bool) (t : Turn) → Kept t → Kept (asks_if wanted t)
@@ -118,18 +138,22 @@ kept-asks_if true t kept = kept-asks t kept
 kept-asks_if false t kept = kept
 
 -- a gap fill over numbers that were sent
-kept-fills : (fill : GapFillParts) (t : Turn) → Kept t → 1 ≤ fill.first → fill.first < fill.new_number → fill.new_number ≤ 999999999 → Kept (fills fill t)
+kept-fills : (fill : GapFillParts) (t : Turn) → Kept t → 1 ≤ fill.first → fill.first < fill.new_number
+    → fill.new_number ≤ 999999999 → Kept (fills fill t)
 kept-fills fill t kept from forward to = record {
   sound = kept.sound;
   written =
       one_more t _ kept.written
-      (writable t.session.config kept.sound.config fill.first true (GapFill fill.new_number) from (omega (arith, forward, to)) to);
+      (writable t.session.config kept.sound.config fill.first true (GapFill fill.new_number) from
+      (omega (arith, forward, to)) to);
 }
 
 next_reference : (s : SessionParts) → IsSound s → next_out s ≤ 999999999
-next_reference s is = (let limited = is.numbers.limited in let top = is.config.max_number in omega (arith, limited, top))
+next_reference s is =
+    (let limited = is.numbers.limited in let top = is.config.max_number in omega (arith, limited, top))
 
-kept-filled : (s : SessionParts) → IsSound s → (begin last top : ℕ) (fill : GapFillParts) → IsFillFor begin last top s.log fill → (t : Turn) → Kept t → Kept (fills fill t)
+kept-filled : (s : SessionParts) → IsSound s → (begin last top : ℕ) (fill : GapFillParts)
+    → IsFillFor begin last top s.log fill → (t : Turn) → Kept t → Kept (fills fill t)
 kept-filled s is begin last top fill for t kept =
     (let sent = for.was_sent in
     let limited = next_reference s is in
@@ -143,14 +167,16 @@ kept-ends_turn why t kept =
 pub kept-ends : (why : Ended) (s : SessionParts) → IsSound s → Kept (ends why s)
 kept-ends why s is = kept-ends_turn why (quietly s) (kept-quietly s is)
 
-kept-unless_ended : (next : Turn → Turn) (t : Turn) (ended : Option Ended) → Kept t → Kept (next t) → Kept (unless_ended next t ended)
+kept-unless_ended : (next : Turn → Turn) (t : Turn) (ended : Option Ended) → Kept t → Kept (next t)
+    → Kept (unless_ended next t ended)
 kept-unless_ended next t None kept on = on
 kept-unless_ended next t (Some why) kept on = kept
 
 kept-asks_missing : (t : Turn) → Kept t → Kept (asks_missing t)
 kept-asks_missing t kept =
     kept-unless_ended asks_anew t t.step.ended kept
-    (chosen Kept (is_logged_out t.session.phase || was_requested t.session) t (asks t) (λ over. kept) (λ anew. kept-asks t kept))
+    (chosen Kept (is_logged_out t.session.phase || was_requested t.session) t (asks t) (λ over. kept)
+    (λ anew. kept-asks t kept))
 
 -- a turn in which no note is pending and the expected number is no higher than this
 record Good (top : ℕ) (t : Turn) : Type 0 where
@@ -159,7 +185,8 @@ record Good (top : ℕ) (t : Turn) : Type 0 where
   expected : t.session.expected ≤ top
 
 module _ (top : ℕ) where
-  good-writes : (content : Content) (t : Turn) → Good top t → IsWritableContent None content → Good top (writes content t)
+  good-writes : (content : Content) (t : Turn) → Good top t → IsWritableContent None content
+      → Good top (writes content t)
   good-writes content t good says =
       chosen (Good top) (may_write t.session) (puts content t) t
       (λ may. record { kept = kept-puts content t good.kept may says; heard = good.heard; expected = good.expected })
@@ -177,36 +204,56 @@ module _ (top : ℕ) where
   good-ends : (why : Ended) (s : SessionParts) → IsSound s → s.expected ≤ top → Good top (ends why s)
   good-ends why s is below = record { kept = kept-ends why s is; heard = refl; expected = below }
 
-  good-settles_at : (number : ℕ) (s : SessionParts) → IsSound s → s.current.pending ≡ false → s.expected ≤ top → Good top (settles_at number s)
+  good-settles_at : (number : ℕ) (s : SessionParts) → IsSound s → s.current.pending ≡ false → s.expected ≤ top
+      → Good top (settles_at number s)
   good-settles_at number s is heard below =
       record { kept = record { sound = sound-settling_at s is number; written = tt }; heard = heard; expected = below }
 
   -- the Logout, once no leg is in doubt
-  good-logs_out : (s : SessionParts) → IsSound s → s.current.pending ≡ false → s.expected ≤ top → HasNoDoubt s.log → Good top (logs_out s)
+  good-logs_out : (s : SessionParts) → IsSound s → s.current.pending ≡ false → s.expected ≤ top → HasNoDoubt s.log
+      → Good top (logs_out s)
   good-logs_out s is heard below none =
       (let out : SessionParts = record s { phase = LoggedOut } in
-      let out_is : IsSound out = sound-phase s is LoggedOut (stands-logged_out s.log s.current.fences s.current.closing_fence none) in
-      chosen (λ (t : Turn). Good top (with_session (record t.session { phase = LoggedOut }) t)) (may_write s) (puts Logout (quietly s)) (quietly s)
-      (λ may. record { kept = kept-puts Logout (quietly out) (kept-quietly out out_is) may tt; heard = heard; expected = below })
+      let out_is : IsSound out =
+      sound-phase s is LoggedOut (stands-logged_out s.log s.current.fences s.current.closing_fence none) in
+      chosen (λ (t : Turn). Good top (with_session (record t.session { phase = LoggedOut }) t)) (may_write s)
+      (puts Logout (quietly s)) (quietly s)
+      (λ may. record {
+        kept = kept-puts Logout (quietly out) (kept-quietly out out_is) may tt;
+        heard = heard;
+        expected = below;
+      })
       (λ spent. good-quietly out out_is heard below))
 
 -- the message is counted, below the last number
 kept-counts : (t : Turn) → Good 999999998 t → Kept (counts t)
 kept-counts t good =
     (let below = good.expected in
-    record { sound = sound-expected t.session good.kept.sound (t.session.expected + 1) good.heard (omega arith) (omega (arith, below)); written = good.kept.written })
+    record {
+      sound =
+          sound-expected t.session good.kept.sound (t.session.expected + 1) good.heard (omega arith)
+          (omega (arith, below));
+      written = good.kept.written;
+    })
 
-kept-counts_if : (due : Bool) (top : ℕ) → (due ≡ true → top ≡ 999999998) → (t : Turn) → Good top t → Kept (counts_if due t)
+kept-counts_if : (due : Bool) (top : ℕ) → (due ≡ true → top ≡ 999999998) → (t : Turn) → Good top t
+    → Kept (counts_if due t)
 kept-counts_if true top is t good =
     (let same : top ≡ 999999998 = is refl in
-    let low : Good 999999998 t = (let below = good.expected in record { kept = good.kept; heard = good.heard; expected = omega (arith, same, below) }) in
+    let low : Good 999999998 t = (let below = good.expected in record {
+      kept = good.kept;
+      heard = good.heard;
+      expected = omega (arith, same, below);
+    }) in
     kept-unless_ended counts t t.step.ended good.kept (kept-counts t low))
 kept-counts_if false top is t good = good.kept
 
 -- parts of a turn that leave the phase as it is
 phase-settles_told : (s : SessionParts) (next : Option ℕ) → (settles_told s next).session.phase ≡ s.phase
 phase-settles_told s None = refl
-phase-settles_told s (Some n) = chosen (λ (t : Turn). t.session.phase ≡ s.phase) (nat_le n s.current.logon_number) _ _ (λ lower. refl) (λ higher. refl)
+phase-settles_told s (Some n) =
+    chosen (λ (t : Turn). t.session.phase ≡ s.phase) (nat_le n s.current.logon_number) _ _ (λ lower. refl)
+    (λ higher. refl)
 
 phase-counts_if : (due : Bool) (t : Turn) → (counts_if due t).session.phase ≡ t.session.phase
 phase-counts_if true t = by_end t.step.ended
@@ -217,11 +264,13 @@ phase-counts_if true t = by_end t.step.ended
 phase-counts_if false t = refl
 
 phase-asks_if : (wanted : Bool) (t : Turn) → (asks_if wanted t).session.phase ≡ t.session.phase
-phase-asks_if true t = chosen (λ (u : Turn). u.session.phase ≡ t.session.phase) (may_write t.session) _ t (λ may. refl) (λ spent. refl)
+phase-asks_if true t =
+    chosen (λ (u : Turn). u.session.phase ≡ t.session.phase) (may_write t.session) _ t (λ may. refl) (λ spent. refl)
 phase-asks_if false t = refl
 
 phase-writes_fence : (t : Turn) → (writes_fence t).session.phase ≡ t.session.phase
-phase-writes_fence t = chosen (λ (u : Turn). u.session.phase ≡ t.session.phase) (may_write t.session) _ t (λ may. refl) (λ spent. refl)
+phase-writes_fence t =
+    chosen (λ (u : Turn). u.session.phase ≡ t.session.phase) (may_write t.session) _ t (λ may. refl) (λ spent. refl)
 
 -- from LoggingOn to Settling
 kept-settling : (t : Turn) → Kept t → t.session.phase ≡ LoggingOn → Kept (in_phase Settling t)
@@ -230,7 +279,11 @@ kept-settling t kept was =
     record {
       sound =
           sound-phase t.session kept.sound Settling
-          (record { before_up = λ is. now.before_up (inl was); closing = λ is. absurd cc; logged_out = λ is. absurd cc });
+          (record {
+            before_up = λ is. now.before_up (inl was);
+            closing = λ is. absurd cc;
+            logged_out = λ is. absurd cc;
+          });
       written = kept.written;
     })
 
@@ -244,7 +297,8 @@ is_first LoggedOut is = absurd cc
 is_first Closed is = absurd cc
 
 -- one row of what is received: nothing is pending, and a message that is due is below the last number
-module _ (s : SessionParts) (is : IsSound s) (heard : s.current.pending ≡ false) (due : Bool) (top : ℕ) (below : s.expected ≤ top) (due_is : due ≡ true → top ≡ 999999998) where
+module _ (s : SessionParts) (is : IsSound s) (heard : s.current.pending ≡ false) (due : Bool) (top : ℕ)
+    (below : s.expected ≤ top) (due_is : due ≡ true → top ≡ 999999998) where
   good-settles_told : (next : Option ℕ) → IsNext next → Good top (settles_told s next)
   good-settles_told None says = good-quietly top s is heard below
   good-settles_told (Some n) says =
@@ -284,15 +338,23 @@ module _ (s : SessionParts) (is : IsSound s) (heard : s.current.pending ≡ fals
       ∙ (phase-counts_if due told
       ∙ (phase-settles_told s (told_number s next) ∙ is_first s.phase first)))))))
 
-  good-filled_if : (begin last upto : ℕ) (fill : Option GapFillParts) → IfSome fill (IsFillFor begin last upto s.log) → (t : Turn) → Good top t → Good top (filled_if fill t)
+  good-filled_if : (begin last upto : ℕ) (fill : Option GapFillParts) → IfSome fill (IsFillFor begin last upto s.log)
+      → (t : Turn) → Good top t → Good top (filled_if fill t)
   good-filled_if begin last upto None for t good = good
-  good-filled_if begin last upto (Some fill) for t good =
-      record { kept = kept-filled s is begin last upto fill for t good.kept; heard = good.heard; expected = good.expected }
+  good-filled_if begin last upto (Some fill) for t good = record {
+    kept = kept-filled s is begin last upto fill for t good.kept;
+    heard = good.heard;
+    expected = good.expected;
+  }
 
-  good-resend_later : (begin last upto : ℕ) (fill : Option GapFillParts) → IfSome fill (IsFillFor begin last upto s.log) → Good top (resend_later fill s)
+  good-resend_later : (begin last upto : ℕ) (fill : Option GapFillParts)
+      → IfSome fill (IsFillFor begin last upto s.log) → Good top (resend_later fill s)
   good-resend_later begin last upto None for = good-ends top ended.ResendInDoubt s is below
-  good-resend_later begin last upto (Some fill) for =
-      record { kept = kept-filled s is begin last upto fill for (quietly s) (kept-quietly s is); heard = heard; expected = below }
+  good-resend_later begin last upto (Some fill) for = record {
+    kept = kept-filled s is begin last upto fill for (quietly s) (kept-quietly s is);
+    heard = heard;
+    expected = below;
+  }
 
   kept-resend : (begin last : ℕ) → Kept (resend_row due s begin last)
   kept-resend begin last =
@@ -300,48 +362,63 @@ module _ (s : SessionParts) (is : IsSound s) (heard : s.current.pending ≡ fals
       (λ bad. kept-ends ended.BadResend s is)
       (λ good.
       kept-counts_if due top due_is _
-      (chosen (Good top) (is_settling s.phase) (resend_while_settling s begin last) (resend_later (fill_for begin last s.settled s.log) s)
+      (chosen (Good top) (is_settling s.phase) (resend_while_settling s begin last)
+      (resend_later (fill_for begin last s.settled s.log) s)
       (λ settling.
       good-writes_fence top _
-      (good-filled_if begin last (last_number s.log) (fill_for begin last (last_number s.log) s.log) (fill_is_for begin last (last_number s.log) s.log)
+      (good-filled_if begin last (last_number s.log) (fill_for begin last (last_number s.log) s.log)
+      (fill_is_for begin last (last_number s.log) s.log)
       (settles_at begin s) (good-settles_at top begin s is heard below)))
       (λ later.
-      good-resend_later begin last s.settled (fill_for begin last s.settled s.log) (fill_is_for begin last s.settled s.log))))
+      good-resend_later begin last s.settled (fill_for begin last s.settled s.log)
+      (fill_is_for begin last s.settled s.log))))
 
   -- a fence that is answered
-  closes_at : (closing : Option ℕ) (fence z : ℕ) → option_map_or (λ n. nat_le n fence) closing false ≡ true → closing ≡ Some z → z ≤ fence
+  closes_at : (closing : Option ℕ) (fence z : ℕ) → option_map_or (λ n. nat_le n fence) closing false ≡ true
+      → closing ≡ Some z → z ≤ fence
   closes_at None fence z done is = absurd cc
   closes_at (Some n) fence z done is = (let same : n ≡ z = cc in grind (arith, nat_tests, done, same))
 
-  good-passed_in : (fence : ℕ) (phase : Phase) → s.phase ≡ phase → IsFence s.settled s.log fence → (IsBeforeUp s.phase → LegsAreBelow fence s.log)
+  good-passed_in : (fence : ℕ) (phase : Phase) → s.phase ≡ phase → IsFence s.settled s.log fence
+      → (IsBeforeUp s.phase → LegsAreBelow fence s.log)
       → Good top (passed_in phase fence (passing fence s))
   good-passed_in fence Settling now here under =
       chosen (Good top) s.close_asked (logs_out (passing fence s)) (quietly (record (passing fence s) { phase = Up }))
       (λ asked.
-      good-logs_out top (passing fence s) (sound-passing s is fence here) heard below (below-no_doubt fence s.log (under (inr now))))
+      good-logs_out top (passing fence s) (sound-passing s is fence here) heard below
+      (below-no_doubt fence s.log (under (inr now))))
       (λ open_still.
       (let up : SessionParts = record (passing fence s) { phase = Up } in
-      good-quietly top up (sound-phase (passing fence s) (sound-passing s is fence here) Up (stands-up _ _ _)) heard below))
+      good-quietly top up
+      (sound-phase (passing fence s) (sound-passing s is fence here) Up (stands-up _ _ _)) heard below))
   good-passed_in fence Closing now here under =
       chosen (Good top) (is_closing_fence s fence) (logs_out (passing fence s)) (quietly (passing fence s))
       (λ done.
       (let close = is.phase.closing now in
       let higher = closes_at s.current.closing_fence fence close.0 done close.1 in
       good-logs_out top (passing fence s) (sound-passing s is fence here) heard below
-      (below-no_doubt fence s.log (λ number leg there. (let lower = close.2 number leg there in omega (arith, lower, higher))))))
+      (below-no_doubt fence s.log
+      (λ number leg there. (let lower = close.2 number leg there in omega (arith, lower, higher))))))
       (λ early. good-quietly top (passing fence s) (sound-passing s is fence here) heard below)
-  good-passed_in fence Down now here under = good-quietly top (passing fence s) (sound-passing s is fence here) heard below
-  good-passed_in fence LoggingOn now here under = good-quietly top (passing fence s) (sound-passing s is fence here) heard below
-  good-passed_in fence Up now here under = good-quietly top (passing fence s) (sound-passing s is fence here) heard below
-  good-passed_in fence LoggedOut now here under = good-quietly top (passing fence s) (sound-passing s is fence here) heard below
-  good-passed_in fence Closed now here under = good-quietly top (passing fence s) (sound-passing s is fence here) heard below
+  good-passed_in fence Down now here under =
+      good-quietly top (passing fence s) (sound-passing s is fence here) heard below
+  good-passed_in fence LoggingOn now here under =
+      good-quietly top (passing fence s) (sound-passing s is fence here) heard below
+  good-passed_in fence Up now here under =
+      good-quietly top (passing fence s) (sound-passing s is fence here) heard below
+  good-passed_in fence LoggedOut now here under =
+      good-quietly top (passing fence s) (sound-passing s is fence here) heard below
+  good-passed_in fence Closed now here under =
+      good-quietly top (passing fence s) (sound-passing s is fence here) heard below
 
   good-passes : (found : Option ℕ) → ((fence : ℕ) → found ≡ Some fence → IsFence s.settled s.log fence)
-      → ((fence : ℕ) → found ≡ Some fence → IsBeforeUp s.phase → LegsAreBelow fence s.log) → Good top (passes_fence s found)
+      → ((fence : ℕ) → found ≡ Some fence → IsBeforeUp s.phase → LegsAreBelow fence s.log)
+      → Good top (passes_fence s found)
   good-passes None here under = good-quietly top s is heard below
   good-passes (Some fence) here under = good-passed_in fence s.phase refl (here fence refl) (under fence refl)
 
-  named_of : (P : ℕ → Type 0) → AllByRecursion P s.current.fences → (id : Option (List ℕ)) (fence : ℕ) → named_fence s id ≡ Some fence → P fence
+  named_of : (P : ℕ → Type 0) → AllByRecursion P s.current.fences → (id : Option (List ℕ)) (fence : ℕ)
+      → named_fence s id ≡ Some fence → P fence
   named_of P all None fence named = absurd cc
   named_of P all (Some text) fence named = named-holds P text s.current.fences fence all named
 
@@ -387,9 +464,12 @@ module _ (s : SessionParts) (is : IsSound s) (heard : s.current.pending ≡ fals
 
   kept-logout : Kept (logout_row s)
   kept-logout =
-      chosen Kept (is_logged_out s.phase) (ends ended.LogoutDone s) (ends_turn ended.PeerLogout (writes Logout (quietly s)))
+      chosen Kept (is_logged_out s.phase) (ends ended.LogoutDone s)
+      (ends_turn ended.PeerLogout (writes Logout (quietly s)))
       (λ done. kept-ends ended.LogoutDone s is)
-      (λ first. kept-ends_turn ended.PeerLogout (writes Logout (quietly s)) (kept-writes Logout (quietly s) (kept-quietly s is) tt))
+      (λ first.
+      kept-ends_turn ended.PeerLogout (writes Logout (quietly s))
+      (kept-writes Logout (quietly s) (kept-quietly s is) tt))
 
   kept-row : (number : ℕ) (content : Content) → IsReadContent content → Kept (row due s number content)
   kept-row number (Logon heart reset next) says = kept-logon next says
@@ -420,7 +500,8 @@ kept-by_number s is heard m read judged.Ahead so =
 kept-by_number s is heard m read judged.Repeat so = kept-quietly s is
 kept-by_number s is heard m read judged.TooLow so = kept-ends ended.TooLow s is
 
-kept-received : (s : SessionParts) → IsSound s → s.current.pending ≡ false → (m : Message) → IsRead m → Kept (received s m)
+kept-received : (s : SessionParts) → IsSound s → s.current.pending ≡ false → (m : Message) → IsRead m
+    → Kept (received s m)
 kept-received s is heard m read =
     chosen Kept (not (is_for s.config m)) (ends ended.WrongComp s) _
     (λ wrong. kept-ends ended.WrongComp s is)

@@ -10,7 +10,8 @@ use Rattle.resend.specs.Log.Entry.{Admin, Sent}
 use Rattle.session_core.specs.Sound.{EveryLeg, LegsAreBelow, HasNoDoubt, OrdinalsRise, LegsStand}
 
 -- a number that was spent is one of the log's
-pub numbered-bound : (n : ℕ) (log : List Entry) (entry : Entry) → numbered n log ≡ Some entry → (1 ≤ n) × (n ≤ length log)
+pub numbered-bound : (n : ℕ) (log : List Entry) (entry : Entry) → numbered n log ≡ Some entry
+    → (1 ≤ n) × (n ≤ length log)
 numbered-bound zero log entry is = absurd cc
 numbered-bound (suc n) [] entry is = absurd cc
 numbered-bound (suc zero) (head ∷ log) entry is = (omega arith, omega arith)
@@ -42,7 +43,8 @@ legs-admin P log every number leg is =
       | inr new ↦ absurd (let e = new.1 in cc)
     ]
 
-pub legs-sent : (P : ℕ → SentLeg → Type 0) (log : List Entry) (added : SentLeg) → EveryLeg log P → P (length log + 1) added
+pub legs-sent : (P : ℕ → SentLeg → Type 0) (log : List Entry) (added : SentLeg) → EveryLeg log P
+    → P (length log + 1) added
     → EveryLeg (log ++ Sent added ∷ []) P
 legs-sent P log added every here number leg is =
     elim (numbered-end number log (Sent added) (Sent leg) is) [
@@ -60,7 +62,8 @@ legs-tail P head log every (suc n) leg is = every (suc (suc n)) leg is
 settled_if : Bool → LegState → SentLeg → SentLeg
 settled_if b state leg = if b then settled_as state leg else leg
 
-no_leg : (b : Bool) (state : LegState) (leg : SentLeg) → Some (if b then entry_settled state Admin else Admin) ≡ Some (Sent leg) → ⊥
+no_leg : (b : Bool) (state : LegState) (leg : SentLeg)
+    → Some (if b then entry_settled state Admin else Admin) ≡ Some (Sent leg) → ⊥
 no_leg true state leg is = absurd cc
 no_leg false state leg is = absurd cc
 
@@ -115,7 +118,8 @@ unfolding settled_if
 settled-queued false state other was queued = queued
 settled-queued true state other was queued = queued_by state other was was.state refl queued
 
-ordinal_by : (state : LegState) (was : SentLeg) (b : Bool) → (if b then record was { state = state } else was).ordinal ≡ was.ordinal
+ordinal_by : (state : LegState) (was : SentLeg) (b : Bool)
+    → (if b then record was { state = state } else was).ordinal ≡ was.ordinal
 ordinal_by state was true = refl
 ordinal_by state was false = refl
 
@@ -126,9 +130,11 @@ settled-ordinal true state was = ordinal_by state was (is_doubt was.state)
 
 -- what was settled is so where a test passes, and no leg is put in doubt or in a queue
 module _ (test : ℕ → Bool) (state : LegState) (not_doubt : state ≡ Doubt → ⊥) (not_queued : state ≡ Queued → ⊥) where
-  pub below-settled : (top : ℕ) (log : List Entry) → LegsAreBelow top log → LegsAreBelow top (settled_where test state 1 log)
+  pub below-settled : (top : ℕ) (log : List Entry) → LegsAreBelow top log
+      → LegsAreBelow top (settled_where test state 1 log)
   below-settled top log below =
-      legs-settled test state (λ number leg. number < top) (λ number leg. number < top) log (λ number was lower. lower) below
+      legs-settled test state (λ number leg. number < top) (λ number leg. number < top) log
+      (λ number was lower. lower) below
 
   pub no_doubt-settled : (log : List Entry) → HasNoDoubt log → HasNoDoubt (settled_where test state 1 log)
   no_doubt-settled log none =
@@ -145,7 +151,8 @@ module _ (test : ℕ → Bool) (state : LegState) (not_doubt : state ≡ Doubt �
   rise-settled log rise =
       legs-settled test state
       (λ number leg. EveryLeg log (λ later next. number < later → leg.ordinal < next.ordinal))
-      (λ number leg. EveryLeg (settled_where test state 1 log) (λ later next. number < later → leg.ordinal < next.ordinal)) log
+      (λ number leg.
+      EveryLeg (settled_where test state 1 log) (λ later next. number < later → leg.ordinal < next.ordinal)) log
       (λ number was above.
       legs-settled test state
       (λ later next. number < later → was.ordinal < next.ordinal)
@@ -171,7 +178,8 @@ module _ (test : ℕ → Bool) (state : LegState) (not_doubt : state ≡ Doubt �
 -- every leg in doubt is below a fence that is answered
 pub below-no_doubt : (fence : ℕ) (log : List Entry) → LegsAreBelow fence log → HasNoDoubt (take_below fence log)
 below-no_doubt fence log below =
-    legs-settled (λ number. nat_lt number fence) Taken (λ number leg. number < fence) (λ number leg. leg.state ≡ Doubt → ⊥) log
+    legs-settled (λ number. nat_lt number fence) Taken (λ number leg. number < fence)
+    (λ number leg. leg.state ≡ Doubt → ⊥) log
     (λ number was lower doubt.
     (let so = settled-doubt (nat_lt number fence) Taken (λ is. absurd cc) was doubt in
     absurd (grind (arith, nat_tests, so.1, lower)))) below
@@ -191,7 +199,8 @@ stand-taken settled fence log stand admin =
 pub stand-given_up : (settled number : ℕ) (log : List Entry) → LegsStand settled log
     → LegsStand settled (give_up_from number (take_below number log))
 stand-given_up settled number log stand =
-    stand-settled (λ n. nat_le number n) Withdrawn (λ is. absurd cc) (λ is. absurd cc) settled settled (take_below number log)
+    stand-settled (λ n. nat_le number n) Withdrawn (λ is. absurd cc) (λ is. absurd cc) settled settled
+    (take_below number log)
     taken (λ n leg is doubt other. taken.doubt n leg is doubt)
   where
     taken : LegsStand settled (take_below number log)
@@ -223,7 +232,8 @@ above_first : (first : SentLeg) (log : List Entry) → OrdinalsRise (Sent first 
     → EveryLeg log (λ number leg. first.ordinal < leg.ordinal)
 above_first first log rise number leg is =
     (let bound = numbered-bound number log (Sent leg) is in
-    legs-tail (λ later next. 1 < later → first.ordinal < next.ordinal) (Sent first) log (rise 1 first refl) number leg is
+    legs-tail (λ later next. 1 < later → first.ordinal < next.ordinal) (Sent first) log
+    (rise 1 first refl) number leg is
     (omega (arith, bound.0)))
 
 last-above : (ordinal : ℕ) (log : List Entry) → OrdinalsRise log → EveryLeg log (λ number leg. ordinal < leg.ordinal)
@@ -254,10 +264,13 @@ pub stand-sent : (settled : ℕ) (log : List Entry) (added : SentLeg) → LegsSt
     → settled < length log + 1 → last_ordinal log < added.ordinal → LegsStand settled (log ++ Sent added ∷ [])
 stand-sent settled log added stand doubt unsettled higher = record {
   doubt = legs-sent (λ number leg. leg.state ≡ Doubt → settled < number) log added stand.doubt (λ is. unsettled);
-  sent = legs-sent (λ number leg. leg.state ≡ Queued → ⊥) log added stand.sent (λ is. absurd (let e = sym doubt ∙ is in cc));
+  sent =
+      legs-sent (λ number leg. leg.state ≡ Queued → ⊥) log added stand.sent
+      (λ is. absurd (let e = sym doubt ∙ is in cc));
   rise =
       legs-sent
-      (λ number leg. EveryLeg (log ++ Sent added ∷ []) (λ later next. number < later → leg.ordinal < next.ordinal)) log added
+      (λ number leg. EveryLeg (log ++ Sent added ∷ []) (λ later next. number < later → leg.ordinal < next.ordinal)) log
+      added
       (λ number leg is.
       legs-sent (λ later next. number < later → leg.ordinal < next.ordinal) log added (stand.rise number leg is)
       (λ lower. (let bound = last-bound 0 log stand.rise number leg is in omega (arith, bound, higher))))

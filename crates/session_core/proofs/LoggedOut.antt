@@ -41,7 +41,8 @@ out_notes s t note phase = record { written = inl refl; phase = λ going. phase 
 out_counts : (s : SessionParts) (turn : Turn) → IsOut s turn → IsOut s (counts turn)
 out_counts s turn is = record { written = is.written; phase = is.phase }
 
-out_unless : (s : SessionParts) (next : Turn → Turn) (turn : Turn) (ended : Option Ended) → turn.step.ended ≡ ended → IsOut s turn → (turn.step.ended ≡ None → IsOut s (next turn)) → IsOut s (unless_ended next turn ended)
+out_unless : (s : SessionParts) (next : Turn → Turn) (turn : Turn) (ended : Option Ended) → turn.step.ended ≡ ended
+    → IsOut s turn → (turn.step.ended ≡ None → IsOut s (next turn)) → IsOut s (unless_ended next turn ended)
 out_unless s next turn None is out on = on is
 out_unless s next turn (Some why) is out on = out
 
@@ -77,7 +78,8 @@ out_fence s (Some fence) = out_quietly s (passing fence (out s)) refl
 
 out_gap_fill : (s : SessionParts) (number new_number : ℕ) → IsOut s (gap_fill_row (out s) number new_number)
 out_gap_fill s number new_number =
-    chosen (IsOut s) (nat_lt number new_number) (quietly (record (out s) { expected = new_number })) (ends ended.BadGapFill (out s))
+    chosen (IsOut s) (nat_lt number new_number) (quietly (record (out s) { expected = new_number }))
+    (ends ended.BadGapFill (out s))
     (λ forward. out_quietly s (record (out s) { expected = new_number }) refl)
     (λ back. out_ends s (out s) ended.BadGapFill)
 
@@ -89,7 +91,8 @@ out_refused : (s : SessionParts) (number : Option ℕ) → IsOut s (refused_row 
 out_refused s number = out_refused_leg s (option_and_then (λ n. leg_at n s.log) number)
 
 out_in_turn : (s : SessionParts) (due : Bool) (turn : Turn) → IsOut s turn → IsOut s (in_turn due (out s) turn)
-out_in_turn s due turn is = chosen (IsOut s) due turn (quietly (out s)) (λ now. is) (λ ahead. out_quietly s (out s) refl)
+out_in_turn s due turn is =
+    chosen (IsOut s) due turn (quietly (out s)) (λ now. is) (λ ahead. out_quietly s (out s) refl)
 
 out_counted : (s : SessionParts) → IsOut s (counts (quietly (out s)))
 out_counted s = out_counts s (quietly (out s)) (out_quietly s (out s) refl)
@@ -110,7 +113,8 @@ out_row s due number Other = out_in_turn s due _ (out_counted s)
 
 out_by_number : (s : SessionParts) (m : Message) (how : Judged) → IsOut s (by_number (out s) m how)
 out_by_number s m judged.Due = out_row s true m.number m.content
-out_by_number s m judged.Ahead = out_asks_missing s (row false (out s) m.number m.content) (out_row s false m.number m.content)
+out_by_number s m judged.Ahead =
+    out_asks_missing s (row false (out s) m.number m.content) (out_row s false m.number m.content)
 out_by_number s m judged.Repeat = out_quietly s (out s) refl
 out_by_number s m judged.TooLow = out_ends s (out s) ended.TooLow
 
@@ -122,7 +126,8 @@ out_received s m =
     (λ reset. out_ends s (out s) ended.ResetRefused)
     (λ goes_on. out_by_number s m (judged s.expected m.number m.poss_dup)))
 
-pub out_writes_fills : (s : SessionParts) (m : Message) → s.phase ≡ LoggedOut → WritesFillAlone s (receive s m).step.written
+pub out_writes_fills : (s : SessionParts) (m : Message) → s.phase ≡ LoggedOut
+    → WritesFillAlone s (receive s m).step.written
 out_writes_fills s m is =
     let same : s ≡ out s = ap (λ phase. let t : SessionParts = record s { phase = phase } in t) is in
     let written : WritesFillAlone s (receive (out s) m).step.written = (out_received (hearing s) m).written in

@@ -29,12 +29,14 @@ pub record Keeps {X : Type 0} (Says : X → Type 0) (answer : SessionAnswer X) :
   pub sound : IsSound answer.1
   pub says : IfOk answer.0 Says
 
-keeps_refused : {X : Type 0} (Says : X → Type 0) (fault : SessionFault) (s : SessionParts) → IsSound s → Keeps Says (refuses fault s)
+keeps_refused : {X : Type 0} (Says : X → Type 0) (fault : SessionFault) (s : SessionParts) → IsSound s
+    → Keeps Says (refuses fault s)
 keeps_refused Says fault s is = record { sound = is; says = tt }
 
 -- connect
 own_next_writable : (s : SessionParts) → IsSound s → IsNext (own_next s)
-own_next_writable s is = chosen IsNext s.config.has_next (Some s.expected) None (λ has. (is.expected.from, is.expected.to)) (λ has_not. tt)
+own_next_writable s is =
+    chosen IsNext s.config.has_next (Some s.expected) None (λ has. (is.expected.from, is.expected.to)) (λ has_not. tt)
 
 CanBeWritten : Message → Type 0
 CanBeWritten m = IsWritable (alone m)
@@ -47,7 +49,8 @@ keeps-logs_on s is =
       sound = sound-connecting s is may;
       says =
           (let heart = is.config.heart in
-          writable s.config is.config (next_out s) false (Logon s.config.heart false (own_next s)) (omega arith) (next_writable s is may)
+          writable s.config is.config (next_out s) false (Logon s.config.heart false (own_next s)) (omega arith)
+          (next_writable s is may)
           (omega (arith, heart), own_next_writable s is));
     })
     (λ spent. keeps_refused CanBeWritten fault.NumbersSpent s is)
@@ -72,7 +75,8 @@ connect_writable s is = (keeps-connect_in s is s.phase).says
 OrderCanBe : Leg → Message → Type 0
 OrderCanBe leg m = IsLeg leg → IsWritable (alone m)
 
-keeps-send_up : (s : SessionParts) → IsSound s → (ordinal : ℕ) (leg : Leg) → s.phase ≡ Up → Keeps (OrderCanBe leg) (send_up s ordinal leg)
+keeps-send_up : (s : SessionParts) → IsSound s → (ordinal : ℕ) (leg : Leg) → s.phase ≡ Up
+    → Keeps (OrderCanBe leg) (send_up s ordinal leg)
 unfolding OrderCanBe
 keeps-send_up s is ordinal leg up =
     chosen (Keeps (OrderCanBe leg)) (not (nat_lt (last_ordinal s.log) ordinal)) (refuses fault.OrdinalNotGreater s) _
@@ -80,14 +84,17 @@ keeps-send_up s is ordinal leg up =
     (λ high. chosen (Keeps (OrderCanBe leg)) (may_write s) _ (refuses fault.NumbersSpent s)
     (λ may. record {
       sound = sound-sending s is ordinal leg up may (above_last (last_ordinal s.log) ordinal high);
-      says = λ leg_is. writable s.config is.config (next_out s) false (Order (Ok leg)) (omega arith) (next_writable s is may) leg_is;
+      says =
+          λ leg_is.
+          writable s.config is.config (next_out s) false (Order (Ok leg)) (omega arith) (next_writable s is may) leg_is;
     })
     (λ spent. keeps_refused (OrderCanBe leg) fault.NumbersSpent s is))
   where
     above_last : (last ordinal : ℕ) → not (nat_lt last ordinal) ≡ false → last < ordinal
     above_last last ordinal is = grind (arith, nat_tests, is)
 
-keeps-send_in : (s : SessionParts) → IsSound s → (ordinal : ℕ) (leg : Leg) (phase : Phase) → s.phase ≡ phase → Keeps (OrderCanBe leg) (send_in phase s ordinal leg)
+keeps-send_in : (s : SessionParts) → IsSound s → (ordinal : ℕ) (leg : Leg) (phase : Phase) → s.phase ≡ phase
+    → Keeps (OrderCanBe leg) (send_in phase s ordinal leg)
 keeps-send_in s is ordinal leg Up so = keeps-send_up s is ordinal leg so
 keeps-send_in s is ordinal leg Down so = keeps_refused (OrderCanBe leg) fault.NotUp s is
 keeps-send_in s is ordinal leg LoggingOn so = keeps_refused (OrderCanBe leg) fault.NotUp s is
@@ -99,13 +106,16 @@ keeps-send_in s is ordinal leg Closed so = keeps_refused (OrderCanBe leg) fault.
 pub send_leg_sound : (s : SessionParts) (ordinal : ℕ) (leg : Leg) → IsSound s → IsSound (send_leg s ordinal leg).1
 send_leg_sound s ordinal leg is = (keeps-send_in s is ordinal leg s.phase refl).sound
 
-if_leg : (leg : Leg) → IsLeg leg → (answer : SessionAnswer Message) → IfOk answer.0 (OrderCanBe leg) → IfOk answer.0 (λ m. IsWritable (alone m))
+if_leg : (leg : Leg) → IsLeg leg → (answer : SessionAnswer Message) → IfOk answer.0 (OrderCanBe leg)
+    → IfOk answer.0 (λ m. IsWritable (alone m))
 unfolding OrderCanBe
 if_leg leg is (Ok m, after) says = says is
 if_leg leg is (Err fault, after) says = tt
 
-pub send_leg_writable : (s : SessionParts) (ordinal : ℕ) (leg : Leg) → IsSound s → IsLeg leg → IfOk (send_leg s ordinal leg).0 (λ m. IsWritable (alone m))
-send_leg_writable s ordinal leg is leg_is = if_leg leg leg_is (send_leg s ordinal leg) (keeps-send_in s is ordinal leg s.phase refl).says
+pub send_leg_writable : (s : SessionParts) (ordinal : ℕ) (leg : Leg) → IsSound s → IsLeg leg
+    → IfOk (send_leg s ordinal leg).0 (λ m. IsWritable (alone m))
+send_leg_writable s ordinal leg is leg_is =
+    if_leg leg leg_is (send_leg s ordinal leg) (keeps-send_in s is ordinal leg s.phase refl).says
 
 -- quiet, silent and close
 StepCanBe : StepParts → Type 0
@@ -115,7 +125,8 @@ keeps-answers : (turn : Turn) → Kept turn → Keeps StepCanBe (answers turn)
 unfolding StepCanBe
 keeps-answers turn kept = record { sound = kept.sound; says = kept.written }
 
-keeps-numbered : (s : SessionParts) → IsSound s → (turn : Turn) → (may_write s ≡ true → Kept turn) → Keeps StepCanBe (answers_numbered s turn)
+keeps-numbered : (s : SessionParts) → IsSound s → (turn : Turn) → (may_write s ≡ true → Kept turn)
+    → Keeps StepCanBe (answers_numbered s turn)
 keeps-numbered s is turn kept =
     chosen (Keeps StepCanBe) (may_write s) (answers turn) (refuses fault.NumbersSpent s)
     (λ may. keeps-answers turn (kept may)) (λ spent. keeps_refused StepCanBe fault.NumbersSpent s is)
@@ -137,7 +148,14 @@ unfolding StepCanBe
 quiet_writable s is = (keeps-quiet s is).says
 
 hushed_sound : (s : SessionParts) → IsSound s → IsSound (hushed s)
-hushed_sound s is = record { config = is.config; numbers = is.numbers; expected = is.expected; fences = is.fences; legs = is.legs; phase = is.phase }
+hushed_sound s is = record {
+  config = is.config;
+  numbers = is.numbers;
+  expected = is.expected;
+  fences = is.fences;
+  legs = is.legs;
+  phase = is.phase;
+}
 
 keeps-silent : (s : SessionParts) → IsSound s → Keeps StepCanBe (silent s)
 keeps-silent s is =
@@ -158,7 +176,14 @@ unfolding StepCanBe
 silent_writable s is = (keeps-silent s is).says
 
 asked_sound : (s : SessionParts) → IsSound s → IsSound (asked_to_close s)
-asked_sound s is = record { config = is.config; numbers = is.numbers; expected = is.expected; fences = is.fences; legs = is.legs; phase = is.phase }
+asked_sound s is = record {
+  config = is.config;
+  numbers = is.numbers;
+  expected = is.expected;
+  fences = is.fences;
+  legs = is.legs;
+  phase = is.phase;
+}
 
 keeps-close_in : (s : SessionParts) → IsSound s → (phase : Phase) → Keeps StepCanBe (close_in phase s)
 keeps-close_in s is Down = keeps_refused StepCanBe fault.NotConnected s is
@@ -166,8 +191,10 @@ keeps-close_in s is Closed = keeps_refused StepCanBe fault.NotConnected s is
 keeps-close_in s is Up =
     keeps-numbered s is (puts_fence (quietly (closing_up s)))
     (λ may. record { sound = sound-closing s is may; written = (fence_message s is may, tt) })
-keeps-close_in s is LoggingOn = keeps-answers (quietly (asked_to_close s)) (kept-quietly (asked_to_close s) (asked_sound s is))
-keeps-close_in s is Settling = keeps-answers (quietly (asked_to_close s)) (kept-quietly (asked_to_close s) (asked_sound s is))
+keeps-close_in s is LoggingOn =
+    keeps-answers (quietly (asked_to_close s)) (kept-quietly (asked_to_close s) (asked_sound s is))
+keeps-close_in s is Settling =
+    keeps-answers (quietly (asked_to_close s)) (kept-quietly (asked_to_close s) (asked_sound s is))
 keeps-close_in s is Closing = keeps-answers (quietly s) (kept-quietly s is)
 keeps-close_in s is LoggedOut = keeps-answers (quietly s) (kept-quietly s is)
 
@@ -193,14 +220,17 @@ counted_sound s is noted =
 
 pub confirm_sound : (s : SessionParts) → IsSound s → IsSound (confirm s)
 confirm_sound s is =
-    chosen IsSound s.current.pending (with_pending false (counting s)) s (λ noted. counted_sound s is noted) (λ none_noted. is)
+    chosen IsSound s.current.pending (with_pending false (counting s)) s (λ noted. counted_sound s is noted)
+    (λ none_noted. is)
 
 pub broken_sound : (s : SessionParts) → IsSound s → IsSound (broken s)
-broken_sound s is = chosen IsSound (is_connected s.phase) (disconnected false s) s (λ on. sound-disconnected s is false) (λ off. is)
+broken_sound s is =
+    chosen IsSound (is_connected s.phase) (disconnected false s) s (λ on. sound-disconnected s is false) (λ off. is)
 
 pub malformed_sound : (s : SessionParts) → IsSound s → IsSound (malformed s).1
 malformed_sound s is =
-    chosen (λ (r : Option Ended × SessionParts). IsSound r.1) (is_connected s.phase) (Some Malformed, disconnected false s) (None, s)
+    chosen (λ (r : Option Ended × SessionParts). IsSound r.1) (is_connected s.phase)
+    (Some Malformed, disconnected false s) (None, s)
     (λ on. sound-disconnected s is false) (λ off. is)
 
 pub abandon_sound : (s : SessionParts) → IsSound s → IsSound (abandon s)

@@ -28,7 +28,8 @@ use Rattle.session_core.specs.Onward.{IsOnward, IsReceived, may_withdraw}
 use Rattle.session_core.proofs.Adding.{Goes, chosen, adds-writes, adds-writes_fence, adds-asks_if, adds-fills, adds-filled_if, adds-counts, adds-in_phase, adds-ends_turn, adds-logs_out, adds-counts_if, adds-asks_missing, received_by}
 
 -- the same log, and an expected number that is no lower
-onward_with : (s t : SessionParts) → t.config ≡ s.config → t.log ≡ s.log → t.connection ≡ s.connection → s.expected ≤ t.expected → t.close_asked ≡ s.close_asked → IsOnward s t
+onward_with : (s t : SessionParts) → t.config ≡ s.config → t.log ≡ s.log → t.connection ≡ s.connection
+    → s.expected ≤ t.expected → t.close_asked ≡ s.close_asked → IsOnward s t
 onward_with s t config log connection expected close_asked = record {
   config = config;
   log = rw log (later-refl s.log);
@@ -43,7 +44,8 @@ told_may true false first told_so is = absurd cc
 told_may false told first told_so is = absurd cc
 
 module _ (may : Bool) where
-  received_with : (s : SessionParts) (turn : Turn) → turn.session.config ≡ s.config → turn.session.log ≡ s.log → turn.session.connection ≡ s.connection → s.expected ≤ turn.session.expected
+  received_with : (s : SessionParts) (turn : Turn) → turn.session.config ≡ s.config → turn.session.log ≡ s.log
+      → turn.session.connection ≡ s.connection → s.expected ≤ turn.session.expected
       → turn.session.close_asked ≡ s.close_asked → turn.step.withdrawn ≡ [] → turn.step.written ≡ [] → Goes may s turn
   received_with s turn config log connection expected close_asked withdrawn written = record {
     onward = onward_with s turn.session config log connection expected close_asked;
@@ -69,24 +71,31 @@ module _ (may : Bool) where
   received_settles n s now = record {
     onward = record {
       config = refl;
-      log = later-trans s.log (take_below n s.log) (give_up_from n (take_below n s.log)) (later-take_below n s.log) (later-give_up_from n (take_below n s.log));
+      log =
+          later-trans s.log (take_below n s.log) (give_up_from n (take_below n s.log)) (later-take_below n s.log)
+          (later-give_up_from n (take_below n s.log));
       connection = omega arith;
       expected = omega arith;
       close_asked = λ asked. asked;
     };
-    spends = ap (λ (n : ℕ). n + 1) (length-settled_where (λ k. nat_le n k) Withdrawn 1 (take_below n s.log) ∙ length-settled_where (λ k. nat_lt k n) Taken 1 s.log);
+    spends =
+        ap (λ (n : ℕ). n + 1)
+        (length-settled_where (λ k. nat_le n k) Withdrawn 1 (take_below n s.log)
+        ∙ length-settled_where (λ k. nat_lt k n) Taken 1 s.log);
     named = sym (since-settled n s.log);
     spares = λ not_now. absurd (let e = sym now ∙ not_now in cc);
   }
 
-  received_told : (s : SessionParts) (next : Option ℕ) → (is_some next ≡ true → may ≡ true) → Goes may s (settles_told s next)
+  received_told : (s : SessionParts) (next : Option ℕ) → (is_some next ≡ true → may ≡ true)
+      → Goes may s (settles_told s next)
   received_told s None now = received_quietly s
   received_told s (Some n) now =
       chosen (Goes may s) (nat_le n s.current.logon_number) _ (settles_at n s)
       (λ lower. received_by may s (settles_at n s) _ (received_settles n s (now refl)) (adds-fills _ (settles_at n s)))
       (λ higher. received_settles n s (now refl))
 
-  received_logon : (due : Bool) (s : SessionParts) (next : Option ℕ) → (is_logging_on s.phase && is_some (told_number s next)) ≡ may → Goes may s (logon_row due s next)
+  received_logon : (due : Bool) (s : SessionParts) (next : Option ℕ)
+      → (is_logging_on s.phase && is_some (told_number s next)) ≡ may → Goes may s (logon_row due s next)
   received_logon due s next is =
       chosen (Goes may s) (not (is_logging_on s.phase)) (ends ended.LogonAgain s) _
       (λ again. received_ends ended.LogonAgain s)
@@ -100,36 +109,45 @@ module _ (may : Bool) where
       received_by may s fenced (in_phase Settling fenced)
       (received_by may s asked fenced
       (received_by may s counted asked
-      (received_by may s told counted (received_told s (told_number s next) (λ told_so. told_may (is_logging_on s.phase) (is_some (told_number s next)) first told_so is)) (adds-counts_if due told))
+      (received_by may s told counted
+      (received_told s (told_number s next)
+      (λ told_so. told_may (is_logging_on s.phase) (is_some (told_number s next)) first told_so is))
+      (adds-counts_if due told))
       (adds-asks_if (not due) counted))
       (adds-writes_fence asked))
       (adds-in_phase Settling fenced))))
 
-  received_resend_settling : (s : SessionParts) (begin last : ℕ) → may ≡ true → Goes may s (resend_while_settling s begin last)
+  received_resend_settling : (s : SessionParts) (begin last : ℕ) → may ≡ true
+      → Goes may s (resend_while_settling s begin last)
   received_resend_settling s begin last now =
       let settled = settles_at begin s in
       let filled = filled_if (fill_for begin last (last_number s.log) s.log) settled in
       received_by may s filled (writes_fence filled)
-      (received_by may s settled filled (received_settles begin s now) (adds-filled_if (fill_for begin last (last_number s.log) s.log) settled))
+      (received_by may s settled filled (received_settles begin s now)
+      (adds-filled_if (fill_for begin last (last_number s.log) s.log) settled))
       (adds-writes_fence filled)
 
   received_resend_later : (s : SessionParts) (fill : Option GapFillParts) → Goes may s (resend_later fill s)
   received_resend_later s None = received_ends ended.ResendInDoubt s
-  received_resend_later s (Some fill) = received_by may s (quietly s) (fills fill (quietly s)) (received_quietly s) (adds-fills fill (quietly s))
+  received_resend_later s (Some fill) =
+      received_by may s (quietly s) (fills fill (quietly s)) (received_quietly s) (adds-fills fill (quietly s))
 
-  received_resend : (due : Bool) (s : SessionParts) (begin last : ℕ) → is_settling s.phase ≡ may → Goes may s (resend_row due s begin last)
+  received_resend : (due : Bool) (s : SessionParts) (begin last : ℕ) → is_settling s.phase ≡ may
+      → Goes may s (resend_row due s begin last)
   received_resend due s begin last is =
       chosen (Goes may s) (not (is_range (last_number s.log) begin last)) (ends ended.BadResend s) _
       (λ bad. received_ends ended.BadResend s)
       (λ good.
       received_by may s _ _
-      (chosen (Goes may s) (is_settling s.phase) (resend_while_settling s begin last) (resend_later (fill_for begin last s.settled s.log) s)
+      (chosen (Goes may s) (is_settling s.phase) (resend_while_settling s begin last)
+      (resend_later (fill_for begin last s.settled s.log) s)
       (λ settling. received_resend_settling s begin last (sym is ∙ settling))
       (λ later. received_resend_later s (fill_for begin last s.settled s.log)))
       (adds-counts_if due _))
 
   -- legs below a fence are taken
-  received_passing : (s t : SessionParts) (fence : ℕ) → t.config ≡ s.config → t.log ≡ take_below fence s.log → t.connection ≡ s.connection → t.expected ≡ s.expected → t.close_asked ≡ s.close_asked
+  received_passing : (s t : SessionParts) (fence : ℕ) → t.config ≡ s.config → t.log ≡ take_below fence s.log
+      → t.connection ≡ s.connection → t.expected ≡ s.expected → t.close_asked ≡ s.close_asked
       → Goes may s (quietly t)
   received_passing s t fence config log connection expected close_asked = record {
     onward = record {
@@ -139,7 +157,9 @@ module _ (may : Bool) where
       expected = omega arith;
       close_asked = λ asked. close_asked ∙ asked;
     };
-    spends = ap (λ (l : List Entry). length l + 1) log ∙ ap (λ (n : ℕ). n + 1) (length-settled_where (λ k. nat_lt k fence) Taken 1 s.log);
+    spends =
+        ap (λ (l : List Entry). length l + 1) log ∙ ap (λ (n : ℕ). n + 1)
+        (length-settled_where (λ k. nat_lt k fence) Taken 1 s.log);
     named = sym (ap (withdrawn_since s.log) log ∙ since-take_below fence s.log);
     spares = λ not_now. record { named = refl; settled = rw log (withdraws_none-take_below fence s.log) };
   }
@@ -148,9 +168,12 @@ module _ (may : Bool) where
   received_quietly_passing s fence = received_passing s (passing fence s) fence refl refl refl refl refl
 
   received_logs_out : (s : SessionParts) (fence : ℕ) → Goes may s (logs_out (passing fence s))
-  received_logs_out s fence = received_by may s (quietly (passing fence s)) (logs_out (passing fence s)) (received_quietly_passing s fence) (adds-logs_out (passing fence s))
+  received_logs_out s fence =
+      received_by may s (quietly (passing fence s)) (logs_out (passing fence s)) (received_quietly_passing s fence)
+      (adds-logs_out (passing fence s))
 
-  received_passed_in : (s : SessionParts) (fence : ℕ) (phase : Phase) → Goes may s (passed_in phase fence (passing fence s))
+  received_passed_in : (s : SessionParts) (fence : ℕ) (phase : Phase)
+      → Goes may s (passed_in phase fence (passing fence s))
   received_passed_in s fence Settling =
       chosen (Goes may s) s.close_asked (logs_out (passing fence s)) (quietly (record (passing fence s) { phase = Up }))
       (λ asked. received_logs_out s fence)
@@ -175,9 +198,11 @@ module _ (may : Bool) where
       (λ over. received_quietly s)
       (λ going. received_by may s (quietly s) _ (received_quietly s) (adds-writes (Heartbeat (Some id)) (quietly s)))
 
-  received_gap_fill : (s : SessionParts) (number new_number : ℕ) → number ≡ s.expected → Goes may s (gap_fill_row s number new_number)
+  received_gap_fill : (s : SessionParts) (number new_number : ℕ) → number ≡ s.expected
+      → Goes may s (gap_fill_row s number new_number)
   received_gap_fill s number new_number due =
-      chosen (Goes may s) (nat_lt number new_number) (quietly (record s { expected = new_number })) (ends ended.BadGapFill s)
+      chosen (Goes may s) (nat_lt number new_number) (quietly (record s { expected = new_number }))
+      (ends ended.BadGapFill s)
       (λ forward.
       (let above : s.expected ≤ new_number = grind (arith, nat_tests, forward, due) in
       received_with s (quietly (record s { expected = new_number })) refl refl refl above refl refl refl))
@@ -196,37 +221,46 @@ module _ (may : Bool) where
       (λ done. received_ends ended.LogoutDone s)
       (λ first.
       (let wrote = writes Logout (quietly s) in
-      received_by may s wrote (ends_turn ended.PeerLogout wrote) (received_by may s (quietly s) wrote (received_quietly s) (adds-writes Logout (quietly s))) (adds-ends_turn ended.PeerLogout wrote)))
+      received_by may s wrote (ends_turn ended.PeerLogout wrote)
+      (received_by may s (quietly s) wrote (received_quietly s) (adds-writes Logout (quietly s)))
+      (adds-ends_turn ended.PeerLogout wrote)))
 
-  received_in_turn : (due : Bool) (s : SessionParts) (turn : Turn) → (due ≡ true → Goes may s turn) → Goes may s (in_turn due s turn)
+  received_in_turn : (due : Bool) (s : SessionParts) (turn : Turn) → (due ≡ true → Goes may s turn)
+      → Goes may s (in_turn due s turn)
   received_in_turn due s turn goes = chosen (Goes may s) due turn (quietly s) goes (λ ahead. received_quietly s)
 
   received_counted : (due : Bool) (s : SessionParts) → Goes may s (in_turn due s (counts (quietly s)))
   received_counted due s = received_in_turn due s _ (λ now. received_counts s (quietly s) (received_quietly s))
 
-  received_row : (due : Bool) (s : SessionParts) (number : ℕ) (content : Content) → may_withdraw s content ≡ may → (due ≡ true → number ≡ s.expected)
+  received_row : (due : Bool) (s : SessionParts) (number : ℕ) (content : Content) → may_withdraw s content ≡ may
+      → (due ≡ true → number ≡ s.expected)
       → Goes may s (row due s number content)
   received_row due s number (Logon heart reset next) is at = received_logon due s next is
   received_row due s number (ResendRequest begin last) is at = received_resend due s begin last is
   received_row due s number (Heartbeat id) is at =
-      received_by may s _ _ (received_fence s (named_fence s id)) (adds-counts_if due (passes_fence s (named_fence s id)))
+      received_by may s _ _ (received_fence s (named_fence s id))
+      (adds-counts_if due (passes_fence s (named_fence s id)))
   received_row due s number (TestRequest id) is at =
       received_in_turn due s _ (λ now. received_counts s (answers_test s id) (received_test s id))
   received_row due s number (GapFill new_number) is at =
       received_in_turn due s _ (λ now. received_gap_fill s number new_number (at now))
   received_row due s number (Reject refused) is at = received_in_turn due s _ (λ now. received_refused s (Some refused))
-  received_row due s number (BusinessReject refused) is at = received_in_turn due s _ (λ now. received_refused s refused)
+  received_row due s number (BusinessReject refused) is at =
+      received_in_turn due s _ (λ now. received_refused s refused)
   received_row due s number Logout is at = received_logout s
-  received_row due s number (OrderReport read) is at = received_in_turn due s _ (λ now. received_notes (report_note read) s)
+  received_row due s number (OrderReport read) is at =
+      received_in_turn due s _ (λ now. received_notes (report_note read) s)
   received_row due s number (Reset new_number) is at = received_counted due s
   received_row due s number (Order read) is at = received_counted due s
   received_row due s number Other is at = received_counted due s
 
-  received_by_number : (s : SessionParts) (m : Message) (how : Judged) → may_withdraw s m.content ≡ may → judged s.expected m.number m.poss_dup ≡ how → Goes may s (by_number s m how)
+  received_by_number : (s : SessionParts) (m : Message) (how : Judged) → may_withdraw s m.content ≡ may
+      → judged s.expected m.number m.poss_dup ≡ how → Goes may s (by_number s m how)
   received_by_number s m judged.Due may_is is =
       received_row true s m.number m.content may_is (λ now. (due_is_expected s.expected m.number m.poss_dup).0 is)
   received_by_number s m judged.Ahead may_is is =
-      received_by may s _ _ (received_row false s m.number m.content may_is (λ now. absurd cc)) (adds-asks_missing (row false s m.number m.content))
+      received_by may s _ _ (received_row false s m.number m.content may_is (λ now. absurd cc))
+      (adds-asks_missing (row false s m.number m.content))
   received_by_number s m judged.Repeat may_is is = received_quietly s
   received_by_number s m judged.TooLow may_is is = received_ends ended.TooLow s
 

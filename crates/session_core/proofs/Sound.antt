@@ -25,19 +25,23 @@ use Rattle.session_core.proofs.Adding.{chosen}
 use Rattle.session_core.proofs.Legs.{numbered-bound, numbered-next, legs-admin, below-settled, no_doubt-settled, stand-taken, stand-given_up, stand-admin, stand-sent}
 
 -- what holds of each element of a list
-pub all-map : {A : Type 0} (P Q : A → Type 0) → ((x : A) → P x → Q x) → (xs : List A) → AllByRecursion P xs → AllByRecursion Q xs
+pub all-map : {A : Type 0} (P Q : A → Type 0) → ((x : A) → P x → Q x) → (xs : List A) → AllByRecursion P xs
+    → AllByRecursion Q xs
 all-map P Q step [] all = tt
 all-map P Q step (x ∷ xs) all = (step x all.0, all-map P Q step xs all.1)
 
-pub all-append : {A : Type 0} (P : A → Type 0) (xs ys : List A) → AllByRecursion P xs → AllByRecursion P ys → AllByRecursion P (xs ++ ys)
+pub all-append : {A : Type 0} (P : A → Type 0) (xs ys : List A) → AllByRecursion P xs → AllByRecursion P ys
+    → AllByRecursion P (xs ++ ys)
 all-append P [] ys first next = next
 all-append P (x ∷ xs) ys first next = (first.0, all-append P xs ys first.1 next)
 
-all-filter : (P Q : ℕ → Type 0) (test : ℕ → Bool) → ((x : ℕ) → P x → test x ≡ true → Q x) → (xs : List ℕ) → AllByRecursion P xs → AllByRecursion Q (filter test xs)
+all-filter : (P Q : ℕ → Type 0) (test : ℕ → Bool) → ((x : ℕ) → P x → test x ≡ true → Q x) → (xs : List ℕ)
+    → AllByRecursion P xs → AllByRecursion Q (filter test xs)
 all-filter P Q test step [] all = tt
 all-filter P Q test step (x ∷ xs) all =
     (let rest = all-filter P Q test step xs all.1 in
-    chosen (AllByRecursion Q) (test x) (x ∷ filter test xs) (filter test xs) (λ on. (step x all.0 on, rest)) (λ off. rest))
+    chosen (AllByRecursion Q) (test x) (x ∷ filter test xs) (filter test xs) (λ on. (step x all.0 on, rest))
+    (λ off. rest))
 
 -- what holds of each fence holds of the one that an id names
 named-by : (P : ℕ → Type 0) (b : Bool) (first fence : ℕ) (found : Option ℕ) → P first → (found ≡ Some fence → P fence)
@@ -45,10 +49,12 @@ named-by : (P : ℕ → Type 0) (b : Bool) (first fence : ℕ) (found : Option �
 named-by P true first fence found here there is = subst P (same_Some first fence is) here
 named-by P false first fence found here there is = there is
 
-pub named-holds : (P : ℕ → Type 0) (id : List ℕ) (fences : List ℕ) (fence : ℕ) → AllByRecursion P fences → fence_in id fences ≡ Some fence → P fence
+pub named-holds : (P : ℕ → Type 0) (id : List ℕ) (fences : List ℕ) (fence : ℕ) → AllByRecursion P fences
+    → fence_in id fences ≡ Some fence → P fence
 named-holds P id [] fence all is = absurd cc
 named-holds P id (first ∷ fences) fence all is =
-    named-by P (bytes_eq id (fence_id first)) first fence (fence_in id fences) all.0 (named-holds P id fences fence all.1) is
+    named-by P (bytes_eq id (fence_id first)) first fence (fence_in id fences) all.0
+    (named-holds P id fences fence all.1) is
 
 -- phases of which nothing more is said
 module _ (log : List Entry) (fences : List ℕ) (closing_fence : Option ℕ) where
@@ -82,7 +88,8 @@ module _ (log : List Entry) (fences : List ℕ) (closing_fence : Option ℕ) whe
 
   stands-ended : (is_over : Bool) (phase : Phase) → PhaseStands (phase_after is_over phase) log fences closing_fence
   stands-ended is_over phase =
-      chosen (λ (p : Phase). PhaseStands p log fences closing_fence) _ Closed Down (λ over. stands-closed) (λ goes_on. stands-down)
+      chosen (λ (p : Phase). PhaseStands p log fences closing_fence) _ Closed Down (λ over. stands-closed)
+      (λ goes_on. stands-down)
 
 -- what a phase says, where numbers are added and legs settled
 stands-admin : (phase : Phase) (log : List Entry) (fences : List ℕ) (closing_fence : Option ℕ)
@@ -91,17 +98,25 @@ stands-admin phase log fences closing_fence stands = record {
   before_up = λ is.
       all-map (λ fence. LegsAreBelow fence log) (λ fence. LegsAreBelow fence (log ++ Admin ∷ []))
       (λ fence below. legs-admin (λ number leg. number < fence) log below) fences (stands.before_up is);
-  closing = λ is. (let close = stands.closing is in (close.0, close.1, legs-admin (λ number leg. number < close.0) log close.2));
+  closing =
+      λ is.
+      (let close = stands.closing is in
+      (close.0, close.1, legs-admin (λ number leg. number < close.0) log close.2));
   logged_out = λ is. legs-admin (λ number leg. leg.state ≡ Doubt → ⊥) log (stands.logged_out is);
 }
 
-stands-settled : (test : ℕ → Bool) (state : LegState) → (state ≡ Doubt → ⊥) → (state ≡ Queued → ⊥) → (phase : Phase) (log : List Entry) (fences : List ℕ) (closing_fence : Option ℕ)
-    → PhaseStands phase log fences closing_fence → PhaseStands phase (settled_where test state 1 log) fences closing_fence
+stands-settled : (test : ℕ → Bool) (state : LegState) → (state ≡ Doubt → ⊥) → (state ≡ Queued → ⊥)
+    → (phase : Phase) (log : List Entry) (fences : List ℕ) (closing_fence : Option ℕ)
+    → PhaseStands phase log fences closing_fence
+    → PhaseStands phase (settled_where test state 1 log) fences closing_fence
 stands-settled test state not_doubt not_queued phase log fences closing_fence stands = record {
   before_up = λ is.
       all-map (λ fence. LegsAreBelow fence log) (λ fence. LegsAreBelow fence (settled_where test state 1 log))
       (λ fence below. below-settled test state not_doubt not_queued fence log below) fences (stands.before_up is);
-  closing = λ is. (let close = stands.closing is in (close.0, close.1, below-settled test state not_doubt not_queued close.0 log close.2));
+  closing =
+      λ is.
+      (let close = stands.closing is in
+      (close.0, close.1, below-settled test state not_doubt not_queued close.0 log close.2));
   logged_out = λ is. no_doubt-settled test state not_doubt not_queued log (stands.logged_out is);
 }
 
@@ -113,7 +128,11 @@ legs_below_next log number leg is = (let bound = numbered-bound number log (Sent
 pub sound-new : (config : ConfigParts) → IsConfig config → IsSound (new_session config)
 sound-new config is = record {
   config = is;
-  numbers = record { limited = (let from = is.max_number_from in omega arith); settled_sent = omega arith; logon_sent = omega arith };
+  numbers = record {
+    limited = (let from = is.max_number_from in omega arith);
+    settled_sent = omega arith;
+    logon_sent = omega arith;
+  };
   expected = record { from = omega arith; to = omega arith; pending = λ noted. absurd cc };
   fences = tt;
   legs = record {
@@ -125,13 +144,21 @@ sound-new config is = record {
 }
   where
     none : (number : ℕ) (leg : SentLeg) → numbered number [] ≡ Some (Sent leg) → ⊥
-    none number leg there = (let bound = numbered-bound number [] (Sent leg) there in absurd (omega (arith, bound.0, bound.1)))
+    none number leg there =
+        (let bound = numbered-bound number [] (Sent leg) there in absurd (omega (arith, bound.0, bound.1)))
 
 module _ (s : SessionParts) (is : IsSound s) where
   -- another phase
-  pub sound-phase : (phase : Phase) → PhaseStands phase s.log s.current.fences s.current.closing_fence → IsSound (record s { phase = phase })
-  sound-phase phase stands =
-      record { config = is.config; numbers = is.numbers; expected = is.expected; fences = is.fences; legs = is.legs; phase = stands }
+  pub sound-phase : (phase : Phase) → PhaseStands phase s.log s.current.fences s.current.closing_fence
+      → IsSound (record s { phase = phase })
+  sound-phase phase stands = record {
+    config = is.config;
+    numbers = is.numbers;
+    expected = is.expected;
+    fences = is.fences;
+    legs = is.legs;
+    phase = stands;
+  }
 
   -- a note is pending, or none is
   pub sound-pending : (pending : Bool) → (pending ≡ true → s.expected ≤ 999999998) → IsSound (with_pending pending s)
@@ -145,7 +172,8 @@ module _ (s : SessionParts) (is : IsSound s) where
   }
 
   -- the expected number is another one
-  pub sound-expected : (expected : ℕ) → s.current.pending ≡ false → 1 ≤ expected → expected ≤ 999999999 → IsSound (record s { expected = expected })
+  pub sound-expected : (expected : ℕ) → s.current.pending ≡ false → 1 ≤ expected → expected ≤ 999999999
+      → IsSound (record s { expected = expected })
   sound-expected expected heard from to = record {
     config = is.config;
     numbers = is.numbers;
@@ -172,7 +200,11 @@ module _ (s : SessionParts) (is : IsSound s) where
       (let below : length s.log + 1 < s.config.max_number = grind (arith, nat_tests, may) in
       let more = length-append s.log (entry ∷ []) in
       let settled = is.numbers.settled_sent in
-      record { limited = omega (arith, below, more); settled_sent = omega (arith, settled, more); logon_sent = omega (arith, sent, more) })
+      record {
+        limited = omega (arith, below, more);
+        settled_sent = omega (arith, settled, more);
+        logon_sent = omega (arith, sent, more);
+      })
 
   logon_so_far : s.current.logon_number ≤ next_out s
   logon_so_far = (let sent = is.numbers.logon_sent in omega (arith, sent))
@@ -180,7 +212,10 @@ module _ (s : SessionParts) (is : IsSound s) where
   fences-more : (entry : Entry) → AllByRecursion (IsFence s.settled (s.log ++ entry ∷ [])) s.current.fences
   fences-more entry =
       all-map (IsFence s.settled s.log) (IsFence s.settled (s.log ++ entry ∷ []))
-      (λ fence old. record { unsettled = old.unsettled; admin = numbered-append fence s.log (entry ∷ []) Admin old.admin })
+      (λ fence old. record {
+        unsettled = old.unsettled;
+        admin = numbered-append fence s.log (entry ∷ []) Admin old.admin;
+      })
       s.current.fences is.fences
 
   pub sound-spending : may_write s ≡ true → IsSound (spending s)
@@ -197,12 +232,14 @@ module _ (s : SessionParts) (is : IsSound s) where
   next_below : LegsAreBelow (next_out s) (s.log ++ Admin ∷ [])
   next_below = legs-admin (λ number leg. number < next_out s) s.log (legs_below_next s.log)
 
-  stands-fenced : PhaseStands s.phase (s.log ++ Admin ∷ []) (s.current.fences ++ next_out s ∷ []) s.current.closing_fence
+  stands-fenced :
+      PhaseStands s.phase (s.log ++ Admin ∷ []) (s.current.fences ++ next_out s ∷ []) s.current.closing_fence
   stands-fenced =
       (let base = stands-admin s.phase s.log s.current.fences s.current.closing_fence is.phase in
       record {
         before_up = λ before.
-            all-append (λ fence. LegsAreBelow fence (s.log ++ Admin ∷ [])) s.current.fences (next_out s ∷ []) (base.before_up before) (next_below, tt);
+            all-append (λ fence. LegsAreBelow fence (s.log ++ Admin ∷ [])) s.current.fences (next_out s ∷ [])
+            (base.before_up before) (next_below, tt);
         closing = base.closing;
         logged_out = base.logged_out;
       })
@@ -248,10 +285,12 @@ module _ (s : SessionParts) (is : IsSound s) where
   }
 
   -- a leg is sent
-  stands-any : (phase : Phase) (log : List Entry) (fences : List ℕ) (closing_fence : Option ℕ) → phase ≡ Up → PhaseStands phase log fences closing_fence
+  stands-any : (phase : Phase) (log : List Entry) (fences : List ℕ) (closing_fence : Option ℕ) → phase ≡ Up
+      → PhaseStands phase log fences closing_fence
   stands-any phase log fences closing_fence up = rw up (stands-up log fences closing_fence)
 
-  pub sound-sending : (ordinal : ℕ) (leg : Leg) → s.phase ≡ Up → may_write s ≡ true → last_ordinal s.log < ordinal → IsSound (sending s ordinal leg)
+  pub sound-sending : (ordinal : ℕ) (leg : Leg) → s.phase ≡ Up → may_write s ≡ true → last_ordinal s.log < ordinal
+      → IsSound (sending s ordinal leg)
   sound-sending ordinal leg up may higher =
       (let added : SentLeg = record { ordinal = ordinal; id = leg.id; state = Doubt } in
       record {
@@ -287,10 +326,13 @@ module _ (s : SessionParts) (is : IsSound s) where
         s.current.fences is.fences;
     legs = stand-taken s.settled fence s.log is.legs here.admin;
     phase =
-        (let base = stands-settled (λ n. nat_lt n fence) Taken (λ is. absurd cc) (λ is. absurd cc) s.phase s.log s.current.fences s.current.closing_fence is.phase in
+        (let base =
+        stands-settled (λ n. nat_lt n fence) Taken (λ is. absurd cc) (λ is. absurd cc) s.phase s.log
+        s.current.fences s.current.closing_fence is.phase in
         record {
           before_up = λ before.
-              all-filter (λ later. LegsAreBelow later (take_below fence s.log)) (λ later. LegsAreBelow later (take_below fence s.log))
+              all-filter (λ later. LegsAreBelow later (take_below fence s.log))
+              (λ later. LegsAreBelow later (take_below fence s.log))
               (λ later. nat_lt fence later) (λ later below higher. below) s.current.fences (base.before_up before);
           closing = base.closing;
           logged_out = base.logged_out;
@@ -302,7 +344,8 @@ module _ (s : SessionParts) (is : IsSound s) where
   sound-settling_at number =
       (let taken = take_below number s.log in
       let same : length (give_up_from number taken) ≡ length s.log =
-      length-settled_where (λ n. nat_le number n) Withdrawn 1 taken ∙ length-settled_where (λ n. nat_lt n number) Taken 1 s.log in
+      length-settled_where (λ n. nat_le number n) Withdrawn 1 taken ∙ length-settled_where
+      (λ n. nat_lt n number) Taken 1 s.log in
       let limited = is.numbers.limited in
       let settled = is.numbers.settled_sent in
       let logon = is.numbers.logon_sent in
@@ -318,11 +361,14 @@ module _ (s : SessionParts) (is : IsSound s) where
             all-map (IsFence s.settled s.log) (IsFence s.settled (give_up_from number taken))
             (λ fence old. record {
               unsettled = old.unsettled;
-              admin = (later-give_up_from number taken).admin fence ((later-take_below number s.log).admin fence old.admin);
+              admin =
+                  (later-give_up_from number taken).admin fence ((later-take_below number s.log).admin fence old.admin);
             })
             s.current.fences is.fences;
         legs = stand-given_up s.settled number s.log is.legs;
         phase =
-            stands-settled (λ n. nat_le number n) Withdrawn (λ is. absurd cc) (λ is. absurd cc) s.phase taken s.current.fences s.current.closing_fence
-            (stands-settled (λ n. nat_lt n number) Taken (λ is. absurd cc) (λ is. absurd cc) s.phase s.log s.current.fences s.current.closing_fence is.phase);
+            stands-settled (λ n. nat_le number n) Withdrawn (λ is. absurd cc)
+            (λ is. absurd cc) s.phase taken s.current.fences s.current.closing_fence
+            (stands-settled (λ n. nat_lt n number) Taken (λ is. absurd cc) (λ is. absurd cc) s.phase s.log
+            s.current.fences s.current.closing_fence is.phase);
       })

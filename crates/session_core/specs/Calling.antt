@@ -5,7 +5,7 @@ use Rattle.leg.specs.declared.leg_state.LegState.TheVariants.{Doubt}
 use Rattle.dialect.specs.Addressed.{message_of}
 use Rattle.dialect.specs.Message.{Message}
 use Rattle.dialect.specs.Message.Content.{Logon, Heartbeat, Order}
-use Rattle.resend.specs.Log.{last_ordinal}
+use Rattle.resend.specs.Log.{SentLeg, last_ordinal}
 use Rattle.resend.specs.Log.Entry.{Sent}
 use Rattle.session_core.specs.declared.phase.Phase.{Phase}
 use Rattle.session_core.specs.declared.phase.Phase.TheVariants.{Down, LoggingOn, Settling, Up, Closing, Closed}
@@ -58,9 +58,11 @@ abbrev pub connect : SessionParts → SessionAnswer Message
 connect s = connect_in s.phase s
 
 -- send a leg: in phase Up alone, under the next number, and each ordinal once. It is then in doubt
+abbrev pub doubted : ℕ → Leg → SentLeg
+doubted ordinal leg = record { ordinal = ordinal; id = leg.id; state = Doubt }
+
 abbrev pub sending : SessionParts → ℕ → Leg → SessionParts
-sending s ordinal leg =
-    record s { log = s.log ++ Sent (record { ordinal = ordinal; id = leg.id; state = Doubt }) ∷ [] }
+sending s ordinal leg = record s { log = s.log ++ Sent (doubted ordinal leg) ∷ [] }
 
 abbrev pub send_up : SessionParts → ℕ → Leg → SessionAnswer Message
 send_up s ordinal leg =

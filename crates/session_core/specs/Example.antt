@@ -26,7 +26,8 @@ few_config = record config { max_number = 3 }
 
 -- a message from B to A
 abbrev pub from_b : ℕ → Content → Message
-from_b number content = record { from = codes "B"; to = codes "A"; number = number; poss_dup = false; content = content }
+from_b number content =
+    record { from = codes "B"; to = codes "A"; number = number; poss_dup = false; content = content }
 
 abbrev pub again : Message → Message
 again m = record m { poss_dup = true }
@@ -44,7 +45,8 @@ settling = heard (connected (new_session config)) (from_b 1 (Logon 30 false None
 
 -- logged on, with the fence of number 2 answered: the settled number is 2, and 3 is expected
 abbrev pub up_of : ConfigParts → SessionParts
-up_of of = heard (connected (new_session of)) (from_b 1 (Logon 30 false None) ∷ from_b 2 (Heartbeat (Some (codes "F2"))) ∷ [])
+up_of of =
+    heard (connected (new_session of)) (from_b 1 (Logon 30 false None) ∷ from_b 2 (Heartbeat (Some (codes "F2"))) ∷ [])
 
 abbrev pub up : SessionParts
 up = up_of config
@@ -53,7 +55,8 @@ up = up_of config
 abbrev pub leg : Leg
 leg = record {
   id = record { sweep = 1; place = 1 };
-  terms = record { symbol = record { root = codes "BRK"; suffix = codes "B" }; side = Buy; shares = 100; price = 102500 };
+  terms =
+      record { symbol = record { root = codes "BRK"; suffix = codes "B" }; side = Buy; shares = 100; price = 102500 };
 }
 
 abbrev pub sent : SessionParts → ℕ → SessionParts

@@ -3,7 +3,6 @@ use Rattle.std.specs.Prelude.{◌≡◌, ◌≤◌, ◌<◌, ◌+◌, ◌⊎◌,
 use Rattle.std.specs.Option.{is_some}
 use Rattle.leg.specs.Numbered.{numbered}
 use Rattle.leg.specs.declared.leg.Leg.{Leg}
-use Rattle.leg.specs.declared.leg_state.LegState.TheVariants.{Doubt}
 use Rattle.leg.specs.Growing.{Grew}
 use Rattle.dialect.specs.Addressed.{message_of}
 use Rattle.dialect.specs.Message.{Message, Content}
@@ -15,9 +14,10 @@ use Rattle.session_core.specs.declared.phase.Phase.TheVariants.{Down, LoggingOn,
 use Rattle.session_core.specs.Session.{SessionParts, is_logging_on, is_settling, next_out}
 use Rattle.session_core.specs.Turn.{StepParts, Turn}
 use Rattle.session_core.specs.Receiving.{told_number}
-use Rattle.session_core.specs.Calling.{SessionAnswer, own_next}
+use Rattle.session_core.specs.Calling.{SessionAnswer, own_next, doubted}
 
--- what was sent stays sent and settled, neither connections nor expected numbers go back, and a close that was asked stays asked
+-- what was sent stays sent and settled, neither connections nor expected numbers go back, and a close that was asked
+-- stays asked
 pub record IsOnward (before after : SessionParts) : Type 0 where
   pub config : after.config ≡ before.config
   pub log : IsLater before.log after.log
@@ -30,7 +30,8 @@ pub record KeepsLegs (before after : SessionParts) : Type 0 where
   pub onward : IsOnward before after
   pub added : Grew before.log after.log
 
--- the numbers of messages that were written for the first time; a gap fill comes as a possible duplicate, under a number that was spent before
+-- the numbers of messages that were written for the first time; a gap fill comes as a possible duplicate, under a
+-- number that was spent before
 abbrev pub new_numbers : List Message → List ℕ
 new_numbers [] = []
 new_numbers (m ∷ messages) = if m.poss_dup then new_numbers messages else m.number ∷ new_numbers messages
@@ -65,15 +66,17 @@ pub record IsConnection (before : SessionParts) (message : Message) (after : Ses
   pub counted : after.connection ≡ before.connection + 1
 
 -- a leg that is sent: in phase Up alone, with a higher ordinal than any before it, and in doubt under the next number
-pub record SendsLeg (before : SessionParts) (ordinal : ℕ) (leg : Leg) (message : Message) (after : SessionParts) : Type 0 where
+pub record SendsLeg (before : SessionParts) (ordinal : ℕ) (leg : Leg) (message : Message)
+    (after : SessionParts) : Type 0 where
   pub keeps : KeepsLegs before after
   pub spends : SpendsNumbers before (message ∷ []) after
   pub orders : message.content ≡ Order (Ok leg)
   pub was_up : before.phase ≡ Up
   pub above : last_ordinal before.log < ordinal
-  pub in_doubt : numbered (next_out before) after.log ≡ Some (Sent (record { ordinal = ordinal; id = leg.id; state = Doubt }))
+  pub in_doubt : numbered (next_out before) after.log ≡ Some (Sent (doubted ordinal leg))
 
--- whether a message says what the exchange got: a resend request while settling, or a Logon that tells the number which it expects next, where the venue chose to be told it
+-- whether a message says what the exchange got: a resend request while settling, or a Logon that tells the number which
+-- it expects next, where the venue chose to be told it
 abbrev pub may_withdraw : SessionParts → Content → Bool
 may_withdraw s (ResendRequest begin last) = is_settling s.phase
 may_withdraw s (Logon heart reset next) = is_logging_on s.phase && is_some (told_number s next)
@@ -82,7 +85,8 @@ may_withdraw s _ = false
 -- nothing is written, or one gap fill
 abbrev pub WritesFillAlone : SessionParts → List Message → Type 0
 WritesFillAlone s written =
-    (written ≡ []) ⊎ ((fill : GapFillParts) × (written ≡ message_of s.config fill.first true (GapFill fill.new_number) ∷ []))
+    (written ≡ [])
+    ⊎ ((fill : GapFillParts) × (written ≡ message_of s.config fill.first true (GapFill fill.new_number) ∷ []))
 
 -- no leg is withdrawn, and none is named so
 pub record SparesLegs (before : SessionParts) (turn : Turn) : Type 0 where

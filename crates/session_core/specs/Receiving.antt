@@ -1,4 +1,5 @@
--- What a session does with a message that it receives: one case a row of the table of `docs/session.md` (FIX 4.4 Volume 2).
+-- What a session does with a message that it receives: one case a row of the table of `docs/session.md` (FIX 4.4
+-- Volume 2).
 use Rattle.std.specs.Prelude.{ℕ, ◌+◌, Bool, true, false, ◌&&◌, ◌||◌, not, List, [], ◌∷◌, filter, ◌==◌, nat_lt, nat_le, Option, Some, None, Result, Ok, Err, if◌then◌else◌}
 use Rattle.std.specs.Option.{option_map_or, option_and_then}
 use Rattle.std.specs.Str.{bytes_eq}
@@ -31,7 +32,8 @@ is_reset _ = false
 abbrev pub counts_if : Bool → Turn → Turn
 counts_if due turn = if due then unless_ended counts turn turn.step.ended else turn
 
--- Logon: the number that the exchange expects next (789), where the venue chose to be told it, settles every leg in doubt
+-- Logon: the number that the exchange expects next (789), where the venue chose to be told it, settles every leg in
+-- doubt
 abbrev pub told_number : SessionParts → Option ℕ → Option ℕ
 told_number s next = if s.config.has_next then next else None
 
@@ -59,7 +61,8 @@ logon_row due s next =
     else (if is_too_high s (told_number s next) then ends BadNextExpected s
     else in_phase Settling (writes_fence (asks_if (not due) (counts_if due (settles_told s (told_number s next))))))
 
--- ResendRequest, while settling: what was lost is known, so every leg in doubt is settled, the range is filled, and a new fence is written
+-- ResendRequest, while settling: what was lost is known, so every leg in doubt is settled, the range is filled, and a
+-- new fence is written
 abbrev pub filled_if : Option GapFillParts → Turn → Turn
 filled_if None turn = turn
 filled_if (Some fill) turn = fills fill turn
@@ -158,7 +161,8 @@ row due s number _ = in_turn due s (counts (quietly s))
 abbrev pub was_requested : SessionParts → Bool
 was_requested s = option_map_or (λ number. number == s.expected) s.current.requested false
 
--- what is missing is asked for, last: unless it was in this connection, or the connection has ended, or nothing may be written any more
+-- what is missing is asked for, last: unless it was in this connection, or the connection has ended, or nothing may be
+-- written any more
 abbrev pub asks_anew : Turn → Turn
 asks_anew turn = if is_logged_out turn.session.phase || was_requested turn.session then turn else asks turn
 

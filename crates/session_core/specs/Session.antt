@@ -1,4 +1,5 @@
--- The state of the dispatcher's session with an exchange (FIX 4.4 Volume 2). It lives as long as the day: numbers go on over connections.
+-- The state of the dispatcher's session with an exchange (FIX 4.4 Volume 2). It lives as long as the day: numbers go on
+-- over connections.
 use Rattle.std.specs.Prelude.{ℕ, Bool, true, false, List, [], Option, None}
 use Rattle.fix_tags.specs.Config.{ConfigParts}
 use Rattle.leg.specs.declared.leg_state.LegState.{LegState}
@@ -33,7 +34,8 @@ new_connection logon_number = record {
 }
 
 pub record SessionParts : Type 0 where
-  -- the two ends, the heartbeat interval, the number that no message may have, and whether a Logon says which number it expects next
+  -- the two ends, the heartbeat interval, the number that no message may have, and whether a Logon says which number it
+  -- expects next
   pub config : ConfigParts
   pub phase : Phase
   -- what each number sent was spent on

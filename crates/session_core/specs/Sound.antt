@@ -47,7 +47,8 @@ pub record IsFence (settled : ℕ) (log : List Entry) (fence : ℕ) : Type 0 whe
 abbrev pub IsBeforeUp : Phase → Type 0
 IsBeforeUp phase = (phase ≡ LoggingOn) ⊎ (phase ≡ Settling)
 
--- what a phase says: until the session is up every fence is above all legs, while closing its fence is, and after the Logout no leg is in doubt
+-- what a phase says: until the session is up every fence is above all legs, while closing its fence is, and after the
+-- Logout no leg is in doubt
 pub record PhaseStands (phase : Phase) (log : List Entry) (fences : List ℕ) (closing_fence : Option ℕ) : Type 0 where
   pub before_up : IsBeforeUp phase → AllByRecursion (λ fence. LegsAreBelow fence log) fences
   pub closing : phase ≡ Closing → (fence : ℕ) × (closing_fence ≡ Some fence) × LegsAreBelow fence log
@@ -73,7 +74,8 @@ pub record IsSound (s : SessionParts) : Type 0 where
   pub legs : LegsStand s.settled s.log
   pub phase : PhaseStands s.phase s.log s.current.fences s.current.closing_fence
 
--- what was read of a message: its number (34), a number that is expected next (789), a test's id (112) and a new number (36) are in their ranges
+-- what was read of a message: its number (34), a number that is expected next (789), a test's id (112) and a new number
+-- (36) are in their ranges
 abbrev pub IsReadContent : Content → Type 0
 IsReadContent (Logon heart reset next) = IsNext next
 IsReadContent (TestRequest id) = IsFreeText 64 id

@@ -13,7 +13,8 @@ use Rattle.session_core.specs.declared.ended.Ended.{Ended}
 use Rattle.session_core.specs.declared.ended.Ended.TheVariants.{PeerLogout}
 use Rattle.session_core.specs.Session.{SessionParts, is_logged_out, next_out, may_write}
 
--- the messages written, in order; the note for the book; the legs that are now withdrawn, in the order of their numbers; why the connection ended, if it did
+-- the messages written, in order; the note for the book; the legs that are now withdrawn, in the order of their
+-- numbers; why the connection ended, if it did
 pub record StepParts : Type 0 where
   pub written : List Message
   pub note : Option Note
@@ -54,7 +55,8 @@ puts content turn =
 abbrev pub writes : Content → Turn → Turn
 writes content turn = if may_write turn.session then puts content turn else turn
 
--- a fence is a TestRequest whose id is `F` and its own number. The exchange answers it once it has taken every message before it
+-- a fence is a TestRequest whose id is `F` and its own number. The exchange answers it once it has taken every message
+-- before it
 abbrev pub fence_id : ℕ → List ℕ
 fence_id number = codes "F" ++ decimal number
 
@@ -108,7 +110,8 @@ notes note s = record { step = record no_step { note = Some note }; session = wi
 abbrev pub logs_out : SessionParts → Turn
 logs_out s = let turn = writes Logout (quietly s) in with_session (record turn.session { phase = LoggedOut }) turn
 
--- the phase after a connection: the session is over where the exchange logged out first, or where its own Logout was written
+-- the phase after a connection: the session is over where the exchange logged out first, or where its own Logout was
+-- written
 abbrev pub after_peer_logout : Ended → Bool
 after_peer_logout PeerLogout = true
 after_peer_logout _ = false
