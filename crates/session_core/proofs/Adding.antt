@@ -75,17 +75,24 @@ pub record Adds (t u : Turn) : Type 0 where
   pub note : u.step.note ≡ t.step.note
   pub numbers : NumbersMore t u
 
-pub adds-refl : (t : Turn) → Adds t t
-adds-refl t = record {
-  config = refl;
-  log = inl refl;
-  connection = refl;
-  expected = omega arith;
-  close_asked = refl;
-  withdrawn = refl;
-  note = refl;
-  numbers = none_more t t refl refl;
+-- where no number is spent
+adds-none : (t u : Turn) → u.session.config ≡ t.session.config → u.session.log ≡ t.session.log
+    → u.session.connection ≡ t.session.connection → t.session.expected ≤ u.session.expected
+    → u.session.close_asked ≡ t.session.close_asked → u.step.withdrawn ≡ t.step.withdrawn → u.step.note ≡ t.step.note
+    → new_numbers u.step.written ≡ new_numbers t.step.written → Adds t u
+adds-none t u config log connection expected close_asked withdrawn note written = record {
+  config = config;
+  log = inl log;
+  connection = connection;
+  expected = expected;
+  close_asked = close_asked;
+  withdrawn = withdrawn;
+  note = note;
+  numbers = none_more t u written log;
 }
+
+pub adds-refl : (t : Turn) → Adds t t
+adds-refl t = adds-none t t refl refl refl (omega arith) refl refl refl refl
 
 -- a message of the session behind those that are written already
 one_written : (t : Turn) (s : SessionParts) (m : Message) → s.config ≡ t.session.config
@@ -136,60 +143,23 @@ adds-asks_if true t = adds-asks t
 adds-asks_if false t = adds-refl t
 
 pub adds-fills : (fill : GapFillParts) (t : Turn) → Adds t (fills fill t)
-adds-fills fill t = record {
-  config = refl;
-  log = inl refl;
-  connection = refl;
-  expected = omega arith;
-  close_asked = refl;
-  withdrawn = refl;
-  note = refl;
-  numbers = (
-    [],
-    new_numbers-append t.step.written (message_of t.session.config fill.first true (GapFill fill.new_number) ∷ []),
-    refl,
-  );
-}
+adds-fills fill t =
+    (let filled : Message = message_of t.session.config fill.first true (GapFill fill.new_number) in
+    adds-none t (fills fill t) refl refl refl (omega arith) refl refl refl
+    (new_numbers-append t.step.written (filled ∷ []) ∙ append-nil (new_numbers t.step.written)))
 
 pub adds-filled_if : (fill : Option GapFillParts) (t : Turn) → Adds t (filled_if fill t)
 adds-filled_if None t = adds-refl t
 adds-filled_if (Some fill) t = adds-fills fill t
 
 pub adds-counts : (t : Turn) → Adds t (counts t)
-adds-counts t = record {
-  config = refl;
-  log = inl refl;
-  connection = refl;
-  expected = omega arith;
-  close_asked = refl;
-  withdrawn = refl;
-  note = refl;
-  numbers = none_more t (counts t) refl refl;
-}
+adds-counts t = adds-none t (counts t) refl refl refl (omega arith) refl refl refl refl
 
 pub adds-in_phase : (phase : Phase) (t : Turn) → Adds t (in_phase phase t)
-adds-in_phase phase t = record {
-  config = refl;
-  log = inl refl;
-  connection = refl;
-  expected = omega arith;
-  close_asked = refl;
-  withdrawn = refl;
-  note = refl;
-  numbers = none_more t (in_phase phase t) refl refl;
-}
+adds-in_phase phase t = adds-none t (in_phase phase t) refl refl refl (omega arith) refl refl refl refl
 
 pub adds-ends_turn : (why : Ended) (t : Turn) → Adds t (ends_turn why t)
-adds-ends_turn why t = record {
-  config = refl;
-  log = inl refl;
-  connection = refl;
-  expected = omega arith;
-  close_asked = refl;
-  withdrawn = refl;
-  note = refl;
-  numbers = none_more t (ends_turn why t) refl refl;
-}
+adds-ends_turn why t = adds-none t (ends_turn why t) refl refl refl (omega arith) refl refl refl refl
 
 pub adds-logs_out : (s : SessionParts) → Adds (quietly s) (logs_out s)
 adds-logs_out s =
