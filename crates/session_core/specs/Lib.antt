@@ -4,3 +4,4 @@ pub mod Receiving
 pub mod Calling
 pub mod Example
 pub mod Onward
+pub mod Sound

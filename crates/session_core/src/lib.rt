@@ -10,8 +10,9 @@ mod step;
 
 pub use ended::Ended;
 pub use laws::{
-    a_closed_session_is_over, a_logged_out_session_fills_alone, going_onward_goes_on,
-    other_calls_keep_the_legs, what_is_received_leads_onward,
+    a_closed_session_is_over, a_logged_out_session_fills_alone, a_session_keeps_its_promises,
+    going_onward_goes_on, other_calls_keep_the_legs, what_a_session_writes_can_be_written,
+    what_is_received_leads_onward,
 };
 pub use phase::Phase;
 pub use rows::{
