@@ -42,7 +42,7 @@ written_live x y entry out (Some live) sound is last own at says =
     (written_next x y None entry live.connection out.message.content own here.from (omega (arith, here.same, last)) says)
 
 -- one number more
-one_more : (own : List Own) (entry : Own) (max_number : ℕ) → next_own_number own + 1 ≤ max_number → next_own_number (own ++ entry ∷ []) ≤ max_number
+pub one_more : (own : List Own) (entry : Own) (max_number : ℕ) → next_own_number own + 1 ≤ max_number → next_own_number (own ++ entry ∷ []) ≤ max_number
 one_more own entry max_number left = omega (arith, length-append own (entry ∷ []))
 
 -- a report on an order at a place

@@ -1,9 +1,9 @@
 -- Each order adds up, whatever comes and whatever is done.
 use Rattle.std.proofs.Common.{◌≡◌, ◌==◌, ℕ, zero, suc, ◌+◌, ◌≤◌, Bool, true, false, List, [], ◌∷◌, ◌++◌, Option, Some, None, Ok, Err, refl, sym, ap, subst, ◌∙◌, arith, sum_by, get_or}
-use Rattle.std.specs.List.{AllByRecursion, slice_set}
+use Rattle.std.specs.List.{slice_set}
 use Rattle.std.proofs.lemmas.List.Sums.{sum_by-append, sum_by-set}
-use Rattle.std.proofs.lemmas.Option.{same_Some, slice_get_within, get_or_from_slice_get}
-use Rattle.leg.specs.Numbered.{numbered, with_numbered}
+use Rattle.std.proofs.lemmas.Option.{slice_get_within, get_or_from_slice_get}
+use Rattle.leg.specs.Numbered.{numbered}
 use Rattle.leg.specs.declared.leg.Leg.{Leg}
 use Rattle.dialect.specs.declared.report.ReportKind.{ReportKind}
 use Rattle.dialect.specs.Message.{Content, Message, TestRequest, GapFill, Logout, Order}
@@ -11,6 +11,7 @@ use Rattle.exchange_core.specs.Order.{OrderParts, TradeParts, Ending, new_order,
 use Rattle.exchange_core.specs.Exchange.{ExchangeParts, logon_answer, with_connection, due_taken, take}
 use Rattle.exchange_core.specs.Acts.{reported, trade, cancel_rest, reject, bust, test}
 use Rattle.exchange_core.specs.Shares.{live_shares, busted_shares, SharesAddUp, OrdersAddUp}
+use Rattle.exchange_core.proofs.Entries.{all_with, all_more, all_at}
 use Rattle.exchange_core.proofs.Cases.{after_take_is}
 use Rattle.exchange_core.proofs.ActsReport.{after_trade, after_bust, IsChange, by_trade, by_end, by_bust, IsReported, AnyPx, trade_is, cancel_rest_is, reject_is, bust_is, test_is}
 
@@ -52,25 +53,8 @@ busted_adds order (suc i) trade adds there live =
       busted = omega (arith, busted, adds.busted);
     }
 
--- where one order is replaced, or added
-all_with : (orders : List OrderParts) (place : ℕ) (order : OrderParts) → AllByRecursion SharesAddUp orders → SharesAddUp order → AllByRecursion SharesAddUp (with_numbered place order orders)
-all_with orders zero order all adds = all
-all_with [] (suc i) order all adds = tt
-all_with (o ∷ orders) (suc zero) order all adds = (adds, all.1)
-all_with (o ∷ orders) (suc (suc i)) order all adds = (all.0, all_with orders (suc i) order all.1 adds)
-
-all_more : (orders : List OrderParts) (order : OrderParts) → AllByRecursion SharesAddUp orders → SharesAddUp order → AllByRecursion SharesAddUp (orders ++ order ∷ [])
-all_more [] order all adds = (adds, tt)
-all_more (o ∷ orders) order all adds = (all.0, all_more orders order all.1 adds)
-
-at_adds : (orders : List OrderParts) (place : ℕ) (order : OrderParts) → AllByRecursion SharesAddUp orders → numbered place orders ≡ Some order → SharesAddUp order
-at_adds orders zero order all there = cc
-at_adds [] (suc i) order all there = cc
-at_adds (o ∷ orders) (suc zero) order all there = subst SharesAddUp (same_Some o order there) all.0
-at_adds (o ∷ orders) (suc (suc i)) order all there = at_adds orders (suc i) order all.1 there
-
 due_adds : (x : ExchangeParts) (content : Content) → OrdersAddUp x → OrdersAddUp (due_taken x content).1
-due_adds x (Order (Ok leg)) all = all_more x.orders (new_order leg) all (new_adds leg)
+due_adds x (Order (Ok leg)) all = all_more SharesAddUp x.orders (new_order leg) all (new_adds leg)
 due_adds x (Order (Err fault)) all = all
 due_adds x (GapFill new_number) all = all
 due_adds x Logout all = all
@@ -98,7 +82,7 @@ change_adds IsPx exec old new kind (by_bust which trade there live within after 
 
 pub reported_adds : (IsPx : List ℕ → Type 0) (x : ExchangeParts) → OrdersAddUp x → (place : ℕ) (old new : OrderParts) (kind : ReportKind) → IsReported IsPx x place old new kind → OrdersAddUp (reported x place new kind).1
 reported_adds IsPx x all place old new kind is =
-    all_with x.orders place new all (change_adds IsPx _ old new kind is.change (at_adds x.orders place old all is.there))
+    all_with SharesAddUp x.orders place new all (change_adds IsPx _ old new kind is.change (all_at SharesAddUp x.orders place old all is.there))
 
 pub trade_adds : (x : ExchangeParts) (place shares : ℕ) (px : List ℕ) → OrdersAddUp x → OrdersAddUp (trade x place shares px).1
 trade_adds x place shares px all = trade_is AnyPx x OrdersAddUp all (reported_adds AnyPx x all) place shares px tt

@@ -64,7 +64,7 @@ due_in_range x Logout below fill range = record { from = omega arith; to = omega
 due_in_range x (TestRequest id) below fill range = record { from = omega arith; to = omega arith }
 due_in_range x content below fill range = record { from = omega arith; to = omega arith }
 
-passed_in_range : (x : ExchangeParts) (number : ℕ) → number ≤ 999_999_998 → IsExpectable x → (1 ≤ passed_by x number) × (passed_by x number ≤ 999_999_999)
+pub passed_in_range : (x : ExchangeParts) (number : ℕ) → number ≤ 999_999_998 → IsExpectable x → (1 ≤ passed_by x number) × (passed_by x number ≤ 999_999_999)
 passed_in_range x number small range =
     chosen (λ e. (1 ≤ e) × (e ≤ 999_999_999)) (number == x.expected) (suc x.expected) x.expected
     (λ due. let is : number ≡ x.expected = grind (arith, nat_tests, due) in (omega arith, omega arith))

@@ -1,16 +1,19 @@
 //! What follows from the definitions: each law is the contract of a function that does nothing.
 
-ghost use Rattle.std.specs.Prelude.{◌≡◌, ◌+◌, ◌++◌, ◌≤◌, ℕ, false, List, [], Option, None, Some};
+ghost use Rattle.std.specs.Prelude.{◌≡◌, ◌+◌, ◌++◌, ◌≤◌, ℕ, false, List, [], Option, None, Some, All, IfOk};
 ghost use Rattle.dialect.specs.Message.{Content, Message, is_logon};
 ghost use Rattle.fix_tags.specs.Config.{ConfigParts, IsConfig};
 ghost use Rattle.leg.specs.Growing.{Grew};
 ghost use Rattle.leg.specs.declared.leg.Leg.{Leg};
+ghost use Rattle.dialect.specs.FreeText.{IsFreeText};
+ghost use Rattle.dialect.specs.Writable.{IsWritable};
 ghost use Rattle.exchange_core.specs.Acceptance.{Carried, RuleState, rule_opening, May, IsForward, LiveIsLast};
 ghost use Rattle.exchange_core.specs.Acts as acts;
 ghost use Rattle.exchange_core.specs.Exchange.{ExchangeParts, new_exchange, take, drop_connection};
 ghost use Rattle.exchange_core.specs.Keeping.{rule_state, into, IsLastLive, OwnNumbersFit, IsAnswer, IsAct, IsExpectable, IsInRange, AreCounted};
 ghost use Rattle.exchange_core.specs.Order.{OrderParts, view_of};
 ghost use Rattle.exchange_core.specs.Shares.{SharesAddUp, OrdersAddUp};
+ghost use Rattle.exchange_core.specs.Sound.{IsRead, IsSound};
 
 /// A new exchange stands as the rules begin.
 pub fn a_new_exchange_is_open()
@@ -101,4 +104,33 @@ pub fn views_are_within()
 pub fn a_close_holds()
     ensures { (x : ExchangeParts) (connection : ℕ) (m : Message) → x.live ≡ None →
         is_logon m.content ≡ false → take x connection m ≡ ([], x) }
+{}
+
+/// An exchange keeps its promises of itself over every call: a new one does, and so does one after whatever comes in the
+/// ranges that are read, and after whatever it does by itself.
+pub fn an_exchange_stays_sound()
+    ensures new { (config : ConfigParts) → IsConfig config → IsSound (new_exchange config) }
+    ensures take { (x : ExchangeParts) (connection : ℕ) (m : Message) → IsSound x → IsRead m →
+        IsSound (take x connection m).1 }
+    ensures trade { (x : ExchangeParts) (place shares : ℕ) (px : List ℕ) → IsSound x → IsFreeText 20 px →
+        IsSound (acts.trade x place shares px).1 }
+    ensures cancel_rest { (x : ExchangeParts) (place : ℕ) → IsSound x → IsSound (acts.cancel_rest x place).1 }
+    ensures reject { (x : ExchangeParts) (place : ℕ) → IsSound x → IsSound (acts.reject x place).1 }
+    ensures bust { (x : ExchangeParts) (place which : ℕ) → IsSound x → IsSound (acts.bust x place which).1 }
+    ensures test { (x : ExchangeParts) → IsSound x → IsSound (acts.test x).1 }
+    ensures drop_connection { (x : ExchangeParts) → IsSound x → IsSound (drop_connection x) }
+{}
+
+/// Whatever a sound exchange writes can be written: it is never refused.
+pub fn whatever_is_written_can_be()
+    ensures take { (x : ExchangeParts) (connection : ℕ) (m : Message) → IsSound x → IsRead m →
+        All IsWritable (take x connection m).0 }
+    ensures trade { (x : ExchangeParts) (place shares : ℕ) (px : List ℕ) → IsSound x → IsFreeText 20 px →
+        IfOk (acts.trade x place shares px).0 (All IsWritable) }
+    ensures cancel_rest { (x : ExchangeParts) (place : ℕ) → IsSound x →
+        IfOk (acts.cancel_rest x place).0 (All IsWritable) }
+    ensures reject { (x : ExchangeParts) (place : ℕ) → IsSound x → IfOk (acts.reject x place).0 (All IsWritable) }
+    ensures bust { (x : ExchangeParts) (place which : ℕ) → IsSound x →
+        IfOk (acts.bust x place which).0 (All IsWritable) }
+    ensures test { (x : ExchangeParts) → IsSound x → IfOk (acts.test x).0 (All IsWritable) }
 {}
