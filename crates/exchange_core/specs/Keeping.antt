@@ -108,6 +108,5 @@ pub record IsInRange (m : Message) : Type 0 where
 -- each report has the ExecID of its place among the reports, of which there were so many before
 abbrev pub AreCounted : ℕ → List Own → Type 0
 AreCounted count [] = Unit {0}
-AreCounted count (Admin ∷ own) = AreCounted count own
 AreCounted count (Reported report view ∷ own) = (report.exec ≡ exec_id (suc count)) × AreCounted (suc count) own
-AreCounted count (Refused number ∷ own) = AreCounted count own
+AreCounted count (entry ∷ own) = AreCounted count own

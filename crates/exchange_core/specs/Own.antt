@@ -28,9 +28,8 @@ has_numbers count config own = nat_le (next_own_number own + count) config.max_n
 -- how many reports there are
 abbrev pub report_count : List Own → ℕ
 report_count [] = 0
-report_count (Admin ∷ own) = report_count own
 report_count (Reported report view ∷ own) = suc (report_count own)
-report_count (Refused number ∷ own) = report_count own
+report_count (entry ∷ own) = report_count own
 
 -- the count of the next report, this one included, and an ExecID (17): `E` and a count
 abbrev pub next_exec : List Own → ℕ
