@@ -1,4 +1,6 @@
 pub mod Entries
+pub mod Ids
+pub mod Cases
 pub mod ActsReport
 pub mod After
 pub mod Step
@@ -8,6 +10,9 @@ pub mod ActsKeep
 pub mod Forward
 pub mod Sound
 pub mod SharesLaws
+pub mod Keeps
+pub mod Promises
+pub mod Written
 pub mod Closing
 pub mod Answers
 pub mod Counted

@@ -5,4 +5,5 @@ pub mod Exchange
 pub mod Acts
 pub mod Keeping
 pub mod Shares
+pub mod Sound
 pub mod Rows
