@@ -8,3 +8,4 @@ pub mod Sweep
 pub mod Split
 pub mod Numbered
 pub mod Growing
+pub mod Answering
