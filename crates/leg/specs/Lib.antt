@@ -9,3 +9,4 @@ pub mod Split
 pub mod Numbered
 pub mod Growing
 pub mod Answering
+pub mod Refusing
