@@ -23,7 +23,7 @@ none_first : (a b : Option ReleaseFault) → (a or_then b) ≡ None → a ≡ No
 none_first (Some fault) b e = cc
 none_first None b e = refl
 
-none_second : (a b : Option ReleaseFault) → (a or_then b) ≡ None → b ≡ None
+pub none_second : (a b : Option ReleaseFault) → (a or_then b) ≡ None → b ≡ None
 none_second (Some fault) b e = cc
 none_second None b e = e
 
@@ -71,7 +71,7 @@ fits_along desk venue before (routed ∷ legs) e h =
     ] in
     subst (λ l. placed desk venue + count_to venue l ≤ 256) joined (fits_along desk venue (before ++ routed ∷ []) legs parts.1 next)
 
-fits : (desk : DeskParts) (venue : ℕ) (legs : List Routed) → release_refusal desk legs ≡ None → placed desk venue ≤ 256 → placed desk venue + count_to venue legs ≤ 256
+pub fits : (desk : DeskParts) (venue : ℕ) (legs : List Routed) → release_refusal desk legs ≡ None → placed desk venue ≤ 256 → placed desk venue + count_to venue legs ≤ 256
 fits desk venue legs e h = fits_along desk venue [] legs (backlog_none desk legs e) (omega (arith, h))
 
 -- the counts in terms of how many left

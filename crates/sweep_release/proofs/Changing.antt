@@ -82,7 +82,7 @@ pub record IsRead (desk : Inside) (seen : DeskWithHistory) (venue i : ℕ) (befo
   pub due : entries_due before ≤ desk.due
   pub kept : IsKeptVenue (released_sweeps desk.history.items) i before
 
-venue_at_seen : (desk : Inside) (i : ℕ) (before : Venue) → i < length desk.venues.items → get_or desk.venues.items i before ≡ before → venue_at (desk_seen desk).desk i ≡ venue_seen before
+pub venue_at_seen : (desk : Inside) (i : ℕ) (before : Venue) → i < length desk.venues.items → get_or desk.venues.items i before ≡ before → venue_at (desk_seen desk).desk i ≡ venue_seen before
 venue_at_seen desk i before there was =
     let none : DeskVenue = record { gate = Shut; left = 0 } in
     ap (λ v. unwrap_or v none) (slice_get-map venue_seen desk.venues.items i)

@@ -48,6 +48,7 @@ kept_fresh number venue fresh =
       queue = empty ∙ sym (drop_all venue.left [] (omega arith));
       few = omega (arith, none);
       room = room;
+      all = omega (arith, none, left);
       counted = omega (arith, none, left);
     }
 

@@ -8,3 +8,5 @@ pub mod Placing
 pub mod Changing
 pub mod Fresh
 pub mod Refusals
+pub mod Enqueued
+pub mod KeptReleased

@@ -4,14 +4,14 @@ ghost use Rattle.std.specs.Prelude.{◌≡◌, ◌<◌, ◌≤◌, [], ◌∷◌
 ghost use Rattle.std.specs.List.{All};
 ghost use Rattle.share_ledger.specs.Entries.{sweep_shares};
 ghost use Rattle.leg.specs.Answering.{Answers};
-ghost use Rattle.sweep_release.specs.Desk.{new_desk, is_up, refused_at, count_to, backlog_refusal, release_refusal, ready, gate_of, placed, placed_shares, with_gate, gate_up, gate_down, shut, leave, take, drop_next};
-ghost use Rattle.sweep_release.specs.History.{with_entries, gate_up_entries, gate_down_entries, shut_entries, left_entries, take_entries, drop_next_entries};
+ghost use Rattle.sweep_release.specs.Desk.{new_desk, is_up, refused_at, count_to, backlog_refusal, release_refusal, ready, release, gate_of, placed, placed_shares, with_gate, gate_up, gate_down, shut, leave, take, drop_next};
+ghost use Rattle.sweep_release.specs.History.{with_entries, release_entries, gate_up_entries, gate_down_entries, shut_entries, left_entries, take_entries, drop_next_entries};
 ghost use Rattle.sweep_release.specs.Gates.{gate_due};
-ghost use Rattle.sweep_release.specs.Kept.{released_sweeps};
+ghost use Rattle.sweep_release.specs.Kept.{released_sweeps, HaveRoom, IsEnqueued};
 
 use crate::venue::Venue;
-use crate::{DeskEntry, Gate, GateFault, ReleaseFault};
-use leg::{MAX_SWEEP, PlacedLeg, Routed, Sweep, VenueId};
+use crate::{DeskEntry, Gate, GateFault, Receipt, ReleaseFault};
+use leg::{Leg, LegId, MAX_SWEEP, PlacedLeg, Routed, Sweep, VenueId};
 use std::alloc::Global;
 use std::collections::VecDeque;
 use std::marker::Model;
@@ -227,6 +227,28 @@ impl Desk {
         Ok(())
     }
 
+    /// Releases a sweep, whole or not at all. R01 to R07; a refused sweep is dropped.
+    pub fn release(&mut self, sweep: Sweep) -> Result<Receipt, ReleaseFault>
+        ensures { Answers ReleaseFault.OutOfMemory self.old (with_entries self.old (release_entries sweep.legs (release self.old.desk sweep.legs).0) (release self.old.desk sweep.legs)) result self.new }
+    {
+        let legs = sweep.legs.as_slice();
+        if let Some(fault) = self.refusal(legs) {
+            return Err(fault);
+        }
+        // Its own entry, and one for each leg that will leave.
+        self.history.reserve(self.due + 1 + legs.len())?;
+        let receipt = Receipt {
+            number: self.sweeps + 1,
+            shares: shares_of(legs),
+        };
+        enqueue(&mut self.venues, receipt.number, legs);
+        self.sweeps = receipt.number;
+        self.shares += receipt.shares;
+        self.due += legs.len();
+        self.history.push_reserved(DeskEntry::Released(sweep));
+        Ok(receipt)
+    }
+
     // The first refusal of a sweep, want of memory aside.
     fn refusal(&self, legs: &[Routed]) -> Option<ReleaseFault>
         ensures value { result ≡ release_refusal self.now.desk legs.now }
@@ -323,4 +345,25 @@ fn shares_of(legs: &[Routed]) -> u64
         shares += routed.terms.shares();
     }
     shares
+}
+
+// The legs of a sweep join the queues of their venues, which have room for them.
+fn enqueue(venues: &mut Vec<Venue>, number: u64, legs: &[Routed])
+    requires low { 1 ≤ number }
+    requires high { number ≤ MAX_SWEEP }
+    requires short { length legs.now ≤ 32 }
+    requires known { All (λ routed. routed.venue < length venues.old.items) legs.now }
+    requires room { HaveRoom legs.now venues.old.items }
+    ensures { IsEnqueued number legs.now venues.old.items venues.new.items }
+{
+    let mut place = 0u8;
+    for routed in legs {
+        place += 1;
+        let leg = Leg {
+            id: LegId::new(number, place),
+            terms: routed.terms.clone().unwrap(),
+        };
+        let at = &mut venues[usize::from(routed.venue.number())];
+        at.placed.push_back_reserved(leg);
+    }
 }

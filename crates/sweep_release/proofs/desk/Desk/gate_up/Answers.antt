@@ -20,7 +20,7 @@ invariant_of-self-2 c =
     kept-changed desk _ c.from.result now before (entry.Up c.args.venue ∷ []) c.self.invariant read.there refl refl (c.push_reserved.ensures.items ∙ ap (λ l. l ++ entry.Up c.args.venue ∷ []) c.in_ok-reserve.ensures.items) refl refl read.was
     (omega (arith, one))
     (omega (arith, c.in_ok-reserve.ensures.ok, c.push_reserved.ensures.len, c.push_reserved.ensures.capacity))
-    (record { queue = kept.queue; few = kept.few; room = kept.room; counted = kept.counted })
+    (record { queue = kept.queue; few = kept.few; room = kept.room; all = kept.all; counted = kept.counted })
 
 pub returns : goal.returns
 returns c =

@@ -15,6 +15,7 @@ invariant_of-self c =
     let queue = kept.queue in
     let few = kept.few in
     let counted = kept.counted in
+    let all = kept.all in
     let room = kept.room in
     let items = c.in_err-leg.ensures.items in
     let same = ap length items in
@@ -22,7 +23,7 @@ invariant_of-self c =
     kept-changed desk _ c.from.result now before [] c.self.invariant read.there refl refl (sym (append-nil _)) refl refl read.was
     (omega (arith, same))
     c.self.invariant.room
-    (record { queue = sym items ∙ queue; few = omega (arith, few, same); room = omega (arith, room, c.in_err-leg.ensures.capacity); counted = omega (arith, counted, same) })
+    (record { queue = sym items ∙ queue; few = omega (arith, few, same); room = omega (arith, room, c.in_err-leg.ensures.capacity); all = omega (arith, all, same); counted = omega (arith, counted, same) })
 
 pub returns-in_err-leg-clause-leg : goal.returns-in_err-leg-clause-leg
 returns-in_err-leg-clause-leg c =
@@ -61,6 +62,7 @@ invariant_of-self-2 c =
     let queue = kept.queue in
     let few = kept.few in
     let counted = kept.counted in
+    let all = kept.all in
     let room = kept.room in
     let due = read.due in
     let all_room = c.self.invariant.room in
@@ -74,6 +76,7 @@ invariant_of-self-2 c =
       queue = sym (drop-next before.left _ c.in_ok-leg.leg c.pop_front.new.self.items (sym queue ∙ items));
       few = omega (arith, few, one);
       room = omega (arith, room, c.in_ok-leg.ensures.capacity);
+      all = omega (arith, all, one);
       counted = omega (arith, counted, one);
     })
 

@@ -27,7 +27,7 @@ invariant_of-self c =
     kept-changed desk _ c.from.result now before (c.args.entry ∷ []) c.self.invariant read.there c.requires.no_release refl c.push_reserved.ensures.items refl refl read.was
     (omega (arith, due, gate, c.requires.fewer, c.due.ensures, c.due-2.ensures))
     (omega (arith, due, room, gate, c.requires.fewer, c.due.ensures, c.due-2.ensures, c.push_reserved.ensures.len, c.push_reserved.ensures.capacity))
-    (record { queue = kept.queue; few = kept.few; room = kept.room; counted = kept.counted })
+    (record { queue = kept.queue; few = kept.few; room = kept.room; all = kept.all; counted = kept.counted })
 
 pub returns-clause-desk : goal.returns-clause-desk
 returns-clause-desk c =
