@@ -62,8 +62,8 @@ kept-changed old new i now before more h there none venues_are history_is sweeps
     let summed : sum_by entries_due new.venues.items ≡ sum_by entries_due (set old.venues.items i now) = ap (sum_by entries_due) venues_are in
     record {
       venues = subst (λ (vs : List Venue). (k : ℕ) (other : Venue) → k < length vs → IsKeptVenue (released_sweeps new.history.items) k (get_or vs k other)) (sym venues_are)
-      (subst (λ (sweeps : List (List Routed)). (k : ℕ) (other : Venue) → k < length (set old.venues.items i now) → IsKeptVenue sweeps k (get_or (set old.venues.items i now) k other)) (sym same)
-      (kept-set (released_sweeps old.history.items) old.venues.items i now all this));
+          (subst (λ (sweeps : List (List Routed)). (k : ℕ) (other : Venue) → k < length (set old.venues.items i now) → IsKeptVenue sweeps k (get_or (set old.venues.items i now) k other)) (sym same)
+          (kept-set (released_sweeps old.history.items) old.venues.items i now all this));
       count = sweeps_are ∙ (count ∙ ap length (sym same));
       shares = shares_are ∙ (shares ∙ ap (sum_by _) (sym same));
       few = omega (arith, few, sweeps_are);

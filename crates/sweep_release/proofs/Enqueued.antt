@@ -88,42 +88,42 @@ enqueued_more number legs before after at routed was now joined there is known w
     record {
       many = length-set after v now ∙ many;
       joined = λ k other inside.
-        let here = joined.joined k other inside in
-        let queue = here.queue in
-        let capacity = here.room in
-        let lefts = here.left in
-        let legs_are = legs_to-more k number legs at routed there is in
-        elim (cases_eq k v) [
-          | inl this ↦
-              (let same_venue : get_or after k other ≡ was = ap (λ n. get_or after n other) this ∙ (get_or_default after v other was within ∙ sym was_is) in
-              let put : get_or (set after v now) k other ≡ now = ap (λ n. get_or (set after v now) n other) this ∙ get_or-set_same after v now other within in
-              subst (IsJoined (legs_to k number 1 (take (at + 1) legs)) (get_or before k other)) (sym put)
-              (record {
-                queue = items
-                ∙ (ap (λ x. x.placed.items ++ leg ∷ []) (sym same_venue)
-                ∙ (ap (λ l. l ++ leg ∷ []) queue
-                ∙ (append_assoc (get_or before k other).placed.items (legs_to k number 1 (take at legs)) (leg ∷ [])
-                ∙ ap (λ l. (get_or before k other).placed.items ++ l)
-                (ap (λ l. legs_to k number 1 (take at legs) ++ l) (sym (legs_to-this k number (at + 1) routed (sym this))) ∙ sym legs_are))));
-                room = cap ∙ (ap (λ x. deque_capacity x.placed) (sym same_venue) ∙ capacity);
-                left = left ∙ (ap (λ x. x.left) (sym same_venue) ∙ lefts);
-              }))
-          | inr differs ↦
-              (let kept : get_or (set after v now) k other ≡ get_or after k other = get_or-set_other after v k now other differs in
-              subst (IsJoined (legs_to k number 1 (take (at + 1) legs)) (get_or before k other)) (sym kept)
-              (record {
-                queue = queue
-                ∙ ap (λ l. (get_or before k other).placed.items ++ l)
-                (sym (append-nil (legs_to k number 1 (take at legs)))
-                ∙ (ap (λ l. legs_to k number 1 (take at legs) ++ l) (sym (legs_to-other k number (at + 1) routed differs)) ∙ sym legs_are));
-                room = capacity;
-                left = lefts;
-              }))
-        ];
+          let here = joined.joined k other inside in
+          let queue = here.queue in
+          let capacity = here.room in
+          let lefts = here.left in
+          let legs_are = legs_to-more k number legs at routed there is in
+          elim (cases_eq k v) [
+            | inl this ↦
+                (let same_venue : get_or after k other ≡ was = ap (λ n. get_or after n other) this ∙ (get_or_default after v other was within ∙ sym was_is) in
+                let put : get_or (set after v now) k other ≡ now = ap (λ n. get_or (set after v now) n other) this ∙ get_or-set_same after v now other within in
+                subst (IsJoined (legs_to k number 1 (take (at + 1) legs)) (get_or before k other)) (sym put)
+                (record {
+                  queue = items
+                      ∙ (ap (λ x. x.placed.items ++ leg ∷ []) (sym same_venue)
+                      ∙ (ap (λ l. l ++ leg ∷ []) queue
+                      ∙ (append_assoc (get_or before k other).placed.items (legs_to k number 1 (take at legs)) (leg ∷ [])
+                      ∙ ap (λ l. (get_or before k other).placed.items ++ l)
+                      (ap (λ l. legs_to k number 1 (take at legs) ++ l) (sym (legs_to-this k number (at + 1) routed (sym this))) ∙ sym legs_are))));
+                  room = cap ∙ (ap (λ x. deque_capacity x.placed) (sym same_venue) ∙ capacity);
+                  left = left ∙ (ap (λ x. x.left) (sym same_venue) ∙ lefts);
+                }))
+            | inr differs ↦
+                (let kept : get_or (set after v now) k other ≡ get_or after k other = get_or-set_other after v k now other differs in
+                subst (IsJoined (legs_to k number 1 (take (at + 1) legs)) (get_or before k other)) (sym kept)
+                (record {
+                  queue = queue
+                      ∙ ap (λ l. (get_or before k other).placed.items ++ l)
+                      (sym (append-nil (legs_to k number 1 (take at legs)))
+                      ∙ (ap (λ l. legs_to k number 1 (take at legs) ++ l) (sym (legs_to-other k number (at + 1) routed differs)) ∙ sym legs_are));
+                  room = capacity;
+                  left = lefts;
+                }))
+          ];
       seen = map-set venue_seen after v now
-      ∙ (ap (λ x. set (map venue_seen after) v x) same
-      ∙ (sym (map-set venue_seen after v was)
-      ∙ (ap (map venue_seen) (ap (set after v) was_is ∙ set-get_or after v was) ∙ joined.seen)));
+          ∙ (ap (λ x. set (map venue_seen after) v x) same
+          ∙ (sym (map-set venue_seen after v was)
+          ∙ (ap (map venue_seen) (ap (set after v) was_is ∙ set-get_or after v was) ∙ joined.seen)));
       due = omega (arith, sum, sums, queue_long, gates, front, next);
     }
 

@@ -69,11 +69,11 @@ fits_in desk legs k other h fine there =
 pub have_room : (desk : Inside) (legs : List Routed) → IsKept desk → release_refusal (desk_seen desk).desk legs ≡ None → HaveRoom legs desk.venues.items
 have_room desk legs h fine = record {
   fits = λ k other there.
-    let all = h.venues in
-    let kept = all k other there in
-    let room = kept.room in
-    let within = fits_in desk legs k other h fine there in
-    omega (arith, room, within);
+      let all = h.venues in
+      let kept = all k other there in
+      let room = kept.room in
+      let within = fits_in desk legs k other h fine there in
+      omega (arith, room, within);
 }
 
 one_le : (b : Bool) (n m : ℕ) → n ≤ m → (if b then suc n else n) ≤ suc m
@@ -99,40 +99,40 @@ kept_released old new legs h fine short joined history_is sweeps_are shares_are 
     let sums = joined.due in
     record {
       venues = λ k other there.
-        let inside : k < length old.venues.items = omega (arith, there, many) in
-        let was = get_or old.venues.items k other in
-        let now = get_or new.venues.items k other in
-        let kept = all k other inside in
-        let queue = kept.queue in
-        let capacity = kept.room in
-        let placed_or_left = kept.all in
-        let counted = kept.counted in
-        let here = joined.joined k other inside in
-        let items = here.queue in
-        let cap = here.room in
-        let left = here.left in
-        let fit = fits_in old legs k other h fine inside in
-        let long = ap length items ∙ length-append was.placed.items (legs_to k (old.sweeps + 1) 1 legs) in
-        let as_many = length-legs_to k (old.sweeps + 1) 1 legs in
-        let few = count-le k legs in
-        let released_more = length-released-push k before legs in
-        let within : was.left ≤ length (released k before) = omega (arith, placed_or_left) in
-        let next : old.sweeps + 1 ≡ length before + 1 = ap (λ n. n + 1) count in
-        let queue_is : now.placed.items ≡ drop now.left (released k (before ++ legs ∷ [])) =
+          let inside : k < length old.venues.items = omega (arith, there, many) in
+          let was = get_or old.venues.items k other in
+          let now = get_or new.venues.items k other in
+          let kept = all k other inside in
+          let queue = kept.queue in
+          let capacity = kept.room in
+          let placed_or_left = kept.all in
+          let counted = kept.counted in
+          let here = joined.joined k other inside in
+          let items = here.queue in
+          let cap = here.room in
+          let left = here.left in
+          let fit = fits_in old legs k other h fine inside in
+          let long = ap length items ∙ length-append was.placed.items (legs_to k (old.sweeps + 1) 1 legs) in
+          let as_many = length-legs_to k (old.sweeps + 1) 1 legs in
+          let few = count-le k legs in
+          let released_more = length-released-push k before legs in
+          let within : was.left ≤ length (released k before) = omega (arith, placed_or_left) in
+          let next : old.sweeps + 1 ≡ length before + 1 = ap (λ n. n + 1) count in
+          let queue_is : now.placed.items ≡ drop now.left (released k (before ++ legs ∷ [])) =
           items
           ∙ (ap (λ l. l ++ legs_to k (old.sweeps + 1) 1 legs) queue
           ∙ (ap (λ n. drop was.left (released k before) ++ legs_to k n 1 legs) next
           ∙ (sym (drop-append-le was.left (released k before) (legs_to k (length before + 1) 1 legs) within)
           ∙ (ap (drop was.left) (sym (released-push k before legs))
           ∙ ap (λ n. drop n (released k (before ++ legs ∷ []))) (sym left))))) in
-        subst (λ s. IsKeptVenue s k now) (sym more)
-        (record {
-          queue = queue_is;
-          few = omega (arith, long, as_many, fit);
-          room = omega (arith, capacity, cap);
-          all = omega (arith, long, as_many, left, placed_or_left, released_more);
-          counted = omega (arith, long, as_many, left, counted, longer, few, short);
-        });
+          subst (λ s. IsKeptVenue s k now) (sym more)
+          (record {
+            queue = queue_is;
+            few = omega (arith, long, as_many, fit);
+            room = omega (arith, capacity, cap);
+            all = omega (arith, long, as_many, left, placed_or_left, released_more);
+            counted = omega (arith, long, as_many, left, counted, longer, few, short);
+          });
       count = sweeps_are ∙ (ap (λ n. n + 1) count ∙ (sym longer ∙ ap length (sym more)));
       shares = shares_are ∙ (ap (λ n. n + sweep_shares legs) shares ∙ (sym (sum_by_push sweep_shares before legs) ∙ ap (sum_by sweep_shares) (sym more)));
       few = omega (arith, number, count, sweeps_are);

@@ -75,6 +75,13 @@ impl Desk {
         })
     }
 
+    /// How many venues the desk has.
+    pub fn venues(&self) -> usize
+        ensures { result ≡ length self.now.desk.venues }
+    {
+        self.venues.len()
+    }
+
     /// Whether legs are released to a venue, and taken to it.
     pub fn gate(&self, venue: VenueId) -> Gate
         requires { venue < length self.now.desk.venues }

@@ -17,3 +17,6 @@ pub use gate::Gate;
 pub use gate_fault::GateFault;
 pub use receipt::Receipt;
 pub use release_fault::ReleaseFault;
+
+#[cfg(test)]
+mod tests;

@@ -40,7 +40,7 @@ loop-routed-preserved c =
     record {
       place = ap (λ n. n + 1) place;
       joined = subst (λ n. IsEnqueued c.args.number (take (i + 1) legs) c.args.venues.now.items (set after n now)) (sym at)
-      (enqueued_more c.args.number legs c.args.venues.now.items after i routed was now c.loop-routed.invariant.joined c.loop-routed-test.true c.routed-item.is known was_is refl refl
-      c.push_back_reserved.ensures.capacity
-      (c.push_back_reserved.ensures.items ∙ ap (λ l. was.placed.items ++ l ∷ []) leg));
+          (enqueued_more c.args.number legs c.args.venues.now.items after i routed was now c.loop-routed.invariant.joined c.loop-routed-test.true c.routed-item.is known was_is refl refl
+          c.push_back_reserved.ensures.capacity
+          (c.push_back_reserved.ensures.items ∙ ap (λ l. was.placed.items ++ l ∷ []) leg));
     }
