@@ -1,6 +1,6 @@
 -- What the desk keeps, once one venue changed and an entry was written.
-use Rattle.std.proofs.Common.{◌≡◌, Option, Some, None, Ok, Err, true, false, ◌≢◌, ℕ, ◌+◌, ◌-◌, ◌<◌, ◌≤◌, inl, inr, List, [], ◌∷◌, ◌++◌, length, map, drop, get_or, set, refl, ap, sym, ◌∙◌, subst, arith}
-use Rattle.std.specs.Prelude.{◌==◌, sum_by, slice_get, unwrap_or, vec_len, vec_capacity, option_map}
+use Rattle.std.proofs.Common.{◌≡◌, Some, None, Ok, Err, true, ℕ, ◌+◌, ◌<◌, ◌≤◌, inl, inr, List, [], ◌∷◌, ◌++◌, length, map, drop, get_or, set, refl, ap, sym, ◌∙◌, subst, arith}
+use Rattle.std.specs.Prelude.{◌==◌, sum_by, unwrap_or, vec_len, vec_capacity, option_map}
 use Rattle.std.proofs.lemmas.Bool.{cases_eq}
 use Rattle.std.proofs.lemmas.List.{append-nil, length-map, length-set, map-set, set-get_or, get_or-set_same, get_or-set_other}
 use Rattle.std.proofs.lemmas.Option.{slice_get-map, slice_get-get_or}
@@ -12,12 +12,9 @@ use Rattle.sweep_release.specs.declared.desk_entry.DeskEntry.TheVariants as entr
 use Rattle.sweep_release.specs.declared.venue.Venue.{Venue}
 use Rattle.leg.specs.Answering.{Answers}
 use Rattle.leg.specs.declared.leg.Leg.{Leg}
-use Rattle.leg.specs.declared.placed_leg.PlacedLeg.{PlacedLeg}
-use Rattle.sweep_release.specs.declared.gate_fault.GateFault.{GateFault}
-use Rattle.sweep_release.specs.declared.gate_fault.GateFault.TheVariants.{NotDrained, Closed, OutOfMemory}
+use Rattle.sweep_release.specs.declared.gate_fault.GateFault.TheVariants.{OutOfMemory}
 use Rattle.sweep_release.specs.declared.gate.Gate.{Gate}
 use Rattle.sweep_release.specs.declared.gate.Gate.TheVariants.{Up, Down, Shut}
-use Rattle.sweep_release.specs.Gates.{gate_due}
 use Rattle.sweep_release.specs.Released.{released}
 use Rattle.sweep_release.specs.Desk.{DeskVenue, DeskParts, venue_at, with_venue, gate_of, placed_legs, placed, with_gate, one_left, leave_first, leave, gate_up_from, gate_up}
 use Rattle.sweep_release.specs.History.{DeskWithHistory, with_entries, gate_up_entries_from, gate_up_entries}

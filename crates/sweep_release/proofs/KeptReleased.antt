@@ -1,13 +1,12 @@
 -- What the desk keeps, once a sweep is released.
-use Rattle.std.proofs.Common.{◌≡◌, ℕ, suc, not, Err, if◌then◌else◌, ◌+◌, ◌*◌, ◌<◌, ◌≤◌, Bool, true, false, List, [], ◌∷◌, ◌++◌, length, map, drop, get_or, Option, Some, None, Ok, refl, ap, sym, ◌∙◌, subst, arith}
+use Rattle.std.proofs.Common.{◌≡◌, ℕ, suc, not, Err, if◌then◌else◌, ◌+◌, ◌<◌, ◌≤◌, Bool, true, false, List, [], ◌∷◌, ◌++◌, length, map, drop, get_or, None, Ok, refl, ap, sym, ◌∙◌, subst, arith}
 use Rattle.std.specs.Prelude.{◌||◌, ◌==◌, nat_le, nat_lt, sum_by, vec_len, vec_capacity}
-use Rattle.std.specs.VecDeque.{deque_capacity}
 use Rattle.std.proofs.lemmas.Bool.{ltb-false}
 use Rattle.std.proofs.lemmas.Bool.Decides.{nat_tests}
 use Rattle.std.proofs.lemmas.List.{get_or_default, length-append, length_push, drop-append-le}
 use Rattle.std.proofs.lemmas.List.Sums.{sum_by_push}
 use Rattle.leg.specs.Answering.{Answers}
-use Rattle.leg.specs.Refusing.{◌or_then◌, refused_if}
+use Rattle.leg.specs.Refusing.{refused_if}
 use Rattle.leg.specs.declared.sweep.Routed.{Routed}
 use Rattle.share_ledger.specs.Entries.{sweep_shares}
 use Rattle.sweep_release.specs.declared.desk.Desk.TheInside.{Inside}
@@ -20,7 +19,7 @@ use Rattle.sweep_release.specs.declared.venue.Venue.{Venue}
 use Rattle.sweep_release.specs.Released.{legs_to, released}
 use Rattle.sweep_release.specs.Desk.{DeskParts, venue_at, placed, placed_shares, count_to, refused_at, is_up, gate_of, backlog_refusal, is_spent, release_refusal, next_number, with_sweep, release_unless, release}
 use Rattle.sweep_release.specs.History.{DeskWithHistory, with_entries, release_entries}
-use Rattle.sweep_release.specs.Kept.{desk_seen, released_sweeps, venue_seen, entries_due, IsKeptVenue, IsKept, HaveRoom, IsJoined, IsEnqueued}
+use Rattle.sweep_release.specs.Kept.{desk_seen, released_sweeps, venue_seen, IsKeptVenue, IsKept, HaveRoom, IsEnqueued}
 use Rattle.sweep_release.proofs.Released.{released-push, length-legs_to, length-released-push}
 use Rattle.sweep_release.proofs.Backlog.{none_second, fits}
 use Rattle.sweep_release.proofs.Changing.{released_sweeps-append, venue_at_seen}

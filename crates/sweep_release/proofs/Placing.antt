@@ -1,5 +1,5 @@
 -- A sweep that is placed is in the desk and in the book.
-use Rattle.std.proofs.Common.{◌≡◌, ◌+◌, Bool, true, false, List, [], ◌∷◌, ◌++◌, length, Option, Some, None, Ok, Err, refl, if◌then◌else◌}
+use Rattle.std.proofs.Common.{◌≡◌, Bool, true, false, List, Option, Some, None, Ok, Err, refl, if◌then◌else◌}
 use Rattle.std.specs.Prelude.{◌==◌, IfOk}
 use Rattle.std.proofs.lemmas.Bool.{eqb-true}
 use Rattle.leg.specs.declared.sweep.Routed.{Routed}

@@ -1,12 +1,12 @@
 -- What the laws of the desk say.
-use Rattle.std.specs.Prelude.{◌≡◌, ◌≢◌, ℕ, ◌+◌, ◌≤◌, List, [], ◌∷◌, ◌++◌, length, Some}
+use Rattle.std.specs.Prelude.{◌≡◌, ◌≢◌, ℕ, ◌+◌, ◌≤◌, List, ◌∷◌, length, Some}
 use Rattle.leg.specs.Numbered.{numbered}
 use Rattle.leg.specs.declared.placed_leg.PlacedLeg.{PlacedLeg}
 use Rattle.leg.specs.declared.sweep.Routed.{Routed}
 use Rattle.leg.specs.Growing.{Grew}
 use Rattle.share_ledger.specs.declared.book_entry.BookEntry.TheVariants.{Opened}
 use Rattle.share_ledger.specs.Entries.{sweep_shares}
-use Rattle.share_ledger.specs.Book.{BookParts, written, next_sweep}
+use Rattle.share_ledger.specs.Book.{written, next_sweep}
 use Rattle.sweep_release.specs.declared.receipt.Receipt.{Receipt}
 use Rattle.sweep_release.specs.Released.{released}
 use Rattle.sweep_release.specs.Desk.{DeskParts, venue_at, placed, placed_legs, next_number, with_sweep}

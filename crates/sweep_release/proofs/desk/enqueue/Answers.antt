@@ -1,9 +1,8 @@
 use Rattle.std.proofs.Common.{◌≡◌, ◌<◌, ◌+◌, [], ◌∷◌, ◌++◌, length, take, get_or, set, refl, ap, sym, ◌∙◌, subst, arith}
-use Rattle.std.specs.VecDeque.{deque_len, deque_capacity}
 use Rattle.leg.specs.declared.leg.Leg.{Leg}
 use Rattle.sweep_release.specs.declared.venue.Venue.{Venue}
 use Rattle.sweep_release.specs.Kept.{IsEnqueued}
-use Rattle.sweep_release.proofs.Enqueued.{enqueued_none, enqueued_more, enqueued_all, room_for}
+use Rattle.sweep_release.proofs.Enqueued.{enqueued_none, enqueued_more, room_for}
 use Rattle.sweep_release.proofs.desk.enqueue.Goals as goal
 
 pub loop-routed-init : goal.loop-routed-init

@@ -1,4 +1,4 @@
-use Rattle.std.proofs.Common.{◌≡◌, sym, ◌∙◌, arith}
+use Rattle.std.proofs.Common.{sym, ◌∙◌}
 use Rattle.std.specs.Prelude.{nat_le}
 use Rattle.std.proofs.lemmas.List.{at_drop_all}
 use Rattle.sweep_release.specs.declared.release_fault.ReleaseFault.TheVariants.{UnknownVenue}

@@ -1,10 +1,10 @@
-use Rattle.std.proofs.Common.{◌≡◌, ◌+◌, ◌-◌, ◌≤◌, [], ◌∷◌, ◌++◌, refl, ap, sym, ◌∙◌, arith}
+use Rattle.std.proofs.Common.{◌≡◌, [], ◌∷◌, ◌++◌, refl, ap, sym, ◌∙◌, arith}
 use Rattle.sweep_release.specs.declared.desk_entry.DeskEntry.TheVariants as entry
 use Rattle.sweep_release.specs.declared.gate.Gate.TheVariants.{Up, Down}
 use Rattle.sweep_release.specs.declared.venue.Venue.{Venue}
 use Rattle.sweep_release.specs.Gates.{gate_due}
-use Rattle.sweep_release.specs.Desk.{gate_of, placed}
-use Rattle.sweep_release.proofs.Changing.{IsRead, is_read, kept-changed, seen_turned, raised}
+use Rattle.sweep_release.specs.Desk.{placed}
+use Rattle.sweep_release.proofs.Changing.{is_read, kept-changed, seen_turned, raised}
 use Rattle.sweep_release.proofs.desk.Desk.gate_up.Goals as goal
 
 pub invariant_of-self-2 : goal.invariant_of-self-2

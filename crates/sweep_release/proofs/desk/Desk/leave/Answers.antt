@@ -1,9 +1,9 @@
-use Rattle.std.proofs.Common.{◌≡◌, Some, ◌+◌, ◌-◌, ◌≤◌, [], ◌∷◌, ◌++◌, length, refl, ap, sym, ◌∙◌, subst, arith}
+use Rattle.std.proofs.Common.{◌≡◌, Some, ◌+◌, [], ◌∷◌, ◌++◌, length, refl, ap, sym, ◌∙◌, arith}
 use Rattle.std.proofs.lemmas.List.{append-nil, nil_from_length}
 use Rattle.sweep_release.specs.History.{left_entries}
 use Rattle.sweep_release.specs.declared.venue.Venue.{Venue}
 use Rattle.sweep_release.proofs.AtVenue.{drop-next}
-use Rattle.sweep_release.proofs.Changing.{IsRead, is_read, kept-changed, seen_kept, seen_left, left_none-leg, left_none-desk, left_first-leg, left_first-desk}
+use Rattle.sweep_release.proofs.Changing.{is_read, kept-changed, seen_kept, seen_left, left_none-leg, left_none-desk, left_first-leg, left_first-desk}
 use Rattle.sweep_release.proofs.desk.Desk.leave.Goals as goal
 
 pub invariant_of-self : goal.invariant_of-self

@@ -1,4 +1,4 @@
-use Rattle.std.proofs.Common.{◌≡◌, ◌+◌, length, replicate, refl, ap, ◌∙◌, arith}
+use Rattle.std.proofs.Common.{◌≡◌, length, replicate, refl, ap, ◌∙◌, arith}
 use Rattle.sweep_release.proofs.Fresh.{kept_new, all_seen}
 use Rattle.sweep_release.specs.declared.gate.Gate.TheVariants.{Down}
 use Rattle.sweep_release.specs.Desk.{DeskVenue}

@@ -1,9 +1,7 @@
-use Rattle.std.proofs.Common.{◌≡◌, [], ◌∷◌, ◌+◌, ◌-◌, ◌≤◌, refl, ap, sym, ◌∙◌, subst, arith}
-use Rattle.std.specs.Prelude.{vec_len, vec_capacity}
+use Rattle.std.proofs.Common.{[], ◌∷◌, refl, ap, ◌∙◌, arith}
 use Rattle.sweep_release.specs.Gates.{gate_due}
 use Rattle.sweep_release.specs.declared.venue.Venue.{Venue}
-use Rattle.sweep_release.specs.Kept.{IsKept}
-use Rattle.sweep_release.proofs.Changing.{IsRead, is_read, kept-changed, seen_turned}
+use Rattle.sweep_release.proofs.Changing.{is_read, kept-changed, seen_turned}
 use Rattle.sweep_release.proofs.desk.Desk.turn.Goals as goal
 
 pub push_reserved-requires : goal.push_reserved-requires
