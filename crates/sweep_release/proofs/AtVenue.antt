@@ -63,7 +63,7 @@ pub only-drop_next : (desk : DeskParts) (venue : ℕ) → ChangesOnly venue desk
 only-drop_next desk venue = drop_only desk venue (is_up (gate_of desk venue))
 
 -- what is behind the first n, without its first, is behind the first n + 1
-drop-next : (n : ℕ) (legs : List Leg) (leg : Leg) (rest : List Leg) → drop n legs ≡ leg ∷ rest → drop (n + 1) legs ≡ rest
+pub drop-next : (n : ℕ) (legs : List Leg) (leg : Leg) (rest : List Leg) → drop n legs ≡ leg ∷ rest → drop (n + 1) legs ≡ rest
 drop-next n legs leg rest e = sym (drop-drop 1 n legs) ∙ ap (drop 1) e
 
 slice_get-first : (n : ℕ) (legs : List Leg) (leg : Leg) (rest : List Leg) → drop n legs ≡ leg ∷ rest → slice_get legs n ≡ Some leg

@@ -5,3 +5,8 @@ pub mod Backlog
 pub mod Lasting
 pub mod AtVenue
 pub mod Placing
+pub mod Changing
+pub mod Fresh
+pub mod Refusals
+pub mod Enqueued
+pub mod KeptReleased

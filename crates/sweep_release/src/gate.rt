@@ -1,5 +1,8 @@
 //! Whether legs are taken to a venue.
 
+ghost use Rattle.std.specs.Prelude.{◌≡◌};
+ghost use Rattle.sweep_release.specs.Gates.{gate_due};
+
 /// Whether legs are released to a venue, and taken to it.
 #[derive(Clone, Copy, Debug, PartialEq, Eq)]
 pub enum Gate {
@@ -9,4 +12,17 @@ pub enum Gate {
     Down,
     /// As down, for good.
     Shut,
+}
+
+impl Gate {
+    // How many entries the next changes of the gate may write: one that is up is put down and then shut.
+    pub(crate) fn due(self) -> usize
+        ensures { result ≡ gate_due self }
+    {
+        match self {
+            Gate::Up => 2,
+            Gate::Down => 1,
+            Gate::Shut => 0,
+        }
+    }
 }

@@ -1,5 +1,8 @@
 //! Why a gate isn't put up.
 
+ghost use Rattle.std.specs.Prelude.{◌≡◌};
+
+use std::alloc::AllocError;
 use thiserror::Error;
 
 /// Why a gate isn't put up. The desk is as it was.
@@ -13,4 +16,14 @@ pub enum GateFault {
     Closed,
     #[error("G03 out of memory")]
     OutOfMemory,
+}
+
+impl From<AllocError> for GateFault {
+    ghost use Rattle.sweep_release.specs.declared.gate_fault.GateFault.TheVariants.{OutOfMemory};
+
+    ghost from_gives = { λ _ e. e ≡ OutOfMemory };
+
+    fn from(_e: AllocError) -> GateFault {
+        GateFault::OutOfMemory
+    }
 }

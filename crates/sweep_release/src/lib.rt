@@ -1,6 +1,7 @@
 //! Sweeps placed together or not at all: the desk of released legs and the gates of the venues.
 #![tactic(auto)]
 
+mod desk;
 mod desk_entry;
 mod gate;
 mod gate_fault;
@@ -8,9 +9,14 @@ pub mod laws;
 mod receipt;
 mod release_fault;
 pub mod rows;
+mod venue;
 
+pub use desk::Desk;
 pub use desk_entry::DeskEntry;
 pub use gate::Gate;
 pub use gate_fault::GateFault;
 pub use receipt::Receipt;
 pub use release_fault::ReleaseFault;
+
+#[cfg(test)]
+mod tests;

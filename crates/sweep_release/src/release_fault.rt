@@ -1,6 +1,9 @@
 //! Why a sweep is refused.
 
+ghost use Rattle.std.specs.Prelude.{◌≡◌};
+
 use leg::VenueId;
+use std::alloc::{AllocError, AllocFailed};
 use thiserror::Error;
 
 /// Why a sweep is refused, the first that holds. Nothing of it is placed. A venue is that of the first leg, in the
@@ -29,4 +32,24 @@ pub enum ReleaseFault {
     /// The book would refuse the sweep under its number: it isn't the one that goes with this desk.
     #[error("R08 wrong book")]
     WrongBook,
+}
+
+impl From<AllocError> for ReleaseFault {
+    ghost use Rattle.sweep_release.specs.declared.release_fault.ReleaseFault.TheVariants.{OutOfMemory};
+
+    ghost from_gives = { λ _ e. e ≡ OutOfMemory };
+
+    fn from(_e: AllocError) -> ReleaseFault {
+        ReleaseFault::OutOfMemory
+    }
+}
+
+impl<T: Drop> From<AllocFailed<T>> for ReleaseFault {
+    ghost use Rattle.sweep_release.specs.declared.release_fault.ReleaseFault.TheVariants.{OutOfMemory};
+
+    ghost from_gives = { λ _ e. e ≡ OutOfMemory };
+
+    fn from(_e: AllocFailed<T>) -> ReleaseFault {
+        ReleaseFault::OutOfMemory
+    }
 }

@@ -1,0 +1,66 @@
+-- A desk whose venues are all new.
+use Rattle.std.proofs.Common.{◌≡◌, ℕ, ◌+◌, ◌≤◌, List, [], ◌∷◌, length, map, get_or, replicate, refl, ap, sym, ◌∙◌, subst, arith}
+use Rattle.std.specs.Prelude.{sum_by, vec_len, vec_capacity}
+use Rattle.std.specs.List.{All}
+use Rattle.std.specs.VecDeque.{deque_capacity}
+use Rattle.std.proofs.lemmas.List.{drop_all}
+use Rattle.std.proofs.lemmas.List.Sums.{sum_by-cons}
+use Rattle.std.proofs.lemmas.List.Elements.{All-head, All-tail, All-get_or}
+use Rattle.sweep_release.specs.declared.desk.Desk.TheInside.{Inside}
+use Rattle.sweep_release.specs.declared.gate.Gate.TheVariants.{Down}
+use Rattle.sweep_release.specs.declared.venue.Venue.{Venue}
+use Rattle.sweep_release.specs.Gates.{gate_due}
+use Rattle.sweep_release.specs.Desk.{DeskVenue}
+use Rattle.sweep_release.specs.Kept.{released_sweeps, venue_seen, entries_due, IsKeptVenue, IsKept}
+
+-- the gate is down, no leg left and none is placed
+pub record IsFresh (venue : Venue) : Type 0 where
+  pub gate : venue.gate ≡ Down
+  pub left : venue.left ≡ 0
+  pub empty : venue.placed.items ≡ []
+  pub room : 256 ≤ deque_capacity venue.placed
+
+seen_fresh : (venue : Venue) → IsFresh venue → venue_seen venue ≡ record { gate = Down; left = 0 }
+seen_fresh venue fresh = let gate = fresh.gate in let left = fresh.left in λ k. record { gate = gate k; left = left k }
+
+pub all_seen : (venues : List Venue) → All IsFresh venues → map venue_seen venues ≡ replicate (length venues) (let v : DeskVenue = record { gate = Down; left = 0 } in v)
+all_seen [] fresh = refl
+all_seen (venue ∷ venues) fresh =
+    let first = seen_fresh venue (All-head IsFresh venue venues fresh) in
+    let rest = all_seen venues (All-tail IsFresh venue venues fresh) in
+    λ k. first k ∷ rest k
+
+due_fresh : (venue : Venue) → IsFresh venue → entries_due venue ≡ 1
+due_fresh venue fresh = let none = ap length fresh.empty in let one = ap gate_due fresh.gate in omega (arith, none, one)
+
+all_due : (venues : List Venue) → All IsFresh venues → sum_by entries_due venues ≡ length venues
+all_due [] fresh = refl
+all_due (venue ∷ venues) fresh =
+    omega (arith, sum_by-cons entries_due venue venues, due_fresh venue (All-head IsFresh venue venues fresh), all_due venues (All-tail IsFresh venue venues fresh))
+
+kept_fresh : (number : ℕ) (venue : Venue) → IsFresh venue → IsKeptVenue [] number venue
+kept_fresh number venue fresh =
+    let empty = fresh.empty in
+    let none = ap length empty in
+    let left = fresh.left in
+    let room = fresh.room in
+    record {
+      queue = empty ∙ sym (drop_all venue.left [] (omega arith));
+      few = omega (arith, none);
+      room = room;
+      all = omega (arith, none, left);
+      counted = omega (arith, none, left);
+    }
+
+pub kept_new : (desk : Inside) → All IsFresh desk.venues.items → desk.history.items ≡ [] → desk.sweeps ≡ 0 → desk.shares ≡ 0 → desk.due ≡ length desk.venues.items → vec_len desk.history + desk.due ≤ vec_capacity desk.history → IsKept desk
+kept_new desk fresh empty sweeps shares due room =
+    let none : [] ≡ released_sweeps desk.history.items = ap released_sweeps (sym empty) in
+    record {
+      venues = λ k other there. subst (λ s. IsKeptVenue s k (get_or desk.venues.items k other)) none (kept_fresh k _ (All-get_or IsFresh desk.venues.items k other there fresh));
+      count = sweeps ∙ ap length none;
+      shares = shares ∙ ap (sum_by _) none;
+      few = omega (arith, sweeps);
+      bounded = omega (arith, shares);
+      due = due ∙ sym (all_due desk.venues.items fresh);
+      room = room;
+    }

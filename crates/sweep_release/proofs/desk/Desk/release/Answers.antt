@@ -1,0 +1,42 @@
+use Rattle.std.proofs.Common.{◌≡◌, ◌+◌, ◌≤◌, [], ◌∷◌, ◌++◌, length, map, Ok, refl, ap, sym, ◌∙◌, subst, arith}
+use Rattle.std.specs.Prelude.{IfNone}
+use Rattle.leg.specs.Answering.{Answers}
+use Rattle.sweep_release.specs.declared.desk_entry.DeskEntry.TheVariants as entry
+use Rattle.sweep_release.specs.declared.receipt.Receipt.{Receipt}
+use Rattle.sweep_release.specs.declared.release_fault.ReleaseFault.TheVariants.{OutOfMemory}
+use Rattle.sweep_release.specs.Desk.{release_refusal, next_number, release}
+use Rattle.sweep_release.specs.History.{DeskWithHistory, with_entries, release_entries}
+use Rattle.sweep_release.specs.Kept.{released_sweeps, venue_seen}
+use Rattle.sweep_release.proofs.KeptReleased.{have_room, kept_released, seen_released, released_whole}
+use Rattle.sweep_release.proofs.desk.Desk.release.Goals as goal
+
+pub enqueue-requires-clause-room : goal.enqueue-requires-clause-room
+enqueue-requires-clause-room c =
+    let legs = c.as_slice-legs.result.now in
+    have_room c.self.inside legs c.self.invariant (ap (λ s. release_refusal s.desk legs) c.self.view_is ∙ (sym c.refusal.ensures.value ∙ c.in_default.is))
+
+pub invariant_of-self-2 : goal.invariant_of-self-2
+invariant_of-self-2 c =
+    let legs = c.as_slice-legs.result.now in
+    let short : length legs ≤ 32 = subst (λ r. IfNone r (length legs ≤ 32)) c.in_default.is c.refusal.ensures.short in
+    let history_is = c.push_reserved.ensures.items ∙ (ap (λ l. l ++ entry.Released c.args.sweep ∷ []) c.in_ok-reserve.ensures.items ∙ ap (λ ls. c.self.inside.history.items ++ entry.Released (record { legs = ls }) ∷ []) (sym c.as_slice-legs.ensures)) in
+    kept_released c.self.inside _ legs c.self.invariant
+    (ap (λ s. release_refusal s.desk legs) c.self.view_is ∙ (sym c.refusal.ensures.value ∙ c.in_default.is))
+    short c.enqueue.ensures history_is refl
+    (ap (λ n. c.self.inside.shares + n) c.shares_of.ensures.value) refl
+    (omega (arith, c.in_ok-reserve.ensures.ok, c.push_reserved.ensures.len, c.push_reserved.ensures.capacity))
+
+pub returns : goal.returns
+returns c =
+    let legs = c.as_slice-legs.result.now in
+    let seen = c.args.self.now in
+    let items = c.push_reserved.new.self.items in
+    let receipt : Receipt = record { number = c.self.inside.sweeps + 1; shares = c.shares_of.result } in
+    let now : DeskWithHistory = record { desk = record { sweeps = released_sweeps items; venues = map venue_seen c.enqueue.new.venues.items }; history = items } in
+    let history_is = c.push_reserved.ensures.items ∙ (ap (λ l. l ++ entry.Released c.args.sweep ∷ []) c.in_ok-reserve.ensures.items ∙ ap (λ ls. c.self.inside.history.items ++ entry.Released (record { legs = ls }) ∷ []) (sym c.as_slice-legs.ensures)) in
+    let count = c.self.invariant.count in
+    let number : c.self.inside.sweeps + 1 ≡ next_number seen.desk = ap (λ n. n + 1) (count ∙ ap (λ s. length s.desk.sweeps) c.self.view_is) in
+    subst (λ ls. Answers OutOfMemory seen (with_entries seen (release_entries ls (release seen.desk ls).0) (release seen.desk ls)) (Ok receipt) now) c.as_slice-legs.ensures
+    (released_whole seen now legs receipt (sym c.refusal.ensures.value ∙ c.in_default.is) number c.shares_of.ensures.value
+    (seen_released c.self.inside seen legs c.enqueue.new.venues.items items (c.self.inside.sweeps + 1) c.self.view_is c.enqueue.ensures history_is)
+    (history_is ∙ ap (λ s. s.history ++ entry.Released (record { legs = legs }) ∷ []) c.self.view_is))

@@ -1,0 +1,71 @@
+-- What the desk keeps beside its history, so that no call walks it.
+use Rattle.std.specs.Prelude.{◌≡◌, ℕ, ◌+◌, ◌*◌, ◌<◌, ◌≤◌, List, [], ◌∷◌, ◌++◌, length, map, drop, sum_by, get_or, vec_len, vec_capacity}
+use Rattle.std.specs.VecDeque.{deque_capacity}
+use Rattle.leg.specs.declared.leg.Leg.{Leg}
+use Rattle.leg.specs.declared.sweep.Routed.{Routed}
+use Rattle.share_ledger.specs.Entries.{sweep_shares}
+use Rattle.sweep_release.specs.declared.desk.Desk.TheInside.{Inside}
+use Rattle.sweep_release.specs.declared.desk_entry.DeskEntry.{DeskEntry}
+use Rattle.sweep_release.specs.declared.desk_entry.DeskEntry.TheVariants.{Released}
+use Rattle.sweep_release.specs.declared.venue.Venue.{Venue}
+use Rattle.sweep_release.specs.Gates.{gate_due}
+use Rattle.sweep_release.specs.Released.{legs_to, released}
+use Rattle.sweep_release.specs.Desk.{DeskVenue, count_to}
+use Rattle.sweep_release.specs.History.{DeskWithHistory}
+
+-- the sweeps that were released, in the order of their numbers
+abbrev pub released_sweeps : List DeskEntry → List (List Routed)
+released_sweeps [] = []
+released_sweeps (Released sweep ∷ entries) = sweep.legs ∷ released_sweeps entries
+released_sweeps (_ ∷ entries) = released_sweeps entries
+
+-- a venue as a caller sees it
+abbrev pub venue_seen : Venue → DeskVenue
+venue_seen venue = record { gate = venue.gate; left = venue.left }
+
+-- the desk as a caller sees it
+abbrev pub desk_seen : Inside → DeskWithHistory
+desk_seen desk =
+    record {
+      desk = record { sweeps = released_sweeps desk.history.items; venues = map venue_seen desk.venues.items };
+      history = desk.history.items;
+    }
+
+-- how many entries the calls at a venue that take no memory may write: one for each placed leg, and those of its gate
+abbrev pub entries_due : Venue → ℕ
+entries_due venue = length venue.placed.items + gate_due venue.gate
+
+-- a venue's queue has the legs released to it that didn't leave; at most 256, for which it has room
+pub record IsKeptVenue (sweeps : List (List Routed)) (number : ℕ) (venue : Venue) : Type 0 where
+  pub queue : venue.placed.items ≡ drop venue.left (released number sweeps)
+  pub few : length venue.placed.items ≤ 256
+  pub room : 256 ≤ deque_capacity venue.placed
+  pub all : venue.left + length venue.placed.items ≡ length (released number sweeps)
+  pub counted : venue.left + length venue.placed.items ≤ 32 * length sweeps
+
+-- the counts are those of the history, and the history has room for what is due
+pub record IsKept (desk : Inside) : Type 0 where
+  pub venues : (k : ℕ) (other : Venue) → k < length desk.venues.items → IsKeptVenue (released_sweeps desk.history.items) k (get_or desk.venues.items k other)
+  pub count : desk.sweeps ≡ length (released_sweeps desk.history.items)
+  pub shares : desk.shares ≡ sum_by sweep_shares (released_sweeps desk.history.items)
+  pub few : desk.sweeps ≤ 999999999999
+  pub bounded : desk.shares ≤ 1000000000000000000
+  pub due : desk.due ≡ sum_by entries_due desk.venues.items
+  pub room : vec_len desk.history + desk.due ≤ vec_capacity desk.history
+
+-- each venue's queue has room for the legs that join it
+pub record HaveRoom (legs : List Routed) (venues : List Venue) : Type 0 where
+  pub fits : (k : ℕ) (other : Venue) → k < length venues → length (get_or venues k other).placed.items + count_to k legs ≤ deque_capacity (get_or venues k other).placed
+
+-- a venue after these legs joined its queue
+pub record IsJoined (legs : List Leg) (before after : Venue) : Type 0 where
+  pub queue : after.placed.items ≡ before.placed.items ++ legs
+  pub room : deque_capacity after.placed ≡ deque_capacity before.placed
+  pub left : after.left ≡ before.left
+
+-- the venues after the legs of a sweep joined their queues, each in the order of the places
+pub record IsEnqueued (number : ℕ) (legs : List Routed) (before after : List Venue) : Type 0 where
+  pub many : length after ≡ length before
+  pub joined : (k : ℕ) (other : Venue) → k < length before → IsJoined (legs_to k number 1 legs) (get_or before k other) (get_or after k other)
+  pub seen : map venue_seen after ≡ map venue_seen before
+  pub due : sum_by entries_due after ≡ sum_by entries_due before + length legs

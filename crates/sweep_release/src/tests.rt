@@ -1,0 +1,143 @@
+//! Gates, releases and leaving legs on a desk of two venues, and each refusal.
+
+ghost use Rattle.std.specs.Prelude.{◌<◌, length, IfOk};
+
+use super::*;
+use leg::{Legs, Routed, Side, Sweep, Symbol, Terms, VenueId};
+use std::alloc::Global;
+use std::test::Fail;
+
+fn venue(number: u8) -> Result<VenueId, Fail> {
+    Ok(VenueId::new(number).ok().ok_or("a venue")?)
+}
+
+// The venue of a number, which the desk has.
+fn known(desk: &Desk, number: u8) -> Result<VenueId, Fail>
+    ensures { IfOk result (λ venue. venue < length desk.now.desk.venues) }
+{
+    if usize::from(number) >= desk.venues() {
+        return Err(Fail::from("the desk hasn't got the venue"));
+    }
+    match VenueId::new(number) {
+        Ok(venue) => Ok(venue),
+        Err(_) => Err(Fail::from("a venue")),
+    }
+}
+
+// So many orders of ten shares for a venue.
+fn sweep(alloc: Global, number: u8, count: usize) -> Result<Sweep, Fail> {
+    let mut legs = Vec::new(alloc);
+    for _ in 0..count {
+        let symbol = Symbol::new(b"IBM", b"").ok().ok_or("a symbol")?;
+        legs.push(Routed {
+            venue: venue(number)?,
+            terms: Terms::new(symbol, Side::Buy, 10, 100_000)
+                .ok()
+                .ok_or("terms")?,
+        })?;
+    }
+    Ok(Sweep {
+        legs: Legs::new(legs),
+    })
+}
+
+// Two venues, gate 0 up and gate 1 down.
+fn two_venues(alloc: Global) -> Result<Desk, Fail> {
+    let mut desk = Desk::new(alloc, 2).ok().ok_or("a desk")?;
+    let at = known(&desk, 0)?;
+    desk.gate_up(at).ok().ok_or("a gate")?;
+    Ok(desk)
+}
+
+#[test]
+fn one_gate_down_refuses_the_whole_sweep(rt: HostRuntime) -> Result<(), Fail> {
+    let mut desk = two_venues(rt.alloc())?;
+    let mut legs = sweep(rt.alloc(), 0, 1)?.legs.into_vec();
+    let mut other = sweep(rt.alloc(), 1, 1)?.legs.into_vec();
+    legs.append(&mut other)?;
+    let mixed = Sweep {
+        legs: Legs::new(legs),
+    };
+    assert_eq!(rt; desk.release(mixed), Err(ReleaseFault::GateShut(venue(1)?)));
+    let at = known(&desk, 0)?;
+    assert_eq!(rt; desk.placed(at), 0);
+    assert_eq!(rt;
+        desk.release(sweep(rt.alloc(), 0, 0)?),
+        Err(ReleaseFault::Empty)
+    );
+    assert_eq!(rt;
+        desk.release(sweep(rt.alloc(), 0, 33)?),
+        Err(ReleaseFault::TooManyLegs)
+    );
+    assert_eq!(rt;
+        desk.release(sweep(rt.alloc(), 2, 1)?),
+        Err(ReleaseFault::UnknownVenue(venue(2)?))
+    );
+    assert_eq!(rt; desk.history().len(), 1);
+    Ok(())
+}
+
+#[test]
+fn a_backlog_is_full_at_256_and_drained(rt: HostRuntime) -> Result<(), Fail> {
+    let mut desk = two_venues(rt.alloc())?;
+    for number in 1..9 {
+        let receipt = desk
+            .release(sweep(rt.alloc(), 0, 32)?)
+            .ok()
+            .ok_or("a receipt")?;
+        assert_eq!(rt; receipt.number, number);
+        assert_eq!(rt; receipt.shares, 320);
+    }
+    assert_eq!(rt;
+        desk.release(sweep(rt.alloc(), 0, 1)?),
+        Err(ReleaseFault::BacklogFull(venue(0)?))
+    );
+    assert_eq!(rt; desk.placed_shares(), 2_560);
+    let at = known(&desk, 0)?;
+    desk.gate_down(at);
+    let at = known(&desk, 0)?;
+    assert_eq!(rt; desk.gate_up(at), Err(GateFault::NotDrained));
+    for ordinal in 1..257 {
+        let at = known(&desk, 0)?;
+        let placed = desk.drop_next(at).ok_or("a leg")?;
+        assert_eq!(rt; placed.ordinal, ordinal);
+    }
+    let at = known(&desk, 0)?;
+    assert!(rt; desk.drop_next(at).is_none());
+    let at = known(&desk, 0)?;
+    assert_eq!(rt; desk.gate_up(at), Ok(()));
+    let at = known(&desk, 0)?;
+    desk.shut(at);
+    let at = known(&desk, 0)?;
+    assert_eq!(rt; desk.gate_up(at), Err(GateFault::Closed));
+    let at = known(&desk, 0)?;
+    assert_eq!(rt; desk.gate(at), Gate::Shut);
+    Ok(())
+}
+
+#[test]
+fn ready_then_release(rt: HostRuntime) -> Result<(), Fail> {
+    let mut desk = two_venues(rt.alloc())?;
+    let one = sweep(rt.alloc(), 0, 1)?;
+    assert_eq!(rt; desk.ready(&one), Ok(()));
+    let at = known(&desk, 0)?;
+    assert_eq!(rt; desk.placed(at), 0);
+    let receipt = desk.release(one).ok().ok_or("a receipt")?;
+    assert_eq!(rt;
+        receipt,
+        Receipt {
+            number: 1,
+            shares: 10
+        }
+    );
+    let at = known(&desk, 0)?;
+    let placed = desk.take(at).ok_or("a leg")?;
+    assert_eq!(rt; placed.leg.id.sweep(), 1);
+    assert_eq!(rt; placed.leg.id.place(), 1);
+    let at = known(&desk, 0)?;
+    assert!(rt; desk.take(at).is_none());
+    let at = known(&desk, 0)?;
+    assert!(rt; desk.drop_next(at).is_none());
+    assert_eq!(rt; desk.history().len(), 3);
+    Ok(())
+}
