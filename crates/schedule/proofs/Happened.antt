@@ -31,7 +31,7 @@ use Rattle.sweep_release.specs.Place.{place_after, place_in_book}
 use Rattle.schedule.specs.declared.event.Event.{Event}
 use Rattle.schedule.specs.declared.event.Event.TheVariants as event
 use Rattle.schedule.specs.World.{World, VenueParts, Frame, venue_in}
-use Rattle.schedule.specs.Happening.{with_venue, at_venue, in_connection, session_wrote, exchange_wrote, is_session_up, released_world, dropped_world, sent_world, taken_world, may_connect, connected_world, to_exchange, session_turn, to_dispatcher, noted, act_of, acted_world, called_world, closed_world, connects, takes, goes_up, happens, run}
+use Rattle.schedule.specs.Happening.{with_venue, at_venue, in_connection, session_wrote, exchange_wrote, is_session_up, released_world, dropped_world, sent_world, taken_world, may_connect, connected_world, to_exchange, session_turn, to_dispatcher, noted, act_of, acted_world, called_world, closed_world, connects, takes, goes_up, happens, happen}
 use Rattle.schedule.specs.Growing.{named, HasGrown, IsVenueLater, IsWorldLater, IsUntouched}
 use Rattle.schedule.proofs.Grown.{grew-same, grew-refl, grown-refl, venue_later-refl, world_later-refl, world_later-trans, slice_get-set_other, length-slice_set, venue_set}
 use Rattle.schedule.proofs.ExchangeGrows.{take_grows, drop_connection_grows, act_grows}
@@ -295,7 +295,7 @@ others_untouched w e u other = (event_happened w e).others u other
 pub absent_unchanged : (w : World) (e : Event) (v : ℕ) → named e ≡ Some v → venue_in w v ≡ None → happens w e ≡ w
 absent_unchanged w e v names gone = (event_happened w e).absent v names gone
 
-pub run_is_later : (events : List Event) (w : World) → IsWorldLater w (run events w)
-run_is_later [] w = world_later-refl w
-run_is_later (e ∷ events) w =
-    world_later-trans w (happens w e) (run events (happens w e)) (event_is_later w e) (run_is_later events (happens w e))
+pub happen_is_later : (events : List Event) (w : World) → IsWorldLater w (happen events w)
+happen_is_later [] w = world_later-refl w
+happen_is_later (e ∷ events) w =
+    world_later-trans w (happens w e) (happen events (happens w e)) (event_is_later w e) (happen_is_later events (happens w e))

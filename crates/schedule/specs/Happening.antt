@@ -9,6 +9,7 @@ use Rattle.dialect.specs.Message.{Message}
 use Rattle.session_core.specs.declared.phase.Phase.{Phase}
 use Rattle.session_core.specs.declared.phase.Phase.TheVariants as phase
 use Rattle.session_core.specs.declared.session_fault.SessionFault.{SessionFault}
+use Rattle.session_core.specs.declared.session_fault.SessionFault.TheVariants.{NumbersSpent}
 use Rattle.session_core.specs.Session.{SessionParts, is_connected}
 use Rattle.session_core.specs.Turn.{Turn}
 use Rattle.session_core.specs.Receiving.{receive, confirm}
@@ -25,7 +26,7 @@ use Rattle.schedule.specs.declared.act.Act.{Act}
 use Rattle.schedule.specs.declared.act.Act.TheVariants as act
 use Rattle.schedule.specs.declared.event.Event.{Event}
 use Rattle.schedule.specs.declared.event.Event.TheVariants as event
-use Rattle.schedule.specs.World.{World, VenueParts, Frame, venue_in}
+use Rattle.schedule.specs.World.{World, VenueParts, Frame, opening, venue_in}
 
 -- the world with this in a venue's place
 abbrev pub with_venue : World → ℕ → VenueParts → World
@@ -51,12 +52,7 @@ exchange_wrote connection answer venue =
 
 abbrev pub is_session_up : Phase → Bool
 is_session_up phase.Up = true
-is_session_up phase.Down = false
-is_session_up phase.LoggingOn = false
-is_session_up phase.Settling = false
-is_session_up phase.Closing = false
-is_session_up phase.LoggedOut = false
-is_session_up phase.Closed = false
+is_session_up _ = false
 
 -- Release: the sweep is placed at desk and book under one number, or at neither
 abbrev pub released_world : World → Result Placed ReleaseFault → World
@@ -73,14 +69,16 @@ dropped_world w (None, desk) = w
 dropped_world w (Some placed, desk) = record w { desk = desk; book = (withdraw w.book placed.leg.id).1 }
 
 -- Take: the leg leaves the desk and is sent; where no number is left it is withdrawn
-abbrev pub sent_world : World → ℕ → VenueParts → LegIdParts → Result (SessionParts × Message) SessionFault → World
-sent_world w v venue id (Ok answer) = with_venue w v (session_wrote answer.0 (answer.1 ∷ []) venue)
-sent_world w v venue id (Err fault) = record w { book = (withdraw w.book id).1 }
+abbrev pub sent_world : World → DeskParts → ℕ → VenueParts → LegIdParts → Result Message SessionFault × SessionParts → World
+sent_world w desk v venue id (Ok message, session) =
+    with_venue (record w { desk = desk }) v (session_wrote session (message ∷ []) venue)
+sent_world w desk v venue id (Err NumbersSpent, session) = record w { desk = desk; book = (withdraw w.book id).1 }
+sent_world w desk v venue id (Err fault, session) = w
 
 abbrev pub taken_world : World → ℕ → VenueParts → Option PlacedLeg × DeskParts → World
 taken_world w v venue (None, desk) = w
 taken_world w v venue (Some placed, desk) =
-    sent_world (record w { desk = desk }) v venue placed.leg.id (send_leg venue.session placed.ordinal placed.leg)
+    sent_world w desk v venue placed.leg.id (send_leg venue.session placed.ordinal placed.leg)
 
 -- Connect: with the gate not up and nothing placed
 abbrev pub may_connect : DeskParts → ℕ → Bool
@@ -168,6 +166,11 @@ happens w (event.Close v) = at_venue w v (λ venue. closed_world w v venue (clos
 happens w (event.Abandon v) = at_venue w v (λ venue. with_venue (record w { desk = shut w.desk v }) v (record venue { session = abandon venue.session }))
 
 -- the world after a list of events
-abbrev pub run : List Event → World → World
-run [] w = w
-run (event ∷ events) w = run events (happens w event)
+abbrev pub happen : List Event → World → World
+happen [] w = w
+happen (event ∷ events) w = happen events (happens w event)
+
+-- the world of a schedule: of so many venues, of which each chose to be told the next expected number (789) or not,
+-- where no message of a session has the number max_number
+abbrev pub run : List Bool → ℕ → List Event → World
+run next max_number events = happen events (opening next max_number)
