@@ -8,3 +8,5 @@ pub mod Sweep
 pub mod Split
 pub mod Numbered
 pub mod Growing
+pub mod Answering
+pub mod Refusing

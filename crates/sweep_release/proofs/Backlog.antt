@@ -3,6 +3,7 @@ use Rattle.std.proofs.Common.{◌≡◌, ℕ, suc, ◌+◌, ◌-◌, ◌<◌, �
 use Rattle.std.specs.Prelude.{◌==◌, nat_lt, nat_le}
 use Rattle.std.proofs.lemmas.Bool.{cases_Bool, cases_eq, cases_lt, eqb-true, ltb-false}
 use Rattle.std.proofs.lemmas.List.{append_assoc, append-nil, length-drop}
+use Rattle.leg.specs.Refusing.{◌or_then◌, refused_if}
 use Rattle.leg.specs.declared.leg.Leg.{Leg}
 use Rattle.leg.specs.declared.sweep.Routed.{Routed}
 use Rattle.sweep_release.specs.declared.desk_entry.DeskEntry.{DeskEntry}
@@ -10,7 +11,7 @@ use Rattle.sweep_release.specs.declared.gate.Gate.{Gate}
 use Rattle.sweep_release.specs.declared.release_fault.ReleaseFault.{ReleaseFault}
 use Rattle.sweep_release.specs.declared.release_fault.ReleaseFault.TheVariants.{Empty, TooManyLegs, UnknownVenue, GateShut, BacklogFull}
 use Rattle.sweep_release.specs.Released.{released}
-use Rattle.sweep_release.specs.Desk.{DeskVenue, DeskParts, new_desk, venue_at, gate_of, placed_legs, placed, ◌or_then◌, refused_if, refused_at, is_up, count_to, backlog_refusal, release_refusal, with_gate, one_left}
+use Rattle.sweep_release.specs.Desk.{DeskVenue, DeskParts, new_desk, venue_at, gate_of, placed_legs, placed, refused_at, is_up, count_to, backlog_refusal, release_refusal, with_gate, one_left}
 use Rattle.sweep_release.specs.History.{again, replay}
 use Rattle.sweep_release.specs.Laws.{IsCounted}
 use Rattle.sweep_release.proofs.Venues.{venue_at-other, with_venue-past, left-with_gate, left-one_left, left-new_desk}

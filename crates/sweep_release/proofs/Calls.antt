@@ -1,5 +1,5 @@
 -- What each call makes of the desk.
-use Rattle.std.proofs.Common.{◌≡◌, ℕ, Bool, true, false, List, [], ◌∷◌, ◌++◌, Option, Some, None, Result, Ok, Err, refl, ap, sym, ◌∙◌, if◌then◌else◌}
+use Rattle.std.proofs.Common.{◌≡◌, ℕ, Bool, true, false, List, [], ◌∷◌, ◌++◌, Option, Some, None, refl, ap, sym, ◌∙◌, if◌then◌else◌}
 use Rattle.std.specs.Prelude.{◌==◌}
 use Rattle.leg.specs.declared.leg.Leg.{Leg}
 use Rattle.leg.specs.declared.placed_leg.PlacedLeg.{PlacedLeg}
@@ -8,10 +8,9 @@ use Rattle.sweep_release.specs.declared.desk_entry.DeskEntry.{DeskEntry}
 use Rattle.sweep_release.specs.declared.desk_entry.DeskEntry.TheVariants as entry
 use Rattle.sweep_release.specs.declared.gate.Gate.{Gate}
 use Rattle.sweep_release.specs.declared.gate.Gate.TheVariants.{Up, Down, Shut}
-use Rattle.sweep_release.specs.declared.receipt.Receipt.{Receipt}
 use Rattle.sweep_release.specs.declared.release_fault.ReleaseFault.{ReleaseFault}
 use Rattle.sweep_release.specs.Desk.{DeskParts, gate_of, placed_legs, placed, is_up, is_shut, release_refusal, release_unless, release, with_gate, gate_up_from, gate_up, gate_down, shut, one_left, leave_first, leave, take, drop_next}
-use Rattle.sweep_release.specs.History.{desk_after, again, replay, release_entries, gate_up_entries_from, gate_up_entries, gate_down_entries, shut_entries, left_entries, take_entries, drop_next_entries, recorded, history}
+use Rattle.sweep_release.specs.History.{again, replay, release_entries, gate_up_entries_from, gate_up_entries, gate_down_entries, shut_entries, left_entries, take_entries, drop_next_entries, recorded, history}
 
 -- the desk after a call is the one before, or it has one more sweep, another gate, or one more leg left
 pub data IsStep (desk after : DeskParts) : Type 0 where
@@ -20,7 +19,7 @@ pub data IsStep (desk after : DeskParts) : Type 0 where
   turns : (venue : ℕ) (gate : Gate) → (gate_of desk venue ≡ Shut → gate ≡ Shut) → after ≡ with_gate venue gate desk → IsStep desk after
   leaves : (venue : ℕ) (leg : Leg) (legs : List Leg) → placed_legs desk venue ≡ leg ∷ legs → after ≡ one_left venue desk → IsStep desk after
 
-release_step : (desk : DeskParts) (legs : List Routed) (refusal : Option ReleaseFault) → release_refusal desk legs ≡ refusal → IsStep desk (desk_after desk (release_unless refusal desk legs))
+release_step : (desk : DeskParts) (legs : List Routed) (refusal : Option ReleaseFault) → release_refusal desk legs ≡ refusal → IsStep desk (release_unless refusal desk legs).1
 release_step desk legs (Some fault) e = stays refl
 release_step desk legs None e = releases legs e refl
 
@@ -62,12 +61,12 @@ step desk (entry.Dropped venue) = drop_step desk venue (is_up (gate_of desk venu
 
 -- a call's entries lead to the desk after it
 
-release_replayed : (desk : DeskParts) (legs : List Routed) (r : Result (Receipt × DeskParts) ReleaseFault) → release desk legs ≡ r → replay desk (release_entries legs r) ≡ desk_after desk r
-release_replayed desk legs (Ok released) e = ap (desk_after desk) e
-release_replayed desk legs (Err fault) e = refl
+release_replayed : (desk : DeskParts) (legs : List Routed) (refusal : Option ReleaseFault) → release_refusal desk legs ≡ refusal → replay desk (release_entries legs (release_unless refusal desk legs).0) ≡ (release_unless refusal desk legs).1
+release_replayed desk legs None e = ap (λ r. (release_unless r desk legs).1) e
+release_replayed desk legs (Some fault) e = refl
 
-pub replayed-release : (desk : DeskParts) (legs : List Routed) → replay desk (release_entries legs (release desk legs)) ≡ desk_after desk (release desk legs)
-replayed-release desk legs = release_replayed desk legs (release desk legs) refl
+pub replayed-release : (desk : DeskParts) (legs : List Routed) → replay desk (release_entries legs (release desk legs).0) ≡ (release desk legs).1
+replayed-release desk legs = release_replayed desk legs (release_refusal desk legs) refl
 
 gate_up_replayed : (desk : DeskParts) (venue : ℕ) (gate : Gate) (drained : Bool) → gate_of desk venue ≡ gate → (placed desk venue == 0) ≡ drained → replay desk (gate_up_entries_from gate desk venue) ≡ (gate_up_from gate desk venue).1
 gate_up_replayed desk venue Up drained e d = refl

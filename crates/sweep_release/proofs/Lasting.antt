@@ -61,9 +61,9 @@ pub shut-replay : (desk : DeskParts) (entries : List DeskEntry) (venue : ℕ) �
 shut-replay desk [] venue h = h
 shut-replay desk (entry ∷ entries) venue h = shut-replay (again desk entry) entries venue (shut-step desk (again desk entry) venue (step desk entry) h)
 
-lists_unless : (desk : DeskParts) (legs : List Routed) (venue : ℕ) (refusal : Option ReleaseFault) → IfOk (release_unless refusal desk legs) (λ done. released venue done.1.sweeps ≡ released venue desk.sweeps ++ legs_to venue done.0.number 1 legs)
+lists_unless : (desk : DeskParts) (legs : List Routed) (venue : ℕ) (refusal : Option ReleaseFault) → IfOk (release_unless refusal desk legs).0 (λ receipt. released venue (release_unless refusal desk legs).1.sweeps ≡ released venue desk.sweeps ++ legs_to venue receipt.number 1 legs)
 lists_unless desk legs venue (Some fault) = tt
 lists_unless desk legs venue None = released-push venue desk.sweeps legs
 
-pub released-release : (desk : DeskParts) (legs : List Routed) (venue : ℕ) → IfOk (release desk legs) (λ done. released venue done.1.sweeps ≡ released venue desk.sweeps ++ legs_to venue done.0.number 1 legs)
+pub released-release : (desk : DeskParts) (legs : List Routed) (venue : ℕ) → IfOk (release desk legs).0 (λ receipt. released venue (release desk legs).1.sweeps ≡ released venue desk.sweeps ++ legs_to venue receipt.number 1 legs)
 released-release desk legs venue = lists_unless desk legs venue (release_refusal desk legs)

@@ -6,21 +6,21 @@ use Rattle.leg.specs.declared.sweep.Routed.{Routed}
 use Rattle.share_ledger.specs.declared.book_entry.BookEntry.TheVariants.{Opened}
 use Rattle.share_ledger.specs.declared.book_fault.BookFault.TheVariants.{NotNext, Unfit}
 use Rattle.share_ledger.specs.Entries.{sweep_shares}
-use Rattle.share_ledger.specs.Book.{BookParts, BookAnswer, written, next_sweep, is_fit}
+use Rattle.share_ledger.specs.Book.{BookAnswer, written, next_sweep, is_fit}
 use Rattle.sweep_release.specs.declared.release_fault.ReleaseFault.{ReleaseFault}
-use Rattle.sweep_release.specs.Desk.{DeskParts, release_refusal, release_unless}
+use Rattle.sweep_release.specs.Desk.{next_number, with_sweep, release_refusal, release_unless}
 use Rattle.sweep_release.specs.Laws.{IsPlaced}
-use Rattle.sweep_release.specs.Place.{place_in_book, place_after, place}
+use Rattle.sweep_release.specs.Place.{DeskAndBook, place_in_book, place_after, place}
 
-in_book : (desk : DeskParts) (book : BookParts) (legs : List Routed) (next fits : Bool) → (length desk.sweeps + 1 == next_sweep book) ≡ next → (let r : BookAnswer = if next then (if fits then (Ok tt, written (Opened (record { legs = legs })) book) else (Err Unfit, book)) else (Err NotNext, book) in IfOk (place_in_book (record { number = length desk.sweeps + 1; shares = sweep_shares legs }) (record desk { sweeps = desk.sweeps ++ legs ∷ [] }) r) (IsPlaced desk book legs))
-in_book desk book legs true true e =
-    record { in_desk = refl; in_book = refl; desk_number = refl; book_number = eqb-true (length desk.sweeps + 1) (next_sweep book) e; shares = refl }
-in_book desk book legs true false e = tt
-in_book desk book legs false fits e = tt
+in_book : (before : DeskAndBook) (legs : List Routed) (next fits : Bool) → (next_number before.desk == next_sweep before.book) ≡ next → (let r : BookAnswer = if next then (if fits then (Ok tt, written (Opened (record { legs = legs })) before.book) else (Err Unfit, before.book)) else (Err NotNext, before.book) in let placed = place_in_book before (record { number = next_number before.desk; shares = sweep_shares legs }) (with_sweep legs before.desk) r in IfOk placed.0 (IsPlaced before legs placed.1))
+in_book before legs true true e =
+    record { in_desk = refl; in_book = refl; desk_number = refl; book_number = eqb-true (next_number before.desk) (next_sweep before.book) e; shares = refl }
+in_book before legs true false e = tt
+in_book before legs false fits e = tt
 
-placed_unless : (desk : DeskParts) (book : BookParts) (legs : List Routed) (refusal : Option ReleaseFault) → IfOk (place_after book legs (release_unless refusal desk legs)) (IsPlaced desk book legs)
-placed_unless desk book legs (Some fault) = tt
-placed_unless desk book legs None = in_book desk book legs (length desk.sweeps + 1 == next_sweep book) (is_fit book legs) refl
+placed_unless : (before : DeskAndBook) (legs : List Routed) (refusal : Option ReleaseFault) → (let placed = place_after before legs (release_unless refusal before.desk legs) in IfOk placed.0 (IsPlaced before legs placed.1))
+placed_unless before legs (Some fault) = tt
+placed_unless before legs None = in_book before legs (next_number before.desk == next_sweep before.book) (is_fit before.book legs) refl
 
-pub is_placed : (desk : DeskParts) (book : BookParts) (legs : List Routed) → IfOk (place desk book legs) (IsPlaced desk book legs)
-is_placed desk book legs = placed_unless desk book legs (release_refusal desk legs)
+pub is_placed : (before : DeskAndBook) (legs : List Routed) → IfOk (place before legs).0 (IsPlaced before legs (place before legs).1)
+is_placed before legs = placed_unless before legs (release_refusal before.desk legs)

@@ -1,5 +1,6 @@
 -- The desk and its calls. Each call gives its answer, and the desk after it.
 use Rattle.std.specs.Prelude.{ℕ, suc, ◌+◌, Bool, true, false, not, ◌||◌, List, [], ◌∷◌, ◌++◌, length, drop, replicate, sum_by, Option, Some, None, Result, Ok, Err, unwrap_or, slice_get, slice_set, ◌==◌, nat_le, nat_lt, if◌then◌else◌}
+use Rattle.leg.specs.Refusing.{◌or_then◌, refused_if}
 use Rattle.leg.specs.declared.leg.Leg.{Leg}
 use Rattle.leg.specs.declared.placed_leg.PlacedLeg.{PlacedLeg}
 use Rattle.leg.specs.declared.sweep.Routed.{Routed}
@@ -51,16 +52,6 @@ placed desk venue = length (placed_legs desk venue)
 abbrev pub placed_shares : DeskParts → ℕ
 placed_shares desk = sum_by sweep_shares desk.sweeps
 
--- a refusal, or else the next one that is tried
-infixr 5 ◌or_then◌
-abbrev pub ◌or_then◌ : Option ReleaseFault → Option ReleaseFault → Option ReleaseFault
-(Some fault) or_then next = Some fault
-None or_then next = next
-
--- this refusal, where the test holds
-abbrev pub refused_if : Bool → ReleaseFault → Option ReleaseFault
-refused_if test fault = if test then Some fault else None
-
 -- the refusal that names the venue of the first leg that fails a test
 abbrev pub refused_at : (ℕ → ReleaseFault) → (ℕ → Bool) → List Routed → Option ReleaseFault
 refused_at fault fails [] = None
@@ -69,8 +60,7 @@ refused_at fault fails (routed ∷ legs) = if fails routed.venue then Some (faul
 -- whether legs may be released to a venue and taken to it
 abbrev pub is_up : Gate → Bool
 is_up Up = true
-is_up Down = false
-is_up Shut = false
+is_up _ = false
 
 -- how many of these orders are for a venue
 abbrev pub count_to : ℕ → List Routed → ℕ
@@ -90,7 +80,7 @@ abbrev pub is_spent : DeskParts → ℕ → Bool
 is_spent desk shares =
     nat_le 999999999999 (length desk.sweeps) || nat_lt 1000000000000000000 (placed_shares desk + shares)
 
--- the first refusal of a sweep, each tried over all legs before the next; asking whether a sweep is ready gives the same
+-- the first refusal of a sweep, each tried over all legs before the next
 abbrev pub release_refusal : DeskParts → List Routed → Option ReleaseFault
 release_refusal desk legs =
     refused_if (length legs == 0) Empty
@@ -100,14 +90,29 @@ release_refusal desk legs =
     or_then (backlog_refusal desk [] legs
     or_then refused_if (is_spent desk (sweep_shares legs)) SweepsSpent))))
 
--- a sweep that isn't refused is released whole, under the next number
-abbrev pub release_unless : Option ReleaseFault → DeskParts → List Routed → Result (Receipt × DeskParts) ReleaseFault
-release_unless (Some fault) desk legs = Err fault
-release_unless None desk legs =
-    Ok (record { number = length desk.sweeps + 1; shares = sweep_shares legs }, record desk { sweeps = desk.sweeps ++ legs ∷ [] })
+-- the number that the next sweep has
+abbrev pub next_number : DeskParts → ℕ
+next_number desk = length desk.sweeps + 1
 
-abbrev pub release : DeskParts → List Routed → Result (Receipt × DeskParts) ReleaseFault
+-- the desk with one more sweep
+abbrev pub with_sweep : List Routed → DeskParts → DeskParts
+with_sweep legs desk = record desk { sweeps = desk.sweeps ++ legs ∷ [] }
+
+-- a sweep that isn't refused is released whole, under the next number
+abbrev pub release_unless : Option ReleaseFault → DeskParts → List Routed → Result Receipt ReleaseFault × DeskParts
+release_unless (Some fault) desk legs = (Err fault, desk)
+release_unless None desk legs = (Ok (record { number = next_number desk; shares = sweep_shares legs }), with_sweep legs desk)
+
+abbrev pub release : DeskParts → List Routed → Result Receipt ReleaseFault × DeskParts
 release desk legs = release_unless (release_refusal desk legs) desk legs
+
+-- asking whether a sweep is ready is refused as its release is, and changes nothing
+abbrev pub ready_unless : Option ReleaseFault → DeskParts → Result (Unit {0}) ReleaseFault × DeskParts
+ready_unless (Some fault) desk = (Err fault, desk)
+ready_unless None desk = (Ok tt, desk)
+
+abbrev pub ready : DeskParts → List Routed → Result (Unit {0}) ReleaseFault × DeskParts
+ready desk legs = ready_unless (release_refusal desk legs) desk
 
 -- the desk with a venue's gate put so
 abbrev pub with_gate : ℕ → Gate → DeskParts → DeskParts
@@ -129,9 +134,8 @@ gate_down desk venue = if is_up (gate_of desk venue) then with_gate venue Down d
 
 -- whether a gate is shut for good
 abbrev pub is_shut : Gate → Bool
-is_shut Up = false
-is_shut Down = false
 is_shut Shut = true
+is_shut _ = false
 
 -- a gate is shut, for good
 abbrev pub shut : DeskParts → ℕ → DeskParts

@@ -10,14 +10,9 @@ use Rattle.sweep_release.specs.declared.receipt.Receipt.{Receipt}
 use Rattle.sweep_release.specs.declared.release_fault.ReleaseFault.{ReleaseFault}
 use Rattle.sweep_release.specs.Desk.{DeskParts, release, gate_of, placed, gate_up, gate_down, is_up, is_shut, shut, take, drop_next}
 
--- the desk after a release; a refused one leaves it
-abbrev pub desk_after : DeskParts → Result (Receipt × DeskParts) ReleaseFault → DeskParts
-desk_after desk (Ok released) = released.1
-desk_after desk (Err fault) = desk
-
 -- an entry's call is made again
 abbrev pub again : DeskParts → DeskEntry → DeskParts
-again desk (entry.Released sweep) = desk_after desk (release desk sweep.legs)
+again desk (entry.Released sweep) = (release desk sweep.legs).1
 again desk (entry.Up venue) = (gate_up desk venue).1
 again desk (entry.Down venue) = gate_down desk venue
 again desk (entry.Shut venue) = shut desk venue
@@ -30,8 +25,8 @@ replay desk [] = desk
 replay desk (entry ∷ entries) = replay (again desk entry) entries
 
 -- what a release adds to the history: nothing, where it is refused
-abbrev pub release_entries : List Routed → Result (Receipt × DeskParts) ReleaseFault → List DeskEntry
-release_entries legs (Ok released) = entry.Released (record { legs = legs }) ∷ []
+abbrev pub release_entries : List Routed → Result Receipt ReleaseFault → List DeskEntry
+release_entries legs (Ok receipt) = entry.Released (record { legs = legs }) ∷ []
 release_entries legs (Err fault) = []
 
 -- what `gate_up` adds: the entry, where the gate was down and nothing is placed
@@ -64,7 +59,7 @@ drop_next_entries desk venue = left_entries (entry.Dropped venue) (drop_next des
 
 -- what an entry's call adds
 abbrev pub recorded : DeskParts → DeskEntry → List DeskEntry
-recorded desk (entry.Released sweep) = release_entries sweep.legs (release desk sweep.legs)
+recorded desk (entry.Released sweep) = release_entries sweep.legs (release desk sweep.legs).0
 recorded desk (entry.Up venue) = gate_up_entries desk venue
 recorded desk (entry.Down venue) = gate_down_entries desk venue
 recorded desk (entry.Shut venue) = shut_entries desk venue
@@ -75,3 +70,12 @@ recorded desk (entry.Dropped venue) = drop_next_entries desk venue
 abbrev pub history : DeskParts → List DeskEntry → List DeskEntry
 history desk [] = []
 history desk (call ∷ calls) = recorded desk call ++ history (again desk call) calls
+
+-- a desk, and the entries of the calls that changed it
+pub record DeskWithHistory : Type 0 where
+  pub desk : DeskParts
+  pub history : List DeskEntry
+
+-- a call's answer, and the desk after it with what the call adds to its history
+abbrev pub with_entries : {X : Type 0} → DeskWithHistory → List DeskEntry → X × DeskParts → X × DeskWithHistory
+with_entries before entries (answer, desk) = (answer, record { desk = desk; history = before.history ++ entries })

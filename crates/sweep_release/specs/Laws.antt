@@ -7,9 +7,10 @@ use Rattle.leg.specs.Growing.{Grew}
 use Rattle.share_ledger.specs.declared.book_entry.BookEntry.TheVariants.{Opened}
 use Rattle.share_ledger.specs.Entries.{sweep_shares}
 use Rattle.share_ledger.specs.Book.{BookParts, written, next_sweep}
+use Rattle.sweep_release.specs.declared.receipt.Receipt.{Receipt}
 use Rattle.sweep_release.specs.Released.{released}
-use Rattle.sweep_release.specs.Desk.{DeskParts, venue_at, placed, placed_legs}
-use Rattle.sweep_release.specs.Place.{Placed}
+use Rattle.sweep_release.specs.Desk.{DeskParts, venue_at, placed, placed_legs, next_number, with_sweep}
+use Rattle.sweep_release.specs.Place.{DeskAndBook}
 
 -- the sweeps are as they were, and so is each other venue
 pub record ChangesOnly (venue : ℕ) (before after : DeskParts) : Type 0 where
@@ -31,9 +32,9 @@ pub record LeavesFirst (venue : ℕ) (before after : DeskParts) (placed_leg : Pl
   pub ordinal : numbered placed_leg.ordinal (released venue before.sweeps) ≡ Some placed_leg.leg
 
 -- desk and book took this sweep, under the receipt's number, and nothing else
-pub record IsPlaced (desk : DeskParts) (book : BookParts) (legs : List Routed) (placed : Placed) : Type 0 where
-  pub in_desk : placed.desk ≡ record desk { sweeps = desk.sweeps ++ legs ∷ [] }
-  pub in_book : placed.book ≡ written (Opened (record { legs = legs })) book
-  pub desk_number : placed.receipt.number ≡ length desk.sweeps + 1
-  pub book_number : placed.receipt.number ≡ next_sweep book
-  pub shares : placed.receipt.shares ≡ sweep_shares legs
+pub record IsPlaced (before : DeskAndBook) (legs : List Routed) (after : DeskAndBook) (receipt : Receipt) : Type 0 where
+  pub in_desk : after.desk ≡ with_sweep legs before.desk
+  pub in_book : after.book ≡ written (Opened (record { legs = legs })) before.book
+  pub desk_number : receipt.number ≡ next_number before.desk
+  pub book_number : receipt.number ≡ next_sweep before.book
+  pub shares : receipt.shares ≡ sweep_shares legs

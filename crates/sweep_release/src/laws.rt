@@ -1,20 +1,23 @@
 //! What follows from the desk's rules: each law is the contract of a function that does nothing.
 
-ghost use Rattle.std.specs.Prelude.{◌≡◌, ◌≢◌, ◌+◌, ◌<◌, ℕ, List, [], ◌∷◌, ◌++◌, length, IfOk, IfSome, IfNone, OnErr, IsOk};
+ghost use Rattle.std.specs.Prelude.{◌≡◌, ◌≢◌, ◌+◌, ◌<◌, ℕ, List, [], ◌∷◌, ◌++◌, length, ◌↔◌, IfOk, IfSome, IfNone, OnOk, OnErr, IsOk};
 ghost use Rattle.leg.specs.declared.sweep.Routed.{Routed};
 ghost use Rattle.share_ledger.specs.Entries.{sweep_shares};
-ghost use Rattle.share_ledger.specs.Book.{BookParts, open_sweep};
+ghost use Rattle.share_ledger.specs.Book.{open_sweep};
 ghost use Rattle.sweep_release.specs.declared.desk_entry.DeskEntry.{DeskEntry as AnEntry};
 ghost use Rattle.sweep_release.specs.Released.{legs_to, released};
-ghost use Rattle.sweep_release.specs.Desk.{DeskParts, new_desk, gate_of, placed, placed_shares, release, gate_up, gate_down, shut, take, drop_next};
-ghost use Rattle.sweep_release.specs.History.{desk_after, replay, release_entries, gate_up_entries, gate_down_entries, shut_entries, take_entries, drop_next_entries, history};
-ghost use Rattle.sweep_release.specs.Place.{place};
+ghost use Rattle.sweep_release.specs.Desk.{DeskParts, new_desk, gate_of, placed, placed_shares, next_number, with_sweep, release, ready, gate_up, gate_down, shut, take, drop_next};
+ghost use Rattle.sweep_release.specs.History.{replay, release_entries, gate_up_entries, gate_down_entries, shut_entries, take_entries, drop_next_entries, history};
+ghost use Rattle.sweep_release.specs.Place.{DeskAndBook, place};
 ghost use Rattle.sweep_release.specs.Laws.{ChangesOnly, OnlyAppends, IsCounted, LeavesFirst, IsPlaced};
 
 use crate::{Gate, ReleaseFault};
 
 /// A gate that isn't put up, and a call that gives no leg, leave the desk as it was.
 pub fn what_is_refused_changes_nothing()
+    ensures release { (desk : DeskParts) (legs : List Routed) →
+        OnErr (release desk legs).0 ((release desk legs).1 ≡ desk) }
+    ensures ready { (desk : DeskParts) (legs : List Routed) → (ready desk legs).1 ≡ desk }
     ensures gate_up { (desk : DeskParts) (venue : ℕ) →
         OnErr (gate_up desk venue).0 ((gate_up desk venue).1 ≡ desk) }
     ensures take { (desk : DeskParts) (venue : ℕ) →
@@ -26,16 +29,25 @@ pub fn what_is_refused_changes_nothing()
 /// A release adds its sweep behind the others, under the next number, and changes no gate and no count.
 pub fn a_release_only_appends()
     ensures desk { (desk : DeskParts) (legs : List Routed) →
-        IfOk (release desk legs) (λ done. done.1 ≡ record desk { sweeps = desk.sweeps ++ legs ∷ [] }) }
+        OnOk (release desk legs).0 ((release desk legs).1 ≡ with_sweep legs desk) }
     ensures number { (desk : DeskParts) (legs : List Routed) →
-        IfOk (release desk legs) (λ done. done.0.number ≡ length desk.sweeps + 1) }
+        IfOk (release desk legs).0 (λ receipt. receipt.number ≡ length desk.sweeps + 1) }
     ensures shares { (desk : DeskParts) (legs : List Routed) →
-        IfOk (release desk legs) (λ done. done.0.shares ≡ sweep_shares legs) }
+        IfOk (release desk legs).0 (λ receipt. receipt.shares ≡ sweep_shares legs) }
     ensures legs { (desk : DeskParts) (legs : List Routed) (venue : ℕ) →
-        IfOk (release desk legs) (λ done.
-        released venue done.1.sweeps ≡ released venue desk.sweeps ++ legs_to venue done.0.number 1 legs) }
+        IfOk (release desk legs).0 (λ receipt.
+        released venue (release desk legs).1.sweeps ≡ released venue desk.sweeps ++ legs_to venue receipt.number 1 legs) }
     ensures placed_shares { (desk : DeskParts) (legs : List Routed) →
-        IfOk (release desk legs) (λ done. placed_shares done.1 ≡ placed_shares desk + done.0.shares) }
+        IfOk (release desk legs).0 (λ receipt.
+        placed_shares (release desk legs).1 ≡ placed_shares desk + receipt.shares) }
+{}
+
+/// A sweep is ready exactly where its release isn't refused, and for the same reason.
+pub fn a_ready_sweep_is_released()
+    ensures ok { (desk : DeskParts) (legs : List Routed) →
+        IsOk (ready desk legs).0 ↔ IsOk (release desk legs).0 }
+    ensures fault { (desk : DeskParts) (legs : List Routed) (fault : ReleaseFault) →
+        (ready desk legs).0 ≡ Err fault → (release desk legs).0 ≡ Err fault }
 {}
 
 /// Whatever the calls are, a released leg stays where it is among the released legs of its venue.
@@ -74,7 +86,7 @@ pub fn the_first_leg_leaves()
 /// What a call adds to the history leads from the desk before it to the desk after it.
 pub fn each_entry_leads_on()
     ensures release { (desk : DeskParts) (legs : List Routed) →
-        replay desk (release_entries legs (release desk legs)) ≡ desk_after desk (release desk legs) }
+        replay desk (release_entries legs (release desk legs).0) ≡ (release desk legs).1 }
     ensures gate_up { (desk : DeskParts) (venue : ℕ) →
         replay desk (gate_up_entries desk venue) ≡ (gate_up desk venue).1 }
     ensures gate_down { (desk : DeskParts) (venue : ℕ) →
@@ -87,20 +99,21 @@ pub fn each_entry_leads_on()
 
 /// A sweep that is placed is in the desk and in the book, under one number, and nothing else changed.
 pub fn a_placed_sweep_is_in_both()
-    ensures { (desk : DeskParts) (book : BookParts) (legs : List Routed) →
-        IfOk (place desk book legs) (IsPlaced desk book legs) }
+    ensures { (before : DeskAndBook) (legs : List Routed) →
+        IfOk (place before legs).0 (IsPlaced before legs (place before legs).1) }
 {}
 
-/// The refusals of a release come first; where only the book refuses, it is the wrong one.
+/// The refusals of a release come first; where only the book refuses, it is the wrong one. A refused sweep is in
+/// neither.
 pub fn a_sweep_is_placed_unless_one_refuses()
-    ensures desk { (desk : DeskParts) (book : BookParts) (legs : List Routed) (fault : ReleaseFault) →
-        release desk legs ≡ Err fault → place desk book legs ≡ Err fault }
-    ensures book { (desk : DeskParts) (book : BookParts) (legs : List Routed) →
-        IfOk (release desk legs) (λ done.
-        OnErr (open_sweep book done.0.number legs).0 (place desk book legs ≡ Err ReleaseFault.WrongBook)) }
-    ensures neither { (desk : DeskParts) (book : BookParts) (legs : List Routed) →
-        IfOk (release desk legs) (λ done.
-        IsOk (open_sweep book done.0.number legs).0 → IsOk (place desk book legs)) }
+    ensures desk { (before : DeskAndBook) (legs : List Routed) (fault : ReleaseFault) →
+        (release before.desk legs).0 ≡ Err fault → (place before legs).0 ≡ Err fault }
+    ensures book { (before : DeskAndBook) (legs : List Routed) → IsOk (release before.desk legs).0 →
+        OnErr (open_sweep before.book (next_number before.desk) legs).0 ((place before legs).0 ≡ Err ReleaseFault.WrongBook) }
+    ensures neither { (before : DeskAndBook) (legs : List Routed) → IsOk (release before.desk legs).0 →
+        IsOk (open_sweep before.book (next_number before.desk) legs).0 → IsOk (place before legs).0 }
+    ensures refused { (before : DeskAndBook) (legs : List Routed) →
+        OnErr (place before legs).0 ((place before legs).1 ≡ before) }
 {}
 
 /// The history of a list of calls, which has those alone that changed the desk, leads to the desk after all of them.
