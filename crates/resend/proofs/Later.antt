@@ -1,6 +1,6 @@
 -- What spends numbers and settles legs leads to a later log.
 use Rattle.std.proofs.Common.{◌≡◌, ◌⊎◌, ℕ, zero, suc, Bool, true, false, List, [], ◌∷◌, ◌++◌, length, Some, refl, sym, ap, ◌∙◌, inl, inr, if◌then◌else◌, arith, length-append}
-use Rattle.std.specs.Prelude.{IfOk, nat_lt, nat_le}
+use Rattle.std.specs.Prelude.{nat_lt, nat_le}
 use Rattle.std.proofs.lemmas.Option.{same_Some}
 use Rattle.leg.specs.Numbered.{numbered}
 use Rattle.leg.specs.declared.leg_state.LegState.{LegState}
@@ -52,11 +52,12 @@ later-append log more = record {
   sent = λ number leg is. (leg, numbered-append number log more (Sent leg) is, record { ordinal = refl; id = refl; state = inl refl });
 }
 
-later-spent : (b : Bool) (number : ℕ) (entry : Entry) (log : List Entry) → has_number number log ≡ b → IfOk (spend number entry log) (λ spent. IsLater log spent.1)
+later-spent : (b : Bool) (number : ℕ) (entry : Entry) (log : List Entry) → has_number number log ≡ b
+    → IsLater log (spend number entry log).1
 later-spent true number entry log is = rw is (later-append log (entry ∷ []))
-later-spent false number entry log is = rw is tt
+later-spent false number entry log is = rw is (later-refl log)
 
-pub later-spend : (number : ℕ) (entry : Entry) (log : List Entry) → IfOk (spend number entry log) (λ spent. IsLater log spent.1)
+pub later-spend : (number : ℕ) (entry : Entry) (log : List Entry) → IsLater log (spend number entry log).1
 later-spend number entry log = later-spent (has_number number log) number entry log refl
 
 -- what a number was spent on, where some entries are settled

@@ -3,7 +3,7 @@ use Rattle.std.specs.Prelude.{◌≡◌, ◌≢◌, ◌≤◌, ◌<◌, ◌⊎�
 use Rattle.leg.specs.LegId.{LegIdParts}
 use Rattle.leg.specs.Numbered.{numbered}
 use Rattle.leg.specs.declared.leg_state.LegState.{LegState}
-use Rattle.leg.specs.declared.leg_state.LegState.TheVariants.{Queued, Doubt, Taken, Withdrawn}
+use Rattle.leg.specs.declared.leg_state.LegState.TheVariants.{Doubt, Taken, Withdrawn}
 use Rattle.resend.specs.Log.{SentLeg, Entry, GapFillParts, last_number, is_doubt}
 use Rattle.resend.specs.Log.Entry.{Admin, Sent}
 
@@ -32,18 +32,13 @@ WithdrawsNone old new =
 -- the legs that were in doubt and are withdrawn now, in the order of their numbers
 abbrev pub is_withdrawn : LegState → Bool
 is_withdrawn Withdrawn = true
-is_withdrawn Queued = false
-is_withdrawn Doubt = false
-is_withdrawn Taken = false
+is_withdrawn _ = false
 
 abbrev pub withdrawn_since : List Entry → List Entry → List LegIdParts
-withdrawn_since [] new = []
-withdrawn_since (Admin ∷ old) [] = []
-withdrawn_since (Admin ∷ old) (entry ∷ new) = withdrawn_since old new
-withdrawn_since (Sent leg ∷ old) [] = []
-withdrawn_since (Sent leg ∷ old) (Admin ∷ new) = withdrawn_since old new
 withdrawn_since (Sent leg ∷ old) (Sent now ∷ new) =
     if is_doubt leg.state && is_withdrawn now.state then leg.id ∷ withdrawn_since old new else withdrawn_since old new
+withdrawn_since (entry ∷ old) (now ∷ new) = withdrawn_since old new
+withdrawn_since _ _ = []
 
 -- a gap fill that answers for numbers which were sent, from begin on, no further than was asked for and than top
 pub record IsFillFor (begin last top : ℕ) (log : List Entry) (fill : GapFillParts) : Type 0 where

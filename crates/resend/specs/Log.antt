@@ -4,7 +4,7 @@ use Rattle.fix_tags.specs.Range.{range_end, is_range}
 use Rattle.leg.specs.LegId.{LegIdParts}
 use Rattle.leg.specs.Numbered.{numbered}
 use Rattle.leg.specs.declared.leg_state.LegState.{LegState}
-use Rattle.leg.specs.declared.leg_state.LegState.TheVariants.{Queued, Doubt, Taken, Withdrawn}
+use Rattle.leg.specs.declared.leg_state.LegState.TheVariants.{Doubt, Taken, Withdrawn}
 use Rattle.resend.specs.declared.log_fault.LogFault.{LogFault}
 use Rattle.resend.specs.declared.log_fault.LogFault.TheVariants.{NumbersSpent}
 
@@ -25,23 +25,22 @@ pub data Entry : Type 0 where
 abbrev pub last_number : List Entry → ℕ
 last_number log = length log
 
-abbrev pub next_number : List Entry → ℕ
-next_number log = length log + 1
+abbrev pub next_to_send : List Entry → ℕ
+next_to_send log = length log + 1
 
 -- whether a number is left, below the one that no message may have
 abbrev pub has_number : ℕ → List Entry → Bool
-has_number max_number log = nat_lt (next_number log) max_number
+has_number max_number log = nat_lt (next_to_send log) max_number
 
--- a number is spent, and answered
-abbrev pub spend : ℕ → Entry → List Entry → Result (ℕ × List Entry) LogFault
+-- a number is spent, and answered with the log after it; where none is left the log stays as it was
+abbrev pub spend : ℕ → Entry → List Entry → Result ℕ LogFault × List Entry
 spend max_number entry log =
-    if has_number max_number log then Ok (next_number log, log ++ entry ∷ []) else Err NumbersSpent
+    if has_number max_number log then (Ok (next_to_send log), log ++ entry ∷ []) else (Err NumbersSpent, log)
 
 -- the leg that a number was spent on
 abbrev pub leg_of : Option Entry → Option LegIdParts
 leg_of (Some (Sent leg)) = Some leg.id
-leg_of (Some Admin) = None
-leg_of None = None
+leg_of _ = None
 
 abbrev pub leg_at : ℕ → List Entry → Option LegIdParts
 leg_at number log = leg_of (numbered number log)
@@ -74,9 +73,7 @@ last_ordinal log = last_ordinal_after 0 log
 
 abbrev pub is_doubt : LegState → Bool
 is_doubt Doubt = true
-is_doubt Queued = false
-is_doubt Taken = false
-is_doubt Withdrawn = false
+is_doubt _ = false
 
 -- the legs in doubt under a number or above it, in the order of their numbers
 abbrev pub doubt_in : ℕ → List (ℕ × SentLeg) → List LegIdParts

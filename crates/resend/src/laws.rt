@@ -1,6 +1,6 @@
 //! What follows from the definitions: each law is the contract of a function that does nothing.
 
-ghost use Rattle.std.specs.Prelude.{◌≡◌, ◌<◌, ◌↔◌, ℕ, Bool, false, List, [], IfOk, IfSome};
+ghost use Rattle.std.specs.Prelude.{◌≡◌, ◌<◌, ◌↔◌, ℕ, Bool, false, List, [], IfSome};
 ghost use Rattle.leg.specs.Growing.{Grew};
 ghost use Rattle.resend.specs.declared.judged.Judged.TheVariants as judged_as;
 ghost use Rattle.resend.specs.Judging.{judged};
@@ -15,7 +15,7 @@ pub fn later_logs_follow_one_another()
 
 /// A number that is spent, and legs that are taken or withdrawn, lead to a later log.
 pub fn what_is_done_to_a_log_makes_it_later()
-    ensures spend { (max_number : ℕ) (entry : AnEntry) (log : List AnEntry) → IfOk (spend max_number entry log) (λ spent. IsLater log spent.1) }
+    ensures spend { (max_number : ℕ) (entry : AnEntry) (log : List AnEntry) → IsLater log (spend max_number entry log).1 }
     ensures added { (old new : List AnEntry) → Grew old new → IsLater old new }
     ensures take_below { (number : ℕ) (log : List AnEntry) → IsLater log (take_below number log) }
     ensures give_up_from { (number : ℕ) (log : List AnEntry) → IsLater log (give_up_from number log) }

@@ -13,9 +13,9 @@ use Rattle.resend.proofs.Settled.{since-append}
 use Rattle.session_core.specs.declared.phase.Phase.{Phase}
 use Rattle.session_core.specs.declared.ended.Ended.{Ended}
 use Rattle.session_core.specs.Session.{SessionParts, next_out, may_write}
-use Rattle.session_core.specs.Turn.{Turn, quietly, with_session, with_message, spending, fence_id, fenced, asking, writes, writes_fence, asks, fills, counts, logs_out, ends_turn, unless_ended}
+use Rattle.session_core.specs.Turn.{Turn, quietly, with_session, with_message, spending, fence_id, fenced, asking, puts, puts_fence, writes, writes_fence, asks, fills, counts, logs_out, ends_turn, unless_ended}
 use Rattle.session_core.specs.Receiving.{counts_if, asks_if, in_phase, filled_if, asks_missing, asks_anew}
-use Rattle.session_core.specs.Onward.{IsOnward, KeepsLegs, IsCall, SparesLegs, new_numbers, AreNext, IsNumbered}
+use Rattle.session_core.specs.Onward.{IsOnward, KeepsLegs, IsCall, SparesLegs, new_numbers, AreNext, SpendsNumbers}
 
 -- a choice by a test has what both choices have
 pub chosen : {A : Type 0} (P : A → Type 0) (b : Bool) (x y : A) → (b ≡ true → P x) → (b ≡ false → P y) → P (if b then x else y)
@@ -83,35 +83,33 @@ one_written t s m config log connection expected close_asked number new = record
   numbers = one_number t (with_message m (with_session s t)) m number new refl log;
 }
 
+pub adds-puts : (content : Content) (t : Turn) → Adds t (puts content t)
+adds-puts content t =
+    one_written t (spending t.session) (message_of t.session.config (next_out t.session) false content)
+    refl refl refl (omega arith) refl refl refl
+
 pub adds-writes : (content : Content) (t : Turn) → Adds t (writes content t)
 adds-writes content t =
-    chosen (Adds t) (may_write t.session) _ t
-    (λ may. one_written t (spending t.session) (message_of t.session.config (next_out t.session) false content) refl refl refl (omega arith) refl refl refl)
-    (λ may. adds-refl t)
+    chosen (Adds t) (may_write t.session) (puts content t) t (λ may. adds-puts content t) (λ spent. adds-refl t)
+
+pub adds-puts_fence : (t : Turn) → Adds t (puts_fence t)
+adds-puts_fence t =
+    one_written t (spending (fenced t.session))
+    (message_of t.session.config (next_out t.session) false (TestRequest (fence_id (next_out t.session))))
+    refl refl refl (omega arith) refl refl refl
 
 pub adds-writes_fence : (t : Turn) → Adds t (writes_fence t)
 adds-writes_fence t =
-    chosen (Adds t) (may_write t.session) _ t
-    (λ may. one_written t (fenced t.session) (message_of t.session.config (next_out t.session) false (TestRequest (fence_id (next_out t.session)))) refl refl refl (omega arith) refl refl refl)
-    (λ may. adds-refl t)
-
-adds-asking : (t u : Turn) → Adds (with_session (asking t.session) t) u → Adds t u
-adds-asking t u wrote = record {
-  config = wrote.config;
-  log = wrote.log;
-  connection = wrote.connection;
-  expected = wrote.expected;
-  close_asked = wrote.close_asked;
-  withdrawn = wrote.withdrawn;
-  note = wrote.note;
-  numbers = wrote.numbers;
-}
+    chosen (Adds t) (may_write t.session) (puts_fence t) t (λ may. adds-puts_fence t) (λ spent. adds-refl t)
 
 pub adds-asks : (t : Turn) → Adds t (asks t)
 adds-asks t =
-    chosen (Adds t) (may_write t.session) (writes (ResendRequest t.session.expected 0) (with_session (asking t.session) t)) t
-    (λ may. adds-asking t (writes (ResendRequest t.session.expected 0) (with_session (asking t.session) t)) (adds-writes (ResendRequest t.session.expected 0) (with_session (asking t.session) t)))
-    (λ may. adds-refl t)
+    chosen (Adds t) (may_write t.session)
+    (puts (ResendRequest t.session.expected 0) (with_session (asking t.session) t)) t
+    (λ may. one_written t (spending (asking t.session))
+    (message_of t.session.config (next_out t.session) false (ResendRequest t.session.expected 0))
+    refl refl refl (omega arith) refl refl refl)
+    (λ spent. adds-refl t)
 
 pub adds-asks_if : (b : Bool) (t : Turn) → Adds t (asks_if b t)
 adds-asks_if true t = adds-asks t
@@ -165,14 +163,14 @@ since-one_more : (first old new : List Entry) → length first ≤ length old �
 since-one_more first old new fits (inl same) = ap (withdrawn_since first) same
 since-one_more first old new fits (inr more) = ap (withdrawn_since first) more ∙ since-append first old (Admin ∷ []) fits
 
-numbered_by : (s : SessionParts) (t u : Turn) → IsNumbered s t.step.written t.session → NumbersMore t u → IsNumbered s u.step.written u.session
-numbered_by s t u before more =
+spends_by : (s : SessionParts) (t u : Turn) → SpendsNumbers s t.step.written t.session → NumbersMore t u → SpendsNumbers s u.step.written u.session
+spends_by s t u before more =
     rw more.1 (are_next-append (next_out s) (next_out t.session) (next_out u.session) (new_numbers t.step.written) more.0 before more.2)
 
 -- what a turn does to the session, with whether it may withdraw legs
 pub record Goes (may : Bool) (s : SessionParts) (turn : Turn) : Type 0 where
   pub onward : IsOnward s turn.session
-  pub numbered : IsNumbered s turn.step.written turn.session
+  pub spends : SpendsNumbers s turn.step.written turn.session
   pub named : turn.step.withdrawn ≡ withdrawn_since s.log turn.session.log
   pub spares : may ≡ false → SparesLegs s turn
 
@@ -185,7 +183,7 @@ received_by may s t u goes adds = record {
     expected = (let h = goes.onward.expected in omega (arith, adds.expected));
     close_asked = λ asked. adds.close_asked ∙ goes.onward.close_asked asked;
   };
-  numbered = numbered_by s t u goes.numbered adds.numbers;
+  spends = spends_by s t u goes.spends adds.numbers;
   named = adds.withdrawn ∙ (goes.named ∙ sym (since-one_more s.log t.session.log u.session.log goes.onward.log.last adds.log));
   spares = λ not_now.
       (let before = goes.spares not_now in
@@ -207,7 +205,7 @@ keeps_with s t config added connection expected close_asked = record {
   added = added;
 }
 
-pub call_by : (s : SessionParts) (t u : Turn) → IsCall s t → Adds t u → IsCall s u
+pub call_by : (s : SessionParts) (t u : Turn) → IsCall s t.step t.session → Adds t u → IsCall s u.step u.session
 call_by s t u is adds = record {
   keeps = keeps_with s u.session
       (adds.config ∙ is.keeps.onward.config)
@@ -215,7 +213,7 @@ call_by s t u is adds = record {
       (let h = is.keeps.onward.connection in omega (arith, adds.connection))
       (let h = is.keeps.onward.expected in omega (arith, adds.expected))
       (λ asked. adds.close_asked ∙ is.keeps.onward.close_asked asked);
-  numbered = numbered_by s t u is.numbered adds.numbers;
+  spends = spends_by s t u is.spends adds.numbers;
   note = adds.note ∙ is.note;
   withdrawn = adds.withdrawn ∙ is.withdrawn;
 }

@@ -1,10 +1,11 @@
 -- After the session's Logout nothing but a gap fill is written.
-use Rattle.std.proofs.Common.{◌≡◌, ◌==◌, ℕ, Bool, true, false, ◌||◌, not, nat_lt, Option, Some, None, refl, sym, ap, subst, ◌∙◌, inl, inr}
+use Rattle.std.proofs.Common.{◌≡◌, ℕ, Bool, true, false, ◌||◌, not, nat_lt, Option, Some, None, refl, sym, ap, subst, ◌∙◌, inl, inr}
+use Rattle.std.specs.Option.{option_and_then}
 use Rattle.fix_tags.specs.Range.{is_range}
 use Rattle.leg.specs.LegId.{LegIdParts}
 use Rattle.dialect.specs.declared.note.Note.{Note}
 use Rattle.dialect.specs.Addressed.{is_for}
-use Rattle.dialect.specs.Message.{Message, Content, is_logon}
+use Rattle.dialect.specs.Message.{Message, Content}
 use Rattle.dialect.specs.Message.Content.{Logon, Heartbeat, TestRequest, ResendRequest, Reject, GapFill, Reset, Logout, BusinessReject, Order, OrderReport, Other}
 use Rattle.resend.specs.declared.judged.Judged.{Judged}
 use Rattle.resend.specs.declared.judged.Judged.TheVariants as judged
@@ -15,7 +16,7 @@ use Rattle.session_core.specs.declared.ended.Ended.{Ended}
 use Rattle.session_core.specs.declared.ended.Ended.TheVariants as ended
 use Rattle.session_core.specs.Session.{SessionParts, is_logged_out}
 use Rattle.session_core.specs.Turn.{Turn, quietly, counts, notes, asks, ends, unless_ended}
-use Rattle.session_core.specs.Receiving.{is_reset, counts_if, resend_later, resend_row, named_fence, passing, passes_fence, gap_fill_row, refused_leg, refused_row, report_note, due_row, ahead_row, asks_missing, asks_anew, ahead_turn, by_number, received, hearing, receive}
+use Rattle.session_core.specs.Receiving.{is_reset, counts_if, resend_later, resend_row, named_fence, passing, passes_fence, gap_fill_row, refused_leg, refused_row, report_note, in_turn, row, was_requested, asks_missing, asks_anew, by_number, received, hearing, receive}
 use Rattle.session_core.specs.Onward.{WritesFillAlone}
 use Rattle.session_core.proofs.Adding.{chosen}
 
@@ -50,11 +51,11 @@ out_counts_if s false turn is = is
 
 out_asks_anew : (s : SessionParts) (turn : Turn) → IsOut s turn → turn.step.ended ≡ None → IsOut s (asks_anew turn)
 out_asks_anew s turn is going =
-    chosen (IsOut s) (is_logged_out turn.session.phase || turn.session.requested == turn.session.expected) turn (asks turn)
+    chosen (IsOut s) (is_logged_out turn.session.phase || was_requested turn.session) turn (asks turn)
     (λ stays. is)
     (λ asks_so.
-    (let over : (is_logged_out turn.session.phase || turn.session.requested == turn.session.expected) ≡ true =
-    ap (λ phase. is_logged_out phase || turn.session.requested == turn.session.expected) (is.phase going) in
+    (let over : (is_logged_out turn.session.phase || was_requested turn.session) ≡ true =
+    ap (λ phase. is_logged_out phase || was_requested turn.session) (is.phase going) in
     absurd (let e = sym over ∙ asks_so in cc)))
 
 out_asks_missing : (s : SessionParts) (turn : Turn) → IsOut s turn → IsOut s (asks_missing turn)
@@ -85,46 +86,31 @@ out_refused_leg s (Some id) = out_notes s (out s) _ refl
 out_refused_leg s None = out_counts s (quietly (out s)) (out_quietly s (out s) refl)
 
 out_refused : (s : SessionParts) (number : Option ℕ) → IsOut s (refused_row (out s) number)
-out_refused s None = out_counts s (quietly (out s)) (out_quietly s (out s) refl)
-out_refused s (Some number) = out_refused_leg s (leg_at number s.log)
+out_refused s number = out_refused_leg s (option_and_then (λ n. leg_at n s.log) number)
 
-out_due : (s : SessionParts) (number : ℕ) (content : Content) → IsOut s (due_row (out s) number content)
-out_due s number (Logon heart reset next) = out_ends s (out s) ended.LogonAgain
-out_due s number (ResendRequest begin last) = out_resend s true begin last
-out_due s number (Heartbeat id) = out_counts s (passes_fence (out s) (named_fence (out s) id)) (out_fence s (named_fence (out s) id))
-out_due s number (TestRequest id) = out_counts s (quietly (out s)) (out_quietly s (out s) refl)
-out_due s number (GapFill new_number) = out_gap_fill s number new_number
-out_due s number (Reset new_number) = out_ends s (out s) ended.ResetRefused
-out_due s number (Reject refused) = out_refused s (Some refused)
-out_due s number (BusinessReject refused) = out_refused s refused
-out_due s number Logout = out_ends s (out s) ended.LogoutDone
-out_due s number (OrderReport read) = out_notes s (out s) (report_note read) refl
-out_due s number (Order read) = out_counts s (quietly (out s)) (out_quietly s (out s) refl)
-out_due s number Other = out_counts s (quietly (out s)) (out_quietly s (out s) refl)
+out_in_turn : (s : SessionParts) (due : Bool) (turn : Turn) → IsOut s turn → IsOut s (in_turn due (out s) turn)
+out_in_turn s due turn is = chosen (IsOut s) due turn (quietly (out s)) (λ now. is) (λ ahead. out_quietly s (out s) refl)
 
-out_ahead : (s : SessionParts) (content : Content) → IsOut s (ahead_row (out s) content)
-out_ahead s (Logon heart reset next) = out_ends s (out s) ended.LogonAgain
-out_ahead s (ResendRequest begin last) = out_resend s false begin last
-out_ahead s (Heartbeat id) = out_fence s (named_fence (out s) id)
-out_ahead s Logout = out_ends s (out s) ended.LogoutDone
-out_ahead s (Reset new_number) = out_ends s (out s) ended.ResetRefused
-out_ahead s (TestRequest id) = out_quietly s (out s) refl
-out_ahead s (GapFill new_number) = out_quietly s (out s) refl
-out_ahead s (Reject refused) = out_quietly s (out s) refl
-out_ahead s (BusinessReject refused) = out_quietly s (out s) refl
-out_ahead s (OrderReport read) = out_quietly s (out s) refl
-out_ahead s (Order read) = out_quietly s (out s) refl
-out_ahead s Other = out_quietly s (out s) refl
+out_counted : (s : SessionParts) → IsOut s (counts (quietly (out s)))
+out_counted s = out_counts s (quietly (out s)) (out_quietly s (out s) refl)
 
-out_ahead_turn : (s : SessionParts) (content : Content) → IsOut s (ahead_turn (out s) content)
-out_ahead_turn s content =
-    chosen (IsOut s) (is_logon content) (ahead_row (out s) content) (asks_missing (ahead_row (out s) content))
-    (λ logon. out_ahead s content)
-    (λ other. out_asks_missing s (ahead_row (out s) content) (out_ahead s content))
+out_row : (s : SessionParts) (due : Bool) (number : ℕ) (content : Content) → IsOut s (row due (out s) number content)
+out_row s due number (Logon heart reset next) = out_ends s (out s) ended.LogonAgain
+out_row s due number (ResendRequest begin last) = out_resend s due begin last
+out_row s due number (Heartbeat id) = out_counts_if s due _ (out_fence s (named_fence (out s) id))
+out_row s due number (TestRequest id) = out_in_turn s due _ (out_counted s)
+out_row s due number (GapFill new_number) = out_in_turn s due _ (out_gap_fill s number new_number)
+out_row s due number (Reject refused) = out_in_turn s due _ (out_refused s (Some refused))
+out_row s due number (BusinessReject refused) = out_in_turn s due _ (out_refused s refused)
+out_row s due number Logout = out_ends s (out s) ended.LogoutDone
+out_row s due number (OrderReport read) = out_in_turn s due _ (out_notes s (out s) (report_note read) refl)
+out_row s due number (Reset new_number) = out_in_turn s due _ (out_counted s)
+out_row s due number (Order read) = out_in_turn s due _ (out_counted s)
+out_row s due number Other = out_in_turn s due _ (out_counted s)
 
 out_by_number : (s : SessionParts) (m : Message) (how : Judged) → IsOut s (by_number (out s) m how)
-out_by_number s m judged.Due = out_due s m.number m.content
-out_by_number s m judged.Ahead = out_ahead_turn s m.content
+out_by_number s m judged.Due = out_row s true m.number m.content
+out_by_number s m judged.Ahead = out_asks_missing s (row false (out s) m.number m.content) (out_row s false m.number m.content)
 out_by_number s m judged.Repeat = out_quietly s (out s) refl
 out_by_number s m judged.TooLow = out_ends s (out s) ended.TooLow
 

@@ -1,6 +1,7 @@
 -- A message that is received takes the session onward, and withdraws legs while logging on and while settling alone.
 use Rattle.std.proofs.Common.{◌≡◌, ◌≤◌, ℕ, Bool, true, false, ◌&&◌, not, nat_lt, nat_le, List, [], Option, Some, None, refl, sym, ◌∙◌, arith, length, ◌+◌, ap}
 use Rattle.std.proofs.lemmas.Bool.Decides.{nat_tests}
+use Rattle.std.specs.Option.{is_some, option_and_then}
 use Rattle.fix_tags.specs.Range.{is_range}
 use Rattle.leg.specs.LegId.{LegIdParts}
 use Rattle.leg.specs.declared.leg_state.LegState.TheVariants.{Taken, Withdrawn}
@@ -22,8 +23,8 @@ use Rattle.session_core.specs.declared.ended.Ended.{Ended}
 use Rattle.session_core.specs.declared.ended.Ended.TheVariants as ended
 use Rattle.session_core.specs.Session.{SessionParts, is_connected, is_logging_on, is_settling, is_logged_out}
 use Rattle.session_core.specs.Turn.{Turn, quietly, writes, writes_fence, fills, settles_at, counts, notes, logs_out, ends, ends_turn}
-use Rattle.session_core.specs.Receiving.{is_reset, counts_if, told_number, is_too_high, settles_told, asks_if, in_phase, logon_row, filled_if, resend_while_settling, resend_later, resend_row, named_fence, passing, passed_in, passes_fence, answers_test, gap_fill_row, refused_leg, refused_row, logout_row, report_note, due_row, ahead_row, asks_missing, ahead_turn, by_number, received, hearing, receive}
-use Rattle.session_core.specs.Onward.{is_told, IsOnward, IsReceived, may_withdraw}
+use Rattle.session_core.specs.Receiving.{is_reset, counts_if, told_number, is_too_high, settles_told, asks_if, in_phase, logon_row, filled_if, resend_while_settling, resend_later, resend_row, named_fence, passing, is_closing_fence, passed_in, passes_fence, answers_test, gap_fill_row, refused_leg, refused_row, logout_row, report_note, in_turn, row, by_number, received, hearing, receive}
+use Rattle.session_core.specs.Onward.{IsOnward, IsReceived, may_withdraw}
 use Rattle.session_core.proofs.Adding.{Goes, chosen, adds-writes, adds-writes_fence, adds-asks_if, adds-fills, adds-filled_if, adds-counts, adds-in_phase, adds-ends_turn, adds-logs_out, adds-counts_if, adds-asks_missing, received_by}
 
 -- the same log, and an expected number that is no lower
@@ -46,7 +47,7 @@ module _ (may : Bool) where
       → turn.session.close_asked ≡ s.close_asked → turn.step.withdrawn ≡ [] → turn.step.written ≡ [] → Goes may s turn
   received_with s turn config log connection expected close_asked withdrawn written = record {
     onward = onward_with s turn.session config log connection expected close_asked;
-    numbered = rw written (ap (λ (l : List Entry). length l + 1) log);
+    spends = rw written (ap (λ (l : List Entry). length l + 1) log);
     named = withdrawn ∙ sym (rw log (since-refl s.log));
     spares = λ not_now. record { named = withdrawn; settled = rw log (λ number leg is gone. is) };
   }
@@ -73,19 +74,19 @@ module _ (may : Bool) where
       expected = omega arith;
       close_asked = λ asked. asked;
     };
-    numbered = ap (λ (n : ℕ). n + 1) (length-settled_where (λ k. nat_le n k) Withdrawn 1 (take_below n s.log) ∙ length-settled_where (λ k. nat_lt k n) Taken 1 s.log);
+    spends = ap (λ (n : ℕ). n + 1) (length-settled_where (λ k. nat_le n k) Withdrawn 1 (take_below n s.log) ∙ length-settled_where (λ k. nat_lt k n) Taken 1 s.log);
     named = sym (since-settled n s.log);
     spares = λ not_now. absurd (let e = sym now ∙ not_now in cc);
   }
 
-  received_told : (s : SessionParts) (next : Option ℕ) → (is_told next ≡ true → may ≡ true) → Goes may s (settles_told s next)
+  received_told : (s : SessionParts) (next : Option ℕ) → (is_some next ≡ true → may ≡ true) → Goes may s (settles_told s next)
   received_told s None now = received_quietly s
   received_told s (Some n) now =
-      chosen (Goes may s) (nat_le n s.logon_number) _ (settles_at n s)
+      chosen (Goes may s) (nat_le n s.current.logon_number) _ (settles_at n s)
       (λ lower. received_by may s (settles_at n s) _ (received_settles n s (now refl)) (adds-fills _ (settles_at n s)))
       (λ higher. received_settles n s (now refl))
 
-  received_logon : (due : Bool) (s : SessionParts) (next : Option ℕ) → (is_logging_on s.phase && is_told (told_number s next)) ≡ may → Goes may s (logon_row due s next)
+  received_logon : (due : Bool) (s : SessionParts) (next : Option ℕ) → (is_logging_on s.phase && is_some (told_number s next)) ≡ may → Goes may s (logon_row due s next)
   received_logon due s next is =
       chosen (Goes may s) (not (is_logging_on s.phase)) (ends ended.LogonAgain s) _
       (λ again. received_ends ended.LogonAgain s)
@@ -99,7 +100,7 @@ module _ (may : Bool) where
       received_by may s fenced (in_phase Settling fenced)
       (received_by may s asked fenced
       (received_by may s counted asked
-      (received_by may s told counted (received_told s (told_number s next) (λ told_so. told_may (is_logging_on s.phase) (is_told (told_number s next)) first told_so is)) (adds-counts_if due told))
+      (received_by may s told counted (received_told s (told_number s next) (λ told_so. told_may (is_logging_on s.phase) (is_some (told_number s next)) first told_so is)) (adds-counts_if due told))
       (adds-asks_if (not due) counted))
       (adds-writes_fence asked))
       (adds-in_phase Settling fenced))))
@@ -138,7 +139,7 @@ module _ (may : Bool) where
       expected = omega arith;
       close_asked = λ asked. close_asked ∙ asked;
     };
-    numbered = ap (λ (l : List Entry). length l + 1) log ∙ ap (λ (n : ℕ). n + 1) (length-settled_where (λ k. nat_lt k fence) Taken 1 s.log);
+    spends = ap (λ (l : List Entry). length l + 1) log ∙ ap (λ (n : ℕ). n + 1) (length-settled_where (λ k. nat_lt k fence) Taken 1 s.log);
     named = sym (ap (withdrawn_since s.log) log ∙ since-take_below fence s.log);
     spares = λ not_now. record { named = refl; settled = rw log (withdraws_none-take_below fence s.log) };
   }
@@ -155,7 +156,7 @@ module _ (may : Bool) where
       (λ asked. received_logs_out s fence)
       (λ open_still. received_passing s (record (passing fence s) { phase = Up }) fence refl refl refl refl refl)
   received_passed_in s fence Closing =
-      chosen (Goes may s) (nat_le s.closing_fence fence) (logs_out (passing fence s)) (quietly (passing fence s))
+      chosen (Goes may s) (is_closing_fence s fence) (logs_out (passing fence s)) (quietly (passing fence s))
       (λ done. received_logs_out s fence)
       (λ early. received_quietly_passing s fence)
   received_passed_in s fence Down = received_quietly_passing s fence
@@ -187,8 +188,7 @@ module _ (may : Bool) where
   received_refused_leg s None = received_counts s (quietly s) (received_quietly s)
 
   received_refused : (s : SessionParts) (number : Option ℕ) → Goes may s (refused_row s number)
-  received_refused s None = received_counts s (quietly s) (received_quietly s)
-  received_refused s (Some number) = received_refused_leg s (leg_at number s.log)
+  received_refused s number = received_refused_leg s (option_and_then (λ n. leg_at n s.log) number)
 
   received_logout : (s : SessionParts) → Goes may s (logout_row s)
   received_logout s =
@@ -198,43 +198,35 @@ module _ (may : Bool) where
       (let wrote = writes Logout (quietly s) in
       received_by may s wrote (ends_turn ended.PeerLogout wrote) (received_by may s (quietly s) wrote (received_quietly s) (adds-writes Logout (quietly s))) (adds-ends_turn ended.PeerLogout wrote)))
 
-  received_due : (s : SessionParts) (number : ℕ) (content : Content) → may_withdraw s content ≡ may → number ≡ s.expected → Goes may s (due_row s number content)
-  received_due s number (Logon heart reset next) is due = received_logon true s next is
-  received_due s number (ResendRequest begin last) is due = received_resend true s begin last is
-  received_due s number (Heartbeat id) is due = received_counts s (passes_fence s (named_fence s id)) (received_fence s (named_fence s id))
-  received_due s number (TestRequest id) is due = received_counts s (answers_test s id) (received_test s id)
-  received_due s number (GapFill new_number) is due = received_gap_fill s number new_number due
-  received_due s number (Reset new_number) is due = received_ends ended.ResetRefused s
-  received_due s number (Reject refused) is due = received_refused s (Some refused)
-  received_due s number (BusinessReject refused) is due = received_refused s refused
-  received_due s number Logout is due = received_logout s
-  received_due s number (OrderReport read) is due = received_notes (report_note read) s
-  received_due s number (Order read) is due = received_counts s (quietly s) (received_quietly s)
-  received_due s number Other is due = received_counts s (quietly s) (received_quietly s)
+  received_in_turn : (due : Bool) (s : SessionParts) (turn : Turn) → (due ≡ true → Goes may s turn) → Goes may s (in_turn due s turn)
+  received_in_turn due s turn goes = chosen (Goes may s) due turn (quietly s) goes (λ ahead. received_quietly s)
 
-  received_ahead : (s : SessionParts) (content : Content) → may_withdraw s content ≡ may → Goes may s (ahead_row s content)
-  received_ahead s (Logon heart reset next) is = received_logon false s next is
-  received_ahead s (ResendRequest begin last) is = received_resend false s begin last is
-  received_ahead s (Heartbeat id) is = received_fence s (named_fence s id)
-  received_ahead s Logout is = received_logout s
-  received_ahead s (Reset new_number) is = received_ends ended.ResetRefused s
-  received_ahead s (TestRequest id) is = received_quietly s
-  received_ahead s (GapFill new_number) is = received_quietly s
-  received_ahead s (Reject refused) is = received_quietly s
-  received_ahead s (BusinessReject refused) is = received_quietly s
-  received_ahead s (OrderReport read) is = received_quietly s
-  received_ahead s (Order read) is = received_quietly s
-  received_ahead s Other is = received_quietly s
+  received_counted : (due : Bool) (s : SessionParts) → Goes may s (in_turn due s (counts (quietly s)))
+  received_counted due s = received_in_turn due s _ (λ now. received_counts s (quietly s) (received_quietly s))
 
-  received_ahead_turn : (s : SessionParts) (content : Content) → may_withdraw s content ≡ may → Goes may s (ahead_turn s content)
-  received_ahead_turn s content is =
-      chosen (Goes may s) (is_logon content) (ahead_row s content) (asks_missing (ahead_row s content))
-      (λ logon. received_ahead s content is)
-      (λ other. received_by may s (ahead_row s content) (asks_missing (ahead_row s content)) (received_ahead s content is) (adds-asks_missing (ahead_row s content)))
+  received_row : (due : Bool) (s : SessionParts) (number : ℕ) (content : Content) → may_withdraw s content ≡ may → (due ≡ true → number ≡ s.expected)
+      → Goes may s (row due s number content)
+  received_row due s number (Logon heart reset next) is at = received_logon due s next is
+  received_row due s number (ResendRequest begin last) is at = received_resend due s begin last is
+  received_row due s number (Heartbeat id) is at =
+      received_by may s _ _ (received_fence s (named_fence s id)) (adds-counts_if due (passes_fence s (named_fence s id)))
+  received_row due s number (TestRequest id) is at =
+      received_in_turn due s _ (λ now. received_counts s (answers_test s id) (received_test s id))
+  received_row due s number (GapFill new_number) is at =
+      received_in_turn due s _ (λ now. received_gap_fill s number new_number (at now))
+  received_row due s number (Reject refused) is at = received_in_turn due s _ (λ now. received_refused s (Some refused))
+  received_row due s number (BusinessReject refused) is at = received_in_turn due s _ (λ now. received_refused s refused)
+  received_row due s number Logout is at = received_logout s
+  received_row due s number (OrderReport read) is at = received_in_turn due s _ (λ now. received_notes (report_note read) s)
+  received_row due s number (Reset new_number) is at = received_counted due s
+  received_row due s number (Order read) is at = received_counted due s
+  received_row due s number Other is at = received_counted due s
 
   received_by_number : (s : SessionParts) (m : Message) (how : Judged) → may_withdraw s m.content ≡ may → judged s.expected m.number m.poss_dup ≡ how → Goes may s (by_number s m how)
-  received_by_number s m judged.Due may_is is = received_due s m.number m.content may_is ((due_is_expected s.expected m.number m.poss_dup).0 is)
-  received_by_number s m judged.Ahead may_is is = received_ahead_turn s m.content may_is
+  received_by_number s m judged.Due may_is is =
+      received_row true s m.number m.content may_is (λ now. (due_is_expected s.expected m.number m.poss_dup).0 is)
+  received_by_number s m judged.Ahead may_is is =
+      received_by may s _ _ (received_row false s m.number m.content may_is (λ now. absurd cc)) (adds-asks_missing (row false s m.number m.content))
   received_by_number s m judged.Repeat may_is is = received_quietly s
   received_by_number s m judged.TooLow may_is is = received_ends ended.TooLow s
 
@@ -257,7 +249,7 @@ module _ (may : Bool) where
       expected = goes.onward.expected;
       close_asked = goes.onward.close_asked;
     };
-    numbered = goes.numbered;
+    spends = goes.spends;
     named = goes.named;
     spares = λ not_now. (let spared = goes.spares not_now in record { named = spared.named; settled = spared.settled });
   }
@@ -271,4 +263,4 @@ module _ (may : Bool) where
 pub receive_is_received : (s : SessionParts) (m : Message) → IsReceived s m (receive s m)
 receive_is_received s m =
     (let goes = receive_goes (may_withdraw s m.content) s m refl in
-    record { onward = goes.onward; numbered = goes.numbered; named = goes.named; spares = goes.spares })
+    record { onward = goes.onward; spends = goes.spends; named = goes.named; spares = goes.spares })

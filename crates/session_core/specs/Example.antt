@@ -1,5 +1,5 @@
 -- A session between A and B, as the worked cases have it.
-use Rattle.std.specs.Prelude.{ℕ, true, false, List, [], ◌∷◌, map, codes, Option, Some, None, Result, Ok, Err}
+use Rattle.std.specs.Prelude.{ℕ, true, false, List, [], ◌∷◌, map, codes, Option, Some, None, Ok, Err}
 use Rattle.fix_tags.specs.Config.{ConfigParts}
 use Rattle.leg.specs.declared.side.Side.TheVariants.{Buy}
 use Rattle.leg.specs.declared.leg.Leg.{Leg}
@@ -8,11 +8,10 @@ use Rattle.dialect.specs.declared.report.ReportKind.TheVariants.{New}
 use Rattle.dialect.specs.Message.{Message, Content}
 use Rattle.dialect.specs.Message.Content.{Logon, Heartbeat}
 use Rattle.session_core.specs.declared.ended.Ended.{Ended}
-use Rattle.session_core.specs.declared.session_fault.SessionFault.{SessionFault}
 use Rattle.session_core.specs.Session.{SessionParts, new_session}
-use Rattle.session_core.specs.Turn.{Turn}
+use Rattle.session_core.specs.Turn.{StepParts, Turn}
 use Rattle.session_core.specs.Receiving.{receive}
-use Rattle.session_core.specs.Calling.{connect, send_leg, close}
+use Rattle.session_core.specs.Calling.{SessionAnswer, connect, send_leg, close}
 
 abbrev pub config : ConfigParts
 config = record { me = codes "A"; peer = codes "B"; heart = 30; max_number = 1000; has_next = false }
@@ -32,21 +31,16 @@ from_b number content = record { from = codes "B"; to = codes "A"; number = numb
 abbrev pub again : Message → Message
 again m = record m { poss_dup = true }
 
--- the state after a call that writes one message, or the same state where it is refused
-abbrev pub after_written : SessionParts → Result (SessionParts × Message) SessionFault → SessionParts
-after_written s (Ok answer) = answer.0
-after_written s (Err fault) = s
-
-abbrev pub after_turn : SessionParts → Result Turn SessionFault → SessionParts
-after_turn s (Ok turn) = turn.session
-after_turn s (Err fault) = s
-
 abbrev pub connected : SessionParts → SessionParts
-connected s = after_written s (connect s)
+connected s = (connect s).1
 
 abbrev pub heard : SessionParts → List Message → SessionParts
 heard s [] = s
 heard s (m ∷ ms) = heard (receive s m).session ms
+
+-- logged on, with its fence not yet answered
+abbrev pub settling : SessionParts
+settling = heard (connected (new_session config)) (from_b 1 (Logon 30 false None) ∷ [])
 
 -- logged on, with the fence of number 2 answered: the settled number is 2, and 3 is expected
 abbrev pub up_of : ConfigParts → SessionParts
@@ -63,7 +57,7 @@ leg = record {
 }
 
 abbrev pub sent : SessionParts → ℕ → SessionParts
-sent s ordinal = after_written s (send_leg s ordinal leg)
+sent s ordinal = (send_leg s ordinal leg).1
 
 -- a report that the leg's order was taken
 abbrev pub report : Report
@@ -71,7 +65,7 @@ report = record { id = leg.id; exec = codes "E1"; kind = New }
 
 -- a close was asked, and its fence written; and then answered
 abbrev pub closing : SessionParts
-closing = after_turn up (close up)
+closing = (close up).1
 
 abbrev pub logged_out : SessionParts
 logged_out = heard closing (from_b 3 (Heartbeat (Some (codes "F3"))) ∷ [])
@@ -83,13 +77,13 @@ told m = (m.number, m.content)
 abbrev pub written_of : Turn → List (ℕ × Content)
 written_of turn = map told turn.step.written
 
-abbrev pub written_by : Result Turn SessionFault → List (ℕ × Content)
-written_by (Ok turn) = written_of turn
-written_by (Err fault) = []
+abbrev pub written_by : SessionAnswer StepParts → List (ℕ × Content)
+written_by (Ok step, after) = map told step.written
+written_by (Err fault, after) = []
 
 abbrev pub ended_by : Turn → Option Ended
 ended_by turn = turn.step.ended
 
-abbrev pub ended_in : Result Turn SessionFault → Option Ended
-ended_in (Ok turn) = ended_by turn
-ended_in (Err fault) = None
+abbrev pub ended_in : SessionAnswer StepParts → Option Ended
+ended_in (Ok step, after) = step.ended
+ended_in (Err fault, after) = None

@@ -1,20 +1,21 @@
 -- How a session goes on, whatever is called and whatever comes.
-use Rattle.std.specs.Prelude.{◌≡◌, ◌≤◌, ◌<◌, ◌+◌, ◌⊎◌, ℕ, Bool, true, false, ◌&&◌, List, [], ◌∷◌, Ok, Option, Some, None, if◌then◌else◌}
+use Rattle.std.specs.Prelude.{◌≡◌, ◌≤◌, ◌<◌, ◌+◌, ◌⊎◌, ℕ, Bool, true, false, ◌&&◌, List, [], ◌∷◌, Ok, Err, Some, None, if◌then◌else◌}
+use Rattle.std.specs.Option.{is_some}
 use Rattle.leg.specs.Numbered.{numbered}
 use Rattle.leg.specs.declared.leg.Leg.{Leg}
 use Rattle.leg.specs.declared.leg_state.LegState.TheVariants.{Doubt}
 use Rattle.leg.specs.Growing.{Grew}
 use Rattle.dialect.specs.Addressed.{message_of}
 use Rattle.dialect.specs.Message.{Message, Content}
-use Rattle.dialect.specs.Message.Content.{Logon, Heartbeat, TestRequest, ResendRequest, Reject, GapFill, Reset, Logout, BusinessReject, Order, OrderReport, Other}
+use Rattle.dialect.specs.Message.Content.{Logon, ResendRequest, GapFill, Order}
 use Rattle.resend.specs.Log.{GapFillParts, last_ordinal}
 use Rattle.resend.specs.Log.Entry.{Sent}
 use Rattle.resend.specs.Later.{IsLater, WithdrawsNone, withdrawn_since}
 use Rattle.session_core.specs.declared.phase.Phase.TheVariants.{Down, LoggingOn, Up}
 use Rattle.session_core.specs.Session.{SessionParts, is_logging_on, is_settling, next_out}
-use Rattle.session_core.specs.Turn.{Turn}
+use Rattle.session_core.specs.Turn.{StepParts, Turn}
 use Rattle.session_core.specs.Receiving.{told_number}
-use Rattle.session_core.specs.Calling.{own_next}
+use Rattle.session_core.specs.Calling.{SessionAnswer, own_next}
 
 -- what was sent stays sent and settled, neither connections nor expected numbers go back, and a close that was asked stays asked
 pub record IsOnward (before after : SessionParts) : Type 0 where
@@ -40,52 +41,43 @@ AreNext next [] after = after ≡ next
 AreNext next (number ∷ numbers) after = (number ≡ next) × AreNext (next + 1) numbers after
 
 -- each number that was spent is a message's that was written, in order, and no other is
-abbrev pub IsNumbered : SessionParts → List Message → SessionParts → Type 0
-IsNumbered before written after = AreNext (next_out before) (new_numbers written) (next_out after)
+abbrev pub SpendsNumbers : SessionParts → List Message → SessionParts → Type 0
+SpendsNumbers before written after = AreNext (next_out before) (new_numbers written) (next_out after)
+
+-- what a call does where it isn't refused; a refused one leaves the session as it was
+abbrev pub OrUnchanged : {X : Type 0} → SessionParts → (X → SessionParts → Type 0) → SessionAnswer X → Type 0
+OrUnchanged before Does (Ok answer, after) = Does answer after
+OrUnchanged before Does (Err fault, after) = after ≡ before
 
 -- a call that keeps the legs, and hands on nothing of what was received
-pub record IsCall (before : SessionParts) (turn : Turn) : Type 0 where
-  pub keeps : KeepsLegs before turn.session
-  pub numbered : IsNumbered before turn.step.written turn.session
-  pub note : turn.step.note ≡ None
-  pub withdrawn : turn.step.withdrawn ≡ []
+pub record IsCall (before : SessionParts) (step : StepParts) (after : SessionParts) : Type 0 where
+  pub keeps : KeepsLegs before after
+  pub spends : SpendsNumbers before step.written after
+  pub note : step.note ≡ None
+  pub withdrawn : step.withdrawn ≡ []
 
 -- a new connection: it is counted, and begins with a Logon
-pub record IsConnection (before after : SessionParts) (message : Message) : Type 0 where
+pub record IsConnection (before : SessionParts) (message : Message) (after : SessionParts) : Type 0 where
   pub keeps : KeepsLegs before after
-  pub numbered : IsNumbered before (message ∷ []) after
+  pub spends : SpendsNumbers before (message ∷ []) after
   pub was_down : before.phase ≡ Down
   pub logs_on : (after.phase ≡ LoggingOn) × (message.content ≡ Logon before.config.heart false (own_next before))
   pub counted : after.connection ≡ before.connection + 1
 
--- a leg that was sent: in phase Up alone, with a higher ordinal than any before it, and in doubt under the next number
-pub record IsSent (before : SessionParts) (ordinal : ℕ) (leg : Leg) (after : SessionParts) (message : Message) : Type 0 where
+-- a leg that is sent: in phase Up alone, with a higher ordinal than any before it, and in doubt under the next number
+pub record SendsLeg (before : SessionParts) (ordinal : ℕ) (leg : Leg) (message : Message) (after : SessionParts) : Type 0 where
   pub keeps : KeepsLegs before after
+  pub spends : SpendsNumbers before (message ∷ []) after
   pub orders : message.content ≡ Order (Ok leg)
   pub was_up : before.phase ≡ Up
   pub above : last_ordinal before.log < ordinal
   pub in_doubt : numbered (next_out before) after.log ≡ Some (Sent (record { ordinal = ordinal; id = leg.id; state = Doubt }))
-  pub numbered : IsNumbered before (message ∷ []) after
-
--- a number was told
-abbrev pub is_told : Option ℕ → Bool
-is_told None = false
-is_told (Some next) = true
 
 -- whether a message says what the exchange got: a resend request while settling, or a Logon that tells the number which it expects next, where the venue chose to be told it
 abbrev pub may_withdraw : SessionParts → Content → Bool
 may_withdraw s (ResendRequest begin last) = is_settling s.phase
-may_withdraw s (Logon heart reset next) = is_logging_on s.phase && is_told (told_number s next)
-may_withdraw s (Heartbeat id) = false
-may_withdraw s (TestRequest id) = false
-may_withdraw s (Reject number) = false
-may_withdraw s (GapFill new_number) = false
-may_withdraw s (Reset new_number) = false
-may_withdraw s Logout = false
-may_withdraw s (BusinessReject number) = false
-may_withdraw s (Order read) = false
-may_withdraw s (OrderReport read) = false
-may_withdraw s Other = false
+may_withdraw s (Logon heart reset next) = is_logging_on s.phase && is_some (told_number s next)
+may_withdraw s _ = false
 
 -- nothing is written, or one gap fill
 abbrev pub WritesFillAlone : SessionParts → List Message → Type 0
@@ -100,6 +92,6 @@ pub record SparesLegs (before : SessionParts) (turn : Turn) : Type 0 where
 -- a message received: onward; the legs that are now withdrawn are named, and only such a message withdraws legs
 pub record IsReceived (before : SessionParts) (m : Message) (turn : Turn) : Type 0 where
   pub onward : IsOnward before turn.session
-  pub numbered : IsNumbered before turn.step.written turn.session
+  pub spends : SpendsNumbers before turn.step.written turn.session
   pub named : turn.step.withdrawn ≡ withdrawn_since before.log turn.session.log
   pub spares : may_withdraw before m.content ≡ false → SparesLegs before turn

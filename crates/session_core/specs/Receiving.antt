@@ -1,5 +1,6 @@
 -- What a session does with a message that it receives: one case a row of the table of `docs/session.md` (FIX 4.4 Volume 2).
-use Rattle.std.specs.Prelude.{ℕ, ◌+◌, Bool, true, false, ◌&&◌, ◌||◌, not, List, [], ◌∷◌, ◌==◌, nat_lt, nat_le, Option, Some, None, Result, Ok, Err, if◌then◌else◌}
+use Rattle.std.specs.Prelude.{ℕ, ◌+◌, Bool, true, false, ◌&&◌, ◌||◌, not, List, [], ◌∷◌, filter, ◌==◌, nat_lt, nat_le, Option, Some, None, Result, Ok, Err, if◌then◌else◌}
+use Rattle.std.specs.Option.{option_map_or, option_and_then}
 use Rattle.std.specs.Str.{bytes_eq}
 use Rattle.fix_tags.specs.Range.{is_range}
 use Rattle.leg.specs.LegId.{LegIdParts}
@@ -9,31 +10,22 @@ use Rattle.dialect.specs.declared.note.Note.TheVariants as note
 use Rattle.dialect.specs.declared.report.Report.{Report}
 use Rattle.dialect.specs.Addressed.{is_for}
 use Rattle.dialect.specs.Message.{Message, Content, is_logon}
-use Rattle.dialect.specs.Message.Content.{Logon, Heartbeat, TestRequest, ResendRequest, Reject, GapFill, Reset, Logout, BusinessReject, Order, OrderReport, Other}
+use Rattle.dialect.specs.Message.Content.{Logon, Heartbeat, TestRequest, ResendRequest, Reject, GapFill, Reset, Logout, BusinessReject, OrderReport}
 use Rattle.resend.specs.declared.judged.Judged.{Judged}
 use Rattle.resend.specs.declared.judged.Judged.TheVariants as judged
 use Rattle.resend.specs.Judging.{judged}
 use Rattle.resend.specs.Log.{GapFillParts, last_number, take_below, leg_at, fill_for}
 use Rattle.session_core.specs.declared.phase.Phase.{Phase}
-use Rattle.session_core.specs.declared.phase.Phase.TheVariants.{Down, LoggingOn, Settling, Up, Closing, LoggedOut, Closed}
+use Rattle.session_core.specs.declared.phase.Phase.TheVariants.{Settling, Up, Closing}
 use Rattle.session_core.specs.declared.ended.Ended.TheVariants.{FirstNotLogon, TooLow, WrongComp, ResetRefused, ResendInDoubt, BadResend, PeerLogout, LogonAgain, BadGapFill, LogoutDone, BadNextExpected}
 use Rattle.session_core.specs.Session.{SessionParts, is_connected, is_logging_on, is_settling, is_logged_out}
-use Rattle.session_core.specs.Turn.{Turn, quietly, with_session, writes, writes_fence, fence_id, asks, fills, settles_at, counts, notes, logs_out, ends, ends_turn, unless_ended}
+use Rattle.session_core.specs.Turn.{Turn, quietly, with_session, writes, writes_fence, fence_id, asks, fills, settles_at, counting, counts, with_pending, notes, logs_out, ends, ends_turn, unless_ended}
 
 -- the exchange wants to begin its numbers anew: SequenceReset in reset mode, or ResetSeqNumFlag (141) of a Logon
 abbrev pub is_reset : Content → Bool
 is_reset (Logon heart reset next) = reset
 is_reset (Reset new_number) = true
-is_reset (Heartbeat id) = false
-is_reset (TestRequest id) = false
-is_reset (ResendRequest begin last) = false
-is_reset (Reject number) = false
-is_reset (GapFill new_number) = false
-is_reset Logout = false
-is_reset (BusinessReject number) = false
-is_reset (Order read) = false
-is_reset (OrderReport read) = false
-is_reset Other = false
+is_reset _ = false
 
 -- the message is counted where it is due and the connection goes on
 abbrev pub counts_if : Bool → Turn → Turn
@@ -45,15 +37,14 @@ told_number s next = if s.config.has_next then next else None
 
 -- it may be at most the number after this connection's own Logon
 abbrev pub is_too_high : SessionParts → Option ℕ → Bool
-is_too_high s None = false
-is_too_high s (Some n) = nat_lt (s.logon_number + 1) n
+is_too_high s next = option_map_or (λ n. nat_lt (s.current.logon_number + 1) n) next false
 
 -- what lies between it and the session's own Logon is filled
 abbrev pub settles_told : SessionParts → Option ℕ → Turn
 settles_told s None = quietly s
 settles_told s (Some n) =
-    if nat_le n s.logon_number
-    then fills (record { first = n; new_number = s.logon_number + 1 }) (settles_at n s)
+    if nat_le n s.current.logon_number
+    then fills (record { first = n; new_number = s.current.logon_number + 1 }) (settles_at n s)
     else settles_at n s
 
 abbrev pub asks_if : Bool → Turn → Turn
@@ -89,28 +80,33 @@ resend_row due s begin last =
     (if is_settling s.phase then resend_while_settling s begin last
     else resend_later (fill_for begin last s.settled s.log) s)
 
--- Heartbeat: the fence of this connection, above the settled number, that an id names
-abbrev pub fence_in : ℕ → List ℕ → List ℕ → Option ℕ
-fence_in settled id [] = None
-fence_in settled id (fence ∷ fences) =
-    if nat_lt settled fence && bytes_eq id (fence_id fence) then Some fence else fence_in settled id fences
+-- Heartbeat: the fence of this connection that an id names
+abbrev pub fence_in : List ℕ → List ℕ → Option ℕ
+fence_in id [] = None
+fence_in id (fence ∷ fences) = if bytes_eq id (fence_id fence) then Some fence else fence_in id fences
 
 abbrev pub named_fence : SessionParts → Option (List ℕ) → Option ℕ
-named_fence s None = None
-named_fence s (Some id) = fence_in s.settled id s.fences
+named_fence s id = option_and_then (λ text. fence_in text s.current.fences) id
 
--- an answered fence says that every message before it was taken
+-- an answered fence says that every message before it was taken. It is done with, and so are the fences below it
+abbrev pub above : ℕ → List ℕ → List ℕ
+above number fences = filter (λ fence. nat_lt number fence) fences
+
 abbrev pub passing : ℕ → SessionParts → SessionParts
-passing fence s = record s { log = take_below fence s.log; settled = fence }
+passing fence s = record s {
+  log = take_below fence s.log;
+  settled = fence;
+  current = record s.current { fences = above fence s.current.fences };
+}
+
+-- whether a fence is the one that was written at the close, or a later one
+abbrev pub is_closing_fence : SessionParts → ℕ → Bool
+is_closing_fence s fence = option_map_or (λ closing. nat_le closing fence) s.current.closing_fence false
 
 abbrev pub passed_in : Phase → ℕ → SessionParts → Turn
 passed_in Settling fence s = if s.close_asked then logs_out s else quietly (record s { phase = Up })
-passed_in Closing fence s = if nat_le s.closing_fence fence then logs_out s else quietly s
-passed_in Down fence s = quietly s
-passed_in LoggingOn fence s = quietly s
-passed_in Up fence s = quietly s
-passed_in LoggedOut fence s = quietly s
-passed_in Closed fence s = quietly s
+passed_in Closing fence s = if is_closing_fence s fence then logs_out s else quietly s
+passed_in _ fence s = quietly s
 
 abbrev pub passes_fence : SessionParts → Option ℕ → Turn
 passes_fence s None = quietly s
@@ -131,8 +127,7 @@ refused_leg s (Some id) = notes (note.Refused id) s
 refused_leg s None = counts (quietly s)
 
 abbrev pub refused_row : SessionParts → Option ℕ → Turn
-refused_row s None = counts (quietly s)
-refused_row s (Some number) = refused_leg s (leg_at number s.log)
+refused_row s number = refused_leg s (option_and_then (λ n. leg_at n s.log) number)
 
 -- Logout: the answer to the session's own, or the exchange's first
 abbrev pub logout_row : SessionParts → Turn
@@ -142,51 +137,38 @@ abbrev pub report_note : Result Report DialectFault → Note
 report_note (Ok report) = note.Report report
 report_note (Err fault) = note.Unread fault
 
--- a message under the number that is expected
-abbrev pub due_row : SessionParts → ℕ → Content → Turn
-due_row s number (Logon heart reset next) = logon_row true s next
-due_row s number (ResendRequest begin last) = resend_row true s begin last
-due_row s number (Heartbeat id) = counts (passes_fence s (named_fence s id))
-due_row s number (TestRequest id) = counts (answers_test s id)
-due_row s number (GapFill new_number) = gap_fill_row s number new_number
-due_row s number (Reset new_number) = ends ResetRefused s
-due_row s number (Reject refused) = refused_row s (Some refused)
-due_row s number (BusinessReject refused) = refused_row s refused
-due_row s number Logout = logout_row s
-due_row s number (OrderReport read) = notes (report_note read) s
-due_row s number (Order read) = counts (quietly s)
-due_row s number Other = counts (quietly s)
+-- what is only done in its turn: ahead of it nothing is, since the message comes again once it was asked for
+abbrev pub in_turn : Bool → SessionParts → Turn → Turn
+in_turn due s turn = if due then turn else quietly s
 
--- a message ahead of it: what needs no order is done, and the rest comes again once it was asked for
-abbrev pub ahead_row : SessionParts → Content → Turn
-ahead_row s (Logon heart reset next) = logon_row false s next
-ahead_row s (ResendRequest begin last) = resend_row false s begin last
-ahead_row s (Heartbeat id) = passes_fence s (named_fence s id)
-ahead_row s Logout = logout_row s
-ahead_row s (Reset new_number) = ends ResetRefused s
-ahead_row s (TestRequest id) = quietly s
-ahead_row s (GapFill new_number) = quietly s
-ahead_row s (Reject refused) = quietly s
-ahead_row s (BusinessReject refused) = quietly s
-ahead_row s (OrderReport read) = quietly s
-ahead_row s (Order read) = quietly s
-ahead_row s Other = quietly s
+-- a message under the number that is expected, which is due, or ahead of it
+abbrev pub row : Bool → SessionParts → ℕ → Content → Turn
+row due s number (Logon heart reset next) = logon_row due s next
+row due s number (ResendRequest begin last) = resend_row due s begin last
+row due s number (Heartbeat id) = counts_if due (passes_fence s (named_fence s id))
+row due s number (TestRequest id) = in_turn due s (counts (answers_test s id))
+row due s number (GapFill new_number) = in_turn due s (gap_fill_row s number new_number)
+row due s number (Reject refused) = in_turn due s (refused_row s (Some refused))
+row due s number (BusinessReject refused) = in_turn due s (refused_row s refused)
+row due s number Logout = logout_row s
+row due s number (OrderReport read) = in_turn due s (notes (report_note read) s)
+row due s number _ = in_turn due s (counts (quietly s))
+
+-- whether a resend request was written in this connection for the number that is still expected
+abbrev pub was_requested : SessionParts → Bool
+was_requested s = option_map_or (λ number. number == s.expected) s.current.requested false
 
 -- what is missing is asked for, last: unless it was in this connection, or the connection has ended, or nothing may be written any more
 abbrev pub asks_anew : Turn → Turn
-asks_anew turn =
-    if is_logged_out turn.session.phase || turn.session.requested == turn.session.expected then turn else asks turn
+asks_anew turn = if is_logged_out turn.session.phase || was_requested turn.session then turn else asks turn
 
 abbrev pub asks_missing : Turn → Turn
 asks_missing turn = unless_ended asks_anew turn turn.step.ended
 
-abbrev pub ahead_turn : SessionParts → Content → Turn
-ahead_turn s content = if is_logon content then ahead_row s content else asks_missing (ahead_row s content)
-
 -- by how the message's number stands to the expected one
 abbrev pub by_number : SessionParts → Message → Judged → Turn
-by_number s m judged.Due = due_row s m.number m.content
-by_number s m judged.Ahead = ahead_turn s m.content
+by_number s m judged.Due = row true s m.number m.content
+by_number s m judged.Ahead = asks_missing (row false s m.number m.content)
 by_number s m judged.Repeat = quietly s
 by_number s m judged.TooLow = ends TooLow s
 
@@ -200,11 +182,11 @@ received s m =
 
 -- something was received: a note that wasn't confirmed is given up
 abbrev pub hearing : SessionParts → SessionParts
-hearing s = record s { pending = false; silent = false }
+hearing s = record s { current = record s.current { pending = false; silent = false } }
 
 abbrev pub receive : SessionParts → Message → Turn
 receive s m = if is_connected s.phase then received (hearing s) m else quietly s
 
 -- the note was taken, and its message is counted
 abbrev pub confirm : SessionParts → SessionParts
-confirm s = if s.pending then record s { expected = s.expected + 1; pending = false } else s
+confirm s = if s.current.pending then with_pending false (counting s) else s

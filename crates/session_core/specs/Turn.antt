@@ -10,7 +10,7 @@ use Rattle.resend.specs.Log.Entry.{Admin}
 use Rattle.session_core.specs.declared.phase.Phase.{Phase}
 use Rattle.session_core.specs.declared.phase.Phase.TheVariants.{Down, LoggedOut, Closed}
 use Rattle.session_core.specs.declared.ended.Ended.{Ended}
-use Rattle.session_core.specs.declared.ended.Ended.TheVariants.{FirstNotLogon, TooLow, WrongComp, ResetRefused, ResendInDoubt, BadResend, PeerLogout, LogonAgain, BadGapFill, Silent, Malformed, LogoutDone, BadNextExpected}
+use Rattle.session_core.specs.declared.ended.Ended.TheVariants.{PeerLogout}
 use Rattle.session_core.specs.Session.{SessionParts, is_logged_out, next_out, may_write}
 
 -- the messages written, in order; the note for the book; the legs that are now withdrawn, in the order of their numbers; why the connection ended, if it did
@@ -20,13 +20,17 @@ pub record StepParts : Type 0 where
   pub withdrawn : List LegIdParts
   pub ended : Option Ended
 
+-- the step, and the state after it
 pub record Turn : Type 0 where
-  pub session : SessionParts
   pub step : StepParts
+  pub session : SessionParts
 
 -- nothing is written or noted
+abbrev pub no_step : StepParts
+no_step = record { written = []; note = None; withdrawn = []; ended = None }
+
 abbrev pub quietly : SessionParts → Turn
-quietly s = record { session = s; step = record { written = []; note = None; withdrawn = []; ended = None } }
+quietly s = record { step = no_step; session = s }
 
 -- the same step, with another state
 abbrev pub with_session : SessionParts → Turn → Turn
@@ -40,34 +44,37 @@ with_message message turn = record turn { step = record turn.step { written = tu
 abbrev pub spending : SessionParts → SessionParts
 spending s = record s { log = s.log ++ Admin ∷ [] }
 
--- a message of the session is written under the next number; where none is left it isn't written
+-- a message of the session under the next number
+abbrev pub puts : Content → Turn → Turn
+puts content turn =
+    with_message (message_of turn.session.config (next_out turn.session) false content)
+    (with_session (spending turn.session) turn)
+
+-- it is written; where no number is left it isn't
 abbrev pub writes : Content → Turn → Turn
-writes content turn =
-    if may_write turn.session
-    then with_message (message_of turn.session.config (next_out turn.session) false content) (with_session (spending turn.session) turn)
-    else turn
+writes content turn = if may_write turn.session then puts content turn else turn
 
 -- a fence is a TestRequest whose id is `F` and its own number. The exchange answers it once it has taken every message before it
 abbrev pub fence_id : ℕ → List ℕ
 fence_id number = codes "F" ++ decimal number
 
 abbrev pub fenced : SessionParts → SessionParts
-fenced s = record (spending s) { fences = s.fences ++ next_out s ∷ [] }
+fenced s = record s { current = record s.current { fences = s.current.fences ++ next_out s ∷ [] } }
+
+abbrev pub puts_fence : Turn → Turn
+puts_fence turn = puts (TestRequest (fence_id (next_out turn.session))) (with_session (fenced turn.session) turn)
 
 abbrev pub writes_fence : Turn → Turn
-writes_fence turn =
-    if may_write turn.session
-    then with_message (message_of turn.session.config (next_out turn.session) false (TestRequest (fence_id (next_out turn.session)))) (with_session (fenced turn.session) turn)
-    else turn
+writes_fence turn = if may_write turn.session then puts_fence turn else turn
 
 -- what is missing is asked for, from the expected number on
 abbrev pub asking : SessionParts → SessionParts
-asking s = record s { requested = s.expected }
+asking s = record s { current = record s.current { requested = Some s.expected } }
 
 abbrev pub asks : Turn → Turn
 asks turn =
     if may_write turn.session
-    then writes (ResendRequest turn.session.expected 0) (with_session (asking turn.session) turn)
+    then puts (ResendRequest turn.session.expected 0) (with_session (asking turn.session) turn)
     else turn
 
 -- a gap fill is written under the first number that it stands for, as a possible duplicate. It spends no number
@@ -79,10 +86,8 @@ abbrev pub settling_at : ℕ → SessionParts → SessionParts
 settling_at number s = record s { log = give_up_from number (take_below number s.log) }
 
 abbrev pub settles_at : ℕ → SessionParts → Turn
-settles_at number s = record {
-  session = settling_at number s;
-  step = record { written = []; note = None; withdrawn = doubt_from number s.log; ended = None };
-}
+settles_at number s =
+    record { step = record no_step { withdrawn = doubt_from number s.log }; session = settling_at number s }
 
 -- the message received is counted
 abbrev pub counting : SessionParts → SessionParts
@@ -91,12 +96,13 @@ counting s = record s { expected = s.expected + 1 }
 abbrev pub counts : Turn → Turn
 counts turn = with_session (counting turn.session) turn
 
+-- a note is pending, or none is
+abbrev pub with_pending : Bool → SessionParts → SessionParts
+with_pending pending s = record s { current = record s.current { pending = pending } }
+
 -- a note is given. Its message is counted once it is confirmed
 abbrev pub notes : Note → SessionParts → Turn
-notes note s = record {
-  session = record s { pending = true };
-  step = record { written = []; note = Some note; withdrawn = []; ended = None };
-}
+notes note s = record { step = record no_step { note = Some note }; session = with_pending true s }
 
 -- the Logout is written, and from now on nothing but gap fills
 abbrev pub logs_out : SessionParts → Turn
@@ -105,30 +111,19 @@ logs_out s = let turn = writes Logout (quietly s) in with_session (record turn.s
 -- the phase after a connection: the session is over where the exchange logged out first, or where its own Logout was written
 abbrev pub after_peer_logout : Ended → Bool
 after_peer_logout PeerLogout = true
-after_peer_logout FirstNotLogon = false
-after_peer_logout TooLow = false
-after_peer_logout WrongComp = false
-after_peer_logout ResetRefused = false
-after_peer_logout ResendInDoubt = false
-after_peer_logout BadResend = false
-after_peer_logout LogonAgain = false
-after_peer_logout BadGapFill = false
-after_peer_logout Silent = false
-after_peer_logout Malformed = false
-after_peer_logout LogoutDone = false
-after_peer_logout BadNextExpected = false
+after_peer_logout _ = false
 
 abbrev pub phase_after : Bool → Phase → Phase
 phase_after is_over phase = if is_over || is_logged_out phase then Closed else Down
 
 -- the connection is gone. A note that wasn't confirmed is given up, and a leg in doubt stays so
 abbrev pub disconnected : Bool → SessionParts → SessionParts
-disconnected is_over s = record s { phase = phase_after is_over s.phase; pending = false }
+disconnected is_over s = with_pending false (record s { phase = phase_after is_over s.phase })
 
 abbrev pub ends_turn : Ended → Turn → Turn
 ends_turn why turn = record {
-  session = disconnected (after_peer_logout why) turn.session;
   step = record turn.step { ended = Some why };
+  session = disconnected (after_peer_logout why) turn.session;
 }
 
 abbrev pub ends : Ended → SessionParts → Turn

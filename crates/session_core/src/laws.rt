@@ -1,6 +1,6 @@
 //! What follows from the definitions: each law is the contract of a function that does nothing.
 
-ghost use Rattle.std.specs.Prelude.{◌≡◌, ℕ, None, Err, IfOk};
+ghost use Rattle.std.specs.Prelude.{◌≡◌, ℕ, None, Err};
 ghost use Rattle.leg.specs.declared.leg.Leg.{Leg as ALeg};
 ghost use Rattle.dialect.specs.Message.{Message as AMessage};
 ghost use Rattle.session_core.specs.declared.phase.Phase.TheVariants as phase;
@@ -9,7 +9,7 @@ ghost use Rattle.session_core.specs.Session.{SessionParts};
 ghost use Rattle.session_core.specs.Turn.{quietly};
 ghost use Rattle.session_core.specs.Receiving.{receive, confirm};
 ghost use Rattle.session_core.specs.Calling.{connect, send_leg, quiet, silent, close, malformed, broken, abandon};
-ghost use Rattle.session_core.specs.Onward.{IsOnward, KeepsLegs, IsConnection, IsSent, IsCall, IsReceived, WritesFillAlone};
+ghost use Rattle.session_core.specs.Onward.{OrUnchanged, IsOnward, KeepsLegs, IsConnection, SendsLeg, IsCall, IsReceived, WritesFillAlone};
 
 /// A session is onward from itself, and what is onward from a session that is onward is so too.
 pub fn going_onward_goes_on()
@@ -25,15 +25,16 @@ pub fn what_is_received_leads_onward()
 {}
 
 /// Every other call leaves each leg that was sent as it was: numbers are only added, each for a message that was
-/// written, connections and expected numbers don't go back, and a close that was asked stays asked.
+/// written, connections and expected numbers don't go back, and a close that was asked stays asked. A refused call
+/// leaves the session as it was.
 pub fn other_calls_keep_the_legs()
-    ensures connect { (s : SessionParts) → IfOk (connect s) (λ answer. IsConnection s answer.0 answer.1) }
-    ensures send_leg { (s : SessionParts) (ordinal : ℕ) (leg : ALeg) → IfOk (send_leg s ordinal leg) (λ answer. IsSent s ordinal leg answer.0 answer.1) }
+    ensures connect { (s : SessionParts) → OrUnchanged s (IsConnection s) (connect s) }
+    ensures send_leg { (s : SessionParts) (ordinal : ℕ) (leg : ALeg) → OrUnchanged s (SendsLeg s ordinal leg) (send_leg s ordinal leg) }
     ensures confirm { (s : SessionParts) → KeepsLegs s (confirm s) }
-    ensures quiet { (s : SessionParts) → IfOk (quiet s) (IsCall s) }
-    ensures silent { (s : SessionParts) → IfOk (silent s) (IsCall s) }
-    ensures close { (s : SessionParts) → IfOk (close s) (IsCall s) }
-    ensures malformed { (s : SessionParts) → KeepsLegs s (malformed s).0 }
+    ensures quiet { (s : SessionParts) → OrUnchanged s (IsCall s) (quiet s) }
+    ensures silent { (s : SessionParts) → OrUnchanged s (IsCall s) (silent s) }
+    ensures close { (s : SessionParts) → OrUnchanged s (IsCall s) (close s) }
+    ensures malformed { (s : SessionParts) → KeepsLegs s (malformed s).1 }
     ensures broken { (s : SessionParts) → KeepsLegs s (broken s) }
     ensures abandon { (s : SessionParts) → KeepsLegs s (abandon s) }
 {}
@@ -41,12 +42,12 @@ pub fn other_calls_keep_the_legs()
 /// A session that has ended for good writes nothing any more, and stays as it is.
 pub fn a_closed_session_is_over()
     ensures receive { (s : SessionParts) (m : AMessage) → s.phase ≡ phase.Closed → receive s m ≡ quietly s }
-    ensures connect { (s : SessionParts) → s.phase ≡ phase.Closed → connect s ≡ Err fault.Closed }
-    ensures send_leg { (s : SessionParts) (ordinal : ℕ) (leg : ALeg) → s.phase ≡ phase.Closed → send_leg s ordinal leg ≡ Err fault.NotUp }
-    ensures quiet { (s : SessionParts) → s.phase ≡ phase.Closed → quiet s ≡ Err fault.NotConnected }
-    ensures silent { (s : SessionParts) → s.phase ≡ phase.Closed → silent s ≡ Err fault.NotConnected }
-    ensures close { (s : SessionParts) → s.phase ≡ phase.Closed → close s ≡ Err fault.NotConnected }
-    ensures malformed { (s : SessionParts) → s.phase ≡ phase.Closed → malformed s ≡ (s, None) }
+    ensures connect { (s : SessionParts) → s.phase ≡ phase.Closed → connect s ≡ (Err fault.Closed, s) }
+    ensures send_leg { (s : SessionParts) (ordinal : ℕ) (leg : ALeg) → s.phase ≡ phase.Closed → send_leg s ordinal leg ≡ (Err fault.NotUp, s) }
+    ensures quiet { (s : SessionParts) → s.phase ≡ phase.Closed → quiet s ≡ (Err fault.NotConnected, s) }
+    ensures silent { (s : SessionParts) → s.phase ≡ phase.Closed → silent s ≡ (Err fault.NotConnected, s) }
+    ensures close { (s : SessionParts) → s.phase ≡ phase.Closed → close s ≡ (Err fault.NotConnected, s) }
+    ensures malformed { (s : SessionParts) → s.phase ≡ phase.Closed → malformed s ≡ (None, s) }
     ensures broken { (s : SessionParts) → s.phase ≡ phase.Closed → broken s ≡ s }
     ensures confirm { (s : SessionParts) → s.phase ≡ phase.Closed → (confirm s).phase ≡ phase.Closed }
     ensures abandon { (s : SessionParts) → (abandon s).phase ≡ phase.Closed }

@@ -9,17 +9,18 @@ ghost use Rattle.session_core.specs.declared.ended.Ended.TheVariants as ended;
 ghost use Rattle.session_core.specs.declared.phase.Phase.TheVariants as phase;
 ghost use Rattle.session_core.specs.declared.session_fault.SessionFault.TheVariants as fault;
 ghost use Rattle.session_core.specs.Session.{new_session, leg_state, has_doubt, next_out};
-ghost use Rattle.session_core.specs.Turn.{quietly};
+ghost use Rattle.session_core.specs.Turn.{no_step, quietly};
 ghost use Rattle.session_core.specs.Receiving.{receive, confirm};
 ghost use Rattle.session_core.specs.Calling.{connect, send_leg, quiet, silent, close, malformed, broken, abandon};
-ghost use Rattle.session_core.specs.Example.{config, told_config, few_config, from_b, again, connected, heard, up, up_of, leg, report, sent, written_of, written_by, ended_by, ended_in, after_turn, closing, logged_out};
+ghost use Rattle.session_core.specs.Example.{config, told_config, few_config, from_b, again, connected, heard, settling, up, up_of, leg, report, sent, written_of, written_by, ended_by, ended_in, closing, logged_out};
 
 /// A Logon, and once the exchange's came, a fence; once that is answered, the session is up.
 pub fn logs_on_and_settles()
-    ensures logon { connect (new_session config) ≡ Ok (connected (new_session config), record { from = codes "A"; to = codes "B"; number = 1; poss_dup = false; content = Logon 30 false None }) }
+    ensures logon { connect (new_session config) ≡ (Ok (record { from = codes "A"; to = codes "B"; number = 1; poss_dup = false; content = Logon 30 false None }), connected (new_session config)) }
     ensures fence { written_of (receive (connected (new_session config)) (from_b 1 (Logon 30 false None))) ≡ (2, TestRequest (codes "F2")) ∷ [] }
     ensures phase { up.phase ≡ phase.Up }
     ensures settled { up.settled ≡ 2 }
+    ensures passed { up.current.fences ≡ [] }
     ensures expected { up.expected ≡ 3 }
 {}
 
@@ -36,7 +37,7 @@ pub fn ends_when_up()
     ensures peer_logout { (receive up (from_b 3 Logout)).step.ended ≡ Some ended.PeerLogout }
     ensures peer_logout_answered { written_of (receive up (from_b 3 Logout)) ≡ (3, Logout) ∷ [] }
     ensures peer_logout_is_last { (receive up (from_b 3 Logout)).session.phase ≡ phase.Closed }
-    ensures malformed { (malformed up).1 ≡ Some ended.Malformed }
+    ensures malformed { (malformed up).0 ≡ Some ended.Malformed }
     ensures first_no_logon { (receive (connected (new_session config)) (from_b 1 (Heartbeat None))).step.ended ≡ Some ended.FirstNotLogon }
 {}
 
@@ -62,7 +63,7 @@ pub fn notes_are_confirmed()
     ensures unread { (receive up (from_b 3 (OrderReport (Err NotMarked)))).step.note ≡ Some (note.Unread NotMarked) }
     ensures refused { (receive (sent up 1) (from_b 3 (Reject 3))).step.note ≡ Some (note.Refused leg.id) }
     ensures refused_by_business { (receive (sent up 1) (from_b 3 (BusinessReject (Some 3)))).step.note ≡ Some (note.Refused leg.id) }
-    ensures refused_when_taken { (receive (heard (after_turn (sent up 1) (silent (sent up 1))) (from_b 3 (Heartbeat (Some (codes "F4"))) ∷ [])) (from_b 4 (Reject 3))).step.note ≡ Some (note.Refused leg.id) }
+    ensures refused_when_taken { (receive (heard (silent (sent up 1)).1 (from_b 3 (Heartbeat (Some (codes "F4"))) ∷ [])) (from_b 4 (Reject 3))).step.note ≡ Some (note.Refused leg.id) }
     ensures no_leg_refused { (receive up (from_b 3 (Reject 1))).step.note ≡ None }
     ensures no_number_refused { (receive up (from_b 3 (BusinessReject None))).session.expected ≡ 4 }
     ensures not_counted { (receive up (from_b 3 (OrderReport (Ok report)))).session.expected ≡ 3 }
@@ -93,13 +94,13 @@ pub fn asks_for_what_is_missing()
     ensures reset { ended_by (receive up (from_b 5 (Reset 9))) ≡ Some ended.ResetRefused }
     ensures reset_by_logon { ended_by (receive (connected (new_session config)) (from_b 1 (Logon 30 true None))) ≡ Some ended.ResetRefused }
     ensures logon { written_of (receive (connected (new_session config)) (from_b 4 (Logon 30 false None))) ≡ (2, ResendRequest 1 0) ∷ (3, TestRequest (codes "F3")) ∷ [] }
-    ensures fence { (receive (after_turn (sent up 1) (silent (sent up 1))) (from_b 9 (Heartbeat (Some (codes "F4"))))).session.settled ≡ 4 }
-    ensures taken { leg_state (receive (after_turn (sent up 1) (silent (sent up 1))) (from_b 9 (Heartbeat (Some (codes "F4"))))).session 1 ≡ Some Taken }
+    ensures fence { (receive (silent (sent up 1)).1 (from_b 9 (Heartbeat (Some (codes "F4"))))).session.settled ≡ 4 }
+    ensures taken { leg_state (receive (silent (sent up 1)).1 (from_b 9 (Heartbeat (Some (codes "F4"))))).session 1 ≡ Some Taken }
 {}
 
 /// The number that a Logon says its exchange expects next, where the venue chose to be told it.
 pub fn is_told_the_next_number()
-    ensures told { connect (new_session told_config) ≡ Ok (connected (new_session told_config), record { from = codes "A"; to = codes "B"; number = 1; poss_dup = false; content = Logon 30 false (Some 1) }) }
+    ensures told { connect (new_session told_config) ≡ (Ok (record { from = codes "A"; to = codes "B"; number = 1; poss_dup = false; content = Logon 30 false (Some 1) }), connected (new_session told_config)) }
     ensures too_high { ended_by (receive (connected (new_session told_config)) (from_b 1 (Logon 30 false (Some 3)))) ≡ Some ended.BadNextExpected }
     ensures settled { leg_state (receive (connected (broken (sent (up_of told_config) 1))) (from_b 3 (Logon 30 false (Some 3)))).session 1 ≡ Some Withdrawn }
     ensures filled { written_of (receive (connected (broken (sent (up_of told_config) 1))) (from_b 3 (Logon 30 false (Some 3)))) ≡ (3, GapFill 5) ∷ (5, TestRequest (codes "F5")) ∷ [] }
@@ -109,35 +110,35 @@ pub fn is_told_the_next_number()
 
 /// What each call is refused for.
 pub fn refuses_calls()
-    ensures connect_when_up { connect up ≡ Err fault.NotDown }
-    ensures connect_when_closed { connect (abandon up) ≡ Err fault.Closed }
-    ensures connect_with_no_number { connect (broken (up_of few_config)) ≡ Err fault.NumbersSpent }
-    ensures send_when_settling { send_leg (heard (connected (new_session config)) (from_b 1 (Logon 30 false None) ∷ [])) 1 leg ≡ Err fault.NotUp }
-    ensures send_when_down { send_leg (broken up) 1 leg ≡ Err fault.NotUp }
-    ensures send_again { send_leg (sent up 1) 1 leg ≡ Err fault.OrdinalNotGreater }
-    ensures send_with_no_number { send_leg (up_of few_config) 1 leg ≡ Err fault.NumbersSpent }
-    ensures quiet_when_down { quiet (broken up) ≡ Err fault.NotConnected }
-    ensures quiet_with_no_number { quiet (up_of few_config) ≡ Err fault.NumbersSpent }
-    ensures silent_when_down { silent (broken up) ≡ Err fault.NotConnected }
-    ensures silent_with_no_number { silent (up_of few_config) ≡ Err fault.NumbersSpent }
-    ensures close_when_down { close (broken up) ≡ Err fault.NotConnected }
-    ensures close_with_no_number { close (up_of few_config) ≡ Err fault.NumbersSpent }
+    ensures connect_when_up { connect up ≡ (Err fault.NotDown, up) }
+    ensures connect_when_closed { connect (abandon up) ≡ (Err fault.Closed, abandon up) }
+    ensures connect_with_no_number { connect (broken (up_of few_config)) ≡ (Err fault.NumbersSpent, broken (up_of few_config)) }
+    ensures send_when_settling { send_leg settling 1 leg ≡ (Err fault.NotUp, settling) }
+    ensures send_when_down { send_leg (broken up) 1 leg ≡ (Err fault.NotUp, broken up) }
+    ensures send_again { send_leg (sent up 1) 1 leg ≡ (Err fault.OrdinalNotGreater, sent up 1) }
+    ensures send_with_no_number { send_leg (up_of few_config) 1 leg ≡ (Err fault.NumbersSpent, up_of few_config) }
+    ensures quiet_when_down { quiet (broken up) ≡ (Err fault.NotConnected, broken up) }
+    ensures quiet_with_no_number { quiet (up_of few_config) ≡ (Err fault.NumbersSpent, up_of few_config) }
+    ensures silent_when_down { silent (broken up) ≡ (Err fault.NotConnected, broken up) }
+    ensures silent_with_no_number { silent (up_of few_config) ≡ (Err fault.NumbersSpent, up_of few_config) }
+    ensures close_when_down { close (broken up) ≡ (Err fault.NotConnected, broken up) }
+    ensures close_with_no_number { close (up_of few_config) ≡ (Err fault.NumbersSpent, up_of few_config) }
 {}
 
 /// Heartbeats, silences and closes.
 pub fn keeps_alive_and_closes()
     ensures quiet { written_by (quiet up) ≡ (3, Heartbeat None) ∷ [] }
-    ensures still { quiet (connected (new_session config)) ≡ Ok (quietly (connected (new_session config))) }
+    ensures still { quiet (connected (new_session config)) ≡ (Ok no_step, connected (new_session config)) }
     ensures silent { written_by (silent up) ≡ (3, TestRequest (codes "F3")) ∷ [] }
-    ensures silent_again { ended_in (silent (after_turn up (silent up))) ≡ Some ended.Silent }
-    ensures silent_is_over { (after_turn (after_turn up (silent up)) (silent (after_turn up (silent up)))).phase ≡ phase.Down }
+    ensures silent_again { ended_in (silent (silent up).1) ≡ Some ended.Silent }
+    ensures silent_is_over { (silent (silent up).1).1.phase ≡ phase.Down }
     ensures silent_while_logging_on { written_by (silent (connected (new_session config))) ≡ [] }
     ensures closing { written_by (close up) ≡ (3, TestRequest (codes "F3")) ∷ [] }
-    ensures asked_again { close closing ≡ Ok (quietly closing) }
+    ensures asked_again { close closing ≡ (Ok no_step, closing) }
     ensures logged_out { written_of (receive closing (from_b 3 (Heartbeat (Some (codes "F3"))))) ≡ (4, Logout) ∷ [] }
-    ensures asked_before { (heard (after_turn (connected (new_session config)) (close (connected (new_session config)))) (from_b 1 (Logon 30 false None) ∷ from_b 2 (Heartbeat (Some (codes "F2"))) ∷ [])).phase ≡ phase.LoggedOut }
-    ensures asked_while_settling { (after_turn (heard (connected (new_session config)) (from_b 1 (Logon 30 false None) ∷ [])) (close (heard (connected (new_session config)) (from_b 1 (Logon 30 false None) ∷ [])))).close_asked ≡ true }
-    ensures asked_when_logged_out { close logged_out ≡ Ok (quietly logged_out) }
+    ensures asked_before { (heard (close (connected (new_session config))).1 (from_b 1 (Logon 30 false None) ∷ from_b 2 (Heartbeat (Some (codes "F2"))) ∷ [])).phase ≡ phase.LoggedOut }
+    ensures asked_while_settling { (close settling).1.close_asked ≡ true }
+    ensures asked_when_logged_out { close logged_out ≡ (Ok no_step, logged_out) }
 {}
 
 /// A session that has logged out writes nothing but gap fills.
@@ -157,9 +158,9 @@ pub fn fills_when_logged_out()
 pub fn keeps_doubt()
     ensures broken { leg_state (broken (sent up 1)) 1 ≡ Some Doubt }
     ensures numbers_go_on { next_out (connected (broken (sent up 1))) ≡ 5 }
-    ensures old_fence { (receive (heard (connected (broken (after_turn (sent up 1) (silent (sent up 1))))) (from_b 3 (Logon 30 false None) ∷ [])) (from_b 4 (Heartbeat (Some (codes "F4"))))).session.phase ≡ phase.Settling }
+    ensures old_fence { (receive (heard (connected (broken (silent (sent up 1)).1)) (from_b 3 (Logon 30 false None) ∷ [])) (from_b 4 (Heartbeat (Some (codes "F4"))))).session.phase ≡ phase.Settling }
     ensures abandoned { has_doubt (abandon (sent up 1)) ≡ true }
     ensures unsent { leg_state up 1 ≡ None }
     ensures broken_when_down { broken (broken up) ≡ broken up }
-    ensures malformed_when_down { malformed (broken up) ≡ (broken up, None) }
+    ensures malformed_when_down { malformed (broken up) ≡ (None, broken up) }
 {}

@@ -13,3 +13,7 @@ returns-clause-phase c = refl
 pub returns-clause-settled : goal.returns-clause-settled
 unfolding digits
 returns-clause-settled c = refl
+
+pub returns-clause-passed : goal.returns-clause-passed
+unfolding digits
+returns-clause-passed c = refl
