@@ -1,19 +1,17 @@
 -- Each report has the ExecID of its place among the reports.
-use Rattle.std.proofs.Common.{◌≡◌, ◌==◌, ℕ, suc, ◌+◌, Bool, true, false, not, ◌&&◌, ◌||◌, nat_lt, nat_le, List, [], ◌∷◌, ◌++◌, length, Option, Some, None, Ok, Err, IfOk, ap, ◌∙◌, if◌then◌else◌, arith}
+use Rattle.std.proofs.Common.{◌≡◌, ◌==◌, ℕ, suc, ◌+◌, Bool, true, false, List, [], ◌∷◌, ◌++◌, length, Option, Some, None, Ok, Err, ap, ◌∙◌, arith}
 use Rattle.dialect.specs.declared.report.Report.{Report}
 use Rattle.dialect.specs.declared.report.ReportKind.{ReportKind}
-use Rattle.dialect.specs.declared.report.ReportKind.TheVariants.{New, Trade, Canceled, Rejected, Bust}
-use Rattle.dialect.specs.Addressed.{is_for}
+use Rattle.dialect.specs.declared.report.ReportKind.TheVariants.{New}
 use Rattle.dialect.specs.OrderView.{OrderViewParts}
-use Rattle.dialect.specs.Message.{Content, Message, Logon, TestRequest, GapFill, Logout, Order}
-use Rattle.exchange_core.specs.declared.exchange_fault.ExchangeFault.TheVariants.{TooManyShares, Done, NotCancelled}
-use Rattle.exchange_core.specs.Order.{OrderParts, Ending, ByCancel, ByReject, new_order, traded, ended_by, busted_at, is_cancelled, view_of}
-use Rattle.exchange_core.specs.Own.{Own, Admin, Reported, Refused, report_count, has_numbers, next_exec, exec_id}
-use Rattle.exchange_core.specs.Exchange.{ExchangeParts, Answer, next_report, next_message, request, logon_taken, logon_answer, with_connection, due_taken, ahead, by_number, received, is_connection, comes, take}
-use Rattle.exchange_core.specs.Acts.{refused_if, order_at, trade_at, number_left, trade, ended, cancel_rest, reject, bust, test_in, test}
+use Rattle.dialect.specs.Message.{Content, Message, TestRequest, GapFill, Logout, Order}
+use Rattle.exchange_core.specs.Order.{OrderParts, new_order, view_of}
+use Rattle.exchange_core.specs.Own.{Own, Admin, Reported, Refused, report_count, exec_id}
+use Rattle.exchange_core.specs.Exchange.{ExchangeParts, next_report, logon_answer, with_connection, due_taken, take}
+use Rattle.exchange_core.specs.Acts.{reported, trade, cancel_rest, reject, bust, test}
 use Rattle.exchange_core.specs.Keeping.{AreCounted}
-use Rattle.exchange_core.proofs.Entries.{chosen}
-use Rattle.exchange_core.proofs.ActsReport.{each}
+use Rattle.exchange_core.proofs.Cases.{after_take_is}
+use Rattle.exchange_core.proofs.ActsReport.{IsReported, AnyPx, trade_is, cancel_rest_is, reject_is, bust_is, test_is}
 
 -- a number that carries no report
 more_admin : (count : ℕ) (own : List Own) → AreCounted count own → AreCounted count (own ++ Admin ∷ [])
@@ -50,7 +48,10 @@ next_counted x order kind view counted =
     let same : suc (report_count x.own) ≡ suc (0 + report_count x.own) = omega arith in
     more_reported 0 x.own (next_report x order kind) view counted (ap exec_id same)
 
-due_counted : (x : ExchangeParts) (content : Content) → AreCounted 0 x.own → AreCounted 0 (due_taken x content).0.own
+abbrev Counted : ExchangeParts → Type 0
+Counted x = AreCounted 0 x.own
+
+due_counted : (x : ExchangeParts) (content : Content) → Counted x → Counted (due_taken x content).1
 due_counted x (Order (Ok leg)) counted = next_counted x (new_order leg) New (view_of (suc (length x.orders)) (new_order leg)) counted
 due_counted x (Order (Err fault)) counted = more_refused 0 x.expected x.own counted
 due_counted x (GapFill new_number) counted = counted
@@ -58,72 +59,32 @@ due_counted x Logout counted = more_admin 0 x.own counted
 due_counted x (TestRequest id) counted = more_admin 0 x.own counted
 due_counted x content counted = counted
 
-by_number_counted : (x : ExchangeParts) (number : ℕ) (content : Content) → AreCounted 0 x.own → AreCounted 0 (by_number x number content).0.own
-by_number_counted x number content counted =
-    let asked_for : ExchangeParts = record x { own = x.own ++ Admin ∷ []; asked = x.expected } in
-    chosen (λ (a : Answer). AreCounted 0 a.0.own) (number == x.expected) (due_taken x content) (if nat_lt x.expected number then ahead x else (x, []))
-    (λ due. due_counted x content counted)
-    (λ other. chosen (λ (a : Answer). AreCounted 0 a.0.own) (nat_lt x.expected number) (ahead x) (x, [])
-    (λ above. chosen (λ (a : Answer). AreCounted 0 a.0.own) (x.asked == x.expected) (x, []) (asked_for, next_message x (request x) ∷ []) (λ asked. counted) (λ new. more_admin 0 x.own counted))
-    (λ below. counted))
-
-logon_counted : (x : ExchangeParts) (connection number heart : ℕ) (next : Option ℕ) (b : Bool) → AreCounted 0 x.own → AreCounted 0 (logon_answer (with_connection x connection number) b heart next).0.own
+logon_counted : (x : ExchangeParts) (connection number heart : ℕ) (next : Option ℕ) (b : Bool) → Counted x → Counted (logon_answer (with_connection x connection number) connection b heart next).1
 logon_counted x connection number heart (Some next) b counted = more_admin 0 x.own counted
 logon_counted x connection number heart None true counted = more_admin 0 x.own counted
 logon_counted x connection number heart None false counted = two_admin 0 x.own counted
 
-comes_counted : (x : ExchangeParts) (connection number : ℕ) (content : Content) → AreCounted 0 x.own → AreCounted 0 (comes x connection number content).0.own
-comes_counted x connection number (Logon heart reset next) counted =
-    chosen (λ (a : Answer). AreCounted 0 a.0.own) (nat_lt x.last connection && nat_le x.expected number) (logon_taken x connection number heart next) (x, [])
-    (λ is. logon_counted x connection number heart next (number == x.expected) counted)
-    (λ other. counted)
-comes_counted x connection number content counted =
-    chosen (λ (a : Answer). AreCounted 0 a.0.own) (is_connection x.live connection) (received x number content) (x, [])
-    (λ is. by_number_counted x number content counted)
-    (λ other. counted)
-
-pub take_counted : (x : ExchangeParts) (connection : ℕ) (m : Message) → AreCounted 0 x.own → AreCounted 0 (take x connection m).0.own
+pub take_counted : (x : ExchangeParts) (connection : ℕ) (m : Message) → AreCounted 0 x.own → AreCounted 0 (take x connection m).1.own
 take_counted x connection m counted =
-    chosen (λ (a : Answer). AreCounted 0 a.0.own) (is_for x.config m && has_numbers 2 x.config x.own) (comes x connection m.number m.content) (x, [])
-    (λ is. comes_counted x connection m.number m.content counted)
-    (λ other. counted)
+    after_take_is x connection m Counted counted
+    (λ heart next room newer. logon_counted x connection m.number heart next (m.number == x.expected) counted)
+    (λ room due. due_counted x m.content counted)
+    (λ live room is. more_admin 0 x.own counted)
 
-pub trade_counted : (x : ExchangeParts) (place shares : ℕ) (px : List ℕ) → AreCounted 0 x.own → IfOk (trade x place shares px) (λ a. AreCounted 0 a.0.own)
-trade_counted x place shares px counted =
-    each (λ (a : Answer). AreCounted 0 a.0.own) (order_at x place) _
-    (λ order _. each (λ (a : Answer). AreCounted 0 a.0.own) (refused_if (order.still_open == 0) Done) _
-    (λ going _. each (λ (a : Answer). AreCounted 0 a.0.own) (refused_if (shares == 0 || nat_lt order.still_open shares) TooManyShares) _
-    (λ enough _. each (λ (a : Answer). AreCounted 0 a.0.own) (number_left x) _
-    (λ number _.
-    let after : OrderParts = traded order shares (next_exec x.own) in
-    next_counted x after (Trade (record { shares = shares; px = px })) (view_of place after) counted))))
+change_counted : (x : ExchangeParts) → Counted x → (place : ℕ) (old new : OrderParts) (kind : ReportKind) → IsReported AnyPx x place old new kind → Counted (reported x place new kind).1
+change_counted x counted place old new kind is = next_counted x new kind (view_of place new) counted
 
-ended_counted : (x : ExchangeParts) (place : ℕ) (ending : Ending) (kind : ReportKind) → AreCounted 0 x.own → IfOk (ended x place ending kind) (λ a. AreCounted 0 a.0.own)
-ended_counted x place ending kind counted =
-    each (λ (a : Answer). AreCounted 0 a.0.own) (order_at x place) _
-    (λ order _. each (λ (a : Answer). AreCounted 0 a.0.own) (refused_if (order.still_open == 0) Done) _
-    (λ going _. each (λ (a : Answer). AreCounted 0 a.0.own) (number_left x) _
-    (λ number _. let after : OrderParts = ended_by ending order in next_counted x after kind (view_of place after) counted)))
+pub trade_counted : (x : ExchangeParts) (place shares : ℕ) (px : List ℕ) → AreCounted 0 x.own → AreCounted 0 (trade x place shares px).1.own
+trade_counted x place shares px counted = trade_is AnyPx x Counted counted (change_counted x counted) place shares px tt
 
-pub cancel_rest_counted : (x : ExchangeParts) (place : ℕ) → AreCounted 0 x.own → IfOk (cancel_rest x place) (λ a. AreCounted 0 a.0.own)
-cancel_rest_counted x place counted = ended_counted x place ByCancel Canceled counted
+pub cancel_rest_counted : (x : ExchangeParts) (place : ℕ) → AreCounted 0 x.own → AreCounted 0 (cancel_rest x place).1.own
+cancel_rest_counted x place counted = cancel_rest_is AnyPx x Counted counted (change_counted x counted) place
 
-pub reject_counted : (x : ExchangeParts) (place : ℕ) → AreCounted 0 x.own → IfOk (reject x place) (λ a. AreCounted 0 a.0.own)
-reject_counted x place counted = ended_counted x place ByReject Rejected counted
+pub reject_counted : (x : ExchangeParts) (place : ℕ) → AreCounted 0 x.own → AreCounted 0 (reject x place).1.own
+reject_counted x place counted = reject_is AnyPx x Counted counted (change_counted x counted) place
 
-pub bust_counted : (x : ExchangeParts) (place which : ℕ) → AreCounted 0 x.own → IfOk (bust x place which) (λ a. AreCounted 0 a.0.own)
-bust_counted x place which counted =
-    each (λ (a : Answer). AreCounted 0 a.0.own) (order_at x place) _
-    (λ order _. each (λ (a : Answer). AreCounted 0 a.0.own) (refused_if (not (is_cancelled order.ended)) NotCancelled) _
-    (λ cancelled _. each (λ (a : Answer). AreCounted 0 a.0.own) (trade_at order which) _
-    (λ trade _. each (λ (a : Answer). AreCounted 0 a.0.own) (number_left x) _
-    (λ number _.
-    let after : OrderParts = busted_at which trade order in
-    next_counted x after (Bust (exec_id trade.exec)) (view_of place after) counted))))
+pub bust_counted : (x : ExchangeParts) (place which : ℕ) → AreCounted 0 x.own → AreCounted 0 (bust x place which).1.own
+bust_counted x place which counted = bust_is AnyPx x Counted counted (change_counted x counted) place which
 
-test_counted_in : (x : ExchangeParts) (live : Option ℕ) → AreCounted 0 x.own → IfOk (test_in live x) (λ a. AreCounted 0 a.0.own)
-test_counted_in x None counted = counted
-test_counted_in x (Some connection) counted = each (λ (a : Answer). AreCounted 0 a.0.own) (number_left x) _ (λ number _. more_admin 0 x.own counted)
-
-pub test_counted : (x : ExchangeParts) → AreCounted 0 x.own → IfOk (test x) (λ a. AreCounted 0 a.0.own)
-test_counted x counted = test_counted_in x x.live counted
+pub test_counted : (x : ExchangeParts) → AreCounted 0 x.own → AreCounted 0 (test x).1.own
+test_counted x counted = test_is x Counted counted (λ left. more_admin 0 x.own counted)

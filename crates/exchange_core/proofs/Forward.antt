@@ -3,7 +3,7 @@ use Rattle.std.proofs.Common.{◌≡◌, ◌∙◌, max, Some, None, length, ◌
 use Rattle.std.proofs.lemmas.List.{append-nil}
 use Rattle.std.proofs.lemmas.Option.{same_Some}
 use Rattle.leg.specs.declared.leg.Leg.{Leg}
-use Rattle.exchange_core.specs.Acceptance.{Carried, Intake, Takes, new_logon, order, fill, logout, other, MayMove, stays, drops, takes, passed_at, IsForward, LiveIsLast}
+use Rattle.exchange_core.specs.Acceptance.{Carried, Intake, Takes, new_logon, order, fill, logout, other, MayMove, stays, drops, takes, takes_and_drops, passed_at, IsForward, LiveIsLast}
 use Rattle.exchange_core.proofs.Entries.{chosen}
 
 -- the same legs
@@ -27,6 +27,9 @@ pub moves_forward : (s : Intake) (coming : Option Carried) (t : Intake) → MayM
 moves_forward s coming t (stays after) = forward_by s t s after (record { expected = omega arith; last = omega arith; accepted = same s.accepted })
 moves_forward s coming t (drops after) = forward_by s t _ after (record { expected = omega arith; last = omega arith; accepted = same s.accepted })
 moves_forward s coming t (takes m came is) = takes_forward s m t is
+moves_forward s coming t (takes_and_drops m came u is after) =
+    let forward = takes_forward s m u is in
+    forward_by s t _ after (record { expected = forward.expected; last = forward.last; accepted = forward.accepted })
 
 -- the live connection stays the last one
 live_by : (t u : Intake) → t ≡ u → LiveIsLast u → LiveIsLast t
@@ -62,3 +65,4 @@ pub moves_live : (s : Intake) (coming : Option Carried) (t : Intake) → MayMove
 moves_live s coming t (stays after) last = live_by t s after last
 moves_live s coming t (drops after) last = let u : Intake = record s { live = None } in live_by t u after (not_live u refl)
 moves_live s coming t (takes m came is) last = takes_live s m t is last
+moves_live s coming t (takes_and_drops m came u is after) last = let v : Intake = record u { live = None } in live_by t v after (not_live v refl)

@@ -1,4 +1,5 @@
 pub mod Entries
+pub mod Cases
 pub mod ActsReport
 pub mod After
 pub mod Step

@@ -1,5 +1,5 @@
 -- What a resend request is answered with is what the rules allow: reports again, and gap fills over numbers that carry none.
-use Rattle.std.proofs.Common.{◌≡◌, ◌==◌, ℕ, zero, suc, ◌+◌, ◌-◌, ◌≤◌, ◌<◌, ◌⊎◌, min, Bool, true, false, ◌&&◌, ◌||◌, nat_le, inl, inr, List, [], ◌∷◌, ◌++◌, length, map, take, drop, Option, Some, None, Ok, refl, sym, ap, subst, ◌∙◌, if◌then◌else◌, arith, length-take, length-append, append_assoc, take-append-drop}
+use Rattle.std.proofs.Common.{◌≡◌, ◌==◌, ℕ, zero, suc, ◌+◌, ◌-◌, ◌≤◌, ◌<◌, ◌⊎◌, min, Bool, true, false, ◌&&◌, ◌||◌, nat_le, inl, inr, List, [], ◌∷◌, ◌++◌, length, map, take, drop, Option, Some, None, refl, sym, ap, subst, ◌∙◌, if◌then◌else◌, arith, length-take, length-append, append_assoc, take-append-drop}
 use Rattle.std.specs.List.{All}
 use Rattle.std.proofs.lemmas.Bool.{and_parts}
 use Rattle.std.proofs.lemmas.Bool.Decides.{nat_tests}
@@ -9,10 +9,11 @@ use Rattle.std.proofs.lemmas.Option.{slice_get_within}
 use Rattle.fix_tags.specs.Config.{ConfigParts}
 use Rattle.fix_tags.specs.Range.{range_end, is_range}
 use Rattle.leg.specs.Numbered.{numbered}
-use Rattle.dialect.specs.Message.{Content, Message, GapFill, Reject, OrderReport}
-use Rattle.exchange_core.specs.Acceptance.{Carried, Standing, fill, MayWrite}
-use Rattle.exchange_core.specs.Own.{Own, Admin, Reported, Refused, again, closing_fill, run_from, resent, answer_to}
-use Rattle.exchange_core.specs.Keeping.{kept, carried}
+use Rattle.dialect.specs.Message.{Content, GapFill, Reject}
+use Rattle.dialect.specs.Outgoing.{Outgoing}
+use Rattle.exchange_core.specs.Acceptance.{Carried, RuleState, MayWrite}
+use Rattle.exchange_core.specs.Own.{Own, Admin, Reported, Refused, execution_report, again, closing_fill, run_from, resent, resent_answer}
+use Rattle.exchange_core.specs.Keeping.{kept, written_in}
 use Rattle.exchange_core.proofs.Entries.{chosen, numbered-seam}
 
 -- the own numbers from this one on carry what these entries do
@@ -41,21 +42,21 @@ below_suc zero (suc n) h = inl (omega arith)
 below_suc (suc k) zero h = absurd (omega arith)
 below_suc (suc k) (suc n) h = elim (below_suc k n (omega arith)) [ inl below ↦ inl (omega arith) | inr same ↦ inr (ap suc same) ]
 
-module _ (s : Standing) (coming : Option Carried) (t : Standing) (connection : ℕ) (from : 1 ≤ connection) (to : connection ≤ t.intake.last) (config : ConfigParts) where
-  fill_written : (first number : ℕ) → IsRun t.own (Some first) number → MayWrite s coming t (carried connection (again config first (GapFill number)))
+module _ (s : RuleState) (coming : Option Carried) (t : RuleState) (connection : ℕ) (from : 1 ≤ connection) (to : connection ≤ t.intake.last) (config : ConfigParts) where
+  fill_written : (first number : ℕ) → IsRun t.own (Some first) number → MayWrite s coming t (written_in connection (again config first (GapFill number)))
   fill_written first number run = record {
     from = from;
     to = to;
-    content = inr (run.1 first (omega arith) run.0, fill number refl (record { above = run.0; used = run.2; plain = run.1 }));
+    content = inr (run.1 first (omega arith) run.0, record { above = run.0; used = run.2; plain = run.1 });
   }
 
-  closing_written : (run : Option ℕ) (number : ℕ) → IsRun t.own run number → All (MayWrite s coming t) (map (carried connection) (closing_fill config run number))
+  closing_written : (run : Option ℕ) (number : ℕ) → IsRun t.own run number → All (MayWrite s coming t) (map (written_in connection) (closing_fill config run number))
   closing_written None number is = All-nil (MayWrite s coming t)
-  closing_written (Some first) number is = All-cons (MayWrite s coming t) (carried connection (again config first (GapFill number))) [] (fill_written first number is) (All-nil (MayWrite s coming t))
+  closing_written (Some first) number is = All-cons (MayWrite s coming t) (written_in connection (again config first (GapFill number))) [] (fill_written first number is) (All-nil (MayWrite s coming t))
 
   -- a report or a refusal, again
-  again_written : (number : ℕ) (content : Content) → numbered number t.own ≡ Some (Some content) → MayWrite s coming t (carried connection (again config number content))
-  again_written number content there = record { from = from; to = to; content = inl there }
+  again_written : (out : Outgoing) → numbered out.message.number t.own ≡ Some (Some out.message.content) → MayWrite s coming t (written_in connection out)
+  again_written out there = record { from = from; to = to; content = inl there }
 
   longer_by : (first number k : ℕ) → ArePlain t.own first number → numbered number t.own ≡ Some None → first ≤ k → k < suc number → (k < number) ⊎ (k ≡ number) → numbered k t.own ≡ Some None
   longer_by first number k plain here low high (inl below) = plain k low below
@@ -69,20 +70,20 @@ module _ (s : Standing) (coming : Option Carried) (t : Standing) (connection : �
       let last = used t.own number None here in
       (omega (arith, is.0), λ k low high. longer_by first number k is.1 here low high (below_suc k number high), omega (arith, last))
 
-  closed_then : (run : Option ℕ) (number : ℕ) (content : Content) (more : List Message) → IsRun t.own run number → numbered number t.own ≡ Some (Some content) → All (MayWrite s coming t) (map (carried connection) more) → All (MayWrite s coming t) (map (carried connection) (closing_fill config run number ++ again config number content ∷ more))
-  closed_then run number content more is here rest =
-      subst (All (MayWrite s coming t)) (sym (map-append (carried connection) (closing_fill config run number) (again config number content ∷ more)))
-      (All-append (MayWrite s coming t) (map (carried connection) (closing_fill config run number)) (carried connection (again config number content) ∷ map (carried connection) more)
+  closed_then : (run : Option ℕ) (number : ℕ) (out : Outgoing) (more : List Outgoing) → IsRun t.own run number → numbered out.message.number t.own ≡ Some (Some out.message.content) → All (MayWrite s coming t) (map (written_in connection) more) → All (MayWrite s coming t) (map (written_in connection) (closing_fill config run number ++ out ∷ more))
+  closed_then run number out more is here rest =
+      subst (All (MayWrite s coming t)) (sym (map-append (written_in connection) (closing_fill config run number) (out ∷ more)))
+      (All-append (MayWrite s coming t) (map (written_in connection) (closing_fill config run number)) (written_in connection out ∷ map (written_in connection) more)
       (closing_written run number is)
-      (All-cons (MayWrite s coming t) (carried connection (again config number content)) (map (carried connection) more) (again_written number content here) rest))
+      (All-cons (MayWrite s coming t) (written_in connection out) (map (written_in connection) more) (again_written out here) rest))
 
-  pub resent_written : (run : Option ℕ) (number : ℕ) (entries : List Own) → IsRun t.own run number → AreFrom t.own number entries → All (MayWrite s coming t) (map (carried connection) (resent config run number entries))
+  pub resent_written : (run : Option ℕ) (number : ℕ) (entries : List Own) → IsRun t.own run number → AreFrom t.own number entries → All (MayWrite s coming t) (map (written_in connection) (resent config run number entries))
   resent_written run number [] is are = closing_written run number is
   resent_written run number (Admin ∷ entries) is are = resent_written (Some (run_from run number)) (suc number) entries (longer run number is are.0) are.1
   resent_written run number (Reported report view ∷ entries) is are =
-      closed_then run number (OrderReport (Ok report)) (resent config None (suc number) entries) is are.0 (resent_written None (suc number) entries tt are.1)
+      closed_then run number (execution_report config number true report view) (resent config None (suc number) entries) is are.0 (resent_written None (suc number) entries tt are.1)
   resent_written run number (Refused refused ∷ entries) is are =
-      closed_then run number (Reject refused) (resent config None (suc number) entries) is are.0 (resent_written None (suc number) entries tt are.1)
+      closed_then run number (again config number (Reject refused)) (resent config None (suc number) entries) is are.0 (resent_written None (suc number) entries tt are.1)
 
 -- the entries behind some others
 pub are_from : (front entries back : List Own) → AreFrom (map kept (front ++ (entries ++ back))) (suc (length front)) entries
@@ -114,9 +115,9 @@ end_of sent begin last true is within either = within
 end_of sent begin last false is within either = let ask : begin ≤ last = grind (arith, nat_tests) in omega arith
 
 -- what a request is answered with, after which own numbers may have been added
-pub answer_written : (s : Standing) (coming : Option Carried) (t : Standing) (connection : ℕ) → 1 ≤ connection → connection ≤ t.intake.last → (config : ConfigParts) (own extra : List Own) (begin last : ℕ) → t.own ≡ map kept (own ++ extra) → All (MayWrite s coming t) (map (carried connection) (answer_to config own begin last))
+pub answer_written : (s : RuleState) (coming : Option Carried) (t : RuleState) (connection : ℕ) → 1 ≤ connection → connection ≤ t.intake.last → (config : ConfigParts) (own extra : List Own) (begin last : ℕ) → t.own ≡ map kept (own ++ extra) → All (MayWrite s coming t) (map (written_in connection) (resent_answer config own begin last))
 answer_written s coming t connection from to config own extra begin last grown =
-    chosen (λ messages. All (MayWrite s coming t) (map (carried connection) messages)) (is_range (length own) begin last) (resent config None begin (drop (begin - 1) (take (range_end (length own) last) own))) []
+    chosen (λ messages. All (MayWrite s coming t) (map (written_in connection) messages)) (is_range (length own) begin last) (resent config None begin (drop (begin - 1) (take (range_end (length own) last) own))) []
     (λ is.
     let parts = and_parts (nat_le 1 begin && nat_le begin (length own)) (last == 0 || nat_le begin last) is in
     let bounds = and_parts (nat_le 1 begin) (nat_le begin (length own)) parts.0 in

@@ -1,13 +1,12 @@
 -- What any exchange that keeps the rules may do with the messages it gets, and what it may write (FIX 4.4 Volume 2,
 -- "Ordered Message Processing", "Logon", "Test Request", "Resend Request", "Sequence Reset" and "Logout").
-use Rattle.std.specs.Prelude.{◌≡◌, ◌==◌, if◌then◌else◌, ℕ, suc, ◌+◌, ◌<◌, ◌≤◌, max, ◌⊎◌, Bool, List, [], ◌∷◌, ◌++◌, length, Option, Some, None, Result, Ok, Err, All, Contains, slice_get}
+use Rattle.std.specs.Prelude.{◌≡◌, ◌==◌, if◌then◌else◌, ℕ, suc, ◌+◌, ◌<◌, ◌≤◌, max, ◌⊎◌, Bool, List, [], ◌∷◌, ◌++◌, length, Option, Some, None, Result, Ok, All, Contains, slice_get}
 use Rattle.leg.specs.declared.leg.Leg.{Leg}
 use Rattle.leg.specs.Growing.{Grew}
 use Rattle.leg.specs.LegId.{LegIdParts}
 use Rattle.leg.specs.Numbered.{numbered}
 use Rattle.dialect.specs.declared.fault.DialectFault.{DialectFault}
-use Rattle.dialect.specs.declared.report.Report.{Report}
-use Rattle.dialect.specs.Message.{Content, Logon, Heartbeat, TestRequest, ResendRequest, Reject, GapFill, Logout, BusinessReject, Order, OrderReport}
+use Rattle.dialect.specs.Message.{Content, Logon, Heartbeat, TestRequest, ResendRequest, Reject, GapFill, Reset, Logout, BusinessReject, Order, OrderReport}
 
 -- a message in its connection, delivered or written
 pub record Carried : Type 0 where
@@ -29,21 +28,24 @@ pub record Intake : Type 0 where
   pub closed_at : Option ℕ
 
 -- an exchange as the rules see it
-pub record Standing : Type 0 where
+pub record RuleState : Type 0 where
   pub intake : Intake
   -- the ids of TestRequests that were taken and may still be answered
   pub tests : List (List ℕ)
   -- the numbers under which orders were taken that may still be refused
   pub refusable : List ℕ
+  -- the numbers under which something else came, which may be refused too: such a refusal is no order's
+  pub others : List ℕ
   -- the own numbers used, from 1: the report or the refusal that each carries, if it carries one
   pub own : List (Option Content)
 
 -- before anything came
-abbrev pub opening : Standing
-opening = record {
+abbrev pub rule_opening : RuleState
+rule_opening = record {
   intake = record { expected = 1; live = None; last = 0; accepted = []; closed_at = None };
   tests = [];
   refusable = [];
+  others = [];
   own = [];
 }
 
@@ -74,7 +76,6 @@ pub record IsDue (s : Intake) (m : Carried) : Type 0 where
 -- a message that is no order of a leg, no gap fill and no Logout
 abbrev pub IsOther : Content → Type 0
 IsOther (Order (Ok leg)) = ⊥
-IsOther (Order (Err fault)) = Unit {0}
 IsOther (GapFill new_number) = ⊥
 IsOther Logout = ⊥
 IsOther content = Unit {0}
@@ -112,6 +113,9 @@ pub data MayMove (s : Intake) (coming : Option Carried) (t : Intake) : Type 0 wh
   drops : t ≡ record s { live = None } → MayMove s coming t
   -- what comes may be taken
   takes : (m : Carried) → coming ≡ Some m → Takes s m t → MayMove s coming t
+  -- and the live connection may end then
+  takes_and_drops : (m : Carried) → coming ≡ Some m → (u : Intake) → Takes s m u → t ≡ record u { live = None }
+      → MayMove s coming t
 
 -- a message that says this was taken in this step, under the expected number
 pub record Took (s t : Intake) (coming : Option Carried) (content : Content) : Type 0 where
@@ -122,33 +126,53 @@ pub record Took (s t : Intake) (coming : Option Carried) (content : Content) : T
   pub passed : t.expected ≡ suc s.expected
 
 -- a TestRequest of this id was taken, now or before, so it may be answered; one above the expected number never is
-abbrev pub MayAnswer : Standing → Option Carried → Standing → List ℕ → Type 0
+abbrev pub MayAnswer : RuleState → Option Carried → RuleState → List ℕ → Type 0
 MayAnswer s coming t id = Contains s.tests id ⊎ Took s.intake t.intake coming (TestRequest id)
 
 -- an order of this number was taken, now or before, whether it could be read or not, so it may be refused
-abbrev pub MayRefuse : Standing → Option Carried → Standing → ℕ → Type 0
+abbrev pub MayRefuse : RuleState → Option Carried → RuleState → ℕ → Type 0
 MayRefuse s coming t number =
     Contains s.refusable number
     ⊎ ((read : Result Leg DialectFault) × Took s.intake t.intake coming (Order read) × (number ≡ s.intake.expected))
 
+-- a message that is no order, and no sequence reset, which may stand where an order was
+abbrev pub IsNoOrder : Content → Type 0
+IsNoOrder (Order read) = ⊥
+IsNoOrder (GapFill new_number) = ⊥
+IsNoOrder (Reset new_number) = ⊥
+IsNoOrder content = Unit {0}
+
+-- such a message comes under this number
+pub record ComesAsOther (coming : Option Carried) (number : ℕ) : Type 0 where
+  pub message : Carried
+  pub came : coming ≡ Some message
+  pub other : IsNoOrder message.content
+  pub same : message.number ≡ number
+
+-- such a message came under this number, now or before, whether it was taken or not: so a refusal of the number is no
+-- order's, and its receiver can't take it for one
+abbrev pub MayRefuseOther : RuleState → Option Carried → ℕ → Type 0
+MayRefuseOther s coming number = Contains s.others number ⊎ ComesAsOther coming number
+
 -- a leg of this id was accepted
-pub record IsAccepted (accepted : List Leg) (id : LegIdParts) : Type 0 where
+pub record HasAccepted (accepted : List Leg) (id : LegIdParts) : Type 0 where
   pub place : ℕ
   pub leg : Leg
   pub there : slice_get accepted place ≡ Some leg
   pub same : leg.id ≡ id
 
--- what a new own number may be used for
-pub data MayKeep (s : Standing) (coming : Option Carried) (t : Standing) (entry : Option Content) : Type 0 where
-  -- a message that is neither a report nor a refusal
-  plain : entry ≡ None → MayKeep s coming t entry
-  -- a report on an order that was accepted
-  report : (report : Report) → entry ≡ Some (OrderReport (Ok report)) → IsAccepted t.intake.accepted report.id
-      → MayKeep s coming t entry
-  -- a refusal of an order by its number
-  reject : (number : ℕ) → entry ≡ Some (Reject number) → MayRefuse s coming t number → MayKeep s coming t entry
-  business_reject : (number : ℕ) → entry ≡ Some (BusinessReject (Some number)) → MayRefuse s coming t number
-      → MayKeep s coming t entry
+-- what a new own number may be kept for: a report that can be read, of an order that was accepted, or the refusal of an
+-- order by its number
+abbrev pub MayCarry : RuleState → Option Carried → RuleState → Content → Type 0
+MayCarry s coming t (OrderReport (Ok report)) = HasAccepted t.intake.accepted report.id
+MayCarry s coming t (Reject number) = MayRefuse s coming t number
+MayCarry s coming t (BusinessReject (Some number)) = MayRefuse s coming t number
+MayCarry s coming t content = ⊥
+
+-- what a new own number may be used for: one of these, or any other message
+abbrev pub MayKeep : RuleState → Option Carried → RuleState → Option Content → Type 0
+MayKeep s coming t None = Unit {0}
+MayKeep s coming t (Some content) = MayCarry s coming t content
 
 -- own numbers are only added, each for something that holds of it
 abbrev pub GrowsBy : (Option Content → Type 0) → List (Option Content) → List (Option Content) → Type 0
@@ -165,37 +189,40 @@ abbrev pub TellsExpected : ℕ → Option ℕ → Type 0
 TellsExpected expected None = Unit {0}
 TellsExpected expected (Some next) = next ≡ expected
 
--- what may be written under a number that carries no report and no refusal
-pub data MaySay (s : Standing) (coming : Option Carried) (t : Standing) (w : Carried) : Type 0 where
-  -- a Logon may say which number is expected next (789), as it is after what came was taken
-  logon : (heart : ℕ) (reset : Bool) (next : Option ℕ) → w.content ≡ Logon heart reset next
-      → TellsExpected t.intake.expected next
-      → MaySay s coming t w
-  -- a request for what is missing begins with the expected number
-  ask : (last : ℕ) → w.content ≡ ResendRequest t.intake.expected last → MaySay s coming t w
-  -- a Heartbeat with no id, and a TestRequest, come at any time
-  heartbeat : w.content ≡ Heartbeat None → MaySay s coming t w
-  -- a Heartbeat with an id answers a TestRequest that was taken
-  answer : (id : List ℕ) → w.content ≡ Heartbeat (Some id) → MayAnswer s coming t id → MaySay s coming t w
-  test : (id : List ℕ) → w.content ≡ TestRequest id → MaySay s coming t w
-  -- a Logout is written once a Logout was taken
-  logout : (count : ℕ) → w.content ≡ Logout → t.intake.closed_at ≡ Some count → MaySay s coming t w
-  -- a gap fill stands for own numbers that carry nothing
-  fill : (new_number : ℕ) → w.content ≡ GapFill new_number → IsGap t.own w.number new_number → MaySay s coming t w
+-- what may be said under a number that carries no report and no refusal of an order
+abbrev pub MaySay : RuleState → Option Carried → RuleState → ℕ → Content → Type 0
+-- a Logon may say which number is expected next (789), as it is after what came was taken
+MaySay s coming t number (Logon heart reset next) = TellsExpected t.intake.expected next
+-- a request for what is missing begins with the expected number
+MaySay s coming t number (ResendRequest begin last) = begin ≡ t.intake.expected
+-- a Heartbeat with an id answers a TestRequest that was taken
+MaySay s coming t number (Heartbeat (Some id)) = MayAnswer s coming t id
+-- a Logout is written once a Logout was taken
+MaySay s coming t number Logout = (count : ℕ) × (t.intake.closed_at ≡ Some count)
+-- a gap fill stands for own numbers that carry nothing
+MaySay s coming t number (GapFill new_number) = IsGap t.own number new_number
+-- a refusal here is one of a message that is no order
+MaySay s coming t number (Reject refused) = MayRefuseOther s coming refused
+MaySay s coming t number (BusinessReject (Some refused)) = MayRefuseOther s coming refused
+-- a report has a number of its own
+MaySay s coming t number (OrderReport read) = ⊥
+-- everything else may be said at any time
+MaySay s coming t number content = Unit {0}
 
 -- what may be written: into a connection that is no newer than the last that was live, a report or a refusal under
 -- its own number, now or again, or something else under a number that carries none
-pub record MayWrite (s : Standing) (coming : Option Carried) (t : Standing) (w : Carried) : Type 0 where
+pub record MayWrite (s : RuleState) (coming : Option Carried) (t : RuleState) (w : Carried) : Type 0 where
   pub from : 1 ≤ w.connection
   pub to : w.connection ≤ t.intake.last
   pub content : (numbered w.number t.own ≡ Some (Some w.content))
-      ⊎ ((numbered w.number t.own ≡ Some None) × MaySay s coming t w)
+      ⊎ ((numbered w.number t.own ≡ Some None) × MaySay s coming t w.number w.content)
 
 -- one step of an exchange that keeps the rules: how it stood, what came if anything did, how it stands and what it wrote
-pub record May (s : Standing) (coming : Option Carried) (t : Standing) (written : List Carried) : Type 0 where
+pub record May (s : RuleState) (coming : Option Carried) (t : RuleState) (written : List Carried) : Type 0 where
   pub moves : MayMove s.intake coming t.intake
   pub tests : All (MayAnswer s coming t) t.tests
   pub refusable : All (MayRefuse s coming t) t.refusable
+  pub others : All (MayRefuseOther s coming) t.others
   pub own : GrowsBy (MayKeep s coming t) s.own t.own
   pub writes : All (MayWrite s coming t) written
 

@@ -1,10 +1,12 @@
 -- The exchange as the rules see it.
-use Rattle.std.specs.Prelude.{◌≡◌, suc, ◌∷◌, ◌⊎◌, ℕ, ◌≤◌, List, [], ◌++◌, length, map, Option, Some, None, Ok}
+use Rattle.std.specs.Prelude.{◌≡◌, suc, ◌∷◌, ◌⊎◌, ℕ, ◌≤◌, List, [], ◌++◌, length, map, Option, Some, None, Ok, Err}
 use Rattle.leg.specs.Growing.{Grew}
 use Rattle.dialect.specs.Message.{Content, Message, Reject, GapFill, Logout, OrderReport}
-use Rattle.exchange_core.specs.Acceptance.{Carried, Intake, Standing, LiveIsLast, May}
-use Rattle.exchange_core.specs.Own.{Own, Admin, Reported, Refused, next_number, exec_id}
-use Rattle.exchange_core.specs.Exchange.{ExchangeParts, Answer, accepted_by}
+use Rattle.dialect.specs.Outgoing.{Outgoing}
+use Rattle.exchange_core.specs.Acceptance.{Carried, Intake, RuleState, LiveIsLast, May}
+use Rattle.exchange_core.specs.Own.{Own, Admin, Reported, Refused, next_own_number, exec_id}
+use Rattle.exchange_core.specs.Exchange.{ExchangeParts, Answer, accepted_by, live_connection}
+use Rattle.exchange_core.specs.Acts.{ActAnswer}
 
 -- the report or the refusal that an own number carries, if it carries one
 abbrev pub kept : Own → Option Content
@@ -16,32 +18,36 @@ kept (Refused number) = Some (Reject number)
 abbrev pub intake_of : ExchangeParts → Intake
 intake_of x = record {
   expected = x.expected;
-  live = x.live;
+  live = live_connection x;
   last = x.last;
   accepted = accepted_by x;
   closed_at = x.closed_at;
 }
 
 -- it answers and refuses at once, so nothing is left to be answered or refused later
-abbrev pub standing : ExchangeParts → Standing
-standing x = record { intake = intake_of x; tests = []; refusable = []; own = map kept x.own }
+abbrev pub rule_state : ExchangeParts → RuleState
+rule_state x =
+    record { intake = intake_of x; tests = []; refusable = []; others = []; own = map kept x.own }
 
 -- a message in its connection
 abbrev pub carried : ℕ → Message → Carried
 carried connection m = record { connection = connection; number = m.number; content = m.content }
 
+abbrev pub written_in : ℕ → Outgoing → Carried
+written_in connection out = carried connection out.message
+
 -- what it writes goes into one connection, and nowhere if there is none
-abbrev pub into : Option ℕ → List Message → List Carried
-into None messages = []
-into (Some connection) messages = map (carried connection) messages
+abbrev pub into : Option ℕ → List Outgoing → List Carried
+into None written = []
+into (Some connection) written = map (written_in connection) written
 
 -- the live connection is the last one
-abbrev pub IsSound : ExchangeParts → Type 0
-IsSound x = LiveIsLast (intake_of x)
+abbrev pub IsLastLive : ExchangeParts → Type 0
+IsLastLive x = LiveIsLast (intake_of x)
 
 -- the second is after the first: numbers don't fall, and what was accepted and what own numbers were used for stays,
 -- with more behind it, of own numbers at most two in a step
-pub record IsAfter (x y : ExchangeParts) : Type 0 where
+pub record IsExchangeLater (x y : ExchangeParts) : Type 0 where
   pub config : y.config ≡ x.config
   pub expected : x.expected ≤ y.expected
   pub last : x.last ≤ y.last
@@ -49,8 +55,8 @@ pub record IsAfter (x y : ExchangeParts) : Type 0 where
   pub own : (more : List Own) × (y.own ≡ x.own ++ more) × (length more ≤ 2)
 
 -- every own number used is below the one that no message may have
-abbrev pub IsNumbered : ExchangeParts → Type 0
-IsNumbered x = next_number x.own ≤ x.config.max_number
+abbrev pub OwnNumbersFit : ExchangeParts → Type 0
+OwnNumbersFit x = next_own_number x.own ≤ x.config.max_number
 
 -- the mark of the close is as it was, or was set by a Logout: the connection ended, and it is the count of the orders
 pub record IsClosedBy (content : Content) (y : ExchangeParts) : Type 0 where
@@ -61,23 +67,28 @@ pub record IsClosedBy (content : Content) (y : ExchangeParts) : Type 0 where
 abbrev pub IsMarked : ExchangeParts → Content → ExchangeParts → Type 0
 IsMarked x content y = (y.closed_at ≡ x.closed_at) ⊎ IsClosedBy content y
 
--- what is done with a message: the rules allow it, the exchange goes on from where it was and stays sound, its numbers
--- stay below the limit, and only a Logout sets the mark of the close
+-- what is done with a message: the rules allow it, the exchange goes on from where it was, its live connection stays
+-- the last one and its numbers below the limit, and only a Logout sets the mark of the close
 pub record IsAnswer (x : ExchangeParts) (connection : ℕ) (m : Message) (a : Answer) : Type 0 where
-  pub allowed : May (standing x) (Some (carried connection m)) (standing a.0) (into (Some connection) a.1)
-  pub after : IsAfter x a.0
-  pub sound : IsSound a.0
-  pub numbered : IsNumbered x → IsNumbered a.0
-  pub marked : IsMarked x m.content a.0
+  pub allowed : May (rule_state x) (Some (carried connection m)) (rule_state a.1) (into (Some connection) a.0)
+  pub after : IsExchangeLater x a.1
+  pub live : IsLastLive a.1
+  pub numbered : OwnNumbersFit x → OwnNumbersFit a.1
+  pub marked : IsMarked x m.content a.1
 
 -- an act that was not refused: the rules allow it, it changes nothing of what was taken, and it uses a number only
 -- where one is left
-pub record IsAct (x : ExchangeParts) (a : Answer) : Type 0 where
-  pub allowed : May (standing x) None (standing a.0) (into x.live a.1)
-  pub after : IsAfter x a.0
-  pub taken : intake_of a.0 ≡ intake_of x
-  pub sound : IsSound a.0
-  pub numbered : IsNumbered x → IsNumbered a.0
+pub record IsDone (x : ExchangeParts) (a : Answer) : Type 0 where
+  pub allowed : May (rule_state x) None (rule_state a.1) (into (live_connection x) a.0)
+  pub after : IsExchangeLater x a.1
+  pub taken : intake_of a.1 ≡ intake_of x
+  pub live : IsLastLive a.1
+  pub numbered : OwnNumbersFit x → OwnNumbersFit a.1
+
+-- an act: one that is refused changes nothing
+abbrev pub IsAct : ExchangeParts → ActAnswer → Type 0
+IsAct x (Ok written, y) = IsDone x (written, y)
+IsAct x (Err fault, y) = y ≡ x
 
 -- the expected number is one that a message may name
 pub record IsExpectable (x : ExchangeParts) : Type 0 where

@@ -5,8 +5,9 @@ use Rattle.fix_tags.specs.Config.{ConfigParts}
 use Rattle.fix_tags.specs.Range.{range_end, is_range}
 use Rattle.dialect.specs.declared.report.Report.{Report}
 use Rattle.dialect.specs.Addressed.{message_of}
-use Rattle.dialect.specs.Message.{Content, Message, Reject, GapFill, OrderReport}
+use Rattle.dialect.specs.Message.{Content, Reject, GapFill, OrderReport}
 use Rattle.dialect.specs.OrderView.{OrderViewParts}
+use Rattle.dialect.specs.Outgoing.{Outgoing, alone}
 
 -- what an own number was used for: a message of the session, a report with the order as it was then, or the refusal of
 -- a message by its number
@@ -18,11 +19,11 @@ pub data Own : Type 0 where
 -- Own numbers begin at 1, and what they were used for is listed in their order.
 
 -- the next number, and whether so many are left below the one that no message may have
-abbrev pub next_number : List Own → ℕ
-next_number own = suc (length own)
+abbrev pub next_own_number : List Own → ℕ
+next_own_number own = suc (length own)
 
 abbrev pub has_numbers : ℕ → ConfigParts → List Own → Bool
-has_numbers count config own = nat_le (next_number own + count) config.max_number
+has_numbers count config own = nat_le (next_own_number own + count) config.max_number
 
 -- how many reports there are
 abbrev pub report_count : List Own → ℕ
@@ -38,12 +39,17 @@ next_exec own = suc (report_count own)
 abbrev pub exec_id : ℕ → List ℕ
 exec_id count = codes "E" ++ decimal count
 
--- a message to the peer under a number that it may have seen before (43=Y)
-abbrev pub again : ConfigParts → ℕ → Content → Message
-again config number content = message_of config number true content
+-- an ExecutionReport, and beside it the order as it was then; marked where the peer may have seen it before (43=Y)
+abbrev pub execution_report : ConfigParts → ℕ → Bool → Report → OrderViewParts → Outgoing
+execution_report config number poss_dup report view =
+    record { message = message_of config number poss_dup (OrderReport (Ok report)); beside = Some view }
+
+-- any other message to the peer under a number that it may have seen before (43=Y)
+abbrev pub again : ConfigParts → ℕ → Content → Outgoing
+again config number content = alone (message_of config number true content)
 
 -- a gap fill over the numbers from the first one that is open, if there is one, to the one before this
-abbrev pub closing_fill : ConfigParts → Option ℕ → ℕ → List Message
+abbrev pub closing_fill : ConfigParts → Option ℕ → ℕ → List Outgoing
 closing_fill config None number = []
 closing_fill config (Some first) number = again config first (GapFill number) ∷ []
 
@@ -54,17 +60,18 @@ run_from (Some first) number = first
 
 -- the messages of these numbers, of which the first has this number, where a run may be open: each report and refusal
 -- again, and each run of the rest by one gap fill
-abbrev pub resent : ConfigParts → Option ℕ → ℕ → List Own → List Message
+abbrev pub resent : ConfigParts → Option ℕ → ℕ → List Own → List Outgoing
 resent config run number [] = closing_fill config run number
 resent config run number (Admin ∷ own) = resent config (Some (run_from run number)) (suc number) own
 resent config run number (Reported report view ∷ own) =
-    closing_fill config run number ++ again config number (OrderReport (Ok report)) ∷ resent config None (suc number) own
+    closing_fill config run number
+    ++ execution_report config number true report view ∷ resent config None (suc number) own
 resent config run number (Refused refused ∷ own) =
     closing_fill config run number ++ again config number (Reject refused) ∷ resent config None (suc number) own
 
 -- what the request for a range is answered with
-abbrev pub answer_to : ConfigParts → List Own → ℕ → ℕ → List Message
-answer_to config own begin last =
+abbrev pub resent_answer : ConfigParts → List Own → ℕ → ℕ → List Outgoing
+resent_answer config own begin last =
     if is_range (length own) begin last
     then resent config None begin (drop (begin - 1) (take (range_end (length own) last) own))
     else []

@@ -1,11 +1,14 @@
 -- Worked days of one exchange, for the rows.
-use Rattle.std.specs.Prelude.{ℕ, zero, suc, true, false, List, [], ◌++◌, codes, None, Result, Ok, Err}
+use Rattle.std.specs.Prelude.{ℕ, zero, suc, true, false, List, [], ◌++◌, codes, Some, None, Ok, Err}
 use Rattle.leg.specs.declared.leg.Leg.{Leg}
 use Rattle.leg.specs.declared.side.Side.TheVariants.{Buy}
 use Rattle.dialect.specs.declared.report.ReportKind.{ReportKind}
 use Rattle.dialect.specs.Message.{Content, Message, Logon, TestRequest, Order, OrderReport}
-use Rattle.exchange_core.specs.declared.exchange_fault.ExchangeFault.{ExchangeFault}
+use Rattle.dialect.specs.OrderView.{OrderViewParts}
+use Rattle.dialect.specs.Outgoing.{Outgoing, alone}
+use Rattle.exchange_core.specs.Order.{order_id}
 use Rattle.exchange_core.specs.Exchange.{ExchangeParts, Answer, new_exchange, take}
+use Rattle.exchange_core.specs.Acts.{ActAnswer}
 use Rattle.exchange_core.specs.Acts as acts
 
 -- the exchange `B`, whose peer is `A`, with numbers below this one
@@ -18,31 +21,32 @@ abbrev pub from_peer : ℕ → Content → Message
 from_peer number content =
     record { from = codes "A"; to = codes "B"; number = number; poss_dup = false; content = content }
 
--- a message to the peer, new or again
-abbrev pub to_peer : ℕ → Content → Message
+-- a message to the peer, new or again, with nothing beside it
+abbrev pub to_peer : ℕ → Content → Outgoing
 to_peer number content =
-    record { from = codes "B"; to = codes "A"; number = number; poss_dup = false; content = content }
+    alone (record { from = codes "B"; to = codes "A"; number = number; poss_dup = false; content = content })
 
-abbrev pub to_peer_again : ℕ → Content → Message
-to_peer_again number content = record (to_peer number content) { poss_dup = true }
+abbrev pub to_peer_again : ℕ → Content → Outgoing
+to_peer_again number content =
+    alone (record { from = codes "B"; to = codes "A"; number = number; poss_dup = true; content = content })
 
 -- a message that comes in a connection
 abbrev pub coming : ℕ → ℕ → Content → ExchangeParts → Answer
 coming connection number content x = take x connection (from_peer number content)
 
 -- an act, where one that is refused does nothing
-abbrev pub done : Result Answer ExchangeFault → ExchangeParts → Answer
-done (Ok answer) x = answer
-done (Err fault) x = (x, [])
+abbrev pub done : ActAnswer → Answer
+done (Ok written, x) = (written, x)
+done (Err fault, x) = ([], x)
 
 -- one after the other, with all that is written
 infixl 10 ◌then◌
 abbrev pub ◌then◌ : Answer → (ExchangeParts → Answer) → Answer
-before then step = let after : Answer = step before.0 in (after.0, before.1 ++ after.1)
+before then step = let after : Answer = step before.1 in (before.0 ++ after.0, after.1)
 
 -- with nothing done
 abbrev pub begun : ExchangeParts → Answer
-begun x = (x, [])
+begun x = ([], x)
 
 -- the Logon of a session, with no reset and no number that it expects
 abbrev pub logon : Content
@@ -55,9 +59,20 @@ leg = record {
   terms = record { symbol = record { root = codes "BRK"; suffix = codes "B" }; side = Buy; shares = 100; price = 102500 };
 }
 
--- a report on it
-abbrev pub report : List ℕ → ReportKind → Content
-report exec kind = OrderReport (Ok (record { id = leg.id; exec = exec; kind = kind }))
+-- the order as its exchange sees it, with so many shares filled and open
+abbrev pub view : ℕ → ℕ → OrderViewParts
+view cum leaves = record { leg = leg; order_id = order_id 1; cum = cum; leaves = leaves }
+
+-- a report on it under a number, new or again, and beside it the order as it was then
+abbrev pub reports : ℕ → List ℕ → ReportKind → OrderViewParts → Outgoing
+reports number exec kind view =
+    let m : Message = (to_peer number (OrderReport (Ok (record { id = leg.id; exec = exec; kind = kind })))).message in
+    record { message = m; beside = Some view }
+
+abbrev pub reports_again : ℕ → List ℕ → ReportKind → OrderViewParts → Outgoing
+reports_again number exec kind view =
+    let out : Outgoing = reports number exec kind view in
+    record out { message = let m : Message = out.message in record m { poss_dup = true } }
 
 -- after a Logon in connection 1, and the fence under number 2
 abbrev pub fenced : Answer
@@ -69,21 +84,21 @@ ordered = fenced then coming 1 3 (Order (Ok leg))
 
 -- a trade of the first order, a cancel of its rest, and a bust of its first trade
 abbrev pub trade : ℕ → ExchangeParts → Answer
-trade shares x = done (acts.trade x 1 shares (codes "10.25")) x
+trade shares x = done (acts.trade x 1 shares (codes "10.25"))
 
 abbrev pub cancel_rest : ExchangeParts → Answer
-cancel_rest x = done (acts.cancel_rest x 1) x
+cancel_rest x = done (acts.cancel_rest x 1)
 
 abbrev pub reject : ExchangeParts → Answer
-reject x = done (acts.reject x 1) x
+reject x = done (acts.reject x 1)
 
 abbrev pub bust : ExchangeParts → Answer
-bust x = done (acts.bust x 1 1) x
+bust x = done (acts.bust x 1 1)
 
 -- so many TestRequests
 abbrev pub tests : ℕ → ExchangeParts → Answer
-tests zero x = (x, [])
-tests (suc n) x = done (acts.test x) x then tests n
+tests zero x = ([], x)
+tests (suc n) x = done (acts.test x) then tests n
 
 -- the first order after a trade of 60 shares, after the cancel of its rest, and after the bust of the trade
 abbrev pub half_traded : Answer
