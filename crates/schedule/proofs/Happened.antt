@@ -1,5 +1,5 @@
 -- What happens at a venue changes that venue alone, and leads to a later world.
-use Rattle.std.proofs.Common.{◌≡◌, ◌==◌, ℕ, ◌&&◌, ◌⊎◌, inl, inr, List, [], ◌∷◌, ◌++◌, length, Option, Some, None, Result, Ok, Err, IfOk, refl, sym, ap, ◌∙◌}
+use Rattle.std.proofs.Common.{◌≡◌, ◌==◌, ℕ, ◌&&◌, ◌⊎◌, inl, inr, List, [], ◌∷◌, ◌++◌, length, Option, Some, None, Ok, Err, refl, sym, ap, subst, ◌∙◌}
 use Rattle.std.specs.Prelude.{slice_get, slice_set}
 use Rattle.std.specs.Option.{option_map_or}
 use Rattle.std.proofs.lemmas.Option.{same_Some}
@@ -8,30 +8,31 @@ use Rattle.leg.specs.Numbered.{numbered}
 use Rattle.leg.specs.declared.placed_leg.PlacedLeg.{PlacedLeg}
 use Rattle.leg.specs.declared.sweep.Routed.{Routed}
 use Rattle.leg.specs.Growing.{Grew}
+use Rattle.leg.specs.declared.leg.Leg.{Leg}
 use Rattle.dialect.specs.Message.{Message}
-use Rattle.session_core.specs.declared.session_fault.SessionFault.{SessionFault}
+use Rattle.dialect.specs.Outgoing.{Outgoing}
+use Rattle.session_core.specs.declared.session_fault.SessionFault.TheVariants.{NotDown, Closed, NumbersSpent, OutOfMemory, NotUp, OrdinalNotGreater, NotConnected}
 use Rattle.session_core.specs.Session.{SessionParts, is_connected}
-use Rattle.session_core.specs.Turn.{Turn}
+use Rattle.session_core.specs.Turn.{StepParts, Turn}
 use Rattle.session_core.specs.Receiving.{receive, confirm}
-use Rattle.session_core.specs.Calling.{connect, send_leg, quiet, silent, close, broken, abandon}
-use Rattle.session_core.specs.Onward.{IsOnward, IsCall, IsConnection, IsSent}
+use Rattle.session_core.specs.Calling.{SessionAnswer, connect, send_leg, quiet, silent, close, broken, abandon}
+use Rattle.session_core.specs.Onward.{IsOnward, OrUnchanged, IsCall, IsConnection, SendsLeg}
 use Rattle.session_core.proofs.Adding.{onward-refl, onward-trans}
 use Rattle.session_core.proofs.Received.{receive_is_received}
 use Rattle.session_core.proofs.Called.{connect_keeps, send_leg_keeps, confirm_keeps, quiet_keeps, silent_keeps, close_keeps, broken_keeps, abandon_keeps}
-use Rattle.exchange_core.specs.declared.exchange_fault.ExchangeFault.{ExchangeFault}
 use Rattle.exchange_core.proofs.Entries.{chosen}
-use Rattle.exchange_core.specs.Exchange.{Answer, take, drop_connection}
-use Rattle.share_ledger.specs.declared.book_fault.BookFault.{BookFault}
-use Rattle.share_ledger.specs.Book.{BookParts, open_sweep}
+use Rattle.exchange_core.specs.Exchange.{ExchangeParts, live_connection, take, drop_connection}
+use Rattle.exchange_core.specs.Acts.{ActAnswer}
+use Rattle.share_ledger.specs.Book.{BookAnswer, open_sweep}
 use Rattle.sweep_release.specs.declared.receipt.Receipt.{Receipt}
 use Rattle.sweep_release.specs.declared.release_fault.ReleaseFault.{ReleaseFault}
-use Rattle.sweep_release.specs.Desk.{DeskParts, gate_up, gate_down, shut, drop_next, release, release_unless, release_refusal}
+use Rattle.sweep_release.specs.Desk.{DeskParts, gate_up, gate_down, shut, drop_next, with_sweep, release_unless, release_refusal}
 use Rattle.sweep_release.specs.Desk as desk
 use Rattle.sweep_release.specs.Place.{place_after, place_in_book}
 use Rattle.schedule.specs.declared.event.Event.{Event}
 use Rattle.schedule.specs.declared.event.Event.TheVariants as event
 use Rattle.schedule.specs.World.{World, VenueParts, Frame, venue_in}
-use Rattle.schedule.specs.Happening.{with_venue, at_venue, in_connection, session_wrote, exchange_wrote, is_session_up, released_world, dropped_world, sent_world, taken_world, may_connect, connected_world, to_exchange, session_turn, to_dispatcher, noted, act_of, acted_world, called_world, closed_world, connects, takes, goes_up, happens, run}
+use Rattle.schedule.specs.Happening.{with_venue, at_venue, in_connection, messages_of, session_wrote, exchange_wrote, exchange_did, is_session_up, desk_and_book, released_world, dropped_world, sent_world, taken_world, may_connect, connected_world, to_exchange, session_turn, to_dispatcher, noted, act_of, acted_world, called_world, closed_world, connects, takes, goes_up, happens, happen}
 use Rattle.schedule.specs.Growing.{named, HasGrown, IsVenueLater, IsWorldLater, IsUntouched}
 use Rattle.schedule.proofs.Grown.{grew-same, grew-refl, grown-refl, venue_later-refl, world_later-refl, world_later-trans, slice_get-set_other, length-slice_set, venue_set}
 use Rattle.schedule.proofs.ExchangeGrows.{take_grows, drop_connection_grows, act_grows}
@@ -107,14 +108,27 @@ wrote_later venue session messages onward = record {
   given = grew-refl venue.given;
 }
 
-exchange_later : (venue : VenueParts) (connection : ℕ) (answer : Answer) → HasGrown venue.exchange answer.0 → IsVenueLater venue (exchange_wrote connection answer venue)
-exchange_later venue connection answer grown = record {
+exchange_later : (venue : VenueParts) (connection : ℕ) (written : List Outgoing) (exchange : ExchangeParts)
+    → HasGrown venue.exchange exchange → IsVenueLater venue (exchange_wrote connection written exchange venue)
+exchange_later venue connection written exchange grown = record {
   session = onward-refl venue.session;
   exchange = grown;
   to_exchange = grew-refl venue.to_exchange;
-  from_exchange = (in_connection connection answer.1, refl);
+  from_exchange = (in_connection connection (messages_of written), refl);
   given = grew-refl venue.given;
 }
+
+exchange_did_later : (venue : VenueParts) (live : Option ℕ) (written : List Outgoing) (exchange : ExchangeParts)
+    → HasGrown venue.exchange exchange → IsVenueLater venue (exchange_did live written exchange venue)
+exchange_did_later venue None written exchange grown = record {
+  session = onward-refl venue.session;
+  exchange = grown;
+  to_exchange = grew-refl venue.to_exchange;
+  from_exchange = grew-refl venue.from_exchange;
+  given = grew-refl venue.given;
+}
+exchange_did_later venue (Some connection) written exchange grown =
+    exchange_later venue connection written exchange grown
 
 session_later : (venue : VenueParts) (session : SessionParts) → IsOnward venue.session session → IsVenueLater venue (record venue { session = session })
 session_later venue session onward = record {
@@ -149,22 +163,36 @@ drop_step : (w : World) (v : ℕ) (venue : VenueParts) (left : Option PlacedLeg 
 drop_step w v venue (None, after) keeps = step-refl w v venue
 drop_step w v venue (Some placed, after) keeps = record { desk = keeps; venues = inl refl }
 
-sent_step : (w : World) (v : ℕ) (venue : VenueParts) (after : DeskParts) (id : LegIdParts) (sent : Result (SessionParts × Message) SessionFault) → Keeps v w.desk after
-    → IfOk sent (λ answer. IsOnward venue.session answer.0) → StepAt w v venue (sent_world (record w { desk = after }) v venue id sent)
-sent_step w v venue after id (Ok (session, message)) keeps onward =
-    put w v venue (session_wrote session (message ∷ []) venue) _ keeps refl (wrote_later venue session (message ∷ []) onward)
-sent_step w v venue after id (Err fault) keeps onward = record { desk = keeps; venues = inl refl }
+sent_step : (w : World) (v : ℕ) (venue : VenueParts) (after : DeskParts) (id : LegIdParts) (sent : SessionAnswer Message)
+    → Keeps v w.desk after → IsOnward venue.session sent.1 → StepAt w v venue (sent_world w after v venue id sent)
+sent_step w v venue after id (Ok message, session) keeps onward =
+    put w v venue (session_wrote session (message ∷ []) venue) _ keeps refl
+    (wrote_later venue session (message ∷ []) onward)
+sent_step w v venue after id (Err NumbersSpent, session) keeps onward = record { desk = keeps; venues = inl refl }
+sent_step w v venue after id (Err NotDown, session) keeps onward = step-refl w v venue
+sent_step w v venue after id (Err Closed, session) keeps onward = step-refl w v venue
+sent_step w v venue after id (Err OutOfMemory, session) keeps onward = step-refl w v venue
+sent_step w v venue after id (Err NotUp, session) keeps onward = step-refl w v venue
+sent_step w v venue after id (Err OrdinalNotGreater, session) keeps onward = step-refl w v venue
+sent_step w v venue after id (Err NotConnected, session) keeps onward = step-refl w v venue
 
-onward_if : (s : SessionParts) (P : SessionParts → Message → Type 0) (r : Result (SessionParts × Message) SessionFault) → ((t : SessionParts) (m : Message) → P t m → IsOnward s t) → IfOk r (λ answer. P answer.0 answer.1)
-    → IfOk r (λ answer. IsOnward s answer.0)
-onward_if s P (Ok (session, message)) by holds = by session message holds
-onward_if s P (Err fault) by holds = tt
+-- the session after a call is onward, whether it was refused or not
+onward_if : {X : Type 0} (s : SessionParts) (Does : X → SessionParts → Type 0) (answer : SessionAnswer X)
+    → ((x : X) (t : SessionParts) → Does x t → IsOnward s t) → OrUnchanged s Does answer → IsOnward s answer.1
+onward_if s Does (Ok x, t) by does = by x t does
+onward_if s Does (Err fault, t) by same = subst (IsOnward s) (sym same) (onward-refl s)
 
-taken_step : (w : World) (v : ℕ) (venue : VenueParts) (left : Option PlacedLeg × DeskParts) → Keeps v w.desk left.1 → StepAt w v venue (taken_world w v venue left)
+sent_onward : (s : SessionParts) (ordinal : ℕ) (leg : Leg) → IsOnward s (send_leg s ordinal leg).1
+sent_onward s ordinal leg =
+    onward_if s (SendsLeg s ordinal leg) (send_leg s ordinal leg) (λ message t sent. sent.keeps.onward)
+    (send_leg_keeps s ordinal leg)
+
+taken_step : (w : World) (v : ℕ) (venue : VenueParts) (left : Option PlacedLeg × DeskParts) → Keeps v w.desk left.1
+    → StepAt w v venue (taken_world w v venue left)
 taken_step w v venue (None, after) keeps = step-refl w v venue
 taken_step w v venue (Some placed, after) keeps =
     sent_step w v venue after placed.leg.id (send_leg venue.session placed.ordinal placed.leg) keeps
-    (onward_if venue.session (IsSent venue.session placed.ordinal placed.leg) (send_leg venue.session placed.ordinal placed.leg) (λ t m sent. sent.keeps.onward) (send_leg_keeps venue.session placed.ordinal placed.leg))
+    (sent_onward venue.session placed.ordinal placed.leg)
 
 take_step : (w : World) (v : ℕ) (venue : VenueParts) → StepAt w v venue (takes w v venue)
 take_step w v venue =
@@ -173,17 +201,21 @@ take_step w v venue =
     (λ not_up. step-refl w v venue)
 
 -- Connect
-connected_step : (w : World) (v : ℕ) (venue : VenueParts) (r : Result (SessionParts × Message) SessionFault) → IfOk r (λ answer. IsOnward venue.session answer.0)
-    → StepAt w v venue (connected_world w v venue r)
-connected_step w v venue (Ok (session, message)) onward =
-    put w v venue (session_wrote session (message ∷ []) venue) _ (keeps-refl v w.desk) refl (wrote_later venue session (message ∷ []) onward)
-connected_step w v venue (Err fault) onward = step-refl w v venue
+connected_step : (w : World) (v : ℕ) (venue : VenueParts) (answer : SessionAnswer Message)
+    → IsOnward venue.session answer.1 → StepAt w v venue (connected_world w v venue answer)
+connected_step w v venue (Ok message, session) onward =
+    put w v venue (session_wrote session (message ∷ []) venue) _ (keeps-refl v w.desk) refl
+    (wrote_later venue session (message ∷ []) onward)
+connected_step w v venue (Err fault, session) onward = step-refl w v venue
+
+connect_onward : (s : SessionParts) → IsOnward s (connect s).1
+connect_onward s =
+    onward_if s (IsConnection s) (connect s) (λ message t made. made.keeps.onward) (connect_keeps s)
 
 connect_step : (w : World) (v : ℕ) (venue : VenueParts) → StepAt w v venue (connects w v venue)
 connect_step w v venue =
     chosen (StepAt w v venue) (may_connect w.desk v) (connected_world w v venue (connect venue.session)) w
-    (λ may. connected_step w v venue (connect venue.session)
-    (onward_if venue.session (IsConnection venue.session) (connect venue.session) (λ t m made. made.keeps.onward) (connect_keeps venue.session)))
+    (λ may. connected_step w v venue (connect venue.session) (connect_onward venue.session))
     (λ may_not. step-refl w v venue)
 
 -- ToExchange and ToDispatcher
@@ -191,8 +223,9 @@ to_exchange_step : (w : World) (v : ℕ) (venue : VenueParts) (frame : Option Fr
 to_exchange_step w v venue None = step-refl w v venue
 to_exchange_step w v venue (Some frame) =
     (let answer = take venue.exchange frame.connection frame.message in
-    put w v venue (exchange_wrote frame.connection answer venue) _ (keeps-refl v w.desk) refl
-    (exchange_later venue frame.connection answer (take_grows venue.exchange frame.connection frame.message)))
+    put w v venue (exchange_wrote frame.connection answer.0 answer.1 venue) _ (keeps-refl v w.desk) refl
+    (exchange_later venue frame.connection answer.0 answer.1
+    (take_grows venue.exchange frame.connection frame.message)))
 
 turn_later : (venue : VenueParts) (turn : Turn) → IsOnward venue.session turn.session
     → IsVenueLater venue (record (session_wrote turn.session turn.step.written venue) { session = confirm turn.session; given = venue.given ++ noted turn.step.note })
@@ -212,21 +245,31 @@ to_dispatcher_step w v venue (Some frame) =
     (λ old. step-refl w v venue)
 
 -- Act
-acted_step : (w : World) (v : ℕ) (venue : VenueParts) (r : Result Answer ExchangeFault) → IfOk r (λ answer. HasGrown venue.exchange answer.0) → StepAt w v venue (acted_world w v venue r)
-acted_step w v venue (Ok answer) grown =
-    put w v venue (exchange_wrote venue.exchange.last answer venue) _ (keeps-refl v w.desk) refl (exchange_later venue venue.exchange.last answer grown)
-acted_step w v venue (Err fault) grown = step-refl w v venue
+acted_step : (w : World) (v : ℕ) (venue : VenueParts) (answer : ActAnswer) → HasGrown venue.exchange answer.1
+    → StepAt w v venue (acted_world w v venue answer)
+acted_step w v venue (Ok written, exchange) grown =
+    (let live = live_connection venue.exchange in
+    put w v venue (exchange_did live written exchange venue) _ (keeps-refl v w.desk) refl
+    (exchange_did_later venue live written exchange grown))
+acted_step w v venue (Err fault, exchange) grown = step-refl w v venue
 
 -- Quiet, Silent and Close
-called_step : (w : World) (v : ℕ) (venue : VenueParts) (r : Result Turn SessionFault) → IfOk r (IsCall venue.session) → StepAt w v venue (called_world w v venue r)
-called_step w v venue (Ok turn) is =
-    put w v venue (session_wrote turn.session turn.step.written venue) _ (keeps-refl v w.desk) refl (wrote_later venue turn.session turn.step.written is.keeps.onward)
-called_step w v venue (Err fault) is = step-refl w v venue
+call_onward : (s : SessionParts) (answer : SessionAnswer StepParts) → OrUnchanged s (IsCall s) answer → IsOnward s answer.1
+call_onward s answer is = onward_if s (IsCall s) answer (λ step t call. call.keeps.onward) is
 
-closed_step : (w : World) (v : ℕ) (venue : VenueParts) (r : Result Turn SessionFault) → IfOk r (IsCall venue.session) → StepAt w v venue (closed_world w v venue r)
-closed_step w v venue (Ok turn) is =
-    put w v venue (session_wrote turn.session turn.step.written venue) _ (shut_keeps v w.desk) refl (wrote_later venue turn.session turn.step.written is.keeps.onward)
-closed_step w v venue (Err fault) is = step-refl w v venue
+called_step : (w : World) (v : ℕ) (venue : VenueParts) (answer : SessionAnswer StepParts)
+    → IsOnward venue.session answer.1 → StepAt w v venue (called_world w v venue answer)
+called_step w v venue (Ok step, session) onward =
+    put w v venue (session_wrote session step.written venue) _ (keeps-refl v w.desk) refl
+    (wrote_later venue session step.written onward)
+called_step w v venue (Err fault, session) onward = step-refl w v venue
+
+closed_step : (w : World) (v : ℕ) (venue : VenueParts) (answer : SessionAnswer StepParts)
+    → IsOnward venue.session answer.1 → StepAt w v venue (closed_world w v venue answer)
+closed_step w v venue (Ok step, session) onward =
+    put w v venue (session_wrote session step.written venue) _ (shut_keeps v w.desk) refl
+    (wrote_later venue session step.written onward)
+closed_step w v venue (Err fault, session) onward = step-refl w v venue
 
 -- Release
 record Released (w after : World) : Type 0 where
@@ -237,15 +280,16 @@ record Released (w after : World) : Type 0 where
 released-refl : (w : World) → Released w w
 released-refl w = record { sweeps = grew-refl w.desk.sweeps; desk = refl; venues = refl }
 
-placed_in_book : (w : World) (receipt : Receipt) (desk : DeskParts) (opened : Result (Unit {0}) BookFault × BookParts) → Grew w.desk.sweeps desk.sweeps → desk.venues ≡ w.desk.venues
-    → Released w (released_world w (place_in_book receipt desk opened))
+placed_in_book : (w : World) (receipt : Receipt) (desk : DeskParts) (answer : BookAnswer) → Grew w.desk.sweeps desk.sweeps
+    → desk.venues ≡ w.desk.venues → Released w (released_world w (place_in_book (desk_and_book w) receipt desk answer).1)
 placed_in_book w receipt desk (Ok done, book) grew same = record { sweeps = grew; desk = same; venues = refl }
 placed_in_book w receipt desk (Err fault, book) grew same = released-refl w
 
-released_by : (w : World) (legs : List Routed) (refusal : Option ReleaseFault) → Released w (released_world w (place_after w.book legs (release_unless refusal w.desk legs)))
+released_by : (w : World) (legs : List Routed) (refusal : Option ReleaseFault)
+    → Released w (released_world w (place_after (desk_and_book w) legs (release_unless refusal w.desk legs)).1)
 released_by w legs (Some fault) = released-refl w
 released_by w legs None =
-    placed_in_book w _ (record w.desk { sweeps = w.desk.sweeps ++ legs ∷ [] }) (open_sweep w.book _ legs) (legs ∷ [], refl) refl
+    placed_in_book w _ (with_sweep legs w.desk) (open_sweep w.book _ legs) (legs ∷ [], refl) refl
 
 release_happened : (w : World) (after : World) → Released w after → Happened None w after
 release_happened w after is = record {
@@ -278,9 +322,9 @@ event_happened w (event.ExchangeBreak v) =
     at_happened w v (λ venue. with_venue w v (record venue { exchange = drop_connection venue.exchange }))
     (λ venue. put w v venue (record venue { exchange = drop_connection venue.exchange }) _ (keeps-refl v w.desk) refl (dropped_later venue))
 event_happened w (event.Act v act) = at_happened w v _ (λ venue. acted_step w v venue (act_of act venue.exchange) (act_grows act venue.exchange))
-event_happened w (event.Quiet v) = at_happened w v _ (λ venue. called_step w v venue (quiet venue.session) (quiet_keeps venue.session))
-event_happened w (event.Silent v) = at_happened w v _ (λ venue. called_step w v venue (silent venue.session) (silent_keeps venue.session))
-event_happened w (event.Close v) = at_happened w v _ (λ venue. closed_step w v venue (close venue.session) (close_keeps venue.session))
+event_happened w (event.Quiet v) = at_happened w v _ (λ venue. called_step w v venue (quiet venue.session) (call_onward venue.session (quiet venue.session) (quiet_keeps venue.session)))
+event_happened w (event.Silent v) = at_happened w v _ (λ venue. called_step w v venue (silent venue.session) (call_onward venue.session (silent venue.session) (silent_keeps venue.session)))
+event_happened w (event.Close v) = at_happened w v _ (λ venue. closed_step w v venue (close venue.session) (call_onward venue.session (close venue.session) (close_keeps venue.session)))
 event_happened w (event.Abandon v) =
     at_happened w v (λ venue. with_venue (record w { desk = shut w.desk v }) v (record venue { session = abandon venue.session }))
     (λ venue. put w v venue (record venue { session = abandon venue.session }) _ (shut_keeps v w.desk) refl (session_later venue (abandon venue.session) (abandon_keeps venue.session).onward))
@@ -295,7 +339,7 @@ others_untouched w e u other = (event_happened w e).others u other
 pub absent_unchanged : (w : World) (e : Event) (v : ℕ) → named e ≡ Some v → venue_in w v ≡ None → happens w e ≡ w
 absent_unchanged w e v names gone = (event_happened w e).absent v names gone
 
-pub run_is_later : (events : List Event) (w : World) → IsWorldLater w (run events w)
-run_is_later [] w = world_later-refl w
-run_is_later (e ∷ events) w =
-    world_later-trans w (happens w e) (run events (happens w e)) (event_is_later w e) (run_is_later events (happens w e))
+pub happen_is_later : (events : List Event) (w : World) → IsWorldLater w (happen events w)
+happen_is_later [] w = world_later-refl w
+happen_is_later (e ∷ events) w =
+    world_later-trans w (happens w e) (happen events (happens w e)) (event_is_later w e) (happen_is_later events (happens w e))

@@ -7,7 +7,7 @@ use Rattle.dialect.specs.Message.{Content}
 use Rattle.schedule.specs.declared.act.Act.TheVariants as act
 use Rattle.schedule.specs.declared.event.Event.{Event}
 use Rattle.schedule.specs.declared.event.Event.TheVariants as event
-use Rattle.schedule.specs.World.{World, Frame, of_venue, opening}
+use Rattle.schedule.specs.World.{World, Frame, of_venue}
 use Rattle.schedule.specs.Happening.{run}
 
 abbrev pub brk_b : SymbolParts
@@ -76,15 +76,15 @@ head = connect ∷ to 1 ∷ from 1 ∷ to 2 ∷ from 2 ∷ up ∷ []
 
 -- the world after a script of one venue, from its open gate on
 abbrev pub after : List Event → World
-after events = run (head ++ events) (opening (false ∷ []) 1000)
+after events = run (false ∷ []) 1000 (head ++ events)
 
 -- the same where the venue chose to be told the next expected number (789)
 abbrev pub after_told : List Event → World
-after_told events = run (head ++ events) (opening (true ∷ []) 1000)
+after_told events = run (true ∷ []) 1000 (head ++ events)
 
 -- the same where no message may have number 16
 abbrev pub after_few : List Event → World
-after_few events = run (head ++ events) (opening (false ∷ []) 16)
+after_few events = run (false ∷ []) 16 (head ++ events)
 
 abbrev pub one_leg : Event
 one_leg = release (buy 0 brk_b 100 102500 ∷ [])
@@ -133,7 +133,7 @@ head_of v = event.Connect v ∷ event.ToExchange v 1 ∷ event.ToDispatcher v 1 
 
 -- two venues, the gates of both open
 abbrev pub after_two : List Event → World
-after_two events = run (head ++ head_of 1 ++ events) (opening (false ∷ false ∷ []) 1000)
+after_two events = run (false ∷ false ∷ []) 1000 (head ++ head_of 1 ++ events)
 
 -- the text of these lines
 abbrev pub script : List (List ℕ) → List ℕ

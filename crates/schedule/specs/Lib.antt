@@ -3,7 +3,5 @@ pub mod Happening
 pub mod Printed
 pub mod Example
 pub mod SweepTheorem
-pub mod Invariant
-pub mod ReportInvariant
 pub mod Growing
 pub mod Script

@@ -1,17 +1,14 @@
 -- The world as it is printed: a line a venue, and then a line a sweep.
-use Rattle.std.specs.Prelude.{ℕ, suc, Bool, true, false, List, [], ◌∷◌, ◌++◌, map, codes, decimal, Option, Some, None, if◌then◌else◌}
+use Rattle.std.specs.Prelude.{ℕ, suc, List, [], ◌∷◌, ◌++◌, map, codes, decimal, Option, Some, None}
 use Rattle.std.specs.Option.{option_map_or}
 use Rattle.leg.specs.LegId.{LegIdParts, leg_id_text}
-use Rattle.leg.specs.declared.leg.Leg.{Leg}
-use Rattle.leg.specs.declared.leg_state.LegState.{LegState}
-use Rattle.leg.specs.declared.leg_state.LegState.TheVariants.{Queued, Doubt, Taken, Withdrawn}
 use Rattle.leg.specs.declared.sweep.Routed.{Routed}
 use Rattle.leg.specs.declared.totals.Totals.{Totals}
 use Rattle.session_core.specs.declared.phase.Phase.{Phase}
 use Rattle.session_core.specs.declared.phase.Phase.TheVariants.{Down, LoggingOn, Settling, Up, Closing, LoggedOut, Closed}
 use Rattle.exchange_core.specs.Exchange.{accepted_by}
 use Rattle.share_ledger.specs.Entries.{sweep_shares}
-use Rattle.schedule.specs.World.{World, VenueParts, released_to, state_of, totals}
+use Rattle.schedule.specs.World.{World, VenueParts, withdrawn_ids, doubtful_ids, totals}
 
 -- texts with a space between any two
 abbrev pub spaced : List (List ℕ) → List ℕ
@@ -22,26 +19,6 @@ spaced (text ∷ more ∷ texts) = text ++ 32 ∷ spaced (more ∷ texts)
 -- legs by their numbers, as `[S1L1 S1L2]`
 abbrev pub legs_text : List LegIdParts → List ℕ
 legs_text ids = codes "[" ++ spaced (map leg_id_text ids) ++ codes "]"
-
--- the released legs, of which the first has this ordinal, whose state passes a test
-abbrev pub legs_where : (Option LegState → Bool) → (ℕ → Option LegState) → ℕ → List Leg → List LegIdParts
-legs_where test state ordinal [] = []
-legs_where test state ordinal (leg ∷ legs) =
-    if test (state ordinal) then leg.id ∷ legs_where test state (suc ordinal) legs else legs_where test state (suc ordinal) legs
-
-abbrev pub is_withdrawn : Option LegState → Bool
-is_withdrawn (Some Withdrawn) = true
-is_withdrawn (Some Queued) = false
-is_withdrawn (Some Doubt) = false
-is_withdrawn (Some Taken) = false
-is_withdrawn None = false
-
-abbrev pub is_in_doubt : Option LegState → Bool
-is_in_doubt (Some Doubt) = true
-is_in_doubt (Some Queued) = false
-is_in_doubt (Some Taken) = false
-is_in_doubt (Some Withdrawn) = false
-is_in_doubt None = false
 
 abbrev pub phase_text : Phase → List ℕ
 phase_text Down = codes "down"
@@ -61,8 +38,8 @@ abbrev pub venue_line : World → ℕ → VenueParts → List ℕ
 venue_line w v venue =
     codes "venue " ++ decimal v
     ++ codes " accepted " ++ legs_text (map (λ leg. leg.id) (accepted_by venue.exchange))
-    ++ codes " withdrawn " ++ legs_text (legs_where is_withdrawn (state_of w v) 1 (released_to w v))
-    ++ codes " doubt " ++ legs_text (legs_where is_in_doubt (state_of w v) 1 (released_to w v))
+    ++ codes " withdrawn " ++ legs_text (withdrawn_ids w v)
+    ++ codes " doubt " ++ legs_text (doubtful_ids w v)
     ++ codes " phase " ++ phase_text venue.session.phase
     ++ codes " closed " ++ closed_text venue.exchange.closed_at
     ++ 10 ∷ []

@@ -1,5 +1,5 @@
 -- A replay script: which text says which events.
-use Rattle.std.specs.Prelude.{ℕ, suc, ◌-◌, Bool, true, false, ◌&&◌, List, [], ◌∷◌, length, codes, Option, Some, None, option_map, option_and_then, Result, Ok, Err, ◌==◌, nat_le, if◌then◌else◌}
+use Rattle.std.specs.Prelude.{ℕ, suc, ◌-◌, Bool, true, false, ◌&&◌, List, [], ◌∷◌, length, map, codes, Option, Some, None, option_map, option_and_then, Result, Ok, Err, ◌==◌, nat_le, if◌then◌else◌}
 use Rattle.std.specs.Char.{is_ascii_graphic}
 use Rattle.std.specs.List.{list_all}
 use Rattle.std.specs.Str.{bytes_eq}
@@ -8,16 +8,18 @@ use Rattle.leg.specs.declared.side.Side.{Side}
 use Rattle.leg.specs.declared.side.Side.TheVariants.{Buy, Sell}
 use Rattle.leg.specs.declared.sweep.Routed.{Routed}
 use Rattle.dialect.specs.JoinedSymbol.{joined_symbol_of}
+use Rattle.dialect.specs.declared.any_dialect.AnyDialect.{AnyDialect}
 use Rattle.dialect.specs.DialectName.{dialect_named}
 use Rattle.schedule.specs.declared.act.Act.TheVariants as act
-use Rattle.schedule.specs.declared.script_venue.ScriptVenue.{ScriptVenue}
 use Rattle.schedule.specs.declared.event.Event.{Event}
 use Rattle.schedule.specs.declared.event.Event.TheVariants as event
 
--- the number that no message of a session has, the venues, and the events
+-- the number that no message of a session has; for each venue its dialect, and whether it chose to be told the next
+-- expected number (789); and the events
 pub record ScriptParts : Type 0 where
   pub max_number : ℕ
-  pub venues : List ScriptVenue
+  pub dialects : List AnyDialect
+  pub next : List Bool
   pub events : List Event
 
 -- the pieces of a text between its separators, one more than there are separators
@@ -149,6 +151,10 @@ event_of_words venues (name ∷ words) =
     if bytes_eq name (codes "release") then release_of_words words else event_of venues name words
 
 -- a dialect by its name, with `+789` behind it where the venue is told the next expected number
+pub record ScriptVenue : Type 0 where
+  pub dialect : AnyDialect
+  pub next : Bool
+
 abbrev pub venue_of_parts : List (List ℕ) → Option ScriptVenue
 venue_of_parts (name ∷ []) = option_map (λ dialect. record { dialect = dialect; next = false }) (dialect_named name)
 venue_of_parts (name ∷ tag ∷ []) =
@@ -188,7 +194,13 @@ events_of_lines venues number (line ∷ lines) =
     else with_event number (event_of_words venues (words_of line)) (events_of_lines venues (suc number) lines)
 
 abbrev pub with_events : ScriptHead → Result (List Event) ℕ → Result ScriptParts ℕ
-with_events head (Ok events) = Ok (record { max_number = head.max_number; venues = head.venues; events = events })
+with_events head (Ok events) =
+    Ok (record {
+      max_number = head.max_number;
+      dialects = map (λ venue. venue.dialect) head.venues;
+      next = map (λ venue. venue.next) head.venues;
+      events = events;
+    })
 with_events head (Err line) = Err line
 
 abbrev pub after_head : ℕ → List (List ℕ) → Option ScriptHead → Result ScriptParts ℕ

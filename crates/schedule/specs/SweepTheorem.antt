@@ -2,7 +2,6 @@
 use Rattle.std.specs.Prelude.{◌≡◌, ◌≤◌, ◌<◌, ◌⊎◌, ◌+◌, ℕ, Bool, List, length, map, Some, IfSome, [], ◌∷◌, take, suc, if◌then◌else◌}
 use Rattle.std.specs.List.{Contains, list_any}
 use Rattle.std.specs.List.Sorted.{IsStrictlyIncreasing}
-use Rattle.leg.specs.LegId.{LegIdParts}
 use Rattle.leg.specs.Numbered.{numbered}
 use Rattle.leg.specs.declared.sweep.Routed.{Routed}
 use Rattle.leg.specs.declared.leg_state.LegState.TheVariants.{Doubt, Taken, Withdrawn}
@@ -10,8 +9,7 @@ use Rattle.leg.specs.declared.totals.Totals.{Totals}
 use Rattle.dialect.specs.declared.note.Note.TheVariants as note
 use Rattle.share_ledger.specs.Entries.{sweep_shares, is_same_leg}
 use Rattle.schedule.specs.declared.event.Event.{Event}
-use Rattle.schedule.specs.World.{World, opening, accepted, released_to, state_of, totals, closed_at, given, made}
-use Rattle.schedule.specs.Printed.{legs_where, is_withdrawn}
+use Rattle.schedule.specs.World.{World, accepted, released_to, state_of, withdrawn_ids, totals, closed_at, given, made}
 use Rattle.schedule.specs.Happening.{run}
 
 -- a leg that was released to the venue under this ordinal was withdrawn
@@ -53,9 +51,6 @@ pub record HoldsAt (w : World) (v : ℕ) : Type 0 where
   pub reports : AreGiven w v
 
 -- the shares of the legs of a sweep that were withdrawn, the first of them having this place
-abbrev pub withdrawn_ids : World → ℕ → List LegIdParts
-withdrawn_ids w v = legs_where is_withdrawn (state_of w v) 1 (released_to w v)
-
 abbrev pub withdrawn_of : World → ℕ → ℕ → List Routed → ℕ
 withdrawn_of w number place [] = 0
 withdrawn_of w number place (routed ∷ legs) =
@@ -89,4 +84,4 @@ pub record IsOpening (next : List Bool) (max_number : ℕ) : Type 0 where
 abbrev pub TheSweepTheorem : Type 0
 TheSweepTheorem =
     (next : List Bool) (max_number : ℕ) (events : List Event) → IsOpening next max_number
-    → HoldsOf (run events (opening next max_number))
+    → HoldsOf (run next max_number events)

@@ -1,10 +1,11 @@
 -- The world: a desk, a book, and for each venue a session, an exchange and the network between them.
-use Rattle.std.specs.Prelude.{ℕ, zero, suc, Bool, false, List, [], ◌∷◌, length, map, Option, Some, None, slice_get, nat_le, if◌then◌else◌, codes}
+use Rattle.std.specs.Prelude.{ℕ, zero, suc, Bool, true, false, List, [], ◌∷◌, length, map, Option, Some, None, slice_get, nat_le, if◌then◌else◌, codes}
 use Rattle.std.specs.Option.{option_map_or}
 use Rattle.fix_tags.specs.Config.{ConfigParts}
+use Rattle.leg.specs.LegId.{LegIdParts}
 use Rattle.leg.specs.declared.leg.Leg.{Leg}
 use Rattle.leg.specs.declared.leg_state.LegState.{LegState}
-use Rattle.leg.specs.declared.leg_state.LegState.TheVariants.{Queued, Withdrawn}
+use Rattle.leg.specs.declared.leg_state.LegState.TheVariants.{Queued, Doubt, Withdrawn}
 use Rattle.leg.specs.declared.totals.Totals.{Totals}
 use Rattle.dialect.specs.declared.note.Note.{Note}
 use Rattle.dialect.specs.declared.report.Report.{Report}
@@ -107,6 +108,27 @@ state_of w v (suc n) =
     else (if nat_le (suc n) (venue_at w.desk v).left
     then Some (state_left (of_venue w v None (λ venue. leg_state venue.session (suc n))))
     else Some Queued)
+
+-- the numbers of the legs, of which the first has this ordinal, whose state passes a test
+abbrev pub ids_where : (Option LegState → Bool) → (ℕ → Option LegState) → ℕ → List Leg → List LegIdParts
+ids_where test state ordinal [] = []
+ids_where test state ordinal (leg ∷ legs) =
+    let rest = ids_where test state (suc ordinal) legs in if test (state ordinal) then leg.id ∷ rest else rest
+
+abbrev pub is_withdrawn_leg : Option LegState → Bool
+is_withdrawn_leg (Some Withdrawn) = true
+is_withdrawn_leg _ = false
+
+abbrev pub is_leg_in_doubt : Option LegState → Bool
+is_leg_in_doubt (Some Doubt) = true
+is_leg_in_doubt _ = false
+
+-- the legs of a venue that were withdrawn, and those in doubt, by ordinal
+abbrev pub withdrawn_ids : World → ℕ → List LegIdParts
+withdrawn_ids w v = ids_where is_withdrawn_leg (state_of w v) 1 (released_to w v)
+
+abbrev pub doubtful_ids : World → ℕ → List LegIdParts
+doubtful_ids w v = ids_where is_leg_in_doubt (state_of w v) 1 (released_to w v)
 
 -- the parts of a sweep's shares
 abbrev pub totals : World → ℕ → Option Totals

@@ -3,7 +3,7 @@
 ghost use Rattle.std.specs.Prelude.{◌≡◌, ◌≢◌, ℕ, List, Some, None};
 ghost use Rattle.schedule.specs.declared.event.Event.{Event as AnEvent};
 ghost use Rattle.schedule.specs.World.{World, venue_in};
-ghost use Rattle.schedule.specs.Happening.{happens, run};
+ghost use Rattle.schedule.specs.Happening.{happens, happen};
 ghost use Rattle.schedule.specs.Growing.{named, IsUntouched, IsWorldLater};
 
 /// An event changes the venue that it names alone, and a release none: the others stay as they were, with their gates
@@ -20,5 +20,5 @@ pub fn an_event_nowhere_changes_nothing()
 /// Whatever happens, what was written, accepted, reported, handed to the book and released stands, with more behind it.
 pub fn what_was_done_stands()
     ensures happens { (w : World) (event : AnEvent) → IsWorldLater w (happens w event) }
-    ensures run { (events : List AnEvent) (w : World) → IsWorldLater w (run events w) }
+    ensures happen { (events : List AnEvent) (w : World) → IsWorldLater w (happen events w) }
 {}

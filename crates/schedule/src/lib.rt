@@ -7,7 +7,6 @@ mod event;
 mod laws;
 mod rows;
 mod script_fault;
-mod script_venue;
 
 pub use act::Act;
 pub use event::{Event, FrameNumber};
@@ -23,4 +22,3 @@ pub use rows::{
     told_that_none_is_lost, told_the_next_number, two_venues, what_is_not_possible,
 };
 pub use script_fault::ScriptFault;
-pub use script_venue::ScriptVenue;

@@ -9,8 +9,6 @@ ghost use Rattle.schedule.specs.declared.event.Event.TheVariants as event;
 ghost use Rattle.std.specs.Prelude.{Err};
 ghost use Rattle.dialect.specs.declared.any_dialect.AnyDialect.TheVariants.{Plain, Split4, Coded};
 ghost use Rattle.schedule.specs.Script.{script_of};
-ghost use Rattle.schedule.specs.World.{opening};
-ghost use Rattle.schedule.specs.Happening.{run};
 ghost use Rattle.schedule.specs.Printed.{printed};
 ghost use Rattle.schedule.specs.Example.{script, line, buys, written_to, written_by, after_two, after, after_told, after_few, one_leg, three_legs, broken, broken_late, times, to_all, buy, brk_b, ibm, release, up, down, drop, take, connect, to, from, break, close, quiet, silent, trade, cancel, reject, bust, test};
 
@@ -122,10 +120,10 @@ pub fn two_venues()
 
 /// The text of a script: what its lines say, with remarks and blank lines between them.
 pub fn a_script_is_read()
-    ensures one_leg { script_of (script (codes "venues 1000 plain" ∷ codes "connect 0" ∷ codes "to 0 1" ∷ codes "from 0 1" ∷ codes "release 0 BRK.B buy 100 102500" ∷ codes "trade 0 1 60 10.25" ∷ codes "cancel 0 1" ∷ [])) ≡ Ok (record { max_number = 1000; venues = record { dialect = Plain; next = false } ∷ []; events = connect ∷ to 1 ∷ from 1 ∷ one_leg ∷ trade 1 60 (codes "10.25") ∷ cancel 1 ∷ [] }) }
-    ensures two_legs { script_of (script (codes "# a remark" ∷ [] ∷ codes "venues 016 split+789 coded" ∷ codes "release 0 BRK.B buy 100 102500 + 1 IBM buy 50 100000" ∷ codes "release" ∷ codes "up 00" ∷ codes "bust 0 1 1" ∷ [])) ≡ Ok (record { max_number = 16; venues = record { dialect = Split4; next = true } ∷ record { dialect = Coded; next = false } ∷ []; events = release (buy 0 brk_b 100 102500 ∷ buy 1 ibm 50 100000 ∷ []) ∷ release [] ∷ up ∷ bust 1 1 ∷ [] }) }
-    ensures no_line_end { script_of (codes "venues 1000 coded") ≡ Ok (record { max_number = 1000; venues = record { dialect = Coded; next = false } ∷ []; events = [] }) }
-    ensures each_event { script_of (script (codes "venues 1000 plain" ∷ codes "down 0" ∷ codes "drop 0" ∷ codes "take 0" ∷ codes "break 0" ∷ codes "xbreak 0" ∷ codes "reject 0 2" ∷ codes "test 0" ∷ codes "quiet 0" ∷ codes "silent 0" ∷ codes "close 0" ∷ codes "abandon 0" ∷ [])) ≡ Ok (record { max_number = 1000; venues = record { dialect = Plain; next = false } ∷ []; events = down ∷ drop ∷ take ∷ break ∷ event.ExchangeBreak 0 ∷ reject 2 ∷ test ∷ quiet ∷ silent ∷ close ∷ event.Abandon 0 ∷ [] }) }
+    ensures one_leg { script_of (script (codes "venues 1000 plain" ∷ codes "connect 0" ∷ codes "to 0 1" ∷ codes "from 0 1" ∷ codes "release 0 BRK.B buy 100 102500" ∷ codes "trade 0 1 60 10.25" ∷ codes "cancel 0 1" ∷ [])) ≡ Ok (record { max_number = 1000; dialects = Plain ∷ []; next = false ∷ []; events = connect ∷ to 1 ∷ from 1 ∷ one_leg ∷ trade 1 60 (codes "10.25") ∷ cancel 1 ∷ [] }) }
+    ensures two_legs { script_of (script (codes "# a remark" ∷ [] ∷ codes "venues 016 split+789 coded" ∷ codes "release 0 BRK.B buy 100 102500 + 1 IBM buy 50 100000" ∷ codes "release" ∷ codes "up 00" ∷ codes "bust 0 1 1" ∷ [])) ≡ Ok (record { max_number = 16; dialects = Split4 ∷ Coded ∷ []; next = true ∷ false ∷ []; events = release (buy 0 brk_b 100 102500 ∷ buy 1 ibm 50 100000 ∷ []) ∷ release [] ∷ up ∷ bust 1 1 ∷ [] }) }
+    ensures no_line_end { script_of (codes "venues 1000 coded") ≡ Ok (record { max_number = 1000; dialects = Coded ∷ []; next = false ∷ []; events = [] }) }
+    ensures each_event { script_of (script (codes "venues 1000 plain" ∷ codes "down 0" ∷ codes "drop 0" ∷ codes "take 0" ∷ codes "break 0" ∷ codes "xbreak 0" ∷ codes "reject 0 2" ∷ codes "test 0" ∷ codes "quiet 0" ∷ codes "silent 0" ∷ codes "close 0" ∷ codes "abandon 0" ∷ [])) ≡ Ok (record { max_number = 1000; dialects = Plain ∷ []; next = false ∷ []; events = down ∷ drop ∷ take ∷ break ∷ event.ExchangeBreak 0 ∷ reject 2 ∷ test ∷ quiet ∷ silent ∷ close ∷ event.Abandon 0 ∷ [] }) }
 {}
 
 /// The number of the first line that isn't of the form, counted over all lines.
