@@ -1,14 +1,23 @@
 //! The program `dispatch`: `dispatch order ..` writes a leg as an order frame and reads it back.
 #![tactic(auto)]
 
+mod command;
 mod fault;
 mod order;
+mod status;
 
-use crate::fault::{ProgramFault, tell};
+use crate::command::no_command;
+use crate::fault::ProgramFault;
+use crate::order::order_run;
+use crate::status::tell;
 use std::alloc::Global;
+use std::convert::AsStr;
 use std::io::Write;
 use std::process::ExitCode;
 use std::{env, io};
+
+#[cfg(test)]
+mod tests;
 
 /// The words of the command line, of which the first is the program's own name.
 fn words(rt: &HostRuntime) -> Result<Vec<String>, ProgramFault> {
@@ -19,12 +28,13 @@ fn words(rt: &HostRuntime) -> Result<Vec<String>, ProgramFault> {
     }
 }
 
-fn run<W: Write, E: Write>(alloc: Global, words: &[String], out: &mut W, err: &mut E) -> u8 {
+/// Runs the command that the words ask for, and gives the exit status.
+fn run<S: AsStr, W: Write, E: Write>(alloc: Global, words: &[S], out: &mut W, err: &mut E) -> u8 {
     match words {
         [_, command, ..] if command.as_str() == "order" => {
-            order::order_run(alloc, &words[1..], out, err)
+            order_run(alloc, &words[1..], out, err)
         }
-        _ => tell(&ProgramFault::NoCommand, err),
+        _ => tell(&no_command(alloc, words), err),
     }
 }
 
@@ -32,7 +42,7 @@ fn main(rt: HostRuntime) -> ExitCode {
     let mut out = rt.stdout();
     let mut err = rt.stderr();
     let status = match words(&rt) {
-        Ok(words) => run(rt.alloc(), &words, &mut out, &mut err),
+        Ok(words) => run(rt.alloc(), words.as_slice(), &mut out, &mut err),
         Err(fault) => tell(&fault, &mut err),
     };
     ExitCode::from(status)

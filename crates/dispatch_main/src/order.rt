@@ -1,23 +1,29 @@
 //! `dispatch order`: a leg becomes an order frame, and the frame is read back.
+ghost use Rattle.std.specs.Prelude.{IfOk};
+ghost use Rattle.dispatch_main.specs.OrderLines.{IsOrderText, PrintsText, EndsOrder};
+ghost use Rattle.dispatch_main.specs.Request.{request_of};
 
 pub mod frame;
 pub mod header;
+mod lines;
+mod option;
 mod options;
 pub mod order_fault;
 mod request;
 
-use crate::fault::{ProgramFault, tell};
-use crate::order::frame::{read_order_frame, write_order_frame};
-use crate::order::options::read_options;
+use crate::fault::ProgramFault;
+use crate::order::frame::{read_order_frame, stream_of, write_order_frame};
+use crate::order::lines::order_lines;
+use crate::order::options::{Options, read_options};
 use crate::order::order_fault::OrderFault;
 use crate::order::request::Request;
-use leg::Leg;
-use std::alloc::Global;
+use crate::status::finish;
+use dialect::Dialect;
+pub use option::OrderOption;
+pub use options::order_command;
+use std::alloc::{AllocError, Global};
 use std::convert::AsStr;
-use std::io;
 use std::io::Write;
-
-const SOH: u8 = 1;
 
 #[cfg(test)]
 mod tests;
@@ -32,33 +38,48 @@ pub fn order_run<S: AsStr, W: Write, E: Write>(
     out: &mut W,
     err: &mut E,
 ) -> u8 {
-    match order(alloc, words, out) {
-        Ok(()) => 0,
-        Err(fault) => tell(&fault, err),
-    }
+    finish(order(alloc, words, out), err)
 }
 
 fn order<S: AsStr, W: Write>(alloc: Global, words: &[S], out: &mut W) -> Result<(), ProgramFault> {
     let options = read_options(alloc, words)?;
-    let dialect = options.dialect;
-    let Request { leg, header } = Request::new(&options)?;
-    let frame = write_order_frame(alloc, &dialect, &leg, header)?;
-    let read = match read_order_frame(alloc, &dialect, &frame) {
+    print_order(alloc, &options.dialect, &options, out)
+}
+
+/// Prints the order that the options ask for, in this dialect.
+fn print_order<D: Dialect, W: Write>(
+    alloc: Global,
+    dialect: &D,
+    options: &Options<'_>,
+    out: &mut W,
+) -> Result<(), ProgramFault>
+    ensures { EndsOrder (λ request. PrintsText (IsOrderText (D.IsOrder dialect.now) (D.order_read dialect.now) request)
+        (W.contents out.old) (W.contents out.new)) (request_of options.now) result }
+{
+    let request = Request::new(options)?;
+    let text = order_text(alloc, dialect, request)?;
+    match out.write_all(&text) {
+        Ok(()) => Ok(()),
+        Err(_) => Err(ProgramFault::WriteFailed),
+    }
+}
+
+/// The frame of what is asked for, in this dialect, and the leg that is read back from it, each in a line. The only
+/// refusal is want of memory.
+fn order_text<D: Dialect>(
+    alloc: Global,
+    dialect: &D,
+    request: Request,
+) -> Result<Vec<u8>, AllocError>
+    ensures { IfOk result (λ text. IsOrderText (D.IsOrder dialect.now) (D.order_read dialect.now) request text.items) }
+{
+    let Request { leg, header } = request;
+    let frame = write_order_frame(alloc, dialect, &leg, header)?;
+    let read = match read_order_frame(alloc, dialect, stream_of(alloc, &frame)?) {
         Ok(read) => read,
-        Err(OrderFault::OutOfMemory) => return Err(ProgramFault::OutOfMemory),
+        Err(OrderFault::OutOfMemory) => return Err(AllocError),
         // What was written is read back.
         Err(_) => unreachable!(),
     };
-    print(frame, &read, out).map_err(|_| ProgramFault::WriteFailed)
-}
-
-/// A line of the frame with `|` for SOH, and a line of the leg that was read back from it.
-fn print<W: Write>(mut frame: Vec<u8>, read: &Leg, out: &mut W) -> io::Result<()> {
-    for byte in frame.iter_mut() {
-        if *byte == SOH {
-            *byte = b'|';
-        }
-    }
-    out.write_all(&frame)?;
-    write!(out, "\n{read}\n")
+    order_lines(alloc, &frame, &read)
 }

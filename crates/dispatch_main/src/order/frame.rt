@@ -1,12 +1,12 @@
 //! The way of an order: from a leg to the bytes of a frame, and back.
-ghost use Rattle.std.specs.Prelude.{◌≡◌, ◌≤◌, Some, None, Ok, IfOk, IsOkUnless};
+ghost use Rattle.std.specs.Prelude.{◌≡◌, ℕ, List, Some, None, Ok, IfOk};
 ghost use Rattle.fix_text.specs.Frame.{frame_text};
 ghost use Rattle.fix_text.specs.FrameFields.{fields_in};
 ghost use Rattle.fix_text.specs.Reading.{next_read};
 ghost use Rattle.fix_tags.specs.Message.{envelope_fields, envelope_refusal};
 ghost use Rattle.leg.specs.declared.leg.Leg.{Leg};
-ghost use Rattle.dispatch_main.specs.OrderFrame.{order_message, IsOrderFrame, order_in, order_of_fields, order_read_from, ReadsOrder};
-ghost use Rattle.dispatch_main.specs.declared.order.header.Header.{Header};
+ghost use Rattle.dispatch_main.specs.Header.{HeaderParts, IsHeader};
+ghost use Rattle.dispatch_main.specs.OrderFrame.{order_message, stream_of, IsOrderFrame, order_in, order_of_fields, order_read_from, ReadsOrder};
 
 use crate::order::header::Header;
 use crate::order::order_fault::OrderFault;
@@ -22,22 +22,9 @@ use std::alloc::{AllocError, Global};
 fn message_of(alloc: Global, header: Header, order: Vec<Field>) -> Result<Envelope, AllocError>
     ensures { IfOk result (λ e. e ≡ order_message header order.items) }
 {
-    let Header {
-        from,
-        to,
-        number,
-        ..
-    } = header;
     let kind = Text::from_slice(alloc, ORDER_KIND)?;
     let fields = Fields::new(order);
-    Ok(Envelope {
-        sender: from,
-        target: to,
-        number,
-        poss_dup: false,
-        poss_resend: false,
-        body: Body::App { kind, fields },
-    })
+    Ok(header.message(Body::App { kind, fields }))
 }
 
 /// The frame of a message that has no fault.
@@ -62,7 +49,7 @@ pub fn write_order_frame<D: Dialect>(
 ) -> Result<Vec<u8>, AllocError>
     ensures frame { IfOk result (λ frame. IsOrderFrame (D.IsOrder dialect.now) leg.now header frame.items) }
 {
-    let at = header.at;
+    let at = header.at();
     let mut fields = Vec::new(alloc);
     match dialect.write_order(alloc, leg, &at, &mut fields) {
         Ok(()) => {}
@@ -102,26 +89,25 @@ fn order_of_frame<D: Dialect>(
     }
 }
 
-/// A reader of these bytes.
-fn reader_of(alloc: Global, bytes: &[u8]) -> Result<FrameReader, OrderFault>
-    ensures stream { IfOk result (λ reader. reader ≡ record { rest = bytes.now; skipped = 0; garbled = 0 }) }
-    ensures only { IsOkUnless result OrderFault.OutOfMemory }
+/// A stream of these bytes. The only refusal is want of memory.
+pub fn stream_of(alloc: Global, bytes: &[u8]) -> Result<FrameReader, AllocError>
+    ensures { IfOk result (λ stream. stream ≡ stream_of bytes.now) }
 {
-    let mut reader = FrameReader::new(alloc);
-    match reader.feed(bytes) {
-        Ok(()) => Ok(reader),
-        Err(_) => Err(OrderFault::OutOfMemory),
+    let mut stream = FrameReader::new(alloc);
+    match stream.feed(bytes) {
+        Ok(()) => Ok(stream),
+        Err(_) => Err(AllocError),
     }
 }
 
 fn first_order<D: Dialect>(
     alloc: Global,
     dialect: &D,
-    reader: &mut FrameReader,
+    stream: &mut FrameReader,
 ) -> Result<Leg, OrderFault>
-    ensures { ReadsOrder result (order_of_fields (D.order_read dialect.now) (next_read reader.old).frame) }
+    ensures { ReadsOrder result (order_of_fields (D.order_read dialect.now) (next_read stream.old).frame) }
 {
-    match reader.next() {
+    match stream.next() {
         Ok(Some(frame)) => order_of_frame(alloc, dialect, &frame),
         Ok(None) => Err(OrderFault::NoFrame),
         Err(_) => Err(OrderFault::OutOfMemory),
@@ -129,28 +115,32 @@ fn first_order<D: Dialect>(
 }
 
 #[tactic(auto, unfolding(crate::specs::OrderFrame::order_read_from))]
-fn order_of_bytes<D: Dialect>(alloc: Global, dialect: &D, bytes: &[u8]) -> Result<Leg, OrderFault>
-    ensures { ReadsOrder result (order_read_from (D.order_read dialect.now) bytes.now) }
+fn order_of_stream<D: Dialect>(
+    alloc: Global,
+    dialect: &D,
+    mut stream: FrameReader,
+) -> Result<Leg, OrderFault>
+    ensures { ReadsOrder result (order_read_from (D.order_read dialect.now) stream) }
 {
-    match reader_of(alloc, bytes) {
-        Ok(mut reader) => first_order(alloc, dialect, &mut reader),
-        Err(_) => Err(OrderFault::OutOfMemory),
-    }
+    first_order(alloc, dialect, &mut stream)
 }
 
-/// The leg of the first frame of these bytes, by the reader, the envelope and the dialect.
+/// The leg of the first frame of a stream, by the reader, the envelope and the dialect.
 ///
 /// `NoFrame`: there is no whole valid frame; `NoMessage`: its fields aren't a message; `NoOrder`: it
 /// is none of kind `D`; `BadOrder`: the dialect refuses its fields.
 pub fn read_order_frame<D: Dialect>(
     alloc: Global,
     dialect: &D,
-    bytes: &[u8],
+    stream: FrameReader,
 ) -> Result<Leg, OrderFault>
-    ensures read { ReadsOrder result (order_read_from (D.order_read dialect.now) bytes.now) }
+    ensures read { ReadsOrder result (order_read_from (D.order_read dialect.now) stream) }
     // The frame of an order is read back as its leg.
-    ensures order { (leg : Leg) (header : Header) → IsOrderFrame (D.IsOrder dialect.now) leg header bytes.now
-        → ReadsOrder result (Ok leg) }
+    ensures order { (leg : Leg) (header : HeaderParts) → IsHeader header → (bytes : List ℕ) → stream ≡ stream_of bytes
+        → IsOrderFrame (D.IsOrder dialect.now) leg header bytes → ReadsOrder result (Ok leg) }
 {
-    order_of_bytes(alloc, dialect, bytes)
+    order_of_stream(alloc, dialect, stream)
 }
+
+#[cfg(test)]
+mod tests;

@@ -1,5 +1,9 @@
 //! The options of `dispatch order`, as text.
+ghost use Rattle.std.specs.Prelude.{◌≡◌, Some, IfOk, IfErr};
+ghost use Rattle.dispatch_main.specs.Options.{matched, AreOptions};
+
 use crate::fault::ProgramFault;
+use crate::order::option::OrderOption;
 use clap::error::ErrorKind;
 use clap::{Arg, ArgMatches, Command};
 use dialect::AnyDialect;
@@ -33,33 +37,62 @@ fn option<'a>(alloc: Global, name: &'a str, value: &'a str, help: &'a str) -> Ar
         .required(true)
 }
 
-fn command<'a>(alloc: Global) -> Result<Command<'a>, AllocError> {
-    let dialect = option(alloc, "dialect", "D", "how the order is spelled").value_parser(
-        DIALECTS.as_slice(),
-    );
+/// The command `order`, with its options.
+pub fn order_command<'a>(alloc: Global) -> Result<Command<'a>, AllocError> {
+    let dialect = option(
+        alloc,
+        OrderOption::Dialect.name(),
+        "D",
+        "how the order is spelled",
+    )
+    .value_parser(DIALECTS.as_slice());
     Command::new(alloc, "order")
-        .bin_name("dispatch order")?
         .about(
             "Writes a leg as an order frame, with | for SOH, and the leg that is read back from it",
         )
         .arg(dialect)?
-        .arg(option(alloc, "sweep", "N", "the sweep's number, from 1"))?
-        .arg(option(alloc, "leg", "N", "the leg's place in the sweep, 1 to 32"))?
         .arg(option(
             alloc,
-            "symbol",
+            OrderOption::Sweep.name(),
+            "N",
+            "the sweep's number, from 1",
+        ))?
+        .arg(option(
+            alloc,
+            OrderOption::Leg.name(),
+            "N",
+            "the leg's place in the sweep, 1 to 32",
+        ))?
+        .arg(option(
+            alloc,
+            OrderOption::Symbol.name(),
             "S",
             "a root, and with a suffix a point and the suffix, as BRK.B",
         ))?
-        .arg(option(alloc, "side", "SIDE", "buy or sell"))?
-        .arg(option(alloc, "shares", "N", "1 to 1000000"))?
-        .arg(option(alloc, "price", "N", "in ten-thousandths of a dollar"))?
-        .arg(option(alloc, "number", "N", "the message's number, from 1"))?
-        .arg(option(alloc, "from", "ID", "the sender's comp id"))?
-        .arg(option(alloc, "to", "ID", "the target's comp id"))?
+        .arg(option(alloc, OrderOption::Side.name(), "SIDE", "buy or sell"))?
+        .arg(option(alloc, OrderOption::Shares.name(), "N", "1 to 1000000"))?
         .arg(option(
             alloc,
-            "at",
+            OrderOption::Price.name(),
+            "N",
+            "in ten-thousandths of a dollar",
+        ))?
+        .arg(option(
+            alloc,
+            OrderOption::Number.name(),
+            "N",
+            "the message's number, from 1",
+        ))?
+        .arg(option(
+            alloc,
+            OrderOption::From.name(),
+            "ID",
+            "the sender's comp id",
+        ))?
+        .arg(option(alloc, OrderOption::To.name(), "ID", "the target's comp id"))?
+        .arg(option(
+            alloc,
+            OrderOption::At.name(),
             "STAMP",
             "the sending time, as 20240102-14:30:00.000",
         ))
@@ -72,8 +105,35 @@ fn fault_of(error: clap::Error) -> ProgramFault {
     ProgramFault::CommandLine(error)
 }
 
-fn value<'a>(matches: &ArgMatches<'a>, name: &'static str) -> Result<&'a str, ProgramFault> {
-    matches.get_str(name).ok_or(ProgramFault::NoValue(name))
+fn value<'a>(matches: &ArgMatches<'a>, option: OrderOption) -> Result<&'a str, ProgramFault>
+    ensures ok { IfOk result (λ text. matched matches.now option ≡ Some text.now) }
+    ensures err { IfErr result (λ fault. fault ≡ ProgramFault.NoValue option) }
+{
+    match matches.get_str(option.name()) {
+        Some(text) => Ok(text),
+        None => Err(ProgramFault::NoValue(option)),
+    }
+}
+
+/// The options that the command line matched, each under its name.
+fn options_of<'a>(matches: &ArgMatches<'a>) -> Result<Options<'a>, ProgramFault>
+    ensures { IfOk result (AreOptions matches.now) }
+{
+    let name = value(matches, OrderOption::Dialect)?;
+    let bad_dialect = ProgramFault::BadValue(OrderOption::Dialect);
+    Ok(Options {
+        dialect: AnyDialect::named(name).ok_or(bad_dialect)?,
+        sweep: value(matches, OrderOption::Sweep)?,
+        leg: value(matches, OrderOption::Leg)?,
+        symbol: value(matches, OrderOption::Symbol)?,
+        side: value(matches, OrderOption::Side)?,
+        shares: value(matches, OrderOption::Shares)?,
+        price: value(matches, OrderOption::Price)?,
+        number: value(matches, OrderOption::Number)?,
+        from: value(matches, OrderOption::From)?,
+        to: value(matches, OrderOption::To)?,
+        at: value(matches, OrderOption::At)?,
+    })
 }
 
 /// The options in these words. A missing, unknown or repeated option and a dialect that isn't there are
@@ -82,20 +142,7 @@ pub fn read_options<'a, S: AsStr>(
     alloc: Global,
     words: &'a [S],
 ) -> Result<Options<'a>, ProgramFault> {
-    let command = command(alloc)?;
+    let command = order_command(alloc)?.bin_name("dispatch order")?;
     let matches = command.try_get_matches_from(words).map_err(fault_of)?;
-    let name = value(&matches, "dialect")?;
-    Ok(Options {
-        dialect: AnyDialect::named(name).ok_or(ProgramFault::BadValue("dialect"))?,
-        sweep: value(&matches, "sweep")?,
-        leg: value(&matches, "leg")?,
-        symbol: value(&matches, "symbol")?,
-        side: value(&matches, "side")?,
-        shares: value(&matches, "shares")?,
-        price: value(&matches, "price")?,
-        number: value(&matches, "number")?,
-        from: value(&matches, "from")?,
-        to: value(&matches, "to")?,
-        at: value(&matches, "at")?,
-    })
+    options_of(&matches)
 }

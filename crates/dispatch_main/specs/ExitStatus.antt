@@ -1,0 +1,19 @@
+-- The exit status of the program.
+use Rattle.std.specs.Prelude.{ℕ, Result, Ok, Err}
+use Rattle.dispatch_main.specs.declared.fault.ProgramFault.{ProgramFault}
+use Rattle.dispatch_main.specs.declared.fault.ProgramFault.TheVariants.{NoCommand, CommandLine, NoValue, BadValue, ReadFailed, WriteFailed, OutOfMemory}
+
+-- the status that tells a fault: 2 for the command line, 3 for a bad value, 4 for a failed read or write, 5 for memory
+abbrev pub fault_status : ProgramFault → ℕ
+fault_status (NoCommand help) = 2
+fault_status (CommandLine error) = 2
+fault_status (NoValue option) = 2
+fault_status (BadValue option) = 3
+fault_status ReadFailed = 4
+fault_status WriteFailed = 4
+fault_status OutOfMemory = 5
+
+-- the status of a run: 0, or that of its fault
+abbrev pub exit_status : {A : Type 0} → Result A ProgramFault → ℕ
+exit_status (Ok done) = 0
+exit_status (Err fault) = fault_status fault

@@ -1,0 +1,79 @@
+//! The program on its words: its help, and words that are no command.
+
+use crate::run;
+use std::alloc::{AllocError, Global};
+use std::test::Fail;
+
+/// The help that lists the commands, as clap 4 writes it.
+const COMMANDS: &str =
+    "The dispatcher of a smart order router\n\nUsage: dispatch <COMMAND>\n\nCommands:\n  order  Writes a leg as an order frame, with | for SOH, and the leg that is read back from it\n  help   Print this message or the help of the given subcommand(s)\n\nOptions:\n  -h, --help  Print help\n";
+
+/// What a run gave: its status, and what it wrote.
+#[derive(Drop)]
+struct Run {
+    status: u8,
+    out: Vec<u8>,
+    err: Vec<u8>,
+}
+
+fn run_line(alloc: Global, line: &str) -> Result<Run, AllocError> {
+    let words: Vec<&str> = line.split(' ').collect(alloc)?;
+    let mut out = Vec::new(alloc);
+    let mut err = Vec::new(alloc);
+    let status = run(alloc, words.as_slice(), &mut out, &mut err);
+    Ok(Run { status, out, err })
+}
+
+#[test]
+fn help_lists_the_commands(rt: HostRuntime) -> Result<(), Fail> {
+    let alloc = rt.alloc();
+    let text = format!(in alloc; "dispatch: {COMMANDS}")?;
+    for line in ["dispatch --help", "dispatch -h", "dispatch help"] {
+        let run = run_line(alloc, line)?;
+        assert_eq!(rt; run.status, 2, "at {line}");
+        assert_eq!(rt; run.err.as_slice(), text.as_bytes(), "at {line}");
+        assert!(rt; run.out.is_empty());
+    }
+    Ok(())
+}
+
+#[test]
+fn no_command_and_an_unknown_one_list_the_commands(rt: HostRuntime) -> Result<(), Fail> {
+    let alloc = rt.alloc();
+    let text = format!(in alloc; "dispatch: expected a command\n\n{COMMANDS}")?;
+    for line in ["dispatch", "dispatch ordre", "dispatch venue order"] {
+        let run = run_line(alloc, line)?;
+        assert_eq!(rt; run.status, 2, "at {line}");
+        assert_eq!(rt; run.err.as_slice(), text.as_bytes(), "at {line}");
+        assert!(rt; run.out.is_empty());
+    }
+    Ok(())
+}
+
+#[test]
+fn an_unknown_flag_is_named(rt: HostRuntime) -> Result<(), Fail> {
+    let run = run_line(rt.alloc(), "dispatch --venue")?;
+    assert_eq!(rt; run.status, 2);
+    assert!(rt;
+        run.err
+            .as_slice()
+            .starts_with(b"dispatch: error: unexpected argument '--venue' found\n")
+    );
+    Ok(())
+}
+
+#[test]
+fn help_of_order_lists_its_options(rt: HostRuntime) -> Result<(), Fail> {
+    let alloc = rt.alloc();
+    for line in ["dispatch order --help", "dispatch help order"] {
+        let run = run_line(alloc, line)?;
+        assert_eq!(rt; run.status, 2, "at {line}");
+        assert!(rt;
+            run.err.as_slice().starts_with(
+                b"dispatch: Writes a leg as an order frame, with | for SOH, and the leg that is read back from it\n\nUsage: dispatch order --dialect <D> --sweep <N>"
+            ),
+            "at {line}"
+        );
+    }
+    Ok(())
+}
