@@ -161,8 +161,8 @@ pub record HasAccepted (accepted : List Leg) (id : LegIdParts) : Type 0 where
   pub there : slice_get accepted place ≡ Some leg
   pub same : leg.id ≡ id
 
--- what a new own number may be kept for: a report that can be read, of an order that was accepted, or the refusal of an
--- order by its number
+-- what a new own number may be kept for: a report that can be read, of an order that was accepted, or the refusal of
+-- an order by its number
 abbrev pub MayCarry : RuleState → Option Carried → RuleState → Content → Type 0
 MayCarry s coming t (OrderReport (Ok report)) = HasAccepted t.intake.accepted report.id
 MayCarry s coming t (Reject number) = MayRefuse s coming t number
@@ -178,7 +178,8 @@ MayKeep s coming t (Some content) = MayCarry s coming t content
 abbrev pub GrowsBy : (Option Content → Type 0) → List (Option Content) → List (Option Content) → Type 0
 GrowsBy Holds old new = (more : List (Option Content)) × All Holds more × (new ≡ old ++ more)
 
--- a gap fill's number and its new number ("Sequence Reset"), with no report and no refusal among the own numbers between
+-- a gap fill's number and its new number ("Sequence Reset"), with no report and no refusal among the own numbers
+-- between
 pub record IsGap (own : List (Option Content)) (first new_number : ℕ) : Type 0 where
   pub above : first < new_number
   pub used : new_number ≤ length own + 1
@@ -217,7 +218,8 @@ pub record MayWrite (s : RuleState) (coming : Option Carried) (t : RuleState) (w
   pub content : (numbered w.number t.own ≡ Some (Some w.content))
       ⊎ ((numbered w.number t.own ≡ Some None) × MaySay s coming t w.number w.content)
 
--- one step of an exchange that keeps the rules: how it stood, what came if anything did, how it stands and what it wrote
+-- one step of an exchange that keeps the rules: how it stood, what came if anything did, how it stands and what it
+-- wrote
 pub record May (s : RuleState) (coming : Option Carried) (t : RuleState) (written : List Carried) : Type 0 where
   pub moves : MayMove s.intake coming t.intake
   pub tests : All (MayAnswer s coming t) t.tests

@@ -106,8 +106,8 @@ pub fn a_close_holds()
         is_logon m.content ≡ false → take x connection m ≡ ([], x) }
 {}
 
-/// An exchange keeps its promises of itself over every call: a new one does, and so does one after whatever comes in the
-/// ranges that are read, and after whatever it does by itself.
+/// An exchange keeps its promises of itself over every call: a new one does, and so does one after whatever comes in
+/// the ranges that are read, and after whatever it does by itself.
 pub fn an_exchange_stays_sound()
     ensures new { (config : ConfigParts) → IsConfig config → IsSound (new_exchange config) }
     ensures take { (x : ExchangeParts) (connection : ℕ) (m : Message) → IsSound x → IsRead m →

@@ -174,5 +174,6 @@ pub fn a_report_is_as_it_was()
 pub fn a_report_is_kept()
     ensures not_written { (trade 60 (drop_connection ordered.1)).0 ≡ [] }
     ensures sent_later { (coming 2 5 (ResendRequest 4 0) (coming 2 4 logon (trade 60 (drop_connection ordered.1)).1).1).0 ≡
-        reports_again 4 (exec_id 2) (Trade (record { shares = 60; px = codes "10.25" })) (view 60 40) ∷ to_peer_again 5 (GapFill 6) ∷ [] }
+        reports_again 4 (exec_id 2) (Trade (record { shares = 60; px = codes "10.25" })) (view 60 40)
+        ∷ to_peer_again 5 (GapFill 6) ∷ [] }
 {}
