@@ -1,10 +1,11 @@
 -- What a call for the next frame says, once its frame and the stream after it are those that are read.
-use Rattle.std.proofs.Common.{◌≡◌, ℕ, ◌<◌, true, List, length, Option, Some, sym, ap, subst, ◌∙◌}
+use Rattle.std.proofs.Common.{◌≡◌, ℕ, ◌<◌, ◌≤◌, true, List, length, Option, Some, sym, ap, subst, ◌∙◌, arith}
 use Rattle.std.specs.Prelude.{is_some}
 use Rattle.fix_text.specs.Tagged.{Tagged}
 use Rattle.fix_text.specs.Reading.{Stream, NextFrame, next_read, BeginsWritten}
 use Rattle.fix_text.specs.Deciding.{IsNext}
-use Rattle.fix_text.proofs.Turns.{next_shortens}
+use Rattle.fix_text.specs.Placing.{AreMore}
+use Rattle.fix_text.proofs.Turns.{next_shortens, more_some, more_than_fewer}
 use Rattle.fix_text.proofs.NextFrames.{next_is}
 use Rattle.fix_text.proofs.Rewritten.{next_begins}
 
@@ -24,3 +25,9 @@ module _ (frame : Option (List Tagged)) (after stream : Stream) (is : record { f
 
   pub begins : (fields : List Tagged) (rest : List ℕ) → BeginsWritten stream fields rest → with_next frame stream ≡ record { frame = Some fields; stream = record stream { rest = rest } }
   begins fields rest written = all_is ∙ next_begins stream fields rest written
+
+-- where more fields are there than there is room for, they are more than there is always room for
+pub more_than_free : (stream : Stream) (free room : ℕ) → (0 < length stream.rest → free ≤ room) → AreMore room (next_read stream).frame → AreMore free (next_read stream).frame
+more_than_free stream free room always more =
+    let shorter = (next_shortens stream).shorter (more_some room (next_read stream).frame more) in
+    more_than_fewer free room (next_read stream).frame (always (omega (arith, shorter))) more

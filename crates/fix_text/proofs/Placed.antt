@@ -1,15 +1,15 @@
 -- The places of fields in a text, as a loop finds them one after the other.
-use Rattle.std.proofs.Common.{◌≡◌, ℕ, ◌+◌, ◌-◌, ◌*◌, ◌<◌, ◌≤◌, Bool, true, false, cond, eqb, ltb, leb, List, [], ◌∷◌, ◌++◌, length, get_or, take, drop, map, Option, Some, None, Result, Ok, Err, inl, inr, refl, sym, ap, ◌∙◌, arith, append_assoc}
-use Rattle.std.specs.Prelude.{IsTrue, ◌&&◌, ◌||◌, slice_range, is_some, is_ok, is_err, slice_get}
+use Rattle.std.proofs.Common.{◌≡◌, ℕ, ◌+◌, ◌-◌, ◌*◌, ◌<◌, ◌≤◌, Bool, true, false, cond, eqb, ltb, leb, List, [], ◌∷◌, ◌++◌, length, get_or, take, drop, map, Option, Some, None, Result, Ok, Err, inl, inr, refl, sym, ap, subst, ◌∙◌, arith, append_assoc}
+use Rattle.std.specs.Prelude.{IsTrue, ◌&&◌, ◌||◌, IfSome, OnErr, slice_range, is_some, is_ok, is_err, slice_get}
 use Rattle.std.specs.Char.{is_ascii_digit}
 use Rattle.std.proofs.lemmas.Bool.{and_from, or_parts, eq-eqb, ne_eqb}
-use Rattle.std.proofs.lemmas.List.{length-append, length-take-le, length-drop, take-append-drop, drop-map, drop_more, map-append, take_more}
+use Rattle.std.proofs.lemmas.List.{length-append, length-take-le, length-drop, take-append-drop, drop-map, drop_more, length-map, map-append, take_more}
 use Rattle.std.proofs.lemmas.Option.{slice_get_within, get_or_from_slice_get}
 use Rattle.std.proofs.lemmas.List.Folds.{list_all-append}
 use Rattle.fix_text.specs.declared.place.Place.{Place}
 use Rattle.fix_text.specs.Tagged.{Tagged, value_of}
 use Rattle.fix_text.specs.Reading.{field_from, field_of, fields_of, with_field}
-use Rattle.fix_text.specs.Placing.{field_at, fields_at, is_within, AreWithin}
+use Rattle.fix_text.specs.Placing.{AreMore, AreWithin, field_at, fields_at, is_within}
 use Rattle.fix_text.proofs.Readers.{chosen}
 use Rattle.fix_text.proofs.FieldLists.{with_front, fields_of-part, reads_one}
 use Rattle.fix_text.proofs.Places.{part_found}
@@ -82,6 +82,37 @@ pub within_more : {A E : Type 0} (pushed : Result A E) (text : List ℕ) (places
 within_more (Err e) text places place here each = each
 within_more (Ok x) text places place here each =
     list_all-append (is_within text) places (place ∷ []) ∙ and_from _ _ each (and_from _ _ here refl)
+
+-- what a refusal says
+pub on_is_err : {A E : Type 0} (result : Result A E) (P : Type 0) → OnErr result P → is_err result ≡ true → P
+on_is_err (Ok x) P h is = absurd cc
+on_is_err (Err e) P h is = h
+
+longer : (n : ℕ) (front : List Tagged) (field : Tagged) (read : Option (List Tagged)) → n ≤ length front
+    → IfSome (with_front front (with_field (Some field) read)) (λ fields. n < length fields)
+longer n front field None h = tt
+longer n front field (Some later) h = omega (arith, length-append front (field ∷ later))
+
+-- where a place found no room, the fields are more than there was room for
+pub more_than_room : {A E : Type 0} (pushed : Result A E) (full : Bool) (text : List ℕ) (places : List Place) (at end n : ℕ) (place : Place)
+    → IsPart text at end → Some (field_at text place) ≡ field_of (slice_range text at end)
+    → (is_err pushed ≡ true → n ≤ length places)
+    → (full ≡ true → IfSome (fields_of text) (λ fields. n < length fields))
+    → (full ≡ false → with_front (fields_at text places) (fields_of (drop at text)) ≡ fields_of text)
+    → (full || is_err pushed) ≡ true → IfSome (fields_of text) (λ fields. n < length fields)
+more_than_room pushed true text places at end n place part is fail more so_far now = more refl
+more_than_room pushed false text places at end n place part is fail more so_far now =
+    let rest : List ℕ = drop (end + 1) text in
+    let front : List Tagged = fields_at text places in
+    let here : fields_of (drop at text) ≡ with_field (Some (field_at text place)) (fields_of rest) =
+    ap fields_of part.parted ∙ fields_of-part (slice_range text at end) rest part.whole ∙ ap (λ (f : Option Tagged). with_field f (fields_of rest)) (sym is) in
+    let total : with_front front (with_field (Some (field_at text place)) (fields_of rest)) ≡ fields_of text = ap (with_front front) (sym here) ∙ so_far refl in
+    subst (λ (read : Option (List Tagged)). IfSome read (λ fields. n < length fields)) total
+    (longer n front (field_at text place) (fields_of rest) (omega (arith, fail now, length-map places (field_at text))))
+
+pub more_if_some : (n : ℕ) (fields : Option (List Tagged)) → is_some fields ≡ true → IfSome fields (λ list. n < length list) → AreMore n fields
+more_if_some n None some more = absurd cc
+more_if_some n (Some fields) some more = more
 
 -- ---- its exits
 

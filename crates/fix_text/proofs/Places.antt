@@ -1,7 +1,7 @@
 -- Where the parts of a frame lie in the bytes that it was read from.
-use Rattle.std.proofs.Common.{◌≡◌, ℕ, ◌+◌, ◌-◌, ◌<◌, ◌≤◌, List, ◌++◌, length, take, drop, Ok, sym, ap, ◌∙◌, arith, append_assoc}
+use Rattle.std.proofs.Common.{◌≡◌, ℕ, ◌+◌, ◌-◌, ◌<◌, ◌≤◌, List, [], ◌∷◌, ◌++◌, length, take, drop, Ok, sym, ap, ◌∙◌, arith, append_assoc}
 use Rattle.std.specs.Prelude.{slice_range}
-use Rattle.std.proofs.lemmas.List.{length-append, length-take-le, take_at, drop_at, drop-drop, take-append-drop}
+use Rattle.std.proofs.lemmas.List.{length-append, length-take-le, take_at, drop_at, take-append-drop}
 use Rattle.fix_text.specs.Grammar.{header_of, trailer_of}
 use Rattle.fix_text.specs.Reading.{WholeParts, frame_at}
 use Rattle.fix_text.proofs.Readers.{frame_takes}
@@ -12,17 +12,15 @@ part_found bytes front part back start end parted s e =
     let dropped : drop start bytes ≡ part ++ back = ap (drop start) parted ∙ drop_at front (part ++ back) start (sym s) in
     ap (take (end - start)) dropped ∙ take_at part back (end - start) (omega arith)
 
--- the front of a text and the rest, one byte on
-pub byte_passed : (bytes : List ℕ) (at : ℕ) → drop 1 (drop at bytes) ≡ drop (at + 1) bytes
-byte_passed bytes at = drop-drop 1 at bytes
-
 -- a frame at a place of some bytes
 pub record LiesAt (bytes : List ℕ) (at : ℕ) (whole : WholeParts) : Type 0 where
   pub front : List ℕ
   pub front_len : at + length whole.before ≡ length front + length whole.body
   pub body_len : length whole.body ≤ length whole.before
+  pub body_short : length whole.body ≤ 4096
   pub trailer : List ℕ
   pub trailer_len : 0 < length trailer
+  pub trailer_short : length trailer ≤ 7
   pub parts : bytes ≡ front ++ (whole.body ++ (trailer ++ whole.rest))
 
 pub lies_at : (bytes : List ℕ) (at : ℕ) (whole : WholeParts) → at ≤ length bytes → Ok whole ≡ frame_at (drop at bytes) → LiesAt bytes at whole
@@ -35,8 +33,10 @@ lies_at bytes at whole within is =
       front = take at bytes ++ header;
       front_len = omega (arith, length-append (take at bytes) header, length-take-le at bytes within, ap length t.1.before_is, length-append header whole.body);
       body_len = omega (arith, ap length t.1.before_is, length-append header whole.body);
+      body_short = t.1.is_length.bound;
       trailer = trailer;
       trailer_len = omega arith;
+      trailer_short = omega (arith, t.1.is_check.three, length-append t.1.check (1 ∷ []));
       parts = sym (take-append-drop at bytes) ∙ ap (λ (x : List ℕ). take at bytes ++ x) (t.2 ∙ inner) ∙ sym (append_assoc (take at bytes) header (whole.body ++ (trailer ++ whole.rest)));
     }
 

@@ -1,22 +1,17 @@
--- What a list of calls gives are the first valid frames of all bytes fed.
+-- What a list of calls gave are the first valid frames of all bytes fed.
 use Rattle.std.proofs.Common.{◌≡◌, ℕ, ◌+◌, List, [], ◌∷◌, ◌++◌, Option, Some, None, refl, sym, ap, subst, ◌∙◌, arith, append_assoc}
 use Rattle.std.proofs.lemmas.List.{append-nil}
-use Rattle.fix_text.specs.declared.calls.Call.{Call}
-use Rattle.fix_text.specs.declared.calls.Call.TheVariants.{Feed, Next}
 use Rattle.fix_text.specs.Tagged.{Tagged}
 use Rattle.fix_text.specs.Grammar.{Pass, Given, Passes, given_of, garbled_of, skipped_of}
-use Rattle.fix_text.specs.Reading.{Stream, NextFrame, fed, next_read}
+use Rattle.fix_text.specs.Reading.{Stream, NextFrame, fed}
 use Rattle.fix_text.specs.Deciding.{counted, Ends, IsNext}
-use Rattle.fix_text.specs.Calls.{Replayed, start, with_given, bytes_fed, after_next, after_feed, replay_of, IsReplay, AreFirst}
-use Rattle.fix_text.proofs.NextFrames.{next_is}
+use Rattle.fix_text.specs.Calls.{Called, Fed, FeedRefused, Gave, Waits, NextRefused, CallsLead, new_stream, bytes_fed, frames_given, AreFirst}
 use Rattle.fix_text.proofs.Streams.{passes_more, passes-append, given_of-append, skipped_of-append, garbled_of-append, counted-add}
 
--- ---- in the words of the grammar
-
-pub replay_is : (calls : List Call) (old : Replayed) → IsReplay calls old (replay_of calls old)
-replay_is [] old = refl
-replay_is (Feed bytes ∷ calls) old = replay_is calls (after_feed old bytes.items)
-replay_is (Next ∷ calls) old = (next_read old.stream, next_is old.stream, replay_is calls (after_next old))
+-- a frame behind those given, if there is one
+abbrev with_given : List (List Tagged) → Option (List Tagged) → List (List Tagged)
+with_given frames None = frames
+with_given frames (Some fields) = frames ++ fields ∷ []
 
 -- ---- the first frames
 
@@ -63,13 +58,26 @@ first_next bytes frames stream new f n =
       garbled = n.garbled ∙ ap (λ (s : ℕ). counted s (garbled_of n.before)) f.garbled ∙ sym (counted-add 0 (garbled_of f.passes) (garbled_of n.before)) ∙ ap (counted 0) (sym (garbled_of-append f.passes later ∙ ap (λ (k : ℕ). garbled_of f.passes + k) garbled_later));
     }
 
-first_on : (calls : List Call) (bytes : List ℕ) (old : Replayed) → AreFirst bytes old.frames old.stream → AreFirst (bytes ++ bytes_fed calls) (replay_of calls old).frames (replay_of calls old).stream
-first_on [] bytes old f = subst (λ (b : List ℕ). AreFirst b old.frames old.stream) (sym (append-nil bytes)) f
-first_on (Feed more ∷ calls) bytes old f =
-    subst (λ (b : List ℕ). AreFirst b (replay_of calls (after_feed old more.items)).frames (replay_of calls (after_feed old more.items)).stream) (append_assoc bytes more.items (bytes_fed calls))
-    (first_on calls (bytes ++ more.items) (after_feed old more.items) (first_fed bytes more.items old.frames old.stream f))
-first_on (Next ∷ calls) bytes old f = first_on calls bytes (after_next old) (first_next bytes old.frames old.stream (next_read old.stream) f (next_is old.stream))
+first_on : (calls : List Called) (bytes : List ℕ) (frames : List (List Tagged)) (old new : Stream) → AreFirst bytes frames old
+    → CallsLead calls old new → AreFirst (bytes ++ bytes_fed calls) (frames ++ frames_given calls) new
+first_on [] bytes frames old new f lead =
+    let same = subst (AreFirst bytes frames) lead f in
+    rw (append-nil bytes, append-nil frames) same
+first_on (Fed more ∷ calls) bytes frames old new f lead =
+    let after = first_fed bytes more frames old f in
+    rw (sym (append_assoc bytes more (bytes_fed calls)))
+    (first_on calls (bytes ++ more) frames lead.0 new (subst (AreFirst (bytes ++ more) frames) (sym lead.1) after) lead.2)
+first_on (FeedRefused more ∷ calls) bytes frames old new f lead =
+    first_on calls bytes frames lead.0 new (subst (AreFirst bytes frames) (sym lead.1) f) lead.2
+first_on (Gave fields ∷ calls) bytes frames old new f lead =
+    rw (sym (append_assoc frames (fields ∷ []) (frames_given calls)))
+    (first_on calls bytes (frames ++ fields ∷ []) lead.0 new (first_next bytes frames old (record { frame = Some fields; stream = lead.0 }) f lead.1) lead.2)
+first_on (Waits ∷ calls) bytes frames old new f lead =
+    first_on calls bytes frames lead.0 new (first_next bytes frames old (record { frame = None; stream = lead.0 }) f lead.1) lead.2
+first_on (NextRefused ∷ calls) bytes frames old new f lead =
+    first_on calls bytes frames lead.0 new (subst (AreFirst bytes frames) (sym lead.1) f) lead.2
 
 -- the frames given are the first valid ones of all bytes fed
-pub replay_first : (calls : List Call) → AreFirst (bytes_fed calls) (replay_of calls start).frames (replay_of calls start).stream
-replay_first calls = first_on calls [] start (record { passes = []; passed = refl; given = refl; skipped = refl; garbled = refl })
+pub calls_first : (calls : List Called) (stream : Stream) → CallsLead calls new_stream stream → AreFirst (bytes_fed calls) (frames_given calls) stream
+calls_first calls stream lead =
+    first_on calls [] [] new_stream stream (record { passes = []; passed = refl; given = refl; skipped = refl; garbled = refl }) lead

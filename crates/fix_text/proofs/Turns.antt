@@ -1,12 +1,15 @@
 -- Reading on, one turn at a time.
-use Rattle.std.proofs.Common.{◌≡◌, ℕ, zero, suc, ◌<◌, ◌≤◌, List, length, Option, Some, None, Result, Ok, Err, refl, sym, ap, ◌∙◌, arith}
+use Rattle.std.proofs.Common.{◌≡◌, ℕ, zero, suc, ◌+◌, ◌-◌, ◌^◌, ◌<◌, ◌≤◌, eqb, min, List, [], ◌∷◌, length, get_or, drop, Option, Some, None, Result, Ok, Err, refl, sym, ap, ◌∙◌, arith}
 use Rattle.std.proofs.Common.{true, false}
 use Rattle.std.specs.Prelude.{is_some, OnErr}
-use Rattle.std.proofs.lemmas.List.{length-drop, nil_from_length}
+use Rattle.std.proofs.lemmas.Bool.{ne_eqb}
+use Rattle.std.proofs.lemmas.Grind.{get_or_after_one}
+use Rattle.std.proofs.lemmas.List.{drop-drop, length-drop, nil_from_length}
 use Rattle.fix_text.specs.declared.parse.Stop.{Stop}
 use Rattle.fix_text.specs.declared.parse.Stop.TheVariants.{Short, Differs}
 use Rattle.fix_text.specs.Tagged.{Tagged}
 use Rattle.fix_text.specs.Reading.{WholeParts, Stream, NextFrame, frame_at, literal_at, valid_fields, at_frame, at_place, after_given, after_garbled, after_byte, read_on, next_read}
+use Rattle.fix_text.specs.Placing.{AreMore}
 use Rattle.fix_text.proofs.Readers.{differs_some, frame_shorter}
 
 -- a frame that is passed needs only what shorter streams give
@@ -53,6 +56,51 @@ waits stream stop total short is so_far = turn_at stream (Err Short) total (ap (
 pub skips : (stream next : Stream) (stop : Stop) (total : NextFrame) → stop ≡ Differs → Err stop ≡ frame_at stream.rest → next ≡ after_byte stream → next_read stream ≡ total → next_read next ≡ total
 skips stream next stop total differs is after so_far = ap next_read after ∙ turn_at stream (Err Differs) total (ap (λ (s : Stop). Err s) (sym differs) ∙ is) so_far
 
+-- no frame begins with a byte that isn't `8`
+no_start : (byte : ℕ) (bytes : List ℕ) → (byte ≡ 56 → ⊥) → Err Differs ≡ frame_at (byte ∷ bytes)
+unfolding frame_at literal_at
+no_start byte bytes other =
+    let no : eqb byte 56 ≡ false = ne_eqb _ _ other in
+    rw no refl
+
+-- none of so many bytes is `8`
+abbrev pub NoStart : List ℕ → ℕ → Type 0
+NoStart bytes count = (k : ℕ) → k < count → get_or bytes k 0 ≡ 56 → ⊥
+
+-- the stream once so many bytes are passed alone
+abbrev pub after_bytes : Stream → ℕ → Stream
+after_bytes stream count = record stream { rest = drop count stream.rest; skipped = min (stream.skipped + count) (2 ^ 64 - 1) }
+
+skips_on : (count skipped garbled : ℕ) (bytes : List ℕ) → skipped ≤ 2 ^ 64 - 1 → count ≤ length bytes → NoStart bytes count
+    → (let stream : Stream = record { rest = bytes; skipped = skipped; garbled = garbled } in next_read (after_bytes stream count) ≡ next_read stream)
+skips_on zero skipped garbled bytes small within none =
+    ap (λ (n : ℕ). next_read (record { rest = bytes; skipped = n; garbled = garbled })) (omega arith)
+skips_on (suc count) skipped garbled [] small within none = absurd (omega arith)
+skips_on (suc count) skipped garbled (byte ∷ bytes) small within none =
+    let stream : Stream = record { rest = byte ∷ bytes; skipped = skipped; garbled = garbled } in
+    let is = no_start byte bytes (none 0 (omega arith)) in
+    let total : min (min (skipped + 1) (2 ^ 64 - 1) + count) (2 ^ 64 - 1) ≡ min (skipped + suc count) (2 ^ 64 - 1) = omega arith in
+    ap (λ (n : ℕ). next_read (record { rest = drop count bytes; skipped = n; garbled = garbled })) (sym total)
+    ∙ skips_on count (min (skipped + 1) (2 ^ 64 - 1)) garbled bytes (omega arith) (omega arith) (λ k below. none (suc k) (omega arith))
+    ∙ turn_at stream (Err Differs) (next_read stream) is refl
+
+-- a byte at which no frame begins, and those behind it that aren't `8`
+pub skips_all : (stream : Stream) (stop : Stop) (total : NextFrame) (count : ℕ) → stop ≡ Differs → Err stop ≡ frame_at stream.rest
+    → 0 < count → count ≤ length stream.rest
+    → ((k : ℕ) → 0 < k → k < count → get_or stream.rest k 0 ≡ 56 → ⊥)
+    → next_read stream ≡ total → next_read (after_bytes stream count) ≡ total
+skips_all stream stop total zero differs is some within none so_far = absurd (omega arith)
+skips_all stream stop total (suc count) differs is some within none so_far =
+    let one : min (stream.skipped + 1) (2 ^ 64 - 1) ≤ 2 ^ 64 - 1 = omega arith in
+    let later : NoStart (drop 1 stream.rest) count = λ k below eight. none (1 + k) (omega arith) (omega arith) (sym (get_or_after_one stream.rest k 0) ∙ eight) in
+    let sum : min (min (stream.skipped + 1) (2 ^ 64 - 1) + count) (2 ^ 64 - 1) ≡ min (stream.skipped + suc count) (2 ^ 64 - 1) = omega arith in
+    let next : 1 + count ≡ suc count = omega arith in
+    let left : drop count (drop 1 stream.rest) ≡ drop (suc count) stream.rest = drop-drop count 1 stream.rest ∙ ap (λ (n : ℕ). drop n stream.rest) next in
+    ap (λ (n : ℕ). next_read (record { rest = drop (suc count) stream.rest; skipped = n; garbled = stream.garbled })) (sym sum)
+    ∙ ap (λ (bytes : List ℕ). next_read (record { rest = bytes; skipped = min (min (stream.skipped + 1) (2 ^ 64 - 1) + count) (2 ^ 64 - 1); garbled = stream.garbled })) (sym left)
+    ∙ skips_on count (min (stream.skipped + 1) (2 ^ 64 - 1)) stream.garbled (drop 1 stream.rest) one (omega (arith, length-drop 1 stream.rest)) later
+    ∙ skips stream (after_byte stream) stop total differs is refl so_far
+
 pub some_left : (bytes : List ℕ) (stop : Stop) → stop ≡ Differs → Err stop ≡ frame_at bytes → 1 ≤ length bytes
 some_left bytes stop differs is = differs_some bytes (ap (λ (s : Stop). Err s) (sym differs) ∙ is)
 
@@ -73,6 +121,15 @@ pub garbles : (stream next : Stream) (whole : WholeParts) (fields : Option (List
     → next_read stream ≡ total → next_read next ≡ total
 garbles stream next whole fields total is valid none after so_far =
     ap next_read after ∙ sym (given_none stream whole fields none) ∙ ap (at_frame next_read stream whole) valid ∙ turn_at stream (Ok whole) total is so_far
+
+pub more_some : (n : ℕ) (fields : Option (List Tagged)) → AreMore n fields → is_some fields ≡ true
+more_some n (Some fields) more = refl
+more_some n None more = absurd more
+
+-- fewer are more than fewer
+pub more_than_fewer : (m n : ℕ) (fields : Option (List Tagged)) → m ≤ n → AreMore n fields → AreMore m fields
+more_than_fewer m n (Some fields) fewer more = omega arith
+more_than_fewer m n None fewer more = more
 
 -- what holds holds also of a refusal
 pub on_err : {A E : Type 0} (r : Result A E) (P : Type 0) → P → OnErr r P

@@ -1,56 +1,52 @@
--- A reader under a list of calls.
-use Rattle.std.specs.Prelude.{◌≡◌, ℕ, List, [], ◌∷◌, ◌++◌, Option, Some, None}
-use Rattle.fix_text.specs.declared.calls.Call.{Call}
-use Rattle.fix_text.specs.declared.calls.Replay.{Replay}
-use Rattle.fix_text.specs.declared.calls.Call.TheVariants.{Feed, Next}
+-- A reader under calls, by what each of them gave.
+use Rattle.std.specs.Prelude.{◌≡◌, ℕ, List, [], ◌∷◌, ◌++◌, Some, None}
 use Rattle.fix_text.specs.Tagged.{Tagged}
 use Rattle.fix_text.specs.Grammar.{Pass, Passes, given_of, garbled_of, skipped_of}
-use Rattle.fix_text.specs.Reading.{Stream, NextFrame, fed, next_read}
+use Rattle.fix_text.specs.Reading.{Stream, fed}
 use Rattle.fix_text.specs.Deciding.{counted, IsNext}
 
--- the frames that were given so far, each as its fields, and the stream that is left
-pub record Replayed : Type 0 where
-  pub frames : List (List Tagged)
-  pub stream : Stream
+-- what a call gave: these bytes were fed, or refused; a frame of these fields was given, more bytes are needed, or it was refused
+pub data Called : Type 0 where
+  Fed : List ℕ → Called
+  FeedRefused : List ℕ → Called
+  Gave : List Tagged → Called
+  Waits : Called
+  NextRefused : Called
 
--- the same, of a replay
-abbrev pub replayed : Replay → Replayed
-replayed r = record { frames = r.frames.items; stream = r.reader }
+-- so such a call leads from one stream to the next: a refused one changes nothing
+abbrev pub Leads : Called → Stream → Stream → Type 0
+Leads (Fed bytes) old new = new ≡ fed old bytes
+Leads (FeedRefused bytes) old new = new ≡ old
+Leads (Gave fields) old new = IsNext old (record { frame = Some fields; stream = new })
+Leads Waits old new = IsNext old (record { frame = None; stream = new })
+Leads NextRefused old new = new ≡ old
 
--- a new reader, which has given nothing
-abbrev pub start : Replayed
-start = record { frames = []; stream = record { rest = []; skipped = 0; garbled = 0 } }
+-- so calls do, one after the other
+abbrev pub CallsLead : List Called → Stream → Stream → Type 0
+CallsLead [] old new = old ≡ new
+CallsLead (call ∷ calls) old new = (middle : Stream) × Leads call old middle × CallsLead calls middle new
 
--- a frame behind those given, if there is one
-abbrev pub with_given : List (List Tagged) → Option (List Tagged) → List (List Tagged)
-with_given frames None = frames
-with_given frames (Some fields) = frames ++ fields ∷ []
+-- the stream of a new reader
+abbrev pub new_stream : Stream
+new_stream = record { rest = []; skipped = 0; garbled = 0 }
 
--- all bytes that the calls feed, in order
-abbrev pub bytes_fed : List Call → List ℕ
+-- all bytes that the calls fed, in order
+abbrev pub bytes_fed : List Called → List ℕ
 bytes_fed [] = []
-bytes_fed (Feed bytes ∷ calls) = bytes.items ++ bytes_fed calls
-bytes_fed (Next ∷ calls) = bytes_fed calls
+bytes_fed (Fed bytes ∷ calls) = bytes ++ bytes_fed calls
+bytes_fed (FeedRefused bytes ∷ calls) = bytes_fed calls
+bytes_fed (Gave fields ∷ calls) = bytes_fed calls
+bytes_fed (Waits ∷ calls) = bytes_fed calls
+bytes_fed (NextRefused ∷ calls) = bytes_fed calls
 
--- after a call for the next frame
-abbrev pub after_next : Replayed → Replayed
-after_next old = let new = next_read old.stream in record { frames = with_given old.frames new.frame; stream = new.stream }
-
--- after more bytes
-abbrev pub after_feed : Replayed → List ℕ → Replayed
-after_feed old bytes = record old { stream = fed old.stream bytes }
-
--- after the calls
-abbrev pub replay_of : List Call → Replayed → Replayed
-replay_of [] old = old
-replay_of (Feed bytes ∷ calls) old = replay_of calls (after_feed old bytes.items)
-replay_of (Next ∷ calls) old = replay_of calls (after_next old)
-
--- so the calls lead from one to the other: each call for the next frame gives the next valid one, if it is there
-abbrev pub IsReplay : List Call → Replayed → Replayed → Type 0
-IsReplay [] old new = old ≡ new
-IsReplay (Feed bytes ∷ calls) old new = IsReplay calls (after_feed old bytes.items) new
-IsReplay (Next ∷ calls) old new = (next : NextFrame) × IsNext old.stream next × IsReplay calls (record { frames = with_given old.frames next.frame; stream = next.stream }) new
+-- the frames that the calls gave, each as its fields, in order
+abbrev pub frames_given : List Called → List (List Tagged)
+frames_given [] = []
+frames_given (Fed bytes ∷ calls) = frames_given calls
+frames_given (FeedRefused bytes ∷ calls) = frames_given calls
+frames_given (Gave fields ∷ calls) = fields ∷ frames_given calls
+frames_given (Waits ∷ calls) = frames_given calls
+frames_given (NextRefused ∷ calls) = frames_given calls
 
 -- the frames are the first valid ones of the bytes, in order, and the counts are of what stands between them
 pub record AreFirst (bytes : List ℕ) (frames : List (List Tagged)) (stream : Stream) : Type 0 where

@@ -1,8 +1,9 @@
 -- How far a stream was passed, by a place in the bytes that are kept of it.
-use Rattle.std.specs.Prelude.{ℕ, ◌≤◌, List, length, drop, slice_range, Option, option_map}
+use Rattle.std.specs.Prelude.{ℕ, ◌+◌, ◌-◌, ◌*◌, ◌≤◌, List, length, drop, slice_range, Option, Some, None, option_map, IfSome}
 use Rattle.fix_text.specs.Reading.{Stream, NextFrame}
 use Rattle.fix_text.specs.Placing.{fields_at, AreWithin}
 use Rattle.fix_text.specs.declared.passed.Body.{Body}
+use Rattle.fix_text.specs.declared.passed.Found.{Found}
 use Rattle.fix_text.specs.declared.passed.Passed.{Passed}
 use Rattle.fix_text.specs.declared.place.Place.{Place}
 
@@ -16,10 +17,32 @@ body_in bytes body = slice_range bytes body.start body.end
 
 -- the fields at the places of a body, if there is one, and the stream that is left
 abbrev pub found_in : List ℕ → List Place → Option Body → Passed → NextFrame
-found_in bytes places body passed = record { frame = option_map (λ body. fields_at (body_in bytes body) places) body; stream = left_of bytes passed }
+found_in bytes places body passed =
+    record { frame = option_map (λ body. fields_at (body_in bytes body) places) body; stream = left_of bytes passed }
 
 -- the body lies within the bytes, and the places within the body
 pub record IsBody (bytes : List ℕ) (body : Body) (places : List Place) : Type 0 where
   pub ordered : body.start ≤ body.end
   pub within : body.end ≤ length bytes
   pub each : AreWithin (body_in bytes body) places
+
+-- what was found lies within the bytes, and no more than 4,103 bytes lie from the start of a frame's body to its end
+pub record LiesWithin (bytes : List ℕ) (found : Found) : Type 0 where
+  pub end : found.passed.end ≤ length bytes
+  pub ordered : IfSome found.body (λ body. body.start ≤ body.end)
+  pub body : IfSome found.body (λ body. body.end ≤ found.passed.end)
+  pub near : IfSome found.body (λ body. found.passed.end ≤ body.start + 4103)
+
+-- where that begins which is still of use: the body that was found, or what isn't passed
+abbrev pub useful_from : Option Body → ℕ → ℕ
+useful_from (Some body) end = body.start
+useful_from None end = end
+
+-- a body in bytes that begin so many later
+abbrev pub body_after : ℕ → Option Body → Option Body
+body_after count (Some body) = Some (record { start = body.start - count; end = body.end - count })
+body_after count None = None
+
+-- the most bytes that a reader keeps while so many aren't passed: twice as many, counted with a frame that is lent, and 8,192
+abbrev pub most_kept : ℕ → ℕ
+most_kept left = 2 * (left + 4103) + 8192

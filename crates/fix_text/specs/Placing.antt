@@ -1,5 +1,5 @@
 -- Where the fields of a text lie in it.
-use Rattle.std.specs.Prelude.{◌≡◌, ℕ, Bool, true, false, ◌&&◌, IsTrue, List, map, length, slice_range, nat_le, Option, Some, None}
+use Rattle.std.specs.Prelude.{◌≡◌, ℕ, ◌<◌, Bool, true, false, ◌&&◌, IsTrue, List, map, length, slice_range, nat_le, Option, Some, None}
 use Rattle.std.specs.List.{list_all}
 use Rattle.fix_text.specs.declared.place.Place.{Place}
 use Rattle.fix_text.specs.Tagged.{Tagged}
@@ -24,3 +24,8 @@ AreWithin text places = IsTrue (list_all (is_within text) places)
 abbrev pub ArePlaced : Bool → List ℕ → List Place → Option (List Tagged) → Type 0
 ArePlaced true text places fields = (Some (fields_at text places) ≡ fields) × AreWithin text places
 ArePlaced false text places fields = None ≡ fields
+
+-- the fields are there, and are more than so many
+abbrev pub AreMore : ℕ → Option (List Tagged) → Type 0
+AreMore n (Some fields) = n < length fields
+AreMore n None = ⊥

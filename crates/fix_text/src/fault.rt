@@ -1,8 +1,8 @@
-//! Why a frame can't be written or read.
+//! Why a frame can't be written.
 
 use thiserror::Error;
 
-/// A refusal of a call on frames. It leaves what the call would have changed as it was.
+/// A refusal of a call that writes a frame. It leaves what the call would have changed as it was.
 #[derive(Clone, Copy, Debug, PartialEq, Eq, Error)]
 pub enum TextFault {
     /// There is no field, the first tag isn't 35, or a tag is 0, 8, 9, 10 or above 999,999.

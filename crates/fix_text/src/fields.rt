@@ -1,14 +1,14 @@
 //! The fields of a text, by their places in it.
-ghost use Rattle.std.specs.Prelude.{◌≡◌, ◌<◌, ◌≤◌, None, IfOk, IfSome, IsSome, IsOkUnless, IsTrue, OnErr, length, slice_range, if◌then◌else◌};
+ghost use Rattle.std.specs.Prelude.{◌≡◌, ◌≤◌, None, IfOk, IfSome, IsOkUnless, IsTrue, OnErr, length, slice_range, vec_capacity, if◌then◌else◌};
 ghost use Rattle.std.specs.Option.{option_map};
 ghost use Rattle.fix_text.specs.Reading.{field_of, fields_of, typed_fields, valid_fields};
-ghost use Rattle.fix_text.specs.Placing.{ArePlaced, field_at, is_within};
+ghost use Rattle.fix_text.specs.Placing.{AreMore, ArePlaced, field_at, is_within};
 
 use crate::checksum::sum256;
-use crate::fault::TextFault;
 use crate::field::FieldRef;
 use crate::parse::Whole;
 use crate::place::Place;
+use crate::reader_fault::ReaderFault;
 use memchr::memchr_iter;
 
 const SOH: u8 = 1;
@@ -79,11 +79,12 @@ fn place_of(text: &[u8], at: usize, end: usize) -> Option<Place>
 /// Puts the places of a text's fields into the list, in place of what it held, or answers that the text isn't fields
 /// alone. The text is gone through once; where there is no room for a place the rest of the text still decides.
 #[inline(never)]
-pub fn place_fields(text: &[u8], places: &mut Vec<Place>) -> Result<bool, TextFault>
+pub fn place_fields(text: &[u8], places: &mut Vec<Place>) -> Result<bool, ReaderFault>
     ensures placed { IfOk result (λ is. ArePlaced is text.now places.new.items (fields_of text.now)) }
-    ensures refusal { IsOkUnless result TextFault.OutOfMemory }
-    ensures some { OnErr result (IsSome (fields_of text.now)) }
-    ensures needed { OnErr result (0 < length text.now) }
+    ensures refusal { IsOkUnless result ReaderFault.OutOfMemory }
+    // Memory is wanted only for more fields than there was room for.
+    ensures full { OnErr result (AreMore (vec_capacity places.old) (fields_of text.now)) }
+    ensures room { vec_capacity places.old ≤ vec_capacity places.new }
 {
     places.clear();
     let mut at = 0usize;
@@ -101,17 +102,18 @@ pub fn place_fields(text: &[u8], places: &mut Vec<Place>) -> Result<bool, TextFa
         return Ok(false);
     }
     if is_full {
-        return Err(TextFault::OutOfMemory);
+        return Err(ReaderFault::OutOfMemory);
     }
     Ok(true)
 }
 
 /// The same of the body of a whole frame, if the frame is valid. Its bytes are summed up once.
 #[tactic(auto, unfolding(crate::specs::Reading::valid_fields))]
-pub fn place_valid_fields(frame: &Whole, places: &mut Vec<Place>) -> Result<bool, TextFault>
+pub fn place_valid_fields(frame: &Whole, places: &mut Vec<Place>) -> Result<bool, ReaderFault>
     ensures placed { IfOk result (λ is. ArePlaced is frame.now.body places.new.items (valid_fields frame.now)) }
-    ensures refusal { IsOkUnless result TextFault.OutOfMemory }
-    ensures some { OnErr result (IsSome (valid_fields frame.now)) }
+    ensures refusal { IsOkUnless result ReaderFault.OutOfMemory }
+    ensures full { OnErr result (AreMore (vec_capacity places.old) (valid_fields frame.now)) }
+    ensures room { vec_capacity places.old ≤ vec_capacity places.new }
 {
     if u32::from(sum256(frame.before())) != frame.check() || !is_typed(frame.body()) {
         return Ok(false);

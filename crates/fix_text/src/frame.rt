@@ -1,14 +1,14 @@
 //! A frame: fields that are lent from the text in which they lie.
-ghost use Rattle.std.specs.Prelude.{◌≡◌, ◌<◌, Some, length, slice_get, IfOk, IsSome, IsOkUnless, OnErr};
+ghost use Rattle.std.specs.Prelude.{◌≡◌, ◌<◌, Some, length, slice_get, IfOk, IsOkUnless, OnErr, vec_capacity};
 ghost use Rattle.std.specs.Option.{option_map};
 ghost use Rattle.fix_text.specs.Tagged.{value_of};
 ghost use Rattle.fix_text.specs.Reading.{fields_of};
-ghost use Rattle.fix_text.specs.Placing.{fields_at, AreWithin};
+ghost use Rattle.fix_text.specs.Placing.{AreMore, AreWithin, fields_at};
 
-use crate::fault::TextFault;
 use crate::field::FieldRef;
 use crate::fields::place_fields;
 use crate::place::Place;
+use crate::reader_fault::ReaderFault;
 
 /// The fields of a text, lent with it: those between BodyLength (9) and CheckSum (10) of a valid frame, if a
 /// `FrameReader` gave it. It owns nothing.
@@ -23,12 +23,15 @@ impl<'a> Frame<'a> {
     ghost use Rattle.fix_text.specs.FrameFields.{fields_in};
 
     /// A frame of any text that is nothing but fields, with `places` as the room for where they lie; what it held is
-    /// dropped. The only refusal is want of memory, which comes only where the text is one field or more.
-    pub fn read(text: &'a [u8], places: &'a mut Vec<Place>) -> Result<Option<Frame<'a>>, TextFault>
+    /// dropped. The only refusal is want of memory, which comes only where the text is more fields than `places` has
+    /// room for.
+    pub fn read(
+        text: &'a [u8],
+        places: &'a mut Vec<Place>,
+    ) -> Result<Option<Frame<'a>>, ReaderFault>
         ensures fields { IfOk result (λ frame. option_map fields_in frame ≡ fields_of text.entry.now) }
-        ensures refusal { IsOkUnless result TextFault.OutOfMemory }
-        ensures some { OnErr result (IsSome (fields_of text.entry.now)) }
-        ensures needed { OnErr result (0 < length text.entry.now) }
+        ensures refusal { IsOkUnless result ReaderFault.OutOfMemory }
+        ensures full { OnErr result (AreMore (vec_capacity places.old) (fields_of text.entry.now)) }
     {
         match place_fields(text, places) {
             Ok(true) => Ok(Some(Frame::of_places(text, places.as_slice()))),

@@ -1,12 +1,15 @@
 //! What a reader keeps, of which it lends its frames.
-ghost use Rattle.std.specs.Prelude.{◌≡◌, []};
+ghost use Rattle.std.specs.Prelude.{◌≡◌, ◌++◌, ◌≤◌, [], OnErr, OnOk, vec_capacity};
 ghost use Rattle.fix_text.specs.Placing.{fields_at};
 ghost use Rattle.fix_text.specs.Passing.{body_in, IsBody};
 
 use crate::frame::Frame;
 use crate::passed::Body;
 use crate::place::Place;
-use std::alloc::Global;
+use std::alloc::{AllocError, Global};
+
+/// A frame of no more fields takes no memory to be read.
+pub const FREE_FIELDS: usize = 64;
 
 /// The bytes of a stream that may still be of use, and the places of the fields of the frame that was found last.
 #[derive(Drop)]
@@ -27,6 +30,19 @@ impl Kept {
             buffer: Vec::new(alloc),
             places: Vec::new(alloc),
         }
+    }
+
+    /// Adds bytes, with room for the places of a frame's fields.
+    pub fn feed(&mut self, bytes: &[u8]) -> Result<(), AllocError>
+        ensures ok { OnOk result (self.new.buffer.items ≡ self.old.buffer.items ++ bytes.now) }
+        ensures err { OnErr result (self.new.buffer.items ≡ self.old.buffer.items) }
+        ensures room { OnOk result (64 ≤ vec_capacity self.new.places) }
+        ensures no_less { vec_capacity self.old.places ≤ vec_capacity self.new.places }
+    {
+        if self.places.capacity() < FREE_FIELDS {
+            self.places.reserve(FREE_FIELDS)?;
+        }
+        self.buffer.extend_from_slice(bytes)
     }
 
     /// The frame of a body and the places that are kept.

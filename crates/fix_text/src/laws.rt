@@ -6,7 +6,7 @@ ghost use Rattle.fix_text.specs.Frame.{frame_text};
 ghost use Rattle.fix_text.specs.Grammar.{IsFrame, IsValidFrame, BeginsWithFrame, IsBeginning, IsNeither, Pass, Passes};
 ghost use Rattle.fix_text.specs.Reading.{Stream, NextFrame, frame_at, next_read};
 ghost use Rattle.fix_text.specs.Deciding.{Decides, IsNext};
-ghost use Rattle.fix_text.specs.Calls.{AreFirst};
+ghost use Rattle.fix_text.specs.Calls.{Called, CallsLead, new_stream, bytes_fed, frames_given, AreFirst};
 
 /// Bytes begin with a frame, or are less than one that more bytes may make whole, or neither; never two of these. The
 /// reading decides which.
@@ -51,4 +51,11 @@ pub fn reading_is_determined()
         → ((more : List Pass) × (a ++ more ≡ b) × Passes more rest left) ⊎ ((more : List Pass) × (b ++ more ≡ a) × Passes more left rest) }
     ensures frames { (bytes : List ℕ) (a b : List (List Tagged)) (stream other : Stream) → AreFirst bytes a stream → AreFirst bytes b other
         → ((more : List (List Tagged)) × (a ++ more ≡ b)) ⊎ ((more : List (List Tagged)) × (b ++ more ≡ a)) }
+{}
+
+/// What calls of a new reader gave, however the bytes were cut: the frames are the first valid ones of all bytes that were
+/// fed, in order, with the counts of the others. A refused call changed nothing.
+pub fn read_calls()
+    ensures { (calls : List Called) (stream : Stream) → CallsLead calls new_stream stream
+        → AreFirst (bytes_fed calls) (frames_given calls) stream }
 {}

@@ -1,7 +1,6 @@
 //! Fields and frames of FIX 4.4 as bytes: what is written has one spelling, and what is read is lent.
 #![tactic(auto)]
 
-mod calls;
 mod checksum;
 mod fault;
 mod field;
@@ -14,10 +13,10 @@ mod parse;
 mod passed;
 mod place;
 mod reader;
+mod reader_fault;
 mod refusal;
 mod write;
 
-pub use calls::{Call, Replay, read_calls};
 pub use checksum::sum256;
 pub use fault::TextFault;
 pub use field::{Field, FieldRef, first, first_ref};
@@ -25,6 +24,7 @@ pub use frame::Frame;
 pub use lists::{FieldRefs, Fields};
 pub use place::Place;
 pub use reader::FrameReader;
+pub use reader_fault::ReaderFault;
 pub use refusal::{MAX_BODY, can_write_tag, can_write_value};
 pub use write::{write_frame, write_frame_parts, write_writable_parts};
 

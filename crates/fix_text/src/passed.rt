@@ -1,11 +1,17 @@
 //! How far a stream was passed, by a place in the bytes that are kept of it.
-ghost use Rattle.std.specs.Prelude.{◌≡◌, ◌≤◌, ◌*◌, IfOk, IfSome, IsSome, IsOkUnless, OnErr, drop, length, vec_len};
+ghost use Rattle.std.specs.Prelude.{◌≡◌, ◌≤◌, ◌<◌, ◌-◌, ℕ, List, IfOk, IfSome, IsOkUnless, OnErr, drop, length, slice_index, vec_capacity, vec_len};
+ghost use Rattle.fix_text.specs.Placing.{AreMore};
+ghost use Rattle.fix_text.specs.declared.place.Place.{Place};
 ghost use Rattle.fix_text.specs.Reading.{next_read};
 
-use crate::fault::TextFault;
 use crate::fields::place_valid_fields;
 use crate::parse::{Stop, frame_at};
 use crate::place::Place;
+use crate::reader_fault::ReaderFault;
+use memchr::memchr;
+
+/// Fewer bytes than these, once they are of no more use, are not worth a move of the others.
+const LEAST_MOVE: usize = 8_192;
 
 /// What was passed: the place behind it, and the counts.
 #[derive(Clone, Copy)]
@@ -30,7 +36,7 @@ pub struct Found {
 }
 
 impl Passed {
-    ghost use Rattle.fix_text.specs.Passing.{left_of, found_in, IsBody};
+    ghost use Rattle.fix_text.specs.Passing.{IsBody, LiesWithin, found_in, left_of};
 
     /// Nothing yet.
     pub const fn new() -> Passed
@@ -44,13 +50,14 @@ impl Passed {
     }
 
     /// Passes on to the end of the next valid frame, with the places of its fields, or to where more bytes are needed.
-    pub fn pass(self, bytes: &[u8], places: &mut Vec<Place>) -> Result<Found, TextFault>
+    pub fn pass(self, bytes: &[u8], places: &mut Vec<Place>) -> Result<Found, ReaderFault>
         requires { self.end ≤ length bytes.now }
         ensures read { IfOk result (λ found. found_in bytes.now places.new.items found.body found.passed ≡ next_read (left_of bytes.now self)) }
         ensures within { IfOk result (λ found. IfSome found.body (λ body. IsBody bytes.now body places.new.items)) }
-        ensures end { IfOk result (λ found. found.passed.end ≤ length bytes.now) }
-        ensures refusal { IsOkUnless result TextFault.OutOfMemory }
-        ensures some { OnErr result (IsSome (next_read (left_of bytes.now self)).frame) }
+        ensures lies { IfOk result (λ found. LiesWithin bytes.now found) }
+        ensures refusal { IsOkUnless result ReaderFault.OutOfMemory }
+        ensures full { OnErr result (AreMore (vec_capacity places.old) (next_read (left_of bytes.now self)).frame) }
+        ensures room { vec_capacity places.old ≤ vec_capacity places.new }
     {
         let Passed {
             end: mut at,
@@ -68,8 +75,9 @@ impl Passed {
                     },
                 }),
                 Err(Stop::Differs) => {
-                    at += 1;
-                    skipped = skipped.saturating_add(1);
+                    let count = junk_length(&bytes[at..]);
+                    at += count;
+                    skipped = skipped.saturating_add(count as u64);
                 }
                 Ok(frame) => {
                     let end = bytes.len() - frame.rest().len();
@@ -94,21 +102,59 @@ impl Passed {
             }
         }
     }
+}
 
-    /// Lets go of the bytes that were passed, where they are no fewer than those that are left: so no more bytes move
-    /// than were passed.
-    pub fn compact(self, buffer: &mut Vec<u8>) -> Passed
-        requires { self.end ≤ vec_len buffer.old }
-        ensures same { left_of buffer.new.items result ≡ left_of buffer.old.items self }
-        ensures end { result.end ≤ vec_len buffer.new }
-        // At least half of what is kept is still of use.
-        ensures half { 2 * result.end ≤ vec_len buffer.new }
+impl Found {
+    ghost use Rattle.fix_text.specs.Passing.{IsBody, LiesWithin, body_after, found_in, most_kept, useful_from};
+
+    /// Where that begins which is still of use.
+    fn useful_from(&self) -> usize
+        ensures { result ≡ useful_from self.now.body self.now.passed.end }
     {
-        if self.end < buffer.len() - self.end {
+        match self.body {
+            Some(body) => body.start,
+            None => self.passed.end,
+        }
+    }
+
+    /// The same in bytes that begin so many later.
+    fn after(self, count: usize) -> Found
+        requires useful { count ≤ useful_from self.body self.passed.end }
+        requires ordered { IfSome self.body (λ body. body.start ≤ body.end) }
+        requires passed { IfSome self.body (λ body. body.end ≤ self.passed.end) }
+        ensures { result ≡ record { body = body_after count self.body; passed = record self.passed { end = self.passed.end - count } } }
+    {
+        let body = match self.body {
+            Some(body) => Some(Body {
+                start: body.start - count,
+                end: body.end - count,
+            }),
+            None => None,
+        };
+        let end = self.passed.end - count;
+        Found {
+            body,
+            passed: Passed { end, ..self.passed },
+        }
+    }
+
+    /// Lets go of the bytes that are of no more use, where they are many, and no fewer than those behind them: so no more
+    /// bytes move than are let go.
+    pub fn let_go(self, buffer: &mut Vec<u8>) -> Found
+        requires { LiesWithin buffer.old.items self }
+        ensures same { (places : List Place) → found_in buffer.new.items places result.body result.passed ≡ found_in buffer.old.items places self.body self.passed }
+        ensures body { (places : List Place) → IfSome self.body (λ body. IsBody buffer.old.items body places)
+            → IfSome result.body (λ body. IsBody buffer.new.items body places) }
+        ensures end { result.passed.end ≤ length buffer.new.items }
+        ensures few { length buffer.new.items ≤ most_kept (length buffer.new.items - result.passed.end) }
+        ensures no_more { length buffer.new.items ≤ length buffer.old.items }
+    {
+        let count = self.useful_from();
+        if count < LEAST_MOVE || count < buffer.len() - count {
             return self;
         }
-        drop_front(buffer, self.end);
-        Passed { end: 0, ..self }
+        drop_front(buffer, count);
+        self.after(count)
     }
 }
 
@@ -119,4 +165,17 @@ fn drop_front(buffer: &mut Vec<u8>, count: usize)
     let left = buffer.len() - count;
     buffer.copy_within(count.., 0);
     buffer.truncate(left);
+}
+
+/// How many bytes are passed alone where no frame begins: the first, and what stands between it and the next `8`.
+fn junk_length(bytes: &[u8]) -> usize
+    requires { 0 < length bytes.now }
+    ensures some { 0 < result }
+    ensures within { result ≤ length bytes.now }
+    ensures junk { (k : ℕ) → 0 < k → k < result → slice_index bytes.now k ≡ 56 → ⊥ }
+{
+    match memchr(b'8', &bytes[1..]) {
+        Some(count) => count + 1,
+        None => bytes.len(),
+    }
 }

@@ -1,20 +1,22 @@
 //! A reader of frames from a stream of bytes, which lends what it passes.
-ghost use Rattle.std.specs.Prelude.{◌≡◌, ℕ, List, [], Some, IfOk, IfSome, IsSome, IsOkUnless, OnOk, OnErr, ◌<◌, length};
+ghost use Rattle.std.specs.Prelude.{◌≡◌, ℕ, List, [], Some, IfOk, IfSome, IsOkUnless, OnOk, OnErr, ◌<◌, ◌≤◌, length};
 ghost use Rattle.std.specs.Borrow.{sem};
 ghost use Rattle.std.specs.Option.{option_map};
 ghost use Rattle.fix_text.specs.Tagged.{Tagged};
 ghost use Rattle.fix_text.specs.Reading.{next_read, fed, BeginsWritten};
+ghost use Rattle.fix_text.specs.Placing.{AreMore};
+ghost use Rattle.fix_text.specs.Passing.{most_kept};
 ghost use Rattle.fix_text.specs.Deciding.{IsNext};
 
-use crate::fault::TextFault;
 use crate::frame::Frame;
 use crate::kept::Kept;
 use crate::passed::Passed;
+use crate::reader_fault::ReaderFault;
 use std::alloc::Global;
 use std::marker::Model;
 
-/// Reads frames from bytes that come in any pieces. What is fed is kept until it is passed, and a frame's room is used
-/// again for the next.
+/// Reads frames from bytes that come in any pieces. What is fed is kept until it is passed, and little longer; a frame's
+/// room is used again for the next.
 #[derive(Drop)]
 pub struct FrameReader {
     kept: Kept,
@@ -22,15 +24,17 @@ pub struct FrameReader {
 }
 
 impl Model for FrameReader {
-    ghost use Rattle.std.specs.Prelude.{◌≤◌, length};
+    ghost use Rattle.std.specs.Prelude.{◌≤◌, ◌<◌, ◌-◌, length, vec_capacity};
     ghost use Rattle.fix_text.specs.Reading.{Stream};
-    ghost use Rattle.fix_text.specs.Passing.{left_of};
+    ghost use Rattle.fix_text.specs.Passing.{left_of, most_kept};
 
     ghost Value = { Stream };
 
     ghost view = { λ reader. left_of reader.kept.buffer.items reader.passed };
 
-    ghost invariant = { λ reader. reader.passed.end ≤ length reader.kept.buffer.items };
+    ghost invariant = { λ reader. (reader.passed.end ≤ length reader.kept.buffer.items)
+        × (length reader.kept.buffer.items ≤ most_kept (length reader.kept.buffer.items - reader.passed.end))
+        × (0 < length reader.kept.buffer.items → 64 ≤ vec_capacity reader.kept.places) };
 }
 
 impl FrameReader {
@@ -61,23 +65,30 @@ impl FrameReader {
         self.passed.garbled
     }
 
+    /// How many bytes are kept: those that aren't passed, and some that are.
+    pub fn kept(&self) -> usize
+        ensures all { length self.now.rest ≤ result }
+        ensures few { result ≤ most_kept (length self.now.rest) }
+    {
+        self.kept.buffer.len()
+    }
+
     /// Adds bytes to the end of the stream. The only refusal is want of memory.
-    pub fn feed(&mut self, bytes: &[u8]) -> Result<(), TextFault>
+    pub fn feed(&mut self, bytes: &[u8]) -> Result<(), ReaderFault>
         ensures ok { OnOk result (self.new ≡ fed self.old bytes.now) }
         ensures err { OnErr result (self.new ≡ self.old) }
-        ensures refusal { IsOkUnless result TextFault.OutOfMemory }
+        ensures refusal { IsOkUnless result ReaderFault.OutOfMemory }
         ensures some { OnErr result (0 < length bytes.now) }
     {
-        self.passed = self.passed.compact(&mut self.kept.buffer);
-        if self.kept.buffer.extend_from_slice(bytes).is_err() {
-            return Err(TextFault::OutOfMemory);
+        if bytes.is_empty() {
+            return Ok(());
         }
-        Ok(())
+        self.kept.feed(bytes).map_err(|_| ReaderFault::OutOfMemory)
     }
 
     /// The next valid frame, lent from what was fed, or `None` where more bytes are needed. The only refusal is want of
-    /// memory for the places of such a frame's fields; it leaves the reader as it was.
-    pub fn next(&mut self) -> Result<Option<Frame<'_>>, TextFault>
+    /// memory for the places of such a frame's fields, if they are more than 64; it leaves the reader as it was.
+    pub fn next(&mut self) -> Result<Option<Frame<'_>>, ReaderFault>
         // The reader's value is then that of `next_read`, or at `Err` the old one.
         ensures* lender { sem 𝓛 (LeavesNext self.entry result) }
         ensures fields { IfOk result (λ frame. option_map fields_in frame ≡ (next_read self.old).frame) }
@@ -87,11 +98,13 @@ impl FrameReader {
         // A written frame is the next one, whatever follows it.
         ensures written { (fields : List Tagged) (rest : List ℕ) → BeginsWritten self.old fields rest
             → IfOk result (λ frame. next_frame frame (next_read self.old).stream ≡ record { frame = Some fields; stream = record self.old { rest = rest } }) }
-        ensures refusal { IsOkUnless result TextFault.OutOfMemory }
-        ensures some { OnErr result (IsSome (next_read self.old).frame) }
+        ensures refusal { IsOkUnless result ReaderFault.OutOfMemory }
+        // The frame would else have been given.
+        ensures full { OnErr result (AreMore 64 (next_read self.old).frame) }
     {
         let bytes = self.kept.buffer.as_slice();
         let found = self.passed.pass(bytes, &mut self.kept.places)?;
+        let found = found.let_go(&mut self.kept.buffer);
         self.passed = found.passed;
         match found.body {
             Some(body) => Ok(Some(self.kept.frame(body))),

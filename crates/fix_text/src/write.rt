@@ -117,6 +117,7 @@ pub fn write_writable_parts(
     ensures refusal { MatchOption (frame_refusal (head.now ++ body.now ++ rest.now)) (IsOkUnless result TextFault.OutOfMemory) (λ fault. result ≡ Err fault) }
     ensures ok { OnOk result (out.new.items ≡ out.old.items ++ frame_text (head.now ++ body.now ++ rest.now)) }
     ensures err { OnErr result (out.new.items ≡ out.old.items) }
+    ensures asked { OnErr result (vec_capacity out.new ≡ vec_capacity out.old) }
     ensures full { result ≡ Err TextFault.OutOfMemory → vec_capacity out.old < vec_len out.old + length (frame_text (head.now ++ body.now ++ rest.now)) }
 {
     let length_of_text = text_length(head, body, rest)?;
@@ -140,6 +141,7 @@ pub fn write_frame_parts(
     ensures refusal { MatchOption (frame_refusal (head.now ++ body.now ++ rest.now)) (IsOkUnless result TextFault.OutOfMemory) (λ fault. result ≡ Err fault) }
     ensures ok { OnOk result (out.new.items ≡ out.old.items ++ frame_text (head.now ++ body.now ++ rest.now)) }
     ensures err { OnErr result (out.new.items ≡ out.old.items) }
+    ensures asked { OnErr result (vec_capacity out.new ≡ vec_capacity out.old) }
     ensures full { result ≡ Err TextFault.OutOfMemory → vec_capacity out.old < vec_len out.old + length (frame_text (head.now ++ body.now ++ rest.now)) }
 {
     check_fields(head, body, rest)?;
@@ -156,6 +158,7 @@ pub fn write_frame(fields: &[Field], out: &mut Vec<u8>) -> Result<(), TextFault>
     ensures refusal { MatchOption (frame_refusal fields.now) (IsOkUnless result TextFault.OutOfMemory) (λ fault. result ≡ Err fault) }
     ensures ok { OnOk result (out.new.items ≡ out.old.items ++ frame_text fields.now) }
     ensures err { OnErr result (out.new.items ≡ out.old.items) }
+    ensures asked { OnErr result (vec_capacity out.new ≡ vec_capacity out.old) }
     ensures full { result ≡ Err TextFault.OutOfMemory → vec_capacity out.old < vec_len out.old + length (frame_text fields.now) }
 {
     write_frame_parts(&[], &[], fields, out)

@@ -1,10 +1,9 @@
 //! Streams with their frames, by rows that were made outside of this program.
 
-use crate::calls::{Call, read_calls};
-use crate::fault::TextFault;
 use crate::frame::Frame;
 use crate::place::Place;
 use crate::reader::FrameReader;
+use crate::reader_fault::ReaderFault;
 use std::alloc::Global;
 use std::test::Fail;
 
@@ -42,7 +41,7 @@ fn is_heartbeat(frame: &Frame) -> bool {
 }
 
 /// Feeds a piece, and counts the heartbeats among the next three frames.
-fn feed(reader: &mut FrameReader, piece: &[u8]) -> Result<u8, TextFault> {
+fn feed(reader: &mut FrameReader, piece: &[u8]) -> Result<u8, ReaderFault> {
     reader.feed(piece)?;
     let mut count = 0u8;
     for _ in 0..3 {
@@ -149,17 +148,32 @@ fn a_text_of_fields_is_a_frame(rt: HostRuntime) -> Result<(), Fail> {
 }
 
 #[test]
-fn calls_give_the_frames(rt: HostRuntime) -> Result<(), Fail> {
-    let (front, back) = HEARTBEAT.split_at(20);
-    let calls = vec![in rt.alloc();
-        Call::Feed(front.to_vec(rt.alloc())?),
-        Call::Next,
-        Call::Feed(back.to_vec(rt.alloc())?),
-        Call::Next,
-        Call::Next,
-    ]?;
-    let replay = read_calls(rt.alloc(), calls.as_slice())?;
-    assert_eq!(rt; replay.frames.len(), 1);
-    assert_eq!(rt; replay.frames[0].as_slice().len(), 5);
+fn what_was_passed_is_let_go(rt: HostRuntime) -> Result<(), Fail> {
+    let mut reader = FrameReader::new(rt.alloc());
+    for _ in 0..1_000 {
+        assert_eq!(rt; feed(&mut reader, HEARTBEAT)?, 1);
+        assert!(rt; reader.kept() < 20_000);
+    }
+    for _ in 0..1_000 {
+        reader.feed(HEARTBEAT)?;
+    }
+    assert!(rt; reader.kept() >= 1_000 * HEARTBEAT.len());
+    for _ in 0..1_000 {
+        let frame = reader.next()?.ok_or("a frame")?;
+        assert!(rt; is_heartbeat(&frame));
+    }
+    assert!(rt; reader.kept() < 20_000);
+    assert_eq!(rt; (reader.skipped(), reader.garbled()), (0, 0));
+    Ok(())
+}
+
+#[test]
+fn each_byte_of_junk_is_counted(rt: HostRuntime) -> Result<(), Fail> {
+    let mut reader = FrameReader::new(rt.alloc());
+    reader.feed(b"junk 8 8=FIX and 88=F")?;
+    assert_eq!(rt; feed(&mut reader, HEARTBEAT)?, 1);
+    assert_eq!(rt; (reader.skipped(), reader.garbled()), (21, 0));
+    assert_eq!(rt; feed(&mut reader, b"junk")?, 0);
+    assert_eq!(rt; reader.skipped(), 25);
     Ok(())
 }

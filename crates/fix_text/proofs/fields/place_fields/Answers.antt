@@ -5,7 +5,7 @@ use Rattle.std.proofs.lemmas.List.{length-drop}
 use Rattle.fix_text.specs.Text.{holds_soh}
 use Rattle.fix_text.specs.Reading.{fields_of}
 use Rattle.fix_text.proofs.FieldLists.{fields_of-none, not_fields, all_read, nothing_read}
-use Rattle.fix_text.proofs.Placed.{place_read, some_read, within_more, no_fields}
+use Rattle.fix_text.proofs.Placed.{place_read, some_read, within_more, no_fields, more_than_room, more_if_some, on_is_err}
 use Rattle.fix_text.proofs.Parts.{first_part, no_part}
 use Rattle.fix_text.proofs.fields.place_fields.Goals.{then-is_err, else-is_err}
 use Rattle.fix_text.proofs.fields.place_fields.Goals as goal
@@ -49,7 +49,8 @@ loop-end-preserved c =
     ] in
     rw (c.push.ensures.items, full) (record {
       within = omega (arith, found.0.within);
-      pushed = λ _. omega arith;
+      room = omega (arith, loop.room, c.push.ensures.capacity);
+      more = more_than_room c.push.result c.loop-end.is_full text c.loop-end.places.items at end _ place found.0 is (λ err. let none = on_is_err c.push.result _ c.push.ensures.full err in omega (arith, none, loop.room)) loop.more loop.read;
       left = sym found.1;
       each = within_more c.push.result text c.loop-end.places.items place c.in-Some-place_of.ensures.within loop.each;
       some = some_read text at end _ _ found.0 is loop.some;
@@ -64,11 +65,12 @@ returns-then-at-text-clause-placed c =
     let none : holds_soh left ≡ false = no_part text c.loop-end.at loop.within (loop.left ∙ c.in-None.ensures.steps.0) in
     no_fields (fields_of left) (fields_of text) (fields_of-none left (omega (arith, length-drop c.loop-end.at text)) none) loop.some
 
-pub returns-then-is_full-clause-some : goal.returns-then-is_full-clause-some
-returns-then-is_full-clause-some c =
+pub returns-then-is_full-clause-full : goal.returns-then-is_full-clause-full
+returns-then-is_full-clause-full c =
     let text = c.args.text.now in
     let left = drop c.loop-end.at text in
-    sym c.loop-end.invariant.some ∙ nothing_read left (omega (arith, length-drop c.loop-end.at text))
+    let some = sym c.loop-end.invariant.some ∙ nothing_read left (omega (arith, length-drop c.loop-end.at text)) in
+    more_if_some _ (fields_of text) some (c.loop-end.invariant.more c.if-is_full.true)
 
 pub returns-clause-placed : goal.returns-clause-placed
 returns-clause-placed c =

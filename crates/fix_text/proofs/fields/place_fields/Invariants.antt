@@ -1,5 +1,6 @@
 use Rattle.std.proofs.Common.{◌≡◌, ◌<◌, ◌≤◌, true, false, length, drop}
-use Rattle.std.specs.Prelude.{is_some}
+use Rattle.std.specs.Prelude.{is_some, IfSome}
+use Rattle.std.specs.Vec.{vec_capacity}
 use Rattle.fix_text.specs.Reading.{fields_of}
 use Rattle.fix_text.specs.Placing.{fields_at, AreWithin}
 use Rattle.fix_text.proofs.FieldLists.{with_front}
@@ -9,7 +10,8 @@ use Rattle.fix_text.proofs.fields.place_fields.Given as goal
 abbrev pub invariant-loop-end : goal.invariant-loop-end
 invariant-loop-end l = record {
   within : l.at ≤ length l.text;
-  pushed : l.is_full ≡ true → 0 < l.at;
+  room : vec_capacity l.fn.places ≤ vec_capacity l.places;
+  more : l.is_full ≡ true → IfSome (fields_of l.text) (λ fields. vec_capacity l.fn.places < length fields);
   left : separators l.text l.at ≡ l.end-iterator;
   each : AreWithin l.text l.places.items;
   some : is_some (fields_of (drop l.at l.text)) ≡ is_some (fields_of l.text);
