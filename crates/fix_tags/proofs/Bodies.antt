@@ -8,13 +8,13 @@ use Rattle.std.proofs.lemmas.Bool.{and_parts, not-true}
 use Rattle.fix_text.specs.Text.{is_writable_value, is_writable_tag, holds_soh}
 use Rattle.fix_tags.specs.App.{is_app_tag, is_app_field, is_header_tag}
 use Rattle.fix_tags.specs.Flag.{flag_of}
-use Rattle.fix_tags.specs.ReadBack.{number_of-decimal}
+use Rattle.fix_tags.proofs.ReadBack.{number_of-decimal}
 use Rattle.fix_tags.specs.Reading.{required, flag_at, short_text, some_text, number_if, body_read}
 use Rattle.fix_tags.specs.Message.{is_reference, is_heart, is_next_number, is_message_number, is_test_id, unless_ok, ◌or_then◌, header_fields, body_fields, body_fault, app_fault, field, number_field, option_field, flag_field}
 use Rattle.fix_tags.specs.declared.body.Body.TheVariants.{Logon, Heartbeat, TestRequest, ResendRequest, Reject, GapFill, Reset, Logout, BusinessReject}
 use Rattle.fix_tags.specs.declared.envelope.Envelope.{Envelope}
-use Rattle.fix_tags.specs.declared.fault.TagFault.{TagFault}
-use Rattle.fix_tags.specs.declared.fault.TagFault.TheVariants.{BadValue}
+use Rattle.fix_tags.specs.declared.write_fault.WriteFault.{WriteFault}
+use Rattle.fix_tags.specs.declared.write_fault.WriteFault.TheVariants.{BadValue}
 use Rattle.fix_tags.proofs.Lookups.{IsOutside, value_of-header}
 use Rattle.fix_tags.proofs.HeaderBack.{required-found}
 
@@ -23,11 +23,11 @@ pub unless_ok-none : (ok : Bool) (tag : ℕ) → unless_ok ok tag ≡ None → o
 unless_ok-none true tag none = refl
 unless_ok-none false tag none = absurd cc
 
-pub or_then-first : (a b : Option TagFault) → (a or_then b) ≡ None → a ≡ None
+pub or_then-first : (a b : Option WriteFault) → (a or_then b) ≡ None → a ≡ None
 or_then-first (Some fault) b none = absurd cc
 or_then-first None b none = refl
 
-pub or_then-second : (a b : Option TagFault) → (a or_then b) ≡ None → b ≡ None
+pub or_then-second : (a b : Option WriteFault) → (a or_then b) ≡ None → b ≡ None
 or_then-second (Some fault) b none = absurd cc
 or_then-second None b none = none
 
@@ -69,7 +69,7 @@ test_id_reads id tag none =
     short_text-written 64 id is.0 is.1
 
 -- a chain of tests without a fault: this one passed, and there is none after it
-pub if_passed : (b : Bool) (next : Option TagFault) (tag : ℕ) → cond b next (Some (BadValue tag)) ≡ None → (b ≡ true) × (next ≡ None)
+pub if_passed : (b : Bool) (next : Option WriteFault) (tag : ℕ) → cond b next (Some (BadValue tag)) ≡ None → (b ≡ true) × (next ≡ None)
 if_passed true next tag none = (refl, none)
 if_passed false next tag none = absurd cc
 

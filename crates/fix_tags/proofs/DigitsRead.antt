@@ -5,7 +5,7 @@ use Rattle.std.proofs.lemmas.Bool.Decides.{leb_tells}
 use Rattle.std.proofs.lemmas.List.{at_drop_more, take_more}
 use Rattle.std.proofs.lemmas.List.Folds.{list_all_more}
 use Rattle.std.proofs.lemmas.Str.Parse.{digits_value_short}
-use Rattle.fix_tags.specs.Spelled.{own}
+use Rattle.fix_tags.proofs.Spelled.{own}
 use Rattle.fix_tags.specs.Digits.{number_after, digits_number, leading_digits, after_digits, all_digits}
 
 -- so many digits write a number below that power of ten

@@ -7,7 +7,7 @@ use Rattle.fix_tags.specs.Flag.{flag_of}
 use Rattle.fix_tags.specs.Reading.{◌>>=◌, required, flag_at, short_text, number_if, anything, body_read, envelope_read}
 use Rattle.fix_tags.specs.Message.{is_message_number, kind_of, header_fields}
 use Rattle.fix_tags.specs.declared.envelope.Envelope.{Envelope}
-use Rattle.fix_tags.specs.declared.fault.TagFault.{TagFault}
+use Rattle.fix_tags.specs.declared.tag_fault.TagFault.{TagFault}
 use Rattle.fix_tags.proofs.Lookups.{flag_or, value_of-time, value_of-dup, value_of-resend}
 
 -- what a step gives is handed on

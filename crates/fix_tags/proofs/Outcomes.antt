@@ -7,7 +7,7 @@ use Rattle.fix_text.specs.declared.fault.TextFault.TheVariants.{BadTag, BadValue
 use Rattle.fix_tags.specs.CompId.{IsCompId}
 use Rattle.fix_tags.specs.Message.{AreWritable, field_fault, envelope_fields, is_too_long, envelope_refusal}
 use Rattle.fix_tags.specs.Stamp.{StampParts}
-use Rattle.fix_tags.specs.declared.fault.TagFault.TheVariants as tags
+use Rattle.fix_tags.specs.declared.write_fault.WriteFault.TheVariants as tags
 use Rattle.fix_tags.specs.declared.envelope.Envelope.{Envelope}
 use Rattle.fix_tags.proofs.WritableFields.{good_message, good_tags, good_values}
 

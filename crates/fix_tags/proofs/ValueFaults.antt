@@ -6,11 +6,11 @@ use Rattle.fix_tags.specs.Message.{is_app_kind, is_test_id, is_reference, is_mes
 use Rattle.fix_tags.specs.declared.body.Body.{Body}
 use Rattle.fix_tags.specs.declared.body.Body.TheVariants.{Logon, Heartbeat, TestRequest, ResendRequest, Reject, GapFill, Reset, Logout, BusinessReject, App}
 use Rattle.fix_tags.specs.declared.envelope.Envelope.{Envelope}
-use Rattle.fix_tags.specs.declared.fault.TagFault.{TagFault}
-use Rattle.fix_tags.specs.declared.fault.TagFault.TheVariants.{BadValue, OutOfMemory}
+use Rattle.fix_tags.specs.declared.write_fault.WriteFault.{WriteFault}
+use Rattle.fix_tags.specs.declared.write_fault.WriteFault.TheVariants.{BadValue, OutOfMemory}
 
 -- a fault, if there is one, is another than want of memory
-abbrev pub NoWantOfMemory : Option TagFault → Type 0
+abbrev pub NoWantOfMemory : Option WriteFault → Type 0
 NoWantOfMemory (Some OutOfMemory) = ⊥
 NoWantOfMemory _ = Unit {0}
 
@@ -18,11 +18,11 @@ of_test : (ok : Bool) (tag : ℕ) → NoWantOfMemory (unless_ok ok tag)
 of_test true tag = tt
 of_test false tag = tt
 
-of_either : (a b : Option TagFault) → NoWantOfMemory a → NoWantOfMemory b → NoWantOfMemory (a or_then b)
+of_either : (a b : Option WriteFault) → NoWantOfMemory a → NoWantOfMemory b → NoWantOfMemory (a or_then b)
 of_either (Some fault) b first second = first
 of_either None b first second = second
 
-of_field : (good : Bool) (tag : ℕ) (later : Option TagFault) → NoWantOfMemory later → NoWantOfMemory (cond good later (Some (BadValue tag)))
+of_field : (good : Bool) (tag : ℕ) (later : Option WriteFault) → NoWantOfMemory later → NoWantOfMemory (cond good later (Some (BadValue tag)))
 of_field true tag later rest = rest
 of_field false tag later rest = tt
 
@@ -60,10 +60,10 @@ of_body (App kind fields) = of_app fields
 of_message : (e : Envelope) → NoWantOfMemory (field_fault e)
 of_message e = of_either _ _ (of_kind e.body) (of_either _ _ (of_test (is_message_number e.number) 34) (of_body e.body))
 
-err_is : (a b : TagFault) → ◌≡◌ {A = Result (Unit {0}) TagFault} (Err a) (Err b) → a ≡ b
+err_is : (a b : WriteFault) → ◌≡◌ {A = Result (Unit {0}) WriteFault} (Err a) (Err b) → a ≡ b
 err_is a b e = cc
 
 -- a message that is refused for a field is not refused for want of memory
-pub refused_for_field : (e : Envelope) (found : Option TagFault) (fault : TagFault) → found ≡ field_fault e → found ≡ Some fault → ◌≡◌ {A = Result (Unit {0}) TagFault} (Err fault) (Err OutOfMemory) → ⊥
+pub refused_for_field : (e : Envelope) (found : Option WriteFault) (fault : WriteFault) → found ≡ field_fault e → found ≡ Some fault → ◌≡◌ {A = Result (Unit {0}) WriteFault} (Err fault) (Err OutOfMemory) → ⊥
 refused_for_field e found fault is some memory =
     subst NoWantOfMemory (sym is ∙ some ∙ ap Some (err_is fault OutOfMemory memory)) (of_message e)

@@ -10,7 +10,7 @@ use Rattle.fix_tags.specs.App.{is_header_tag, is_app_field}
 use Rattle.fix_tags.specs.CompId.{IsCompId}
 use Rattle.fix_tags.specs.Message.{number_field, kind_of, body_fields, header_fields, is_test_id, is_app_kind, is_message_number, is_reference, is_heart, is_next_number, unless_ok, ◌or_then◌, app_fault, kind_fault, body_fault, field_fault}
 use Rattle.fix_tags.specs.Stamp.{StampParts, stamp_text}
-use Rattle.fix_tags.specs.Written.{HasNoDelimiter, HasNoDelimiter-decimal, HasNoDelimiter-comp_id, HasNoDelimiter-stamp_text, nonempty-decimal, nonempty-comp_id, length-stamp_text}
+use Rattle.fix_tags.proofs.Written.{HasNoDelimiter, HasNoDelimiter-decimal, HasNoDelimiter-comp_id, HasNoDelimiter-stamp_text, nonempty-decimal, nonempty-comp_id, length-stamp_text}
 use Rattle.fix_tags.specs.declared.body.Body.{Body}
 use Rattle.fix_tags.specs.declared.body.Body.TheVariants.{Logon, Heartbeat, TestRequest, ResendRequest, Reject, GapFill, Reset, Logout, BusinessReject, App}
 use Rattle.fix_tags.specs.declared.envelope.Envelope.{Envelope}

@@ -8,9 +8,9 @@ pub mod Message
 pub mod Number
 pub mod Price
 pub mod Range
-pub mod ReadBack
 pub mod Reading
+pub mod Readable
+pub mod ReadsBack
+pub mod Says
 pub mod Shares
-pub mod Spelled
 pub mod Stamp
-pub mod Written

@@ -13,8 +13,8 @@ use Rattle.fix_tags.specs.Stamp.{StampParts, stamp_text}
 use Rattle.fix_tags.specs.declared.body.Body.{Body}
 use Rattle.fix_tags.specs.declared.body.Body.TheVariants.{Logon, Heartbeat, TestRequest, ResendRequest, Reject, GapFill, Reset, Logout, BusinessReject, App}
 use Rattle.fix_tags.specs.declared.envelope.Envelope.{Envelope}
-use Rattle.fix_tags.specs.declared.fault.TagFault.{TagFault}
-use Rattle.fix_tags.specs.declared.fault.TagFault.TheVariants.{BadValue, TooLong}
+use Rattle.fix_tags.specs.declared.write_fault.WriteFault.{WriteFault}
+use Rattle.fix_tags.specs.declared.write_fault.WriteFault.TheVariants.{BadValue, TooLong}
 
 -- one field
 abbrev pub field : ℕ → List ℕ → Tagged
@@ -104,12 +104,12 @@ abbrev pub is_test_id : List ℕ → Bool
 is_test_id id = is_writable_value id && nat_le (length id) 64
 
 -- the fault of a tag whose value isn't as it must be
-abbrev pub unless_ok : Bool → ℕ → Option TagFault
+abbrev pub unless_ok : Bool → ℕ → Option WriteFault
 unless_ok ok tag = if ok then None else Some (BadValue tag)
 
 -- the first of two faults
 infixr 5 ◌or_then◌
-abbrev pub ◌or_then◌ : Option TagFault → Option TagFault → Option TagFault
+abbrev pub ◌or_then◌ : Option WriteFault → Option WriteFault → Option WriteFault
 (Some fault) or_then next = Some fault
 None or_then next = next
 
@@ -130,26 +130,26 @@ abbrev pub is_next_number : ℕ → Bool
 is_next_number number = nat_le 1 number && nat_le number 999999999
 
 -- the first of the fields of an application message that can't be written
-abbrev pub app_fault : List Tagged → Option TagFault
+abbrev pub app_fault : List Tagged → Option WriteFault
 app_fault [] = None
 app_fault (f ∷ fields) = if is_app_field f then app_fault fields else Some (BadValue f.tag)
 
 -- why a body's kind can't be written
-abbrev pub kind_fault : Body → Option TagFault
+abbrev pub kind_fault : Body → Option WriteFault
 kind_fault (App kind fields) = unless_ok (is_app_kind kind) 35
 kind_fault _ = None
 
 -- the first field of a Logon that can't be written
-abbrev pub logon_fault : ℕ → Option ℕ → Option TagFault
+abbrev pub logon_fault : ℕ → Option ℕ → Option WriteFault
 logon_fault heart None = unless_ok (is_heart heart) 108
 logon_fault heart (Some next) = unless_ok (is_heart heart) 108 or_then unless_ok (is_next_number next) 789
 
 -- the first field of a ResendRequest that can't be written
-abbrev pub resend_request_fault : ℕ → ℕ → Option TagFault
+abbrev pub resend_request_fault : ℕ → ℕ → Option WriteFault
 resend_request_fault begin last = unless_ok (is_reference begin) 7 or_then unless_ok (is_reference last) 16
 
 -- the first field of a body that can't be written, in written order
-abbrev pub body_fault : Body → Option TagFault
+abbrev pub body_fault : Body → Option WriteFault
 body_fault (Logon heart reset next) = logon_fault heart next
 body_fault (Heartbeat None) = None
 body_fault (Heartbeat (Some id)) = unless_ok (is_test_id id) 112
@@ -164,7 +164,7 @@ body_fault (BusinessReject (Some number)) = unless_ok (is_reference number) 45
 body_fault (App kind fields) = app_fault fields
 
 -- the first field of a message that can't be written, in written order
-abbrev pub field_fault : Envelope → Option TagFault
+abbrev pub field_fault : Envelope → Option WriteFault
 field_fault e = kind_fault e.body or_then (unless_ok (is_message_number e.number) 34 or_then body_fault e.body)
 
 -- whether the fields of a message take more than 4,096 bytes
@@ -172,7 +172,7 @@ abbrev pub is_too_long : Envelope → StampParts → Bool
 is_too_long e stamp = nat_lt 4096 (length (fields_text (envelope_fields e stamp)))
 
 -- why a message can't be written: its first bad tag in written order, or that it is too long
-abbrev pub envelope_refusal : Envelope → StampParts → Option TagFault
+abbrev pub envelope_refusal : Envelope → StampParts → Option WriteFault
 envelope_refusal e stamp = field_fault e or_then (if is_too_long e stamp then Some TooLong else None)
 
 -- fields that can be written one by one: the first is MsgType (35), each tag is one, and no value is empty or holds SOH

@@ -1,5 +1,5 @@
 -- What fields are read as (FIX 4.4 Volume 2): the message, or the first fault, a missing field before a bad one.
-use Rattle.std.specs.Prelude.{◌≡◌, ℕ, IsOk, List, [], ◌∷◌, length, Bool, false, ◌&&◌, ◌==◌, nat_lt, nat_le, Option, Some, None, Result, Ok, Err, filter, option_and_then, if◌then◌else◌}
+use Rattle.std.specs.Prelude.{◌≡◌, ℕ, List, [], ◌∷◌, length, Bool, false, ◌&&◌, ◌==◌, nat_lt, nat_le, Option, Some, None, Result, Ok, Err, filter, option_and_then, if◌then◌else◌}
 use Rattle.fix_text.specs.Tagged.{Tagged, value_of}
 use Rattle.fix_tags.specs.App.{is_app_tag}
 use Rattle.fix_tags.specs.CompId.{comp_id_of}
@@ -9,8 +9,15 @@ use Rattle.fix_tags.specs.Message.{is_reference, is_heart, is_message_number, is
 use Rattle.fix_tags.specs.declared.body.Body.{Body}
 use Rattle.fix_tags.specs.declared.body.Body.TheVariants.{Logon, Heartbeat, TestRequest, ResendRequest, Reject, GapFill, Reset, Logout, BusinessReject, App}
 use Rattle.fix_tags.specs.declared.envelope.Envelope.{Envelope}
-use Rattle.fix_tags.specs.declared.fault.TagFault.{TagFault}
-use Rattle.fix_tags.specs.declared.fault.TagFault.TheVariants.{BadValue, TooLong, OutOfMemory, Missing, BadField}
+use Rattle.fix_tags.specs.declared.read_fault.ReadFault.{ReadFault}
+use Rattle.fix_tags.specs.declared.read_fault.ReadFault.TheVariants.{Tag, OutOfMemory}
+use Rattle.fix_tags.specs.declared.tag_fault.TagFault.{TagFault}
+use Rattle.fix_tags.specs.declared.tag_fault.TagFault.TheVariants.{Missing, BadField}
+
+-- a body of the application, and none of the session's
+abbrev pub IsApp : Body → Type 0
+IsApp (App kind fields) = Unit {0}
+IsApp _ = ⊥
 
 infixl 10 ◌>>=◌
 abbrev pub ◌>>=◌ : {A B : Type 0} → Result A TagFault → (A → Result B TagFault) → Result B TagFault
@@ -22,14 +29,17 @@ abbrev pub Gives : {X Y : Type 0} → (X → Y) → Result X TagFault → Result
 Gives view (Ok x) read = read ≡ Ok (view x)
 Gives view (Err fault) read = read ≡ Err fault
 
--- the same, unless memory is wanted for what can be read
-abbrev pub Reads : {X Y : Type 0} → (X → Y) → Result X TagFault → Result Y TagFault → Type 0
-Reads view (Ok x) read = read ≡ Ok (view x)
-Reads view (Err OutOfMemory) read = IsOk read
-Reads view (Err (BadValue tag)) read = read ≡ Err (BadValue tag)
-Reads view (Err TooLong) read = read ≡ Err TooLong
-Reads view (Err (Missing tag)) read = read ≡ Err (Missing tag)
-Reads view (Err (BadField tag)) read = read ≡ Err (BadField tag)
+-- a message of the application, whose fields are kept in a list
+abbrev pub IsApplication : Result Envelope TagFault → Type 0
+IsApplication (Ok e) = IsApp e.body
+IsApplication (Err fault) = ⊥
+
+-- what the reading of a message answers: what the fields say; or want of memory, where they say a message of the
+-- application and its list of fields needs room
+abbrev pub ReadsEnvelope : Result Envelope ReadFault → Result Envelope TagFault → Type 0
+ReadsEnvelope (Ok e) read = read ≡ Ok e
+ReadsEnvelope (Err (Tag fault)) read = read ≡ Err fault
+ReadsEnvelope (Err OutOfMemory) read = IsApplication read
 
 -- a value, or the fault of its tag
 abbrev pub good : {A : Type 0} → ℕ → Option A → Result A TagFault

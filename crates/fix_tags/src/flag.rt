@@ -4,7 +4,7 @@ ghost use Rattle.std.specs.Prelude.{◌≡◌, ◌+◌, ◌<◌, ◌++◌, lengt
 ghost use Rattle.fix_tags.specs.Flag.{flag_of, flag_text};
 
 use crate::append::append;
-use crate::fault::TagFault;
+use crate::write_fault::WriteFault;
 
 /// Reads `Y` as yes and `N` as no (FIX 4.4 Volume 1, data type Boolean).
 #[inline]
@@ -21,10 +21,10 @@ pub fn read_flag(bytes: &[u8]) -> Option<bool>
 
 /// Writes `Y` or `N`. `OutOfMemory`: `out` is full, and no memory is left.
 #[inline]
-pub fn write_flag(flag: bool, out: &mut Vec<u8>) -> Result<(), TagFault>
+pub fn write_flag(flag: bool, out: &mut Vec<u8>) -> Result<(), WriteFault>
     ensures ok { OnOk result (out.new.items ≡ out.old.items ++ flag_text flag) }
     ensures err { OnErr result (out.new.items ≡ out.old.items) }
-    ensures only { IsOkUnless result TagFault.OutOfMemory }
+    ensures only { IsOkUnless result WriteFault.OutOfMemory }
     ensures full { OnErr result (vec_capacity out.old < vec_len out.old + length (flag_text flag)) }
 {
     append(out, if flag { b"Y" } else { b"N" })

@@ -1,16 +1,18 @@
 //! What is written is read back: each law is the contract of a function that does nothing.
 
 ghost use Rattle.std.specs.Prelude.{◌≡◌, ◌≤◌, ℕ, List, length, true, None, Some, decimal};
+ghost use Rattle.fix_text.specs.Frame.{frame_text};
 ghost use Rattle.fix_text.specs.Tagged.{Tagged};
 ghost use Rattle.fix_text.specs.Text.{fields_text};
 ghost use Rattle.fix_tags.specs.App.{are_app_fields};
 ghost use Rattle.fix_tags.specs.CompId.{IsCompId, comp_id_of};
 ghost use Rattle.fix_tags.specs.declared.body.Body.TheVariants.{App};
 ghost use Rattle.fix_tags.specs.declared.envelope.Envelope.{Envelope};
-ghost use Rattle.fix_tags.specs.Message.{is_app_kind, is_message_number, envelope_refusal};
+ghost use Rattle.fix_tags.specs.Message.{is_app_kind, is_message_number, envelope_fields, envelope_refusal};
 ghost use Rattle.fix_tags.specs.Flag.{flag_of, flag_text};
 ghost use Rattle.fix_tags.specs.Number.{number_of};
 ghost use Rattle.fix_tags.specs.Price.{price_of, price_short, price_four};
+ghost use Rattle.fix_tags.specs.ReadsBack.{ReadsBackAs};
 ghost use Rattle.fix_tags.specs.Shares.{shares_of};
 ghost use Rattle.fix_tags.specs.Stamp.{StampParts, IsStamp, stamp_text, stamp_read};
 
@@ -63,4 +65,10 @@ pub fn application_messages_fit()
     ensures { (e : Envelope) (s : StampParts) (kind : List ℕ) (fields : List Tagged) → e.body ≡ App kind fields →
         is_app_kind kind ≡ true → are_app_fields fields ≡ true → length (fields_text fields) ≤ 3000 →
         IsCompId e.sender → IsCompId e.target → is_message_number e.number ≡ true → envelope_refusal e s ≡ None }
+{}
+
+/// A message that isn't refused is read back from its frame, whatever follows the frame.
+pub fn written_messages_read_back()
+    ensures { (e : Envelope) (s : StampParts) → envelope_refusal e s ≡ None → IsCompId e.sender → IsCompId e.target →
+        ReadsBackAs e (frame_text (envelope_fields e s)) }
 {}

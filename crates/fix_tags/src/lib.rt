@@ -8,36 +8,40 @@ mod comp_id;
 mod config;
 mod digits;
 mod envelope;
-mod fault;
 mod flag;
 pub mod laws;
 mod limits;
 mod number;
 mod price;
 mod read;
+mod read_fault;
 mod shares;
 mod stamp;
 mod stamp_text;
+mod tag_fault;
 mod text;
 mod writable;
 mod write;
+mod write_fault;
 
 pub use body::{Body, BodyRef};
 pub use comp_id::{CompId, is_comp_id};
 pub use config::Config;
 pub use envelope::{Envelope, EnvelopeRef};
-pub use fault::TagFault;
 pub use flag::{read_flag, write_flag};
 pub use number::{read_number, write_number};
 pub use price::{
     PriceText, price_four_text, price_short_text, read_price, write_price_four, write_price_short,
 };
 pub use read::read_envelope;
+pub use read_fault::ReadFault;
 pub use shares::read_shares;
 pub use stamp::Stamp;
 pub use stamp_text::{read_stamp, stamp_bytes, write_stamp};
+pub use tag_fault::TagFault;
 pub use text::Text;
 pub use write::write_envelope;
+pub use write_fault::WriteFault;
 
 #[cfg(test)]
 mod tests;

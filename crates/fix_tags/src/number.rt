@@ -5,7 +5,7 @@ ghost use Rattle.fix_tags.specs.Number.{number_of};
 
 use crate::append::append;
 use crate::digits::leading_number;
-use crate::fault::TagFault;
+use crate::write_fault::WriteFault;
 use itoa::Buffer;
 
 const MAX_NUMBER: u64 = 999_999_999_999;
@@ -25,10 +25,10 @@ pub fn read_number(bytes: &[u8]) -> Option<u64>
 
 /// Writes the shortest decimal. `OutOfMemory`: `out` is full, and no memory is left.
 #[inline]
-pub fn write_number(number: u64, out: &mut Vec<u8>) -> Result<(), TagFault>
+pub fn write_number(number: u64, out: &mut Vec<u8>) -> Result<(), WriteFault>
     ensures ok { OnOk result (out.new.items ≡ out.old.items ++ decimal number) }
     ensures err { OnErr result (out.new.items ≡ out.old.items) }
-    ensures only { IsOkUnless result TagFault.OutOfMemory }
+    ensures only { IsOkUnless result WriteFault.OutOfMemory }
     ensures full { OnErr result (vec_capacity out.old < vec_len out.old + length (decimal number)) }
 {
     let mut buffer = Buffer::new();

@@ -6,7 +6,7 @@ ghost use Rattle.fix_tags.specs.Price.{is_point_or_end, ten_thousandths, price_o
 
 use crate::append::append;
 use crate::digits::{digit, leading_number};
-use crate::fault::TagFault;
+use crate::write_fault::WriteFault;
 use arrayvec::ArrayVec;
 use itoa::Buffer;
 
@@ -140,10 +140,10 @@ pub fn price_four_text(price: u64) -> PriceText
 
 /// Writes a price as `price_short_text` spells it. `OutOfMemory`: `out` is full, and no memory is left.
 #[inline]
-pub fn write_price_short(price: u64, out: &mut Vec<u8>) -> Result<(), TagFault>
+pub fn write_price_short(price: u64, out: &mut Vec<u8>) -> Result<(), WriteFault>
     ensures ok { OnOk result (out.new.items ≡ out.old.items ++ price_short price) }
     ensures err { OnErr result (out.new.items ≡ out.old.items) }
-    ensures only { IsOkUnless result TagFault.OutOfMemory }
+    ensures only { IsOkUnless result WriteFault.OutOfMemory }
     ensures full { OnErr result (vec_capacity out.old < vec_len out.old + length (price_short price)) }
 {
     append(out, price_short_text(price).as_slice())
@@ -151,10 +151,10 @@ pub fn write_price_short(price: u64, out: &mut Vec<u8>) -> Result<(), TagFault>
 
 /// Writes a price as `price_four_text` spells it. `OutOfMemory`: `out` is full, and no memory is left.
 #[inline]
-pub fn write_price_four(price: u64, out: &mut Vec<u8>) -> Result<(), TagFault>
+pub fn write_price_four(price: u64, out: &mut Vec<u8>) -> Result<(), WriteFault>
     ensures ok { OnOk result (out.new.items ≡ out.old.items ++ price_four price) }
     ensures err { OnErr result (out.new.items ≡ out.old.items) }
-    ensures only { IsOkUnless result TagFault.OutOfMemory }
+    ensures only { IsOkUnless result WriteFault.OutOfMemory }
     ensures full { OnErr result (vec_capacity out.old < vec_len out.old + length (price_four price)) }
 {
     append(out, price_four_text(price).as_slice())

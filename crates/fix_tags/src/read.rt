@@ -7,16 +7,19 @@ ghost use Rattle.fix_tags.specs.App.{is_app_tag};
 ghost use Rattle.fix_tags.specs.CompId.{comp_id_of};
 ghost use Rattle.fix_tags.specs.Flag.{flag_of};
 ghost use Rattle.fix_tags.specs.Lent.{body_of};
-ghost use Rattle.fix_tags.specs.Reading.{Gives, Reads, required, optional, or_default, flag_at, anything, short_text, some_text, number_if, some_number, no_encryption, logon_read, heartbeat_read, test_request_read, resend_request_read, reject_read, sequence_reset_read, business_reject_read, body_read, message_read, envelope_read};
+ghost use Rattle.fix_tags.specs.Reading.{Gives, ReadsEnvelope, required, optional, or_default, flag_at, anything, short_text, some_text, number_if, some_number, no_encryption, logon_read, heartbeat_read, test_request_read, resend_request_read, reject_read, sequence_reset_read, business_reject_read, body_read, message_read, envelope_read};
+ghost use Rattle.fix_tags.specs.Readable.{IsReadable};
+ghost use Rattle.fix_tags.specs.Says.{IsReadingOf};
 ghost use Rattle.fix_tags.specs.Message.{is_reference, is_heart, is_message_number, is_next_number, is_session_kind};
 
 use crate::body::BodyRef;
 use crate::comp_id::is_comp_id;
 use crate::envelope::EnvelopeRef;
-use crate::fault::TagFault;
 use crate::flag::read_flag;
 use crate::limits::{MAX_HEART, MAX_KIND, MAX_MESSAGE_NUMBER, MAX_REFERENCE, MAX_TEST_ID};
 use crate::number::read_number;
+use crate::read_fault::ReadFault;
+use crate::tag_fault::TagFault;
 use crate::writable::{is_header_tag, is_session_kind};
 use fix_text::{FieldRef, FieldRefs, Frame};
 use std::alloc::{AllocError, Global};
@@ -244,7 +247,7 @@ fn business_reject<'a>(frame: &Frame<'a>) -> Result<BodyRef<'a>, TagFault>
 
 fn session_body<'a>(kind: &'a [u8], frame: &Frame<'a>) -> Result<BodyRef<'a>, TagFault>
     requires { is_session_kind kind.now ≡ true }
-    ensures { Reads body_of result (body_read kind.entry.now (fields_in frame.now)) }
+    ensures { Gives body_of result (body_read kind.entry.now (fields_in frame.now)) }
 {
     match kind {
         [b'A'] => logon(frame),
@@ -271,7 +274,7 @@ struct Header<'a> {
 /// A message of the session. It takes no memory.
 fn session_message<'a>(header: Header<'a>, frame: &Frame<'a>) -> Result<EnvelopeRef<'a>, TagFault>
     requires { is_session_kind header.kind.now ≡ true }
-    ensures { Reads (λ e. e) result (message_read header.entry.kind.now header.entry.sender.now header.entry.target.now header.entry.number (fields_in frame.now)) }
+    ensures { Gives (λ e. e) result (message_read header.entry.kind.now header.entry.sender.now header.entry.target.now header.entry.number (fields_in frame.now)) }
 {
     let poss_dup = flag_of_field(frame, 43)?;
     let poss_resend = flag_of_field(frame, 97)?;
@@ -294,15 +297,15 @@ fn app_message<'a>(
     alloc: Global,
     header: Header<'a>,
     frame: &Frame<'a>,
-) -> Result<EnvelopeRef<'a>, TagFault>
+) -> Result<EnvelopeRef<'a>, ReadFault>
     requires { is_session_kind header.kind.now ≡ false }
-    ensures { Reads (λ e. e) result (message_read header.entry.kind.now header.entry.sender.now header.entry.target.now header.entry.number (fields_in frame.now)) }
+    ensures { ReadsEnvelope result (message_read header.entry.kind.now header.entry.sender.now header.entry.target.now header.entry.number (fields_in frame.now)) }
 {
     let Ok(found) = gather(alloc, *frame) else {
         // Want of memory is answered only where nothing else is wrong.
         flag_of_field(frame, 43)?;
         flag_of_field(frame, 97)?;
-        return Err(TagFault::OutOfMemory);
+        return Err(ReadFault::OutOfMemory);
     };
     let poss_dup = flag_in(43, found.poss_dup)?;
     let poss_resend = flag_in(97, found.poss_resend)?;
@@ -327,15 +330,17 @@ fn app_message<'a>(
 /// `Missing` and `BadField` name the first that isn't there or isn't as it must be, and `OutOfMemory`
 /// comes only where nothing else is wrong.
 #[tactic(auto, unfolding(crate::specs::Reading::envelope_read))]
-pub fn read_envelope<'a>(alloc: Global, frame: &Frame<'a>) -> Result<EnvelopeRef<'a>, TagFault>
-    ensures { Reads (λ e. e) result (envelope_read (fields_in frame.now)) }
+pub fn read_envelope<'a>(alloc: Global, frame: &Frame<'a>) -> Result<EnvelopeRef<'a>, ReadFault>
+    ensures read { ReadsEnvelope result (envelope_read (fields_in frame.now)) }
+    ensures in_range { IfOk result (λ e. IsReadable e) }
+    ensures says { IfOk result (λ e. IsReadingOf e (fields_in frame.now)) }
 {
     let kind = text_at(frame, 35, MAX_KIND)?;
     let sender = comp_id_at(frame, 49)?;
     let target = comp_id_at(frame, 56)?;
     let number = message_number(frame)?;
     if frame.get(52).is_none() {
-        return Err(TagFault::Missing(52));
+        return Err(TagFault::Missing(52).into());
     }
     let header = Header {
         kind,
@@ -344,7 +349,7 @@ pub fn read_envelope<'a>(alloc: Global, frame: &Frame<'a>) -> Result<EnvelopeRef
         number,
     };
     if is_session_kind(kind) {
-        return session_message(header, frame);
+        return Ok(session_message(header, frame)?);
     }
     app_message(alloc, header, frame)
 }

@@ -5,8 +5,8 @@ ghost use Rattle.fix_tags.specs.Stamp.{number_at, has_separators, milli_of, stam
 
 use crate::append::append;
 use crate::digits::{digit, short_number};
-use crate::fault::TagFault;
 use crate::stamp::Stamp;
+use crate::write_fault::WriteFault;
 
 /// The length of `YYYYMMDD-HH:MM:SS`.
 const SECONDS_LEN: usize = 17;
@@ -100,10 +100,10 @@ pub fn stamp_bytes(stamp: &Stamp) -> [u8; MILLIS_LEN]
 }
 
 /// Writes `YYYYMMDD-HH:MM:SS.sss`. `OutOfMemory`: `out` is full, and no memory is left.
-pub fn write_stamp(stamp: &Stamp, out: &mut Vec<u8>) -> Result<(), TagFault>
+pub fn write_stamp(stamp: &Stamp, out: &mut Vec<u8>) -> Result<(), WriteFault>
     ensures ok { OnOk result (out.new.items ≡ out.old.items ++ stamp_text stamp.now) }
     ensures err { OnErr result (out.new.items ≡ out.old.items) }
-    ensures only { IsOkUnless result TagFault.OutOfMemory }
+    ensures only { IsOkUnless result WriteFault.OutOfMemory }
     ensures full { OnErr result (vec_capacity out.old < vec_len out.old + length (stamp_text stamp.now)) }
 {
     append(out, &stamp_bytes(stamp))

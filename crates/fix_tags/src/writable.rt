@@ -5,8 +5,8 @@ ghost use Rattle.fix_tags.specs.Message.{is_session_kind, is_app_kind, is_test_i
 
 use crate::body::Body;
 use crate::envelope::Envelope;
-use crate::fault::TagFault;
 use crate::limits::{MAX_HEART, MAX_KIND, MAX_MESSAGE_NUMBER, MAX_REFERENCE, MAX_TEST_ID};
+use crate::write_fault::WriteFault;
 use fix_text::{Field, can_write_tag, can_write_value};
 
 pub(crate) fn is_session_kind(kind: &[u8]) -> bool
@@ -43,27 +43,27 @@ fn is_app_field(field: &Field) -> bool
 }
 
 /// The fault of a tag, unless its value is as it must be.
-fn unless_ok(ok: bool, tag: u32) -> Option<TagFault>
+fn unless_ok(ok: bool, tag: u32) -> Option<WriteFault>
     ensures { result ≡ unless_ok ok tag }
 {
     if ok {
         return None;
     }
-    Some(TagFault::BadValue(tag))
+    Some(WriteFault::BadValue(tag))
 }
 
-fn app_fault(fields: &[Field]) -> Option<TagFault>
+fn app_fault(fields: &[Field]) -> Option<WriteFault>
     ensures { result ≡ app_fault fields.now }
 {
     for field in fields {
         if !is_app_field(field) {
-            return Some(TagFault::BadValue(field.tag()));
+            return Some(WriteFault::BadValue(field.tag()));
         }
     }
     None
 }
 
-fn kind_fault(body: &Body) -> Option<TagFault>
+fn kind_fault(body: &Body) -> Option<WriteFault>
     ensures { result ≡ kind_fault body.now }
 {
     match body {
@@ -72,11 +72,11 @@ fn kind_fault(body: &Body) -> Option<TagFault>
     }
 }
 
-fn logon_fault(heart: u64, next: Option<u64>) -> Option<TagFault>
+fn logon_fault(heart: u64, next: Option<u64>) -> Option<WriteFault>
     ensures { result ≡ logon_fault heart next }
 {
     if heart > MAX_HEART {
-        return Some(TagFault::BadValue(108));
+        return Some(WriteFault::BadValue(108));
     }
     match next {
         None => None,
@@ -84,16 +84,16 @@ fn logon_fault(heart: u64, next: Option<u64>) -> Option<TagFault>
     }
 }
 
-fn resend_request_fault(begin: u64, last: u64) -> Option<TagFault>
+fn resend_request_fault(begin: u64, last: u64) -> Option<WriteFault>
     ensures { result ≡ resend_request_fault begin last }
 {
     if begin > MAX_REFERENCE {
-        return Some(TagFault::BadValue(7));
+        return Some(WriteFault::BadValue(7));
     }
     unless_ok(last <= MAX_REFERENCE, 16)
 }
 
-fn body_fault(body: &Body) -> Option<TagFault>
+fn body_fault(body: &Body) -> Option<WriteFault>
     ensures { result ≡ body_fault body.now }
 {
     match body {
@@ -115,14 +115,14 @@ fn body_fault(body: &Body) -> Option<TagFault>
 }
 
 /// The first field of a message that can't be written, in written order.
-pub(crate) fn field_fault(envelope: &Envelope) -> Option<TagFault>
+pub(crate) fn field_fault(envelope: &Envelope) -> Option<WriteFault>
     ensures { result ≡ field_fault envelope.now }
 {
     if let Some(fault) = kind_fault(&envelope.body) {
         return Some(fault);
     }
     if envelope.number < 1 || envelope.number > MAX_MESSAGE_NUMBER {
-        return Some(TagFault::BadValue(34));
+        return Some(WriteFault::BadValue(34));
     }
     body_fault(&envelope.body)
 }

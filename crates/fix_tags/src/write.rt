@@ -1,17 +1,18 @@
 //! Writing a message as a frame.
-ghost use Rattle.std.specs.Prelude.{◌∷◌, Some, None, Err, ◌≡◌, ◌+◌, ◌<◌, ◌++◌, length, vec_len, vec_capacity, if◌then◌else◌, MatchOption, IsOkUnless, OnOk, OnErr, Ok};
+ghost use Rattle.std.specs.Prelude.{◌∷◌, Some, None, Err, ◌≡◌, ◌+◌, ◌<◌, ◌++◌, length, vec_len, vec_capacity, if◌then◌else◌, MatchOption, IsOkUnless, OnOk, OnErr};
 ghost use Rattle.fix_text.specs.Frame.{frame_text};
 ghost use Rattle.fix_tags.specs.CompId.{IsCompId};
 ghost use Rattle.fix_tags.specs.Message.{AreWritable, WritesFrame, field, marks_and_time, kind_of, body_fields, header_fields, field_fault, envelope_fields, is_too_long, envelope_refusal};
-ghost use Rattle.fix_tags.specs.Reading.{reset_or_fill, envelope_read};
+ghost use Rattle.fix_tags.specs.Reading.{reset_or_fill};
+ghost use Rattle.fix_tags.specs.ReadsBack.{ReadsBackAs};
 
 use crate::body::Body;
 use crate::envelope::Envelope;
-use crate::fault::TagFault;
 use crate::stamp::Stamp;
 use crate::stamp_text::stamp_bytes;
 use crate::text::Text;
 use crate::writable::field_fault;
+use crate::write_fault::WriteFault;
 use fix_text::{FieldRef, TextFault, write_writable_parts};
 use itoa::Buffer;
 
@@ -241,18 +242,18 @@ fn write_message(envelope: &Envelope, stamp: &Stamp, out: &mut Vec<u8>) -> Resul
 }
 
 /// The same, with the message's own faults.
-fn write_faultless(envelope: &Envelope, stamp: &Stamp, out: &mut Vec<u8>) -> Result<(), TagFault>
+fn write_faultless(envelope: &Envelope, stamp: &Stamp, out: &mut Vec<u8>) -> Result<(), WriteFault>
     requires { field_fault envelope.now ≡ None }
-    ensures refusal { MatchOption (envelope_refusal envelope.now stamp.now) (IsOkUnless result TagFault.OutOfMemory) (λ fault. result ≡ Err fault) }
+    ensures refusal { MatchOption (envelope_refusal envelope.now stamp.now) (IsOkUnless result WriteFault.OutOfMemory) (λ fault. result ≡ Err fault) }
     ensures ok { OnOk result (out.new.items ≡ out.old.items ++ frame_text (envelope_fields envelope.now stamp.now)) }
     ensures err { OnErr result (out.new.items ≡ out.old.items) }
-    ensures full { result ≡ Err TagFault.OutOfMemory → vec_capacity out.old < vec_len out.old + length (frame_text (envelope_fields envelope.now stamp.now)) }
-    ensures reads_back { OnOk result (envelope_read (envelope_fields envelope.now stamp.now) ≡ Ok envelope.now) }
+    ensures full { result ≡ Err WriteFault.OutOfMemory → vec_capacity out.old < vec_len out.old + length (frame_text (envelope_fields envelope.now stamp.now)) }
+    ensures reads_back { OnOk result (ReadsBackAs envelope.now (frame_text (envelope_fields envelope.now stamp.now))) }
 {
     match write_message(envelope, stamp, out) {
         Ok(()) => Ok(()),
-        Err(TextFault::TooLong) => Err(TagFault::TooLong),
-        Err(TextFault::OutOfMemory) => Err(TagFault::OutOfMemory),
+        Err(TextFault::TooLong) => Err(WriteFault::TooLong),
+        Err(TextFault::OutOfMemory) => Err(WriteFault::OutOfMemory),
         Err(TextFault::BadTag) => unreachable!(),
         Err(TextFault::BadValue) => unreachable!(),
     }
@@ -266,12 +267,16 @@ fn write_faultless(envelope: &Envelope, stamp: &Stamp, out: &mut Vec<u8>) -> Res
 /// application field with a tag of the header or the frame or outside 1 to 999,999, or with an empty
 /// value or SOH in it. Then `TooLong`: the fields take more than 4,096 bytes. Then `OutOfMemory`: `out`
 /// has no room for the frame, and no memory is left. A refusal leaves `out` as it was.
-pub fn write_envelope(envelope: &Envelope, stamp: &Stamp, out: &mut Vec<u8>) -> Result<(), TagFault>
-    ensures refusal { MatchOption (envelope_refusal envelope.now stamp.now) (IsOkUnless result TagFault.OutOfMemory) (λ fault. result ≡ Err fault) }
+pub fn write_envelope(
+    envelope: &Envelope,
+    stamp: &Stamp,
+    out: &mut Vec<u8>,
+) -> Result<(), WriteFault>
+    ensures refusal { MatchOption (envelope_refusal envelope.now stamp.now) (IsOkUnless result WriteFault.OutOfMemory) (λ fault. result ≡ Err fault) }
     ensures ok { OnOk result (out.new.items ≡ out.old.items ++ frame_text (envelope_fields envelope.now stamp.now)) }
     ensures err { OnErr result (out.new.items ≡ out.old.items) }
-    ensures full { result ≡ Err TagFault.OutOfMemory → vec_capacity out.old < vec_len out.old + length (frame_text (envelope_fields envelope.now stamp.now)) }
-    ensures reads_back { OnOk result (envelope_read (envelope_fields envelope.now stamp.now) ≡ Ok envelope.now) }
+    ensures full { result ≡ Err WriteFault.OutOfMemory → vec_capacity out.old < vec_len out.old + length (frame_text (envelope_fields envelope.now stamp.now)) }
+    ensures reads_back { OnOk result (ReadsBackAs envelope.now (frame_text (envelope_fields envelope.now stamp.now))) }
 {
     match field_fault(envelope) {
         Some(fault) => Err(fault),

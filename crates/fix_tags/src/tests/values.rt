@@ -170,15 +170,38 @@ fn a_session_is_configured_within_its_limits(rt: HostRuntime) -> Result<(), Fail
 
 #[test]
 fn faults_print_their_codes(rt: HostRuntime) -> Result<(), Fail> {
-    let rows = [
-        (TagFault::BadValue(44), "M01 bad value of tag 44"),
-        (TagFault::TooLong, "M02 too long"),
-        (TagFault::OutOfMemory, "M03 out of memory"),
-        (TagFault::Missing(11), "M04 missing tag 11"),
-        (TagFault::BadField(98), "M05 bad field 98"),
+    let missing = TagFault::Missing(11);
+    let bad = TagFault::BadField(98);
+    let texts = [
+        (
+            format!(in rt.alloc(); "{}", WriteFault::BadValue(44))?,
+            "M01 bad value of tag 44",
+        ),
+        (
+            format!(in rt.alloc(); "{}", WriteFault::TooLong)?,
+            "M02 too long",
+        ),
+        (
+            format!(in rt.alloc(); "{}", WriteFault::OutOfMemory)?,
+            "M03 out of memory",
+        ),
+        (
+            format!(in rt.alloc(); "{}", ReadFault::OutOfMemory)?,
+            "M03 out of memory",
+        ),
+        (format!(in rt.alloc(); "{missing}")?, "M04 missing tag 11"),
+        (
+            format!(in rt.alloc(); "{}", ReadFault::Tag(missing))?,
+            "M04 missing tag 11",
+        ),
+        (format!(in rt.alloc(); "{bad}")?, "M05 bad value of tag 98"),
+        (
+            format!(in rt.alloc(); "{}", ReadFault::Tag(bad))?,
+            "M05 bad value of tag 98",
+        ),
     ];
-    for (fault, text) in rows {
-        assert_eq!(rt; format!(in rt.alloc(); "{fault}")?.as_str(), text);
+    for (printed, text) in texts {
+        assert_eq!(rt; printed.as_str(), text);
     }
     Ok(())
 }

@@ -12,7 +12,7 @@ fn refusal(
     alloc: Global,
     number: u64,
     body: Body,
-) -> Result<Option<TagFault>, Fail> {
+) -> Result<Option<WriteFault>, Fail> {
     let envelope = message(b"A", b"B", number, body)?;
     let mut out = Vec::from_slice(alloc, b"kept")?;
     let fault = write_envelope(&envelope, &stamp()?, &mut out).err();
@@ -45,7 +45,7 @@ fn numbers_of_messages(rt: HostRuntime) -> Result<(), Fail> {
         (999_999_999, true),
     ];
     for (number, bad) in rows {
-        let fault = bad.then_some(TagFault::BadValue(34));
+        let fault = bad.then_some(WriteFault::BadValue(34));
         assert_eq!(rt; refusal(&rt, rt.alloc(), number, Body::Logout)?, fault);
     }
     Ok(())
@@ -68,7 +68,7 @@ fn numbers_past_their_range(rt: HostRuntime) -> Result<(), Fail> {
         (0, logon(1_000_000, None), 34),
     ];
     for (number, body, tag) in rows {
-        let fault = Some(TagFault::BadValue(tag));
+        let fault = Some(WriteFault::BadValue(tag));
         assert_eq!(rt; refusal(&rt, rt.alloc(), number, body)?, fault);
     }
     Ok(())
@@ -123,8 +123,8 @@ fn numbers_at_the_ends_of_their_range(rt: HostRuntime) -> Result<(), Fail> {
 #[test]
 fn texts_out_of_form(rt: HostRuntime) -> Result<(), Fail> {
     let alloc = rt.alloc();
-    let bad_id = Some(TagFault::BadValue(112));
-    let ids: [(&[u8], Option<TagFault>); 5] = [
+    let bad_id = Some(WriteFault::BadValue(112));
+    let ids: [(&[u8], Option<WriteFault>); 5] = [
         (b"", bad_id),
         (b"F", None),
         (b"F\x012", bad_id),
@@ -141,8 +141,8 @@ fn texts_out_of_form(rt: HostRuntime) -> Result<(), Fail> {
         };
         assert_eq!(rt; refusal(&rt, alloc, 1, beat)?, fault);
     }
-    let bad_kind = Some(TagFault::BadValue(35));
-    let kinds: [(u64, &[u8], Option<TagFault>); 6] = [
+    let bad_kind = Some(WriteFault::BadValue(35));
+    let kinds: [(u64, &[u8], Option<WriteFault>); 6] = [
         (1, b"", bad_kind),
         (1, b"D", None),
         (1, b"ABCDEFGH", None),
@@ -160,16 +160,16 @@ fn texts_out_of_form(rt: HostRuntime) -> Result<(), Fail> {
 fn fields_out_of_form(rt: HostRuntime) -> Result<(), Fail> {
     let alloc = rt.alloc();
     let long = [b'x'; 4_087];
-    let rows: [(&[(u32, &[u8])], Option<TagFault>); 9] = [
+    let rows: [(&[(u32, &[u8])], Option<WriteFault>); 9] = [
         (&[(999_999, b"x")], None),
-        (&[(58, b"x"), (49, b"A")], Some(TagFault::BadValue(49))),
-        (&[(8, b"x")], Some(TagFault::BadValue(8))),
-        (&[(0, b"x")], Some(TagFault::BadValue(0))),
-        (&[(1_000_000, b"x")], Some(TagFault::BadValue(1_000_000))),
-        (&[(58, b"")], Some(TagFault::BadValue(58))),
-        (&[(58, b"a\x01b")], Some(TagFault::BadValue(58))),
-        (&[(44, b""), (58, b"")], Some(TagFault::BadValue(44))),
-        (&[(58, &long)], Some(TagFault::TooLong)),
+        (&[(58, b"x"), (49, b"A")], Some(WriteFault::BadValue(49))),
+        (&[(8, b"x")], Some(WriteFault::BadValue(8))),
+        (&[(0, b"x")], Some(WriteFault::BadValue(0))),
+        (&[(1_000_000, b"x")], Some(WriteFault::BadValue(1_000_000))),
+        (&[(58, b"")], Some(WriteFault::BadValue(58))),
+        (&[(58, b"a\x01b")], Some(WriteFault::BadValue(58))),
+        (&[(44, b""), (58, b"")], Some(WriteFault::BadValue(44))),
+        (&[(58, &long)], Some(WriteFault::TooLong)),
     ];
     for (pairs, fault) in rows {
         assert_eq!(rt; refusal(&rt, alloc, 1, app(alloc, b"D", pairs)?)?, fault);

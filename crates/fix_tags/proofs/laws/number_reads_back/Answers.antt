@@ -1,4 +1,4 @@
-use Rattle.fix_tags.specs.ReadBack.{number_of-decimal}
+use Rattle.fix_tags.proofs.ReadBack.{number_of-decimal}
 use Rattle.fix_tags.proofs.laws.number_reads_back.Goals as goal
 
 pub returns : goal.returns

@@ -1,4 +1,4 @@
-use Rattle.fix_tags.specs.ReadBack.{price_of-price_short, price_of-price_four}
+use Rattle.fix_tags.proofs.ReadBack.{price_of-price_short, price_of-price_four}
 use Rattle.fix_tags.proofs.laws.price_reads_back.Goals as goal
 
 pub returns-clause-short : goal.returns-clause-short

@@ -1,4 +1,4 @@
-use Rattle.fix_tags.specs.ReadBack.{shares_of-decimal}
+use Rattle.fix_tags.proofs.ReadBack.{shares_of-decimal}
 use Rattle.fix_tags.proofs.laws.shares_read_back.Goals as goal
 
 pub returns : goal.returns

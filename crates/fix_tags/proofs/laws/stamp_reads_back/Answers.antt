@@ -1,4 +1,4 @@
-use Rattle.fix_tags.specs.ReadBack.{stamp_read-stamp_text}
+use Rattle.fix_tags.proofs.ReadBack.{stamp_read-stamp_text}
 use Rattle.fix_tags.proofs.laws.stamp_reads_back.Goals as goal
 
 pub returns-clause-same : goal.returns-clause-same

@@ -1,6 +1,6 @@
 use Rattle.std.proofs.Common.{true, false, refl}
 use Rattle.fix_tags.proofs.Outcomes.{outcome, refused_as}
-use Rattle.fix_tags.proofs.MessageBack.{envelope_read-written}
+use Rattle.fix_tags.proofs.StreamBack.{reads_back}
 use Rattle.fix_tags.proofs.write.write_faultless.Goals as goal
 
 pub unreachable-requires : goal.unreachable-requires
@@ -17,7 +17,9 @@ returns-in-Ok-clause-refusal c =
     rw (refused_as c.args.envelope.now c.args.stamp.now false c.requires (rw c.in-Ok.is at h)) tt
 
 pub returns-in-Ok-clause-reads_back : goal.returns-in-Ok-clause-reads_back
-returns-in-Ok-clause-reads_back c = envelope_read-written c.args.envelope.now c.args.stamp.now c.write_message.ensures.sender c.write_message.ensures.target c.requires
+returns-in-Ok-clause-reads_back c =
+    let h = outcome _ _ c.write_message.ensures.refusal in
+    reads_back c.args.envelope.now c.args.stamp.now c.write_message.ensures.sender c.write_message.ensures.target c.requires (rw c.in-Ok.is at h)
 
 pub returns-in-Err-TooLong-clause-refusal : goal.returns-in-Err-TooLong-clause-refusal
 returns-in-Err-TooLong-clause-refusal c =

@@ -12,7 +12,7 @@ use Rattle.fix_tags.specs.Shares.{shares_of, is_no_part}
 use Rattle.fix_tags.specs.Price.{price_of, price_short, price_four, is_price_text, is_point_or_end, decimals_of, ten_thousandths, without_last_zeros, point_and}
 use Rattle.fix_tags.specs.Flag.{flag_of, flag_text}
 use Rattle.fix_tags.specs.Stamp.{StampParts, IsStamp, stamp_of, has_separators, number_at, milli_of, stamp_with, stamp_read, stamp_text}
-use Rattle.fix_tags.specs.Spelled.{all_digits-decimal, digits_number-decimal, leading_digits-append, after_digits-append, leading_digits-all, after_digits-all, all_digits-four, digits_number-four, number_in-two, number_in-three, number_in-four}
+use Rattle.fix_tags.proofs.Spelled.{all_digits-decimal, digits_number-decimal, leading_digits-append, after_digits-append, leading_digits-all, after_digits-all, all_digits-four, digits_number-four, number_in-two, number_in-three, number_in-four}
 
 -- a number up to 999,999,999,999
 pub number_of-decimal : (n : ℕ) → n ≤ 999_999_999_999 → number_of (decimal n) ≡ Some n

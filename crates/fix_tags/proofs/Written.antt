@@ -11,7 +11,7 @@ use Rattle.fix_tags.specs.Digits.{all_digits, all_zeros, four_digits}
 use Rattle.fix_tags.specs.Price.{price_short, price_four, without_last_zeros, point_and}
 use Rattle.fix_tags.specs.Flag.{flag_text}
 use Rattle.fix_tags.specs.Stamp.{StampParts, stamp_text}
-use Rattle.fix_tags.specs.Spelled.{all_digits-decimal, all_digits-four}
+use Rattle.fix_tags.proofs.Spelled.{all_digits-decimal, all_digits-four}
 
 -- a digit, or a separator of prices and stamps: '-', '.' or ':' ('/', which is 47, stands among their codes)
 abbrev pub IsValueByte : ℕ → Type 0

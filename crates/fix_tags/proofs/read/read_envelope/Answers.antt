@@ -1,0 +1,25 @@
+use Rattle.std.proofs.Common.{rules}
+use Rattle.fix_text.specs.FrameFields.{fields_in}
+use Rattle.fix_tags.specs.Reading.{envelope_read}
+use Rattle.fix_tags.proofs.Readings.{in_range, is_reading, read_in_range, read_says}
+use Rattle.fix_tags.proofs.read.read_envelope.Goals as goal
+
+pub returns-then-is_session_kind-clause-read : goal.returns-then-is_session_kind-clause-read
+unfolding envelope_read
+returns-then-is_session_kind-clause-read c = search rules
+
+pub returns-clause-read : goal.returns-clause-read
+unfolding envelope_read
+returns-clause-read c = search rules
+
+pub returns-then-is_session_kind-clause-in_range : goal.returns-then-is_session_kind-clause-in_range
+returns-then-is_session_kind-clause-in_range c = in_range (fields_in c.args.frame.now) _ (returns-then-is_session_kind-clause-read c)
+
+pub returns-then-is_session_kind-clause-says : goal.returns-then-is_session_kind-clause-says
+returns-then-is_session_kind-clause-says c = is_reading (fields_in c.args.frame.now) _ (returns-then-is_session_kind-clause-read c)
+
+pub returns-clause-in_range : goal.returns-clause-in_range
+returns-clause-in_range c = read_in_range (fields_in c.args.frame.now) c.app_message.result (returns-clause-read c)
+
+pub returns-clause-says : goal.returns-clause-says
+returns-clause-says c = read_says (fields_in c.args.frame.now) c.app_message.result (returns-clause-read c)
