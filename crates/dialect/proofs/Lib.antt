@@ -4,3 +4,5 @@ pub mod OrderReading
 pub mod DigitsRead
 pub mod ShortIds
 pub mod PlainIdLength
+pub mod ReportReading
+pub mod FrameBack

@@ -20,7 +20,7 @@ use Rattle.dialect.specs.Limit.{order_shares_of, side_of, side_text, limit_order
 use Rattle.dialect.specs.Time.{immediate_in}
 use Rattle.dialect.specs.Spelling.{SpellingParts, IsSpelling}
 use Rattle.dialect.specs.Order.{IsReadingOf, order_read_of}
-use Rattle.dialect.specs.StepLaws.{bind_ok, step, same_ok, unless_ok, was_some, required_as-Ok}
+use Rattle.dialect.specs.Lemmas.StepLaws.{bind_ok, step, same_ok, unless_ok, was_some, required_as-Ok}
 
 is_there : (o : Option (List ℕ)) (fault : DialectFault) (text : List ℕ) → ok_or o fault ≡ Ok text → IsSome o
 is_there (Some value) fault text e = refl
@@ -101,7 +101,7 @@ parts_say s fields id limit symbol u v laws first second third fourth fifth =
     let time_read = immediate_in-Ok fields v fifth in
     record {
       id = id_read.there ∙ ap Some (laws.id_says id_read.text id id_read.reads_as).1;
-      marked = unless_ok _ NotMarked u second;
+      marked = laws.mark_is_there fields (unless_ok _ NotMarked u second);
       shares = limit_read.shares;
       limit = limit_read.kind;
       price = limit_read.price;

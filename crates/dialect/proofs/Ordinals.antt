@@ -9,7 +9,7 @@ use Rattle.std.proofs.lemmas.Str.Parse.{IsNumeralModel, IsDigitsTest, FoldsDigit
 use Rattle.fix_tags.specs.Digits.{number_after, digits_number, leading_digits, after_digits, all_digits, within}
 use Rattle.fix_tags.specs.Number.{number_of}
 use Rattle.dialect.specs.Ordinal.{ordinal_of, begins_with_zero}
-use Rattle.dialect.specs.OrdinalLaws.{IsOrdinal, passes, passes-true, passes-false}
+use Rattle.dialect.specs.Lemmas.OrdinalLaws.{IsOrdinal, passes, passes-true, passes-false}
 
 all_digits_test : IsDigitsTest (λ ds. all_digits ds ≡ true)
 all_digits_test = search rules

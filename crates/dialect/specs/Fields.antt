@@ -1,5 +1,6 @@
 -- Reading and writing one field, with its fault.
-use Rattle.std.specs.Prelude.{ℕ, Bool, true, false, List, ◌++◌, ◌≡◌, Option, Some, Result, Ok, Err}
+use Rattle.std.specs.Prelude.{ℕ, Bool, true, false, not, ◌==◌, List, ◌++◌, ◌≡◌, Option, Some, Result, Ok, Err}
+use Rattle.std.specs.List.{AllByRecursion, list_all}
 use Rattle.std.specs.Option.{ok_or, option_map_or}
 use Rattle.std.specs.Str.{bytes_eq}
 use Rattle.fix_text.specs.Tagged.{Tagged, value_of}
@@ -46,3 +47,11 @@ field tag value = record { tag = tag; value = value }
 -- new is old with some fields behind it
 abbrev pub IsGrown : List Tagged → List Tagged → Type 0
 IsGrown old new = (more : List Tagged) × (new ≡ old ++ more)
+
+-- no field of the list has this tag
+abbrev pub has_no : ℕ → List Tagged → Bool
+has_no tag fields = list_all (λ f. not (tag == f.tag)) fields
+
+-- each field is the first of its tag in this list
+abbrev pub AreIn : List Tagged → List Tagged → Type 0
+AreIn fields expected = AllByRecursion (λ f. value_of fields f.tag ≡ Some f.value) expected

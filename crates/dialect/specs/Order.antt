@@ -1,5 +1,5 @@
 -- An order (FIX 4.4 Volume 4, NewOrderSingle) in any spelling.
-use Rattle.std.specs.Prelude.{◌≡◌, true, List, [], ◌∷◌, ◌++◌, codes, Some, IsSome, Result, Ok}
+use Rattle.std.specs.Prelude.{◌≡◌, List, [], ◌∷◌, ◌++◌, codes, Some, IsSome, Result, Ok}
 use Rattle.fix_text.specs.Tagged.{Tagged, value_of}
 use Rattle.fix_tags.specs.Price.{price_of}
 use Rattle.fix_tags.specs.Shares.{shares_of}
@@ -8,8 +8,8 @@ use Rattle.leg.specs.declared.leg.Leg.{Leg}
 use Rattle.leg.specs.Leg.{IsLeg}
 use Rattle.dialect.specs.declared.fault.DialectFault.{DialectFault}
 use Rattle.dialect.specs.declared.fault.DialectFault.TheVariants.{NotMarked}
-use Rattle.dialect.specs.Fields.{◌>>=◌, required_as, unless, ReadsAs, field}
-use Rattle.dialect.specs.FieldLaws.{AreIn}
+use Rattle.dialect.specs.Fields.{◌>>=◌, required_as, unless, ReadsAs, field, AreIn}
+use Rattle.dialect.specs.Mark.{CarriesMark}
 use Rattle.dialect.specs.Limit.{side_text, limit_in, limit_fields, leg_of}
 use Rattle.dialect.specs.Time.{immediate_in, immediate_fields}
 use Rattle.dialect.specs.Spelling.{SpellingParts}
@@ -22,11 +22,10 @@ order_fields s leg stamp =
     ++ s.symbol_fields leg.terms.symbol
     ++ immediate_fields stamp
 
--- these fields are an order for this leg, made at some moment
-pub record IsOrderOf (s : SpellingParts) (leg : Leg) (fields : List Tagged) : Type 0 where
-  pub in_range : IsLeg leg
-  pub stamp : StampParts
-  pub is_stamp : IsStamp stamp
+-- these fields are an order for this leg, made at this moment
+pub record IsOrderOf (s : SpellingParts) (leg : Leg) (stamp : StampParts) (fields : List Tagged) : Type 0 where
+  pub leg_in_range : IsLeg leg
+  pub stamp_in_range : IsStamp stamp
   pub written : fields ≡ order_fields s leg stamp
 
 -- what is read: the leg, or the first fault
@@ -43,7 +42,7 @@ order_read_of s fields = do
 -- the one that is written
 pub record IsReadingOf (s : SpellingParts) (leg : Leg) (fields : List Tagged) : Type 0 where
   pub id : value_of fields 11 ≡ Some (s.id_text leg.id)
-  pub marked : s.is_marked fields ≡ true
+  pub marked : CarriesMark s.mark fields
   pub shares : ReadsAs shares_of fields 38 leg.terms.shares
   pub limit : value_of fields 40 ≡ Some (codes "2")
   pub price : ReadsAs price_of fields 44 leg.terms.price

@@ -70,4 +70,4 @@ pub record IsReportOf (s : SpellingParts) (report : Report) (view : OrderViewPar
   pub in_range : IsReport report
   pub view_in_range : IsOrderView view
   pub own_leg : view.leg.id ≡ report.id
-  pub fields_are : fields ≡ report_fields s report view
+  pub written : fields ≡ report_fields s report view

@@ -6,7 +6,9 @@ use Rattle.fix_tags.specs.Price.{price_of}
 use Rattle.leg.specs.LegId.{LegIdParts, IsLegId}
 use Rattle.leg.specs.Symbol.{SymbolParts, IsSymbol}
 use Rattle.leg.specs.Terms.{IsPrice}
-use Rattle.dialect.specs.FieldLaws.{IsShortValue, IsShortField, AreIn, has_no}
+use Rattle.dialect.specs.Fields.{AreIn, has_no}
+use Rattle.dialect.specs.Mark.{CarriesMark}
+use Rattle.dialect.specs.ShortFields.{IsShortValue, IsShortField}
 use Rattle.dialect.specs.declared.fault.DialectFault.{DialectFault}
 
 pub record SpellingParts : Type 0 where
@@ -32,6 +34,7 @@ pub record IsSpelling (s : SpellingParts) : Type 0 where
   pub id_says : (text : List ℕ) (id : LegIdParts) → s.id_of text ≡ Some id → IsLegId id × (text ≡ s.id_text id)
   pub id_short : (id : LegIdParts) → IsLegId id → IsShortValue (s.id_text id)
   pub mark_is_read : (fields : List Tagged) → value_of fields s.mark.tag ≡ Some s.mark.value → s.is_marked fields ≡ true
+  pub mark_is_there : (fields : List Tagged) → s.is_marked fields ≡ true → CarriesMark s.mark fields
   pub mark_short : IsShortField s.mark
   pub mark_apart : AllByRecursion (λ tag. has_no tag (s.mark ∷ []) ≡ true) shared_tags
   pub price_reads_back : (price : ℕ) → IsPrice price → price_of (s.price_text price) ≡ Some price

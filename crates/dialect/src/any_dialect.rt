@@ -36,7 +36,7 @@ impl AnyDialect {
 
 impl Spelling for AnyDialect {
     ghost use Rattle.dialect.specs.Any.{any_spelling};
-    ghost use Rattle.dialect.specs.AnyLaws.{any_is_spelling};
+    ghost use Rattle.dialect.specs.Lemmas.AnyLaws.{any_is_spelling};
 
     ghost spelling = { any_spelling };
 

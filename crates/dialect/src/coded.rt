@@ -58,7 +58,7 @@ fn read_id(text: &[u8]) -> Option<LegId>
 
 impl Spelling for Coded {
     ghost use Rattle.dialect.specs.Coded.{coded};
-    ghost use Rattle.dialect.specs.CodedLaws.{coded_is_spelling};
+    ghost use Rattle.dialect.specs.Lemmas.CodedLaws.{coded_is_spelling};
 
     ghost spelling = { λ _. coded };
 

@@ -1,6 +1,6 @@
 //! A dialect: how a venue spells an order and a report on it.
 
-use crate::fault::DialectFault;
+use crate::fault::{DialectFault, SpellFault};
 use crate::order_view::OrderView;
 use crate::report::Report;
 use fix_tags::Stamp;
@@ -12,16 +12,19 @@ use std::alloc::Global;
 /// on it (ExecutionReport) in those of kind `8`, without those of the header. What is written for a leg or a report is
 /// a relation, what is read from fields a function, and the laws join the two.
 pub trait Dialect {
-    ghost use Rattle.std.specs.Prelude.{◌≡◌, List, Result, Ok, OnOk, OnErr, IsOkUnless};
+    ghost use Rattle.std.specs.Prelude.{◌≡◌, List, Result, Ok, OnOk, OnErr};
     ghost use Rattle.fix_text.specs.Tagged.{Tagged};
+    ghost use Rattle.fix_tags.specs.Stamp.{StampParts, IsStamp};
     ghost use Rattle.leg.specs.declared.leg.Leg.{Leg};
+    ghost use Rattle.leg.specs.Leg.{IsLeg};
     ghost use Rattle.dialect.specs.declared.fault.DialectFault.{DialectFault};
     ghost use Rattle.dialect.specs.declared.report.Report.{Report};
-    ghost use Rattle.dialect.specs.OrderView.{OrderViewParts};
+    ghost use Rattle.dialect.specs.OrderView.{OrderViewParts, IsOrderView};
+    ghost use Rattle.dialect.specs.Report.{IsReport as IsInRange};
     ghost use Rattle.dialect.specs.Dialect.{Appends, IsMarked, FitsMessage};
 
-    // The fields that may be written for a leg, whatever the stamp.
-    ghost IsOrder: { Self → Leg → List Tagged → Type 0 };
+    // The fields that may be written for a leg, with this stamp as TransactTime (60).
+    ghost IsOrder: { Self → Leg → StampParts → List Tagged → Type 0 };
 
     // The leg that fields say, or the first fault.
     ghost order_read: { Self → List Tagged → Result Leg DialectFault };
@@ -42,10 +45,9 @@ pub trait Dialect {
         leg: &Leg,
         stamp: &Stamp,
         fields: &mut Vec<Field>,
-    ) -> Result<(), DialectFault>
+    ) -> Result<(), SpellFault>
         ensures ok { OnOk result
-            (Appends (IsOrder self.now leg.now) fields.old.items fields.new.items) }
-        ensures only { IsOkUnless result DialectFault.OutOfMemory }
+            (Appends (IsOrder self.now leg.now stamp.now) fields.old.items fields.new.items) }
         ensures err { OnErr result (fields.new.items ≡ fields.old.items) };
 
     /// Reads an order. Faults are tried in the written order of the fields, and the first one is answered. Of a tag
@@ -60,11 +62,10 @@ pub trait Dialect {
         report: &Report,
         view: &OrderView,
         fields: &mut Vec<Field>,
-    ) -> Result<(), DialectFault>
+    ) -> Result<(), SpellFault>
         requires { view.now.leg.id ≡ report.now.id }
         ensures ok { OnOk result
             (Appends (IsReport self.now report.now view.now) fields.old.items fields.new.items) }
-        ensures only { IsOkUnless result DialectFault.OutOfMemory }
         ensures err { OnErr result (fields.new.items ≡ fields.old.items) };
 
     /// Reads a report. It takes no memory. Faults are tried in the order 11, 17, 150, and then 32 and 31 of a trade or
@@ -73,17 +74,25 @@ pub trait Dialect {
     fn read_report(&self, fields: &[FieldRef<'_>]) -> Result<Report, DialectFault>
         ensures value { result ≡ report_read self.now fields.now };
 
+    // There is an order for every leg and stamp in range.
+    ghost order_exists: { (d : Self) (leg : Leg) (stamp : StampParts) → IsLeg leg → IsStamp stamp →
+        (fields : List Tagged) × IsOrder d leg stamp fields };
+
     // What was written is read back.
-    ghost order_reads_back: { (d : Self) (leg : Leg) (fields : List Tagged) →
-        IsOrder d leg fields → order_read d fields ≡ Ok leg };
+    ghost order_reads_back: { (d : Self) (leg : Leg) (stamp : StampParts) (fields : List Tagged) →
+        IsOrder d leg stamp fields → order_read d fields ≡ Ok leg };
 
     // An order carries the mark, and is immediate or cancel.
-    ghost order_is_marked: { (d : Self) (leg : Leg) (fields : List Tagged) →
-        IsOrder d leg fields → IsMarked (mark d) fields };
+    ghost order_is_marked: { (d : Self) (leg : Leg) (stamp : StampParts) (fields : List Tagged) →
+        IsOrder d leg stamp fields → IsMarked (mark d) fields };
 
     // An order can be written into a message, in at most 1,000 bytes.
-    ghost order_fits: { (d : Self) (leg : Leg) (fields : List Tagged) →
-        IsOrder d leg fields → FitsMessage fields };
+    ghost order_fits: { (d : Self) (leg : Leg) (stamp : StampParts) (fields : List Tagged) →
+        IsOrder d leg stamp fields → FitsMessage fields };
+
+    // There is a report for every one in range, beside a view of its own leg.
+    ghost report_exists: { (d : Self) (report : Report) (view : OrderViewParts) → IsInRange report → IsOrderView view →
+        view.leg.id ≡ report.id → (fields : List Tagged) × IsReport d report view fields };
 
     // What was written of a report is read back.
     ghost report_reads_back: { (d : Self) (report : Report) (view : OrderViewParts) (fields : List Tagged) →

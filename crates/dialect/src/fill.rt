@@ -3,7 +3,7 @@
 ghost use Rattle.std.specs.Prelude.{◌≡◌};
 ghost use Rattle.dialect.specs.Fill.{fill_of};
 
-use crate::last_px::LastPx;
+use crate::free_text::LastPx;
 use leg::MAX_SHARES;
 use std::marker::Model;
 

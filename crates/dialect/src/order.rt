@@ -1,11 +1,11 @@
 //! An order is written and read, in any spelling.
 
-ghost use Rattle.std.specs.Prelude.{◌≡◌, ◌++◌, OnOk, OnErr, IsOkUnless};
+ghost use Rattle.std.specs.Prelude.{◌≡◌, ◌++◌, OnOk, OnErr};
 ghost use Rattle.dialect.specs.Dialect.{Appends};
 ghost use Rattle.dialect.specs.Fields.{required_as, IsGrown};
 ghost use Rattle.dialect.specs.Order.{IsOrderOf, order_fields, order_read_of};
 
-use crate::fault::DialectFault;
+use crate::fault::{DialectFault, SpellFault};
 use crate::field_value::required;
 use crate::limit::{leg_of, push_limit, read_limit};
 use crate::push::all_or_nothing;
@@ -76,13 +76,10 @@ pub(crate) fn write_order<S: Spelling>(
     leg: &Leg,
     stamp: &Stamp,
     fields: &mut Vec<Field>,
-) -> Result<(), DialectFault>
+) -> Result<(), SpellFault>
     ensures ok { OnOk result
-        (Appends (IsOrderOf (S.spelling spelling.now) leg.now) fields.old.items fields.new.items) }
-    ensures only { IsOkUnless result DialectFault.OutOfMemory }
+        (Appends (IsOrderOf (S.spelling spelling.now) leg.now stamp.now) fields.old.items fields.new.items) }
     ensures err { OnErr result (fields.new.items ≡ fields.old.items) }
-    ensures exact { OnOk result (fields.new.items
-        ≡ fields.old.items ++ order_fields (S.spelling spelling.now) leg.now stamp.now) }
 {
     // That the leg and the stamp are in range is known once they were read.
     leg.in_range();

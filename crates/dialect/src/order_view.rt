@@ -3,7 +3,7 @@
 ghost use Rattle.std.specs.Prelude.{◌≡◌};
 ghost use Rattle.dialect.specs.OrderView.{order_view_of};
 
-use crate::order_id::OrderId;
+use crate::free_text::OrderId;
 use leg::Leg;
 use std::marker::Model;
 

@@ -23,7 +23,7 @@ const POINT: u8 = b'.';
 
 impl Spelling for Plain {
     ghost use Rattle.dialect.specs.Plain.{plain};
-    ghost use Rattle.dialect.specs.PlainLaws.{plain_is_spelling};
+    ghost use Rattle.dialect.specs.Lemmas.PlainLaws.{plain_is_spelling};
 
     ghost spelling = { λ _. plain };
 

@@ -3,7 +3,7 @@
 ghost use Rattle.std.specs.Prelude.{◌≡◌, ◌++◌, ◌∷◌, [], Ok, Err, OnOk, OnErr, take, decimal};
 ghost use Rattle.dialect.specs.Fields.{field};
 
-use crate::fault::DialectFault;
+use crate::fault::SpellFault;
 use fix_text::Field;
 use itoa::Buffer;
 use std::alloc::{AllocError, Global};
@@ -42,14 +42,14 @@ pub(crate) fn all_or_nothing(
     written: Result<(), AllocError>,
     start: usize,
     fields: &mut Vec<Field>,
-) -> Result<(), DialectFault>
+) -> Result<(), SpellFault>
     ensures ok { OnOk written ((result ≡ Ok tt) × (fields.new.items ≡ fields.old.items)) }
     ensures err { OnErr written
-        ((result ≡ Err DialectFault.OutOfMemory) × (fields.new.items ≡ take start fields.old.items)) }
+        ((result ≡ Err SpellFault.OutOfMemory) × (fields.new.items ≡ take start fields.old.items)) }
 {
     if written.is_err() {
         fields.truncate(start);
-        return Err(DialectFault::OutOfMemory);
+        return Err(SpellFault::OutOfMemory);
     }
     Ok(())
 }

@@ -1,7 +1,7 @@
 //! A report: what an exchange says of a leg.
 
-use crate::exec_id::ExecId;
 use crate::fill::Fill;
+use crate::free_text::ExecId;
 use leg::LegId;
 
 /// What happened to an order: ExecType (150) of an ExecutionReport, FIX 4.4 Volume 4.

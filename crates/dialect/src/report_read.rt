@@ -7,11 +7,10 @@ ghost use Rattle.dialect.specs.FreeText.{free_text_of};
 ghost use Rattle.dialect.specs.Limit.{order_shares_of};
 ghost use Rattle.dialect.specs.ReportRead.{fill_in, trade_in, bust_in, kind_of_byte, kind_in, report_read_of};
 
-use crate::exec_id::ExecId;
 use crate::fault::DialectFault;
 use crate::field_value::required;
 use crate::fill::Fill;
-use crate::last_px::LastPx;
+use crate::free_text::{ExecId, LastPx};
 use crate::limit::read_order_shares;
 use crate::order::id_in;
 use crate::report::{Report, ReportKind};

@@ -1,11 +1,11 @@
 //! A report is written.
 
-ghost use Rattle.std.specs.Prelude.{◌≡◌, ◌++◌, OnOk, OnErr, IsOkUnless};
+ghost use Rattle.std.specs.Prelude.{◌≡◌, ◌++◌, OnOk, OnErr};
 ghost use Rattle.dialect.specs.Dialect.{Appends};
 ghost use Rattle.dialect.specs.Fields.{IsGrown};
 ghost use Rattle.dialect.specs.ReportFields.{exec_type_text, ord_status_text, cancelled_fields, fill_fields, event_fields, amount_fields, report_fields, IsReportOf};
 
-use crate::fault::DialectFault;
+use crate::fault::SpellFault;
 use crate::limit::side_text;
 use crate::order_view::OrderView;
 use crate::push::{all_or_nothing, push_number, push_text};
@@ -150,14 +150,11 @@ pub(crate) fn write_report<S: Spelling>(
     report: &Report,
     view: &OrderView,
     fields: &mut Vec<Field>,
-) -> Result<(), DialectFault>
+) -> Result<(), SpellFault>
     requires { view.now.leg.id ≡ report.now.id }
     ensures ok { OnOk result
         (Appends (IsReportOf (S.spelling spelling.now) report.now view.now) fields.old.items fields.new.items) }
-    ensures only { IsOkUnless result DialectFault.OutOfMemory }
     ensures err { OnErr result (fields.new.items ≡ fields.old.items) }
-    ensures exact { OnOk result (fields.new.items
-        ≡ fields.old.items ++ report_fields (S.spelling spelling.now) report.now view.now) }
 {
     // That the report and the view are in range is known once they were read.
     report.in_range();

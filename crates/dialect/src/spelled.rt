@@ -1,7 +1,7 @@
 //! Any spelling is a dialect: what dialects share is written here once.
 
 use crate::dialect::Dialect;
-use crate::fault::DialectFault;
+use crate::fault::{DialectFault, SpellFault};
 use crate::order::{read_order, write_order};
 use crate::order_view::OrderView;
 use crate::report::Report;
@@ -14,16 +14,17 @@ use leg::Leg;
 use std::alloc::Global;
 
 impl<S: Spelling> Dialect for S {
-    ghost use Rattle.std.specs.Prelude.{◌≡◌, ◌++◌, IfOk, OnOk, OnErr, IsOkUnless};
+    ghost use Rattle.std.specs.Prelude.{◌≡◌, refl, IfOk, OnOk, OnErr};
     ghost use Rattle.dialect.specs.Dialect.{Appends};
+    ghost use Rattle.dialect.specs.Lemmas.OrderLaws.{order_back, order_marked, order_short};
+    ghost use Rattle.dialect.specs.Lemmas.ReportFits.{report_short};
+    ghost use Rattle.dialect.specs.Lemmas.ReportLaws.{report_back};
     ghost use Rattle.dialect.specs.Order.{IsOrderOf, IsReadingOf, order_fields, order_read_of};
-    ghost use Rattle.dialect.specs.OrderLaws.{order_back_of, order_marked_of, order_fits_of};
     ghost use Rattle.dialect.specs.ReportFields.{IsReportOf, report_fields};
     ghost use Rattle.dialect.specs.ReportRead.{report_read_of};
-    ghost use Rattle.dialect.specs.ReportLaws.{report_reads_back as report_back_of};
-    ghost use Rattle.dialect.specs.ReportFits.{report_fits as report_fits_of};
+    ghost use Rattle.dialect.specs.ReportReading.{IsReportReadingOf};
 
-    ghost IsOrder = { λ d leg fields. IsOrderOf (S.spelling d) leg fields };
+    ghost IsOrder = { λ d leg stamp fields. IsOrderOf (S.spelling d) leg stamp fields };
 
     ghost order_read = { λ d fields. order_read_of (S.spelling d) fields };
 
@@ -39,13 +40,10 @@ impl<S: Spelling> Dialect for S {
         leg: &Leg,
         stamp: &Stamp,
         fields: &mut Vec<Field>,
-    ) -> Result<(), DialectFault>
+    ) -> Result<(), SpellFault>
         ensures ok { OnOk result
-            (Appends (IsOrderOf (S.spelling self.now) leg.now) fields.old.items fields.new.items) }
-        ensures only { IsOkUnless result DialectFault.OutOfMemory }
+            (Appends (IsOrderOf (S.spelling self.now) leg.now stamp.now) fields.old.items fields.new.items) }
         ensures err { OnErr result (fields.new.items ≡ fields.old.items) }
-        ensures exact { OnOk result (fields.new.items
-            ≡ fields.old.items ++ order_fields (S.spelling self.now) leg.now stamp.now) }
     {
         write_order(self, alloc, leg, stamp, fields)
     }
@@ -63,29 +61,39 @@ impl<S: Spelling> Dialect for S {
         report: &Report,
         view: &OrderView,
         fields: &mut Vec<Field>,
-    ) -> Result<(), DialectFault>
+    ) -> Result<(), SpellFault>
         requires { view.now.leg.id ≡ report.now.id }
         ensures ok { OnOk result
             (Appends (IsReportOf (S.spelling self.now) report.now view.now) fields.old.items fields.new.items) }
-        ensures only { IsOkUnless result DialectFault.OutOfMemory }
         ensures err { OnErr result (fields.new.items ≡ fields.old.items) }
-        ensures exact { OnOk result (fields.new.items
-            ≡ fields.old.items ++ report_fields (S.spelling self.now) report.now view.now) }
     {
         write_report(self, alloc, report, view, fields)
     }
 
-    fn read_report(&self, fields: &[FieldRef<'_>]) -> Result<Report, DialectFault> {
+    fn read_report(&self, fields: &[FieldRef<'_>]) -> Result<Report, DialectFault>
+        ensures value { result ≡ report_read_of (S.spelling self.now) fields.now }
+        ensures says { IfOk result (λ report. IsReportReadingOf (S.spelling self.now) report fields.now) }
+    {
         read_report(self, fields)
     }
 
-    ghost order_reads_back = { λ d leg fields is. order_back_of (S.spelling d) leg fields (S.is_spelling d) is };
+    ghost order_exists = { λ d leg stamp leg_in_range stamp_in_range. (
+      order_fields (S.spelling d) leg stamp,
+      record { leg_in_range = leg_in_range; stamp_in_range = stamp_in_range; written = refl },
+    ) };
 
-    ghost order_is_marked = { λ d leg fields is. order_marked_of (S.spelling d) leg fields (S.is_spelling d) is };
+    ghost order_reads_back = { λ d leg stamp fields is. order_back (S.spelling d) leg stamp fields (S.is_spelling d) is };
 
-    ghost order_fits = { λ d leg fields is. order_fits_of (S.spelling d) leg fields (S.is_spelling d) is };
+    ghost order_is_marked = { λ d leg stamp fields is. order_marked (S.spelling d) leg stamp fields (S.is_spelling d) is };
 
-    ghost report_reads_back = { λ d report view fields is. report_back_of (S.spelling d) (S.is_spelling d) report view fields is };
+    ghost order_fits = { λ d leg stamp fields is. order_short (S.spelling d) leg stamp fields (S.is_spelling d) is };
 
-    ghost report_fits = { λ d report view fields is. report_fits_of (S.spelling d) (S.is_spelling d) report view fields is };
+    ghost report_exists = { λ d report view in_range view_in_range own_leg. (
+      report_fields (S.spelling d) report view,
+      record { in_range = in_range; view_in_range = view_in_range; own_leg = own_leg; written = refl },
+    ) };
+
+    ghost report_reads_back = { λ d report view fields is. report_back (S.spelling d) report view fields (S.is_spelling d) is };
+
+    ghost report_fits = { λ d report view fields is. report_short (S.spelling d) report view fields (S.is_spelling d) is };
 }

@@ -82,7 +82,7 @@ fn read_symbol(fields: &[FieldRef<'_>]) -> Result<Symbol, DialectFault>
 
 impl Spelling for Split4 {
     ghost use Rattle.dialect.specs.Split4.{split4};
-    ghost use Rattle.dialect.specs.Split4Laws.{split4_is_spelling};
+    ghost use Rattle.dialect.specs.Lemmas.Split4Laws.{split4_is_spelling};
 
     ghost spelling = { λ _. split4 };
 

@@ -2,6 +2,7 @@
 
 mod any;
 mod faults;
+mod laws;
 mod orders;
 mod others;
 mod parts;

@@ -2,7 +2,7 @@
 
 use super::support::{PLAIN, SPLIT4, Value, buy, changed};
 use crate::dialect::Dialect;
-use crate::fault::DialectFault;
+use crate::fault::{DialectFault, SpellFault};
 use crate::plain::Plain;
 use crate::split4::Split4;
 use fix_text::FieldRef;
@@ -39,13 +39,16 @@ fn the_first_of_a_tag_counts(rt: HostRuntime) -> Result<(), Fail> {
 fn faults_begin_with_their_codes(rt: HostRuntime) -> Result<(), Fail> {
     let rows = [
         (DialectFault::Missing(11), "V01 missing tag 11"),
-        (DialectFault::Bad(38), "V02 bad tag 38"),
+        (DialectFault::Bad(38), "V02 bad value of tag 38"),
         (DialectFault::NotMarked, "V03 not marked"),
         (DialectFault::NotIoc, "V04 not immediate or cancel"),
-        (DialectFault::OutOfMemory, "V05 out of memory"),
     ];
     for (fault, text) in rows {
         assert_eq!(rt; fault.to_string(rt.alloc())?.as_str(), text);
     }
+    assert_eq!(rt;
+        SpellFault::OutOfMemory.to_string(rt.alloc())?.as_str(),
+        "V05 out of memory"
+    );
     Ok(())
 }

@@ -1,11 +1,11 @@
 -- Lemmas: the laws of the dialect Plain.
 use Rattle.std.proofs.Common.{inl, refl, arith}
 use Rattle.fix_tags.specs.ReadBack.{price_of-price_short}
-use Rattle.dialect.specs.FieldLaws.{short_field}
-use Rattle.dialect.specs.MarkLaws.{sweep_mark_read, short_sweep_mark}
-use Rattle.dialect.specs.ValueLaws.{short_id, short_price, short_symbol}
-use Rattle.dialect.specs.PlainIdLaws.{plain_id_of-text, plain_id_of-Some}
-use Rattle.dialect.specs.SymbolLaws.{joined_symbol_back, joined_symbol_says}
+use Rattle.dialect.specs.Lemmas.FieldLaws.{short_field}
+use Rattle.dialect.specs.Lemmas.MarkLaws.{sweep_mark_read, sweep_mark_there, short_sweep_mark}
+use Rattle.dialect.specs.Lemmas.ValueLaws.{short_id, short_price, short_symbol}
+use Rattle.dialect.specs.Lemmas.PlainIdLaws.{plain_id_of-text, plain_id_of-Some}
+use Rattle.dialect.specs.Lemmas.SymbolLaws.{joined_symbol_back, joined_symbol_says}
 use Rattle.dialect.specs.Spelling.{IsSpelling}
 use Rattle.dialect.specs.Plain.{plain}
 
@@ -15,6 +15,7 @@ plain_is_spelling = record {
   id_says = plain_id_of-Some;
   id_short = short_id;
   mark_is_read = sweep_mark_read;
+  mark_is_there = sweep_mark_there;
   mark_short = short_sweep_mark;
   mark_apart = (refl, (refl, (refl, (refl, (refl, (refl, (refl, (refl, (refl, tt)))))))));
   price_reads_back = λ price range. price_of-price_short price range.low range.high;

@@ -6,9 +6,9 @@ use Rattle.std.proofs.lemmas.Option.{option_and_then_some, same_Some}
 use Rattle.leg.specs.LegId.{LegIdParts, IsLegId, leg_id_text}
 use Rattle.leg.proofs.Digits.{digits_of_decimal}
 use Rattle.dialect.specs.Split.{parts_round}
-use Rattle.dialect.specs.SplitLaws.{HasNo, parts_round-joined, parts_round-Some}
+use Rattle.dialect.specs.Lemmas.SplitLaws.{HasNo, parts_round-joined, parts_round-Some}
 use Rattle.dialect.specs.Ordinal.{ordinal_of}
-use Rattle.dialect.specs.OrdinalLaws.{ordinal_of-decimal, ordinal_of-Some}
+use Rattle.dialect.specs.Lemmas.OrdinalLaws.{ordinal_of-decimal, ordinal_of-Some}
 use Rattle.dialect.specs.Plain.{numbers_of, plain_id_of}
 
 no_letter : (n : ℕ) → n < 2 ^ 64 → HasNo 76 (decimal n)

@@ -11,14 +11,15 @@ use Rattle.dialect.specs.declared.report.Report.{Report}
 use Rattle.dialect.specs.declared.report.ReportKind.{ReportKind}
 use Rattle.dialect.specs.declared.report.ReportKind.TheVariants.{New, Trade, Canceled, Rejected, Expired, Bust}
 use Rattle.dialect.specs.Dialect.{FitsMessage}
-use Rattle.dialect.specs.FieldLaws.{IsShortValue, IsShortField, IsFieldWithin, FitsMessage-within}
+use Rattle.dialect.specs.Lemmas.FieldLaws.{IsFieldWithin, FitsMessage-within}
+use Rattle.dialect.specs.ShortFields.{IsShortValue, IsShortField}
 use Rattle.dialect.specs.Fields.{field}
 use Rattle.dialect.specs.FreeText.{IsFreeText}
 use Rattle.dialect.specs.OrderView.{OrderViewParts, IsOrderView}
 use Rattle.dialect.specs.Report.{IsReport, IsReportKind}
 use Rattle.dialect.specs.ReportFields.{exec_type_text, ord_status_text, cancelled_fields, fill_fields, event_fields, amount_fields, report_fields, IsReportOf}
 use Rattle.dialect.specs.Spelling.{SpellingParts, IsSpelling}
-use Rattle.dialect.specs.ValueLaws.{short_count, short_side}
+use Rattle.dialect.specs.Lemmas.ValueLaws.{short_count, short_side}
 
 -- a tag of at most three digits with a value of at most 64 bytes
 abbrev IsReportField : Tagged → Type 0
@@ -172,6 +173,6 @@ written_fits s law report view range view_range =
     FitsMessage-within 3 64 (report_fields s report view) fit (omega arith)
 
 -- a report can be written into a message, in at most 1,000 bytes
-pub report_fits : (s : SpellingParts) → IsSpelling s → (report : Report) (view : OrderViewParts) (fields : List Tagged) → IsReportOf s report view fields → FitsMessage fields
-report_fits s law report view fields is =
-    subst FitsMessage (sym is.fields_are) (written_fits s law report view is.in_range is.view_in_range)
+pub report_short : (s : SpellingParts) (report : Report) (view : OrderViewParts) (fields : List Tagged) → IsSpelling s → IsReportOf s report view fields → FitsMessage fields
+report_short s report view fields law is =
+    subst FitsMessage (sym is.written) (written_fits s law report view is.in_range is.view_in_range)

@@ -12,17 +12,18 @@ use Rattle.leg.specs.LegId.{LegIdParts, IsLegId}
 use Rattle.leg.specs.Symbol.{SymbolParts, IsLetter, IsSymbol, symbol_of}
 use Rattle.leg.proofs.InRange.{symbol_of-parts, symbol_of-Ok}
 use Rattle.dialect.specs.declared.fault.DialectFault.TheVariants.{Bad}
-use Rattle.dialect.specs.Fields.{required_as}
-use Rattle.dialect.specs.FieldLaws.{AreIn, IsShortValue, IsShortField, short_field}
-use Rattle.dialect.specs.StepLaws.{step, was_some, same_ok, required_as-Ok}
+use Rattle.dialect.specs.Fields.{required_as, AreIn}
+use Rattle.dialect.specs.Lemmas.FieldLaws.{short_field}
+use Rattle.dialect.specs.ShortFields.{IsShortValue, IsShortField}
+use Rattle.dialect.specs.Lemmas.StepLaws.{step, was_some, same_ok, required_as-Ok}
 use Rattle.dialect.specs.Split.{parts_round}
-use Rattle.dialect.specs.SplitLaws.{HasNo, parts_round-joined, parts_round-Some}
+use Rattle.dialect.specs.Lemmas.SplitLaws.{HasNo, parts_round-joined, parts_round-Some}
 use Rattle.dialect.specs.Digits.{digits}
-use Rattle.dialect.specs.DigitsLaws.{digits_bytes, length-digits}
-use Rattle.dialect.specs.FixedIdLaws.{fixed_id_of-digits, fixed_id_of-Some}
-use Rattle.dialect.specs.SymbolLaws.{was_ok}
-use Rattle.dialect.specs.ValueLaws.{IsNotSoh, NoSoh, short_value, short_price_four, short_letters}
-use Rattle.dialect.specs.MarkLaws.{sweep_mark_read, short_sweep_mark}
+use Rattle.dialect.specs.Lemmas.DigitsLaws.{digits_bytes, length-digits}
+use Rattle.dialect.specs.Lemmas.FixedIdLaws.{fixed_id_of-digits, fixed_id_of-Some}
+use Rattle.dialect.specs.Lemmas.SymbolLaws.{was_ok}
+use Rattle.dialect.specs.Lemmas.ValueLaws.{IsNotSoh, NoSoh, short_value, short_price_four, short_letters}
+use Rattle.dialect.specs.Lemmas.MarkLaws.{sweep_mark_read, sweep_mark_there, short_sweep_mark}
 use Rattle.dialect.specs.Spelling.{IsSpelling}
 use Rattle.dialect.specs.Split4.{split4, split4_id_text, split4_id_of, suffix_fields, split4_symbol_fields, root_of, with_suffix, split4_symbol_in}
 
@@ -116,6 +117,7 @@ split4_is_spelling = record {
   id_says = id_says;
   id_short = short_id;
   mark_is_read = sweep_mark_read;
+  mark_is_there = sweep_mark_there;
   mark_short = short_sweep_mark;
   mark_apart = (refl, (refl, (refl, (refl, (refl, (refl, (refl, (refl, (refl, tt)))))))));
   price_reads_back = λ price range. price_of-price_four price range.low range.high;

@@ -1,4 +1,4 @@
--- Fields that are known by their tags and values, and lemmas: how long they are.
+-- Fields with short values fit a message.
 use Rattle.std.proofs.Common.{◌≡◌, ◌==◌, ℕ, ◌+◌, ◌*◌, ◌≤◌, Bool, true, ◌&&◌, not, List, [], ◌∷◌, length, decimal, Some, refl, arith, length-append}
 use Rattle.std.specs.List.{AllByRecursion, list_all}
 use Rattle.std.proofs.lemmas.Bool.{and_parts, and_from}
@@ -9,25 +9,8 @@ use Rattle.fix_text.specs.Text.{field_text, fields_text, is_writable_tag, is_wri
 use Rattle.fix_text.proofs.Lengths.{length-field_text}
 use Rattle.fix_tags.specs.App.{is_header_tag, are_app_fields}
 use Rattle.dialect.specs.Fields.{field}
+use Rattle.dialect.specs.ShortFields.{IsShortValue, IsShortField}
 use Rattle.dialect.specs.Dialect.{FitsMessage}
-
--- no field of the list has this tag
-abbrev pub has_no : ℕ → List Tagged → Bool
-has_no tag fields = list_all (λ f. not (tag == f.tag)) fields
-
--- each field is the first of its tag in this list
-abbrev pub AreIn : List Tagged → List Tagged → Type 0
-AreIn fields expected = AllByRecursion (λ f. value_of fields f.tag ≡ Some f.value) expected
-
--- a value that can be written, of at most 32 bytes
-pub record IsShortValue (value : List ℕ) : Type 0 where
-  pub writable : is_writable_value value ≡ true
-  pub short : length value ≤ 32
-
--- a field that an application message takes, with such a value
-pub record IsShortField (f : Tagged) : Type 0 where
-  pub tag : (is_writable_tag f.tag && not (is_header_tag f.tag)) ≡ true
-  pub value : IsShortValue f.value
 
 pub short_field : (tag : ℕ) (value : List ℕ) → (is_writable_tag tag && not (is_header_tag tag)) ≡ true → IsShortValue value → IsShortField (field tag value)
 short_field tag value own short = record { tag = own; value = short }

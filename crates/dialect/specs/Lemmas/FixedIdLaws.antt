@@ -3,7 +3,7 @@ use Rattle.std.proofs.Common.{◌≡◌, ℕ, ◌≤◌, List, Some, refl, subst
 use Rattle.std.proofs.lemmas.Option.{option_and_then_some, same_Some}
 use Rattle.leg.specs.LegId.{LegIdParts, IsLegId}
 use Rattle.dialect.specs.Digits.{digits, fixed_of}
-use Rattle.dialect.specs.DigitsLaws.{rest_of, fixed_of-digits, fixed_of-Some}
+use Rattle.dialect.specs.Lemmas.DigitsLaws.{rest_of, fixed_of-digits, fixed_of-Some}
 use Rattle.dialect.specs.FixedId.{fixed_id_of}
 
 -- a number that fits its width

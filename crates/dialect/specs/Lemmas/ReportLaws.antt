@@ -9,7 +9,7 @@ use Rattle.dialect.specs.declared.report.Report.{Report}
 use Rattle.dialect.specs.declared.report.ReportKind.{ReportKind}
 use Rattle.dialect.specs.declared.report.ReportKind.TheVariants.{New, Trade, Canceled, Rejected, Expired, Bust}
 use Rattle.dialect.specs.FreeText.{IsFreeText, free_text_of}
-use Rattle.dialect.specs.LimitLaws.{order_shares_of-decimal}
+use Rattle.dialect.specs.Lemmas.LimitLaws.{order_shares_of-decimal}
 use Rattle.dialect.specs.OrderView.{OrderViewParts}
 use Rattle.dialect.specs.Report.{IsReport, IsReportKind}
 use Rattle.dialect.specs.ReportFields.{amount_fields, report_fields, IsReportOf}
@@ -77,7 +77,7 @@ written_again s law id exec kind view range =
     rw (own, law.id_reads_back id range.id, range.exec, kind_again s law id exec kind view range.kind) refl
 
 -- what is written of a report is read as it
-pub report_reads_back : (s : SpellingParts) → IsSpelling s → (report : Report) (view : OrderViewParts) (fields : List Tagged) → IsReportOf s report view fields → report_read_of s fields ≡ Ok report
-report_reads_back s law report view fields is =
-    subst (λ (fields : List Tagged). report_read_of s fields ≡ Ok report) (sym is.fields_are)
+pub report_back : (s : SpellingParts) (report : Report) (view : OrderViewParts) (fields : List Tagged) → IsSpelling s → IsReportOf s report view fields → report_read_of s fields ≡ Ok report
+report_back s report view fields law is =
+    subst (λ (fields : List Tagged). report_read_of s fields ≡ Ok report) (sym is.written)
     (written_again s law report.id report.exec report.kind view is.in_range)

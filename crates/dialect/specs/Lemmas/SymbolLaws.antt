@@ -8,11 +8,10 @@ use Rattle.fix_text.specs.Tagged.{Tagged, value_of}
 use Rattle.leg.specs.declared.fault.LegFault.{LegFault}
 use Rattle.leg.specs.Symbol.{SymbolParts, IsLetter, IsSymbol, symbol_of, suffix_text, joined_text}
 use Rattle.leg.proofs.InRange.{symbol_of-parts, symbol_of-Ok}
-use Rattle.dialect.specs.Fields.{required_as, field}
-use Rattle.dialect.specs.FieldLaws.{AreIn}
-use Rattle.dialect.specs.StepLaws.{required_as-Ok}
+use Rattle.dialect.specs.Fields.{required_as, field, AreIn}
+use Rattle.dialect.specs.Lemmas.StepLaws.{required_as-Ok}
 use Rattle.dialect.specs.Split.{parts_round}
-use Rattle.dialect.specs.SplitLaws.{HasNo, parts_round-joined, parts_round-none, parts_round-Some}
+use Rattle.dialect.specs.Lemmas.SplitLaws.{HasNo, parts_round-joined, parts_round-none, parts_round-Some}
 use Rattle.dialect.specs.JoinedSymbol.{joined_symbol_of, symbol_of_parts}
 
 no_separator : (separator : ℕ) (text : List ℕ) → separator < 65 → All IsLetter text → HasNo separator text

@@ -9,10 +9,11 @@ use Rattle.leg.specs.declared.leg.Leg.{Leg}
 use Rattle.leg.specs.Leg.{IsLeg}
 use Rattle.dialect.specs.declared.limit.Limit.{Limit}
 use Rattle.dialect.specs.Dialect.{IsMarked, FitsMessage}
-use Rattle.dialect.specs.Fields.{field}
-use Rattle.dialect.specs.FieldLaws.{has_no, IsShortField, short_field, FitsMessage-short}
-use Rattle.dialect.specs.LimitLaws.{limit_in-written, immediate_in-written}
-use Rattle.dialect.specs.ValueLaws.{short_shares, short_side, short_byte, short_stamp}
+use Rattle.dialect.specs.Fields.{field, has_no}
+use Rattle.dialect.specs.Lemmas.FieldLaws.{short_field, FitsMessage-short}
+use Rattle.dialect.specs.ShortFields.{IsShortField}
+use Rattle.dialect.specs.Lemmas.LimitLaws.{limit_in-written, immediate_in-written}
+use Rattle.dialect.specs.Lemmas.ValueLaws.{short_shares, short_side, short_byte, short_stamp}
 use Rattle.dialect.specs.Limit.{limit_fields, side_text}
 use Rattle.dialect.specs.Time.{immediate_fields}
 use Rattle.dialect.specs.Spelling.{SpellingParts, IsSpelling}
@@ -141,19 +142,19 @@ reads_back s leg stamp fields laws range found =
     let timed = immediate_in-written fields _ found.immediate found.time in
     rw (found.id, laws.id_reads_back leg.id range.id, laws.mark_is_read fields found.mark, limited, symbol, timed) refl
 
-pub order_back_of : (s : SpellingParts) (leg : Leg) (fields : List Tagged) → IsSpelling s → IsOrderOf s leg fields → order_read_of s fields ≡ Ok leg
-order_back_of s leg fields laws is =
+pub order_back : (s : SpellingParts) (leg : Leg) (stamp : StampParts) (fields : List Tagged) → IsSpelling s → IsOrderOf s leg stamp fields → order_read_of s fields ≡ Ok leg
+order_back s leg stamp fields laws is =
     ap (order_read_of s) is.written
-    ∙ reads_back s leg is.stamp (order_fields s leg is.stamp) laws is.in_range (looks s leg is.stamp laws)
+    ∙ reads_back s leg stamp (order_fields s leg stamp) laws is.leg_in_range (looks s leg stamp laws)
 
 -- it carries the mark, and is immediate or cancel
 marked : (s : SpellingParts) (leg : Leg) (stamp : StampParts) → IsSpelling s → IsMarked s.mark (order_fields s leg stamp)
 marked s leg stamp laws =
     let found = looks s leg stamp laws in record { marked = found.mark; immediate = found.immediate }
 
-pub order_marked_of : (s : SpellingParts) (leg : Leg) (fields : List Tagged) → IsSpelling s → IsOrderOf s leg fields → IsMarked s.mark fields
-order_marked_of s leg fields laws is =
-    subst (IsMarked s.mark) (sym is.written) (marked s leg is.stamp laws)
+pub order_marked : (s : SpellingParts) (leg : Leg) (stamp : StampParts) (fields : List Tagged) → IsSpelling s → IsOrderOf s leg stamp fields → IsMarked s.mark fields
+order_marked s leg stamp fields laws is =
+    subst (IsMarked s.mark) (sym is.written) (marked s leg stamp laws)
 
 -- it fits a message
 short_front : (s : SpellingParts) (leg : Leg) → IsSpelling s → IsLeg leg → AllByRecursion IsShortField (order_front s leg)
@@ -184,6 +185,6 @@ fits s leg stamp laws range =
     let few = length-symbol symbol (laws.symbol_tags leg.terms.symbol) in
     FitsMessage-short (order_fields s leg stamp) all (omega (arith, few, length-append symbol (immediate_fields stamp)))
 
-pub order_fits_of : (s : SpellingParts) (leg : Leg) (fields : List Tagged) → IsSpelling s → IsOrderOf s leg fields → FitsMessage fields
-order_fits_of s leg fields laws is =
-    subst FitsMessage (sym is.written) (fits s leg is.stamp laws is.in_range)
+pub order_short : (s : SpellingParts) (leg : Leg) (stamp : StampParts) (fields : List Tagged) → IsSpelling s → IsOrderOf s leg stamp fields → FitsMessage fields
+order_short s leg stamp fields laws is =
+    subst FitsMessage (sym is.written) (fits s leg stamp laws is.leg_in_range)

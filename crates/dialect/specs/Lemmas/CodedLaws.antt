@@ -3,17 +3,21 @@ use Rattle.std.proofs.Common.{◌≡◌, inl, ℕ, ◌+◌, true, false, List, �
 use Rattle.std.specs.Option.{option_map_or}
 use Rattle.std.proofs.lemmas.List.{take-append-drop}
 use Rattle.std.proofs.lemmas.List.Elements.{All-append}
+use Rattle.std.proofs.lemmas.Slice.Eq.{bytes_eq-Decides}
 use Rattle.fix_text.specs.Tagged.{Tagged, value_of}
 use Rattle.fix_tags.specs.ReadBack.{price_of-price_four}
 use Rattle.leg.specs.LegId.{LegIdParts, IsLegId}
 use Rattle.dialect.specs.Fields.{has_value, is_text}
-use Rattle.dialect.specs.FieldLaws.{IsShortValue, short_field}
+use Rattle.dialect.specs.Lemmas.FieldLaws.{short_field}
+use Rattle.dialect.specs.Mark.{is_among, CarriesMark}
+use Rattle.dialect.specs.Lemmas.MarkLaws.{value_passes}
+use Rattle.dialect.specs.ShortFields.{IsShortValue}
 use Rattle.dialect.specs.Digits.{digits}
-use Rattle.dialect.specs.DigitsLaws.{digits_bytes, length-digits}
+use Rattle.dialect.specs.Lemmas.DigitsLaws.{digits_bytes, length-digits}
 use Rattle.dialect.specs.FixedId.{fixed_id_of}
-use Rattle.dialect.specs.FixedIdLaws.{fixed_id_of-digits, fixed_id_of-Some}
-use Rattle.dialect.specs.SymbolLaws.{joined_symbol_back, joined_symbol_says}
-use Rattle.dialect.specs.ValueLaws.{IsNotSoh, NoSoh, short_value, short_byte, short_price_four, short_symbol}
+use Rattle.dialect.specs.Lemmas.FixedIdLaws.{fixed_id_of-digits, fixed_id_of-Some}
+use Rattle.dialect.specs.Lemmas.SymbolLaws.{joined_symbol_back, joined_symbol_says}
+use Rattle.dialect.specs.Lemmas.ValueLaws.{IsNotSoh, NoSoh, short_value, short_byte, short_price_four, short_symbol}
 use Rattle.dialect.specs.Spelling.{IsSpelling}
 use Rattle.dialect.specs.Coded.{coded, coded_id_text, coded_id_of}
 
@@ -49,12 +53,23 @@ short_id id range =
 mark_read : (fields : List Tagged) → value_of fields 9001 ≡ Some (codes "Y") → has_value (is_text (codes "Y")) fields 9001 ≡ true
 mark_read fields there = ap (λ o. option_map_or (is_text (codes "Y")) o false) there
 
+among_itself : is_among (codes "Y") (codes "Y") ≡ true
+unfolding is_among
+among_itself = refl
+
+mark_there : (fields : List Tagged) → has_value (is_text (codes "Y")) fields 9001 ≡ true → CarriesMark coded.mark fields
+mark_there fields is =
+    let found = value_passes (is_text (codes "Y")) (value_of fields 9001) is in
+    let text_is : found.0 ≡ codes "Y" = (bytes_eq-Decides found.0 (codes "Y")).0 found.2 in
+    record { text = found.0; there = found.1; among = ap (is_among (codes "Y")) text_is ∙ among_itself }
+
 pub coded_is_spelling : IsSpelling coded
 coded_is_spelling = record {
   id_reads_back = id_back;
   id_says = id_says;
   id_short = short_id;
   mark_is_read = mark_read;
+  mark_is_there = mark_there;
   mark_short = short_field 9001 _ refl (short_byte 89 (λ e. omega arith));
   mark_apart = (refl, (refl, (refl, (refl, (refl, (refl, (refl, (refl, (refl, tt)))))))));
   price_reads_back = λ price range. price_of-price_four price range.low range.high;

@@ -1,0 +1,73 @@
+-- A message as the bytes of one frame, in a dialect: what may be written, and what a stream that begins with it reads as.
+use Rattle.std.specs.Prelude.{◌≡◌, ℕ, false, List, ◌++◌, Option, Some, None, Result, Ok, Err, codes}
+use Rattle.fix_text.specs.Tagged.{Tagged}
+use Rattle.fix_text.specs.Frame.{frame_text}
+use Rattle.fix_text.specs.Reading.{Stream, NextFrame, next_read}
+use Rattle.fix_tags.specs.Message.{envelope_fields}
+use Rattle.fix_tags.specs.Reading.{envelope_read}
+use Rattle.fix_tags.specs.Stamp.{StampParts}
+use Rattle.fix_tags.specs.declared.body.Body.{Body}
+use Rattle.fix_tags.specs.declared.body.Body.TheVariants as body
+use Rattle.fix_tags.specs.declared.envelope.Envelope.{Envelope}
+use Rattle.leg.specs.declared.leg.Leg.{Leg}
+use Rattle.dialect.specs.declared.fault.DialectFault.{DialectFault}
+use Rattle.dialect.specs.declared.report.Report.{Report}
+use Rattle.dialect.specs.Message.{Content, Logon, Heartbeat, TestRequest, ResendRequest, Reject, GapFill, Reset, Logout, BusinessReject, Order, OrderReport, Other, Message, Readers, seen}
+use Rattle.dialect.specs.OrderView.{OrderViewParts}
+use Rattle.dialect.specs.Outgoing.{Outgoing}
+
+-- the fields that a dialect may write for an order at a moment, and for a report beside what its exchange knew
+pub record Writers : Type 1 where
+  pub IsOrder : Leg → StampParts → List Tagged → Type 0
+  pub IsReport : Report → OrderViewParts → List Tagged → Type 0
+
+-- an application message of this kind, with fields of which this holds
+pub record IsApp (IsWritten : List Tagged → Type 0) (kind : List ℕ) (b : Body) : Type 0 where
+  pub fields : List Tagged
+  pub written : IsWritten fields
+  pub body_is : b ≡ body.App kind fields
+
+-- the body of an order: of kind `D`, with the message's own stamp; what wasn't read isn't written
+abbrev pub IsOrderBody : Writers → StampParts → Result Leg DialectFault → Body → Type 0
+IsOrderBody w stamp (Ok leg) b = IsApp (w.IsOrder leg stamp) (codes "D") b
+IsOrderBody w stamp (Err fault) b = ⊥
+
+-- the body of a report: of kind `8`, beside what its exchange knew of the order
+abbrev pub IsReportBody : Writers → Result Report DialectFault → Option OrderViewParts → Body → Type 0
+IsReportBody w (Ok report) (Some view) b = IsApp (w.IsReport report view) (codes "8") b
+IsReportBody w (Ok report) None b = ⊥
+IsReportBody w (Err fault) beside b = ⊥
+
+-- the bodies that may be written for a content: of the session's, only its own
+abbrev pub IsBody : Writers → StampParts → Option OrderViewParts → Content → Body → Type 0
+IsBody w stamp beside (Logon heart reset next) b = b ≡ body.Logon heart reset next
+IsBody w stamp beside (Heartbeat id) b = b ≡ body.Heartbeat id
+IsBody w stamp beside (TestRequest id) b = b ≡ body.TestRequest id
+IsBody w stamp beside (ResendRequest begin last) b = b ≡ body.ResendRequest begin last
+IsBody w stamp beside (Reject number) b = b ≡ body.Reject number
+IsBody w stamp beside (GapFill new_number) b = b ≡ body.GapFill new_number
+IsBody w stamp beside (Reset new_number) b = b ≡ body.Reset new_number
+IsBody w stamp beside Logout b = b ≡ body.Logout
+IsBody w stamp beside (BusinessReject number) b = b ≡ body.BusinessReject number
+IsBody w stamp beside (Order read) b = IsOrderBody w stamp read b
+IsBody w stamp beside (OrderReport read) b = IsReportBody w read beside b
+IsBody w stamp beside Other b = ⊥
+
+-- the message under its header, never under another number again (no 97)
+abbrev pub envelope_of : Message → Body → Envelope
+envelope_of m b =
+    record { sender = m.from; target = m.to; number = m.number; poss_dup = m.poss_dup; poss_resend = false; body = b }
+
+-- the bytes are the one frame of this message at this moment, in a dialect's terms
+pub record IsFramed (w : Writers) (stamp : StampParts) (out : Outgoing) (bytes : List ℕ) : Type 0 where
+  pub says : Body
+  pub is_body : IsBody w stamp out.beside out.message.content says
+  pub written : bytes ≡ frame_text (envelope_fields (envelope_of out.message says) stamp)
+
+-- the next frame of a stream is read as this message, and then the rest follows
+pub record IsReadAs (read : Readers) (stream : Stream) (rest : List ℕ) (m : Message) : Type 0 where
+  pub fields : List Tagged
+  pub next : next_read stream ≡ record { frame = Some fields; stream = record stream { rest = rest } }
+  pub envelope : Envelope
+  pub is_read : envelope_read fields ≡ Ok envelope
+  pub is_seen : seen read envelope ≡ m

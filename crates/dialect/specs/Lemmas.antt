@@ -1,0 +1,19 @@
+-- Lemmas that the laws of an `impl` cite, which may stand nowhere else. Nothing here has to be believed.
+pub mod FieldLaws
+pub mod StepLaws
+pub mod LimitLaws
+pub mod ValueLaws
+pub mod SplitLaws
+pub mod OrdinalLaws
+pub mod MarkLaws
+pub mod SymbolLaws
+pub mod DigitsLaws
+pub mod FixedIdLaws
+pub mod ReportLaws
+pub mod ReportFits
+pub mod OrderLaws
+pub mod PlainIdLaws
+pub mod PlainLaws
+pub mod Split4Laws
+pub mod CodedLaws
+pub mod AnyLaws
