@@ -113,21 +113,25 @@ abbrev pub ◌or_then◌ : Option WriteFault → Option WriteFault → Option Wr
 (Some fault) or_then next = Some fault
 None or_then next = next
 
--- the greatest number that a field may name
+-- a number from the least to the greatest one
+abbrev pub is_between : ℕ → ℕ → ℕ → Bool
+is_between least greatest number = nat_le least number && nat_le number greatest
+
+-- a number that a field may name: one that another message has or may get
 abbrev pub is_reference : ℕ → Bool
-is_reference number = nat_le number 999999999
+is_reference number = is_between 0 999999999 number
 
 -- a number that a message may have (34)
 abbrev pub is_message_number : ℕ → Bool
-is_message_number number = nat_le 1 number && nat_le number 999999998
+is_message_number number = is_between 1 999999998 number
 
 -- a heartbeat interval (108), in seconds
 abbrev pub is_heart : ℕ → Bool
-is_heart seconds = nat_le seconds 999999
+is_heart seconds = is_between 0 999999 seconds
 
 -- a number that is expected next (789)
 abbrev pub is_next_number : ℕ → Bool
-is_next_number number = nat_le 1 number && nat_le number 999999999
+is_next_number number = is_between 1 999999999 number
 
 -- the first of the fields of an application message that can't be written
 abbrev pub app_fault : List Tagged → Option WriteFault

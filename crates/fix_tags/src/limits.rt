@@ -1,13 +1,47 @@
-//! The greatest values that the fields of a message take.
+//! The values that the fields of a message take.
+ghost use Rattle.std.specs.Prelude.{◌≡◌};
+ghost use Rattle.fix_tags.specs.Message.{is_between};
+
+/// Numbers from the least to the greatest one.
+#[derive(Clone, Copy)]
+pub(crate) struct NumberRange {
+    pub(crate) least: u64,
+    pub(crate) greatest: u64,
+}
+
+impl NumberRange {
+    /// Whether a number is one of these.
+    #[inline]
+    pub(crate) fn contains(self, number: u64) -> bool
+        ensures { result ≡ is_between self.least self.greatest number }
+    {
+        self.least <= number && number <= self.greatest
+    }
+}
 
 /// MsgSeqNum (34).
-pub(crate) const MAX_MESSAGE_NUMBER: u64 = 999_999_998;
+pub(crate) const MESSAGE_NUMBER: NumberRange = NumberRange {
+    least: 1,
+    greatest: 999_999_998,
+};
 
-/// A number that another message has or may get: 7, 16, 36, 45 and 789.
-pub(crate) const MAX_REFERENCE: u64 = 999_999_999;
+/// A number that another message has or may get: 7, 16, 36 and 45.
+pub(crate) const REFERENCE: NumberRange = NumberRange {
+    least: 0,
+    greatest: 999_999_999,
+};
+
+/// NextExpectedMsgSeqNum (789).
+pub(crate) const NEXT_NUMBER: NumberRange = NumberRange {
+    least: 1,
+    greatest: 999_999_999,
+};
 
 /// HeartBtInt (108), in seconds.
-pub(crate) const MAX_HEART: u64 = 999_999;
+pub(crate) const HEART: NumberRange = NumberRange {
+    least: 0,
+    greatest: 999_999,
+};
 
 /// The bytes of a TestReqID (112).
 pub(crate) const MAX_TEST_ID: usize = 64;

@@ -5,7 +5,12 @@ ghost use Rattle.fix_tags.specs.Message.{is_session_kind, is_app_kind, is_test_i
 
 use crate::body::Body;
 use crate::envelope::Envelope;
-use crate::limits::{MAX_HEART, MAX_KIND, MAX_MESSAGE_NUMBER, MAX_REFERENCE, MAX_TEST_ID};
+use crate::limits::{HEART, MAX_KIND, MAX_TEST_ID, MESSAGE_NUMBER, NEXT_NUMBER, REFERENCE};
+use crate::tag::{
+    BEGIN_SEQ_NO, END_SEQ_NO, HEART_BT_INT, MSG_SEQ_NUM, MSG_TYPE, NEW_SEQ_NO,
+    NEXT_EXPECTED_MSG_SEQ_NUM, ORIG_SENDING_TIME, POSS_DUP_FLAG, POSS_RESEND, REF_SEQ_NUM,
+    SENDER_COMP_ID, SENDING_TIME, TARGET_COMP_ID, TEST_REQ_ID,
+};
 use crate::write_fault::WriteFault;
 use fix_text::{Field, can_write_tag, can_write_value};
 
@@ -33,7 +38,17 @@ fn is_test_id(id: &[u8]) -> bool
 pub(crate) fn is_header_tag(tag: u32) -> bool
     ensures { result ≡ is_header_tag tag }
 {
-    matches!(tag, 35 | 49 | 56 | 34 | 43 | 97 | 52 | 122)
+    matches!(
+        tag,
+        MSG_TYPE
+            | SENDER_COMP_ID
+            | TARGET_COMP_ID
+            | MSG_SEQ_NUM
+            | POSS_DUP_FLAG
+            | POSS_RESEND
+            | SENDING_TIME
+            | ORIG_SENDING_TIME
+    )
 }
 
 fn is_app_field(field: &Field) -> bool
@@ -67,7 +82,7 @@ fn kind_fault(body: &Body) -> Option<WriteFault>
     ensures { result ≡ kind_fault body.now }
 {
     match body {
-        Body::App { kind, .. } => unless_ok(is_app_kind(kind.as_bytes()), 35),
+        Body::App { kind, .. } => unless_ok(is_app_kind(kind.as_bytes()), MSG_TYPE),
         _ => None,
     }
 }
@@ -75,22 +90,22 @@ fn kind_fault(body: &Body) -> Option<WriteFault>
 fn logon_fault(heart: u64, next: Option<u64>) -> Option<WriteFault>
     ensures { result ≡ logon_fault heart next }
 {
-    if heart > MAX_HEART {
-        return Some(WriteFault::BadValue(108));
+    if !HEART.contains(heart) {
+        return Some(WriteFault::BadValue(HEART_BT_INT));
     }
     match next {
         None => None,
-        Some(next) => unless_ok(1 <= next && next <= MAX_REFERENCE, 789),
+        Some(next) => unless_ok(NEXT_NUMBER.contains(next), NEXT_EXPECTED_MSG_SEQ_NUM),
     }
 }
 
 fn resend_request_fault(begin: u64, last: u64) -> Option<WriteFault>
     ensures { result ≡ resend_request_fault begin last }
 {
-    if begin > MAX_REFERENCE {
-        return Some(WriteFault::BadValue(7));
+    if !REFERENCE.contains(begin) {
+        return Some(WriteFault::BadValue(BEGIN_SEQ_NO));
     }
-    unless_ok(last <= MAX_REFERENCE, 16)
+    unless_ok(REFERENCE.contains(last), END_SEQ_NO)
 }
 
 fn body_fault(body: &Body) -> Option<WriteFault>
@@ -100,15 +115,15 @@ fn body_fault(body: &Body) -> Option<WriteFault>
         Body::Logon { heart, next, .. } => logon_fault(*heart, *next),
         Body::Heartbeat { id: None } | Body::Logout | Body::BusinessReject { number: None } => None,
         Body::Heartbeat { id: Some(id) } | Body::TestRequest { id } => {
-            unless_ok(is_test_id(id.as_bytes()), 112)
+            unless_ok(is_test_id(id.as_bytes()), TEST_REQ_ID)
         }
         Body::ResendRequest { begin, last } => resend_request_fault(*begin, *last),
         Body::Reject { number }
         | Body::BusinessReject {
             number: Some(number),
-        } => { unless_ok(*number <= MAX_REFERENCE, 45) }
+        } => { unless_ok(REFERENCE.contains(*number), REF_SEQ_NUM) }
         Body::GapFill { new_number } | Body::Reset { new_number } => {
-            unless_ok(*new_number <= MAX_REFERENCE, 36)
+            unless_ok(REFERENCE.contains(*new_number), NEW_SEQ_NO)
         }
         Body::App { fields, .. } => app_fault(fields.as_slice()),
     }
@@ -121,8 +136,8 @@ pub(crate) fn field_fault(envelope: &Envelope) -> Option<WriteFault>
     if let Some(fault) = kind_fault(&envelope.body) {
         return Some(fault);
     }
-    if envelope.number < 1 || envelope.number > MAX_MESSAGE_NUMBER {
-        return Some(WriteFault::BadValue(34));
+    if !MESSAGE_NUMBER.contains(envelope.number) {
+        return Some(WriteFault::BadValue(MSG_SEQ_NUM));
     }
     body_fault(&envelope.body)
 }

@@ -10,6 +10,12 @@ use crate::body::Body;
 use crate::envelope::Envelope;
 use crate::stamp::Stamp;
 use crate::stamp_text::stamp_bytes;
+use crate::tag::{
+    BEGIN_SEQ_NO, BUSINESS_REJECT_REASON, ENCRYPT_METHOD, END_SEQ_NO, GAP_FILL_FLAG, HEART_BT_INT,
+    MSG_SEQ_NUM, MSG_TYPE, NEW_SEQ_NO, NEXT_EXPECTED_MSG_SEQ_NUM, ORIG_SENDING_TIME, POSS_DUP_FLAG,
+    POSS_RESEND, REF_MSG_TYPE, REF_SEQ_NUM, RESET_SEQ_NUM_FLAG, SENDER_COMP_ID, SENDING_TIME,
+    TARGET_COMP_ID, TEST_REQ_ID,
+};
 use crate::text::Text;
 use crate::writable::field_fault;
 use crate::write_fault::WriteFault;
@@ -45,21 +51,27 @@ fn write_logon(
 {
     let mut heart_digits = Buffer::new();
     let mut next_digits = Buffer::new();
-    let encryption = FieldRef::new(98, b"0");
-    let heart = FieldRef::new(108, heart_digits.format(heart).as_bytes());
+    let encryption = FieldRef::new(ENCRYPT_METHOD, b"0");
+    let heart = FieldRef::new(HEART_BT_INT, heart_digits.format(heart).as_bytes());
     match (reset, next) {
         (false, None) => write_writable_parts(head, &[encryption, heart], &[], out),
         (true, None) => {
-            let reset = FieldRef::new(141, b"Y");
+            let reset = FieldRef::new(RESET_SEQ_NUM_FLAG, b"Y");
             write_writable_parts(head, &[encryption, heart, reset], &[], out)
         }
         (false, Some(next)) => {
-            let next = FieldRef::new(789, next_digits.format(next).as_bytes());
+            let next = FieldRef::new(
+                NEXT_EXPECTED_MSG_SEQ_NUM,
+                next_digits.format(next).as_bytes(),
+            );
             write_writable_parts(head, &[encryption, heart, next], &[], out)
         }
         (true, Some(next)) => {
-            let reset = FieldRef::new(141, b"Y");
-            let next = FieldRef::new(789, next_digits.format(next).as_bytes());
+            let reset = FieldRef::new(RESET_SEQ_NUM_FLAG, b"Y");
+            let next = FieldRef::new(
+                NEXT_EXPECTED_MSG_SEQ_NUM,
+                next_digits.format(next).as_bytes(),
+            );
             write_writable_parts(head, &[encryption, heart, reset, next], &[], out)
         }
     }
@@ -76,8 +88,8 @@ fn write_resend_request(
 {
     let mut begin_digits = Buffer::new();
     let mut last_digits = Buffer::new();
-    let begin = FieldRef::new(7, begin_digits.format(begin).as_bytes());
-    let last = FieldRef::new(16, last_digits.format(last).as_bytes());
+    let begin = FieldRef::new(BEGIN_SEQ_NO, begin_digits.format(begin).as_bytes());
+    let last = FieldRef::new(END_SEQ_NO, last_digits.format(last).as_bytes());
     write_writable_parts(head, &[begin, last], &[], out)
 }
 
@@ -91,11 +103,21 @@ fn write_sequence_reset(
     ensures { WritesFrame (head.now ++ body_fields (reset_or_fill fills new_number)) out.old out.new result }
 {
     let mut digits = Buffer::new();
-    let new_number = FieldRef::new(36, digits.format(new_number).as_bytes());
+    let new_number = FieldRef::new(NEW_SEQ_NO, digits.format(new_number).as_bytes());
     if fills {
-        return write_writable_parts(head, &[FieldRef::new(123, b"Y"), new_number], &[], out);
+        return write_writable_parts(
+            head,
+            &[FieldRef::new(GAP_FILL_FLAG, b"Y"), new_number],
+            &[],
+            out,
+        );
     }
-    write_writable_parts(head, &[FieldRef::new(123, b"N"), new_number], &[], out)
+    write_writable_parts(
+        head,
+        &[FieldRef::new(GAP_FILL_FLAG, b"N"), new_number],
+        &[],
+        out,
+    )
 }
 
 fn write_reject(head: &[FieldRef<'_>], number: u64, out: &mut Vec<u8>) -> Result<(), TextFault>
@@ -103,7 +125,7 @@ fn write_reject(head: &[FieldRef<'_>], number: u64, out: &mut Vec<u8>) -> Result
     ensures { WritesFrame (head.now ++ body_fields (Body.Reject number)) out.old out.new result }
 {
     let mut digits = Buffer::new();
-    let number = FieldRef::new(45, digits.format(number).as_bytes());
+    let number = FieldRef::new(REF_SEQ_NUM, digits.format(number).as_bytes());
     write_writable_parts(head, &[number], &[], out)
 }
 
@@ -116,12 +138,12 @@ fn write_business_reject(
     ensures { WritesFrame (head.now ++ body_fields (Body.BusinessReject number)) out.old out.new result }
 {
     let mut digits = Buffer::new();
-    let kind = FieldRef::new(372, b"D");
-    let reason = FieldRef::new(380, b"0");
+    let kind = FieldRef::new(REF_MSG_TYPE, b"D");
+    let reason = FieldRef::new(BUSINESS_REJECT_REASON, b"0");
     match number {
         None => write_writable_parts(head, &[kind, reason], &[], out),
         Some(number) => {
-            let number = FieldRef::new(45, digits.format(number).as_bytes());
+            let number = FieldRef::new(REF_SEQ_NUM, digits.format(number).as_bytes());
             write_writable_parts(head, &[number, kind, reason], &[], out)
         }
     }
@@ -132,7 +154,7 @@ fn write_test_id(head: &[FieldRef<'_>], id: &[u8], out: &mut Vec<u8>) -> Result<
     requires { AreWritable (head.now ++ body_fields (Body.TestRequest id.now)) }
     ensures { WritesFrame (head.now ++ body_fields (Body.TestRequest id.now)) out.old out.new result }
 {
-    write_writable_parts(head, &[FieldRef::new(112, id)], &[], out)
+    write_writable_parts(head, &[FieldRef::new(TEST_REQ_ID, id)], &[], out)
 }
 
 fn write_heartbeat(
@@ -188,14 +210,14 @@ fn write_with_header<'a>(
     requires { AreWritable (field 35 texts.kind.now ∷ field 49 texts.sender.now ∷ field 56 texts.target.now ∷ field 34 texts.number.now ∷ marks_and_time poss_dup poss_resend texts.time.now ++ body_fields body.now) }
     ensures { WritesFrame (field 35 texts.entry.kind.now ∷ field 49 texts.entry.sender.now ∷ field 56 texts.entry.target.now ∷ field 34 texts.entry.number.now ∷ marks_and_time poss_dup poss_resend texts.entry.time.now ++ body_fields body.now) out.old out.new result }
 {
-    let kind = FieldRef::new(35, texts.kind);
-    let sender = FieldRef::new(49, texts.sender);
-    let target = FieldRef::new(56, texts.target);
-    let number = FieldRef::new(34, texts.number);
-    let dup = FieldRef::new(43, b"Y");
-    let resend = FieldRef::new(97, b"Y");
-    let time = FieldRef::new(52, texts.time);
-    let original = FieldRef::new(122, texts.time);
+    let kind = FieldRef::new(MSG_TYPE, texts.kind);
+    let sender = FieldRef::new(SENDER_COMP_ID, texts.sender);
+    let target = FieldRef::new(TARGET_COMP_ID, texts.target);
+    let number = FieldRef::new(MSG_SEQ_NUM, texts.number);
+    let dup = FieldRef::new(POSS_DUP_FLAG, b"Y");
+    let resend = FieldRef::new(POSS_RESEND, b"Y");
+    let time = FieldRef::new(SENDING_TIME, texts.time);
+    let original = FieldRef::new(ORIG_SENDING_TIME, texts.time);
     match (poss_dup, poss_resend) {
         (false, false) => write_body(&[kind, sender, target, number, time], body, out),
         (false, true) => write_body(&[kind, sender, target, number, resend, time], body, out),

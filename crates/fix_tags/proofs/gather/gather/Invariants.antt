@@ -5,7 +5,7 @@ use Rattle.std.specs.Vec.{vec_capacity}
 use Rattle.fix_text.specs.FrameFields.{fields_in}
 use Rattle.fix_text.specs.Tagged.{value_of}
 use Rattle.fix_tags.specs.App.{is_app_tag}
-use Rattle.fix_tags.proofs.read.gather.Given as goal
+use Rattle.fix_tags.proofs.gather.gather.Given as goal
 
 abbrev pub invariant-loop-index : goal.invariant-loop-index
 invariant-loop-index l = record {
