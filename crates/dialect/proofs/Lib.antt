@@ -6,3 +6,4 @@ pub mod ShortIds
 pub mod PlainIdLength
 pub mod ReportReading
 pub mod FrameBack
+pub mod PriceLength

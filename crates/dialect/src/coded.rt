@@ -7,7 +7,7 @@ use crate::digits::append_digits;
 use crate::fault::DialectFault;
 use crate::field_value::{is_value, required};
 use crate::fixed_id::{PLACE_DIGITS, read_fixed_id};
-use crate::push::push_text;
+use crate::push::push_short;
 use crate::spelling::Spelling;
 use crate::symbol_text::{joined_symbol_text, read_joined_symbol};
 use crate::tag::{CL_ORD_ID, PRICE, SWEEP_LEG, SYMBOL};
@@ -68,7 +68,7 @@ impl Spelling for Coded {
         id: &LegId,
         fields: &mut Vec<Field>,
     ) -> Result<(), AllocError> {
-        push_text(alloc, CL_ORD_ID, id_text(id).as_slice(), fields)
+        push_short(alloc, CL_ORD_ID, id_text(id).as_slice(), fields)
     }
 
     fn read_id(&self, text: &[u8]) -> Option<LegId> {
@@ -76,7 +76,7 @@ impl Spelling for Coded {
     }
 
     fn push_mark(&self, alloc: Global, fields: &mut Vec<Field>) -> Result<(), AllocError> {
-        push_text(alloc, SWEEP_LEG, YES, fields)
+        push_short(alloc, SWEEP_LEG, YES, fields)
     }
 
     fn is_marked(&self, fields: &[FieldRef<'_>]) -> bool {
@@ -89,7 +89,7 @@ impl Spelling for Coded {
         price: u64,
         fields: &mut Vec<Field>,
     ) -> Result<(), AllocError> {
-        push_text(alloc, PRICE, price_four_text(price).as_slice(), fields)
+        push_short(alloc, PRICE, price_four_text(price).as_slice(), fields)
     }
 
     fn push_symbol(
@@ -98,7 +98,7 @@ impl Spelling for Coded {
         symbol: &Symbol,
         fields: &mut Vec<Field>,
     ) -> Result<(), AllocError> {
-        push_text(
+        push_short(
             alloc,
             SYMBOL,
             joined_symbol_text(SLASH, symbol).as_slice(),

@@ -12,7 +12,7 @@ use std::alloc::Global;
 /// on it (ExecutionReport) in those of kind `8`, without those of the header. What is written for a leg or a report is
 /// a relation, what is read from fields a function, and the laws join the two.
 pub trait Dialect {
-    ghost use Rattle.std.specs.Prelude.{◌≡◌, List, Result, Ok, OnOk, OnErr};
+    ghost use Rattle.std.specs.Prelude.{◌≡◌, ◌+◌, ◌<◌, List, Result, Ok, OnOk, OnErr, vec_len, vec_capacity};
     ghost use Rattle.fix_text.specs.Tagged.{Tagged};
     ghost use Rattle.fix_tags.specs.Stamp.{StampParts, IsStamp};
     ghost use Rattle.leg.specs.declared.leg.Leg.{Leg};
@@ -38,7 +38,8 @@ pub trait Dialect {
     // The report that fields say, or the first fault.
     ghost report_read: { Self → List Tagged → Result Report DialectFault };
 
-    /// Appends the fields of an order for the leg, with the stamp as TransactTime (60). V05 leaves the list as it was.
+    /// Appends the fields of an order for the leg, with the stamp as TransactTime (60). V05, which comes only where the
+    /// list has no room for sixteen more fields, leaves it as it was.
     fn write_order(
         &self,
         alloc: Global,
@@ -48,7 +49,8 @@ pub trait Dialect {
     ) -> Result<(), SpellFault>
         ensures ok { OnOk result
             (Appends (IsOrder self.now leg.now stamp.now) fields.old.items fields.new.items) }
-        ensures err { OnErr result (fields.new.items ≡ fields.old.items) };
+        ensures err { OnErr result (fields.new.items ≡ fields.old.items) }
+        ensures full { OnErr result (vec_capacity fields.old < vec_len fields.old + 16) };
 
     /// Reads an order. Faults are tried in the written order of the fields, and the first one is answered. Of a tag
     /// that stands several times the first counts, and tags that an order doesn't have are passed over.

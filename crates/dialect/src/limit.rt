@@ -1,6 +1,6 @@
 //! How much an order is for, at which limit, and on which side: OrderQty (38), OrdType (40), Price (44) and Side (54).
 
-ghost use Rattle.std.specs.Prelude.{◌≡◌, ◌++◌, IfOk, IfSome, OnOk, OnErr};
+ghost use Rattle.std.specs.Prelude.{◌≡◌, ◌+◌, ◌<◌, ◌≤◌, ◌++◌, IfOk, IfSome, OnOk, OnErr, length, vec_len, vec_capacity};
 ghost use Rattle.fix_tags.specs.Price.{price_of};
 ghost use Rattle.leg.specs.Terms.{IsShares, IsPrice};
 ghost use Rattle.dialect.specs.Fields.{required_as, IsGrown};
@@ -8,7 +8,7 @@ ghost use Rattle.dialect.specs.Limit.{order_shares_of, limit_order_in, side_of, 
 
 use crate::fault::DialectFault;
 use crate::field_value::required;
-use crate::push::{push_number, push_text};
+use crate::push::{push_number, push_short};
 use crate::spelling::Spelling;
 use crate::tag::{ORD_TYPE, ORDER_QTY, PRICE, SIDE};
 use fix_tags::{read_price, read_shares};
@@ -118,7 +118,8 @@ pub(crate) fn leg_of(id: LegId, symbol: Symbol, limit: Limit) -> Leg
 }
 
 pub(crate) fn side_text(side: Side) -> &'static [u8]
-    ensures { result.now ≡ side_text side }
+    ensures value { result.now ≡ side_text side }
+    ensures short { length result.now ≤ 24 }
 {
     match side {
         Side::Buy => b"1",
@@ -136,9 +137,12 @@ pub(crate) fn push_limit<S: Spelling>(
     ensures ok { OnOk result (fields.new.items ≡ fields.old.items
         ++ limit_fields terms.now.shares ((S.spelling spelling.now).price_text terms.now.price) terms.now.side) }
     ensures err { OnErr result (IsGrown fields.old.items fields.new.items) }
+    ensures len { vec_len fields.new ≤ vec_len fields.old + 4 }
+    ensures room { vec_capacity fields.old ≤ vec_capacity fields.new }
+    ensures full { OnErr result (vec_capacity fields.old < vec_len fields.old + 4) }
 {
     push_number(alloc, ORDER_QTY, terms.shares(), fields)?;
-    push_text(alloc, ORD_TYPE, LIMIT_ORDER, fields)?;
+    push_short(alloc, ORD_TYPE, LIMIT_ORDER, fields)?;
     spelling.push_price(alloc, terms.price(), fields)?;
-    push_text(alloc, SIDE, side_text(terms.side()), fields)
+    push_short(alloc, SIDE, side_text(terms.side()), fields)
 }

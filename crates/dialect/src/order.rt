@@ -1,6 +1,6 @@
 //! An order is written and read, in any spelling.
 
-ghost use Rattle.std.specs.Prelude.{◌≡◌, ◌++◌, OnOk, OnErr};
+ghost use Rattle.std.specs.Prelude.{◌≡◌, ◌+◌, ◌<◌, ◌++◌, OnOk, OnErr, vec_len, vec_capacity};
 ghost use Rattle.dialect.specs.Dialect.{Appends};
 ghost use Rattle.dialect.specs.Fields.{required_as, IsGrown};
 ghost use Rattle.dialect.specs.Order.{IsOrderOf, order_fields, order_read_of};
@@ -60,6 +60,7 @@ fn push_order<S: Spelling>(
     ensures ok { OnOk result (fields.new.items
         ≡ fields.old.items ++ order_fields (S.spelling spelling.now) leg.now stamp.now) }
     ensures err { OnErr result (IsGrown fields.old.items fields.new.items) }
+    ensures full { OnErr result (vec_capacity fields.old < vec_len fields.old + 10) }
 {
     fields.reserve(MAX_ORDER_LEN)?;
     spelling.push_id(alloc, &leg.id, fields)?;
@@ -69,7 +70,8 @@ fn push_order<S: Spelling>(
     push_immediate(alloc, stamp, fields)
 }
 
-/// Appends the fields of an order, as a venue spells it. V05 leaves the list as it was.
+/// Appends the fields of an order, as a venue spells it. V05, which comes only where the list has no room for ten more
+/// fields, leaves it as it was.
 pub(crate) fn write_order<S: Spelling>(
     spelling: &S,
     alloc: Global,
@@ -80,6 +82,7 @@ pub(crate) fn write_order<S: Spelling>(
     ensures ok { OnOk result
         (Appends (IsOrderOf (S.spelling spelling.now) leg.now stamp.now) fields.old.items fields.new.items) }
     ensures err { OnErr result (fields.new.items ≡ fields.old.items) }
+    ensures full { OnErr result (vec_capacity fields.old < vec_len fields.old + 10) }
 {
     // That the leg and the stamp are in range is known once they were read.
     leg.in_range();

@@ -4,7 +4,7 @@ use crate::fault::DialectFault;
 use crate::field_value::required;
 use crate::mark::{INTERMARKET_SWEEP, has_instruction};
 use crate::plain_id::{plain_id_text, read_plain_id};
-use crate::push::push_text;
+use crate::push::push_short;
 use crate::spelling::Spelling;
 use crate::symbol_text::{joined_symbol_text, read_joined_symbol};
 use crate::tag::{CL_ORD_ID, EXEC_INST, PRICE, SYMBOL};
@@ -33,7 +33,7 @@ impl Spelling for Plain {
         id: &LegId,
         fields: &mut Vec<Field>,
     ) -> Result<(), AllocError> {
-        push_text(alloc, CL_ORD_ID, plain_id_text(id).as_slice(), fields)
+        push_short(alloc, CL_ORD_ID, plain_id_text(id).as_slice(), fields)
     }
 
     fn read_id(&self, text: &[u8]) -> Option<LegId> {
@@ -41,7 +41,7 @@ impl Spelling for Plain {
     }
 
     fn push_mark(&self, alloc: Global, fields: &mut Vec<Field>) -> Result<(), AllocError> {
-        push_text(alloc, EXEC_INST, INTERMARKET_SWEEP, fields)
+        push_short(alloc, EXEC_INST, INTERMARKET_SWEEP, fields)
     }
 
     fn is_marked(&self, fields: &[FieldRef<'_>]) -> bool {
@@ -54,7 +54,7 @@ impl Spelling for Plain {
         price: u64,
         fields: &mut Vec<Field>,
     ) -> Result<(), AllocError> {
-        push_text(alloc, PRICE, price_short_text(price).as_slice(), fields)
+        push_short(alloc, PRICE, price_short_text(price).as_slice(), fields)
     }
 
     fn push_symbol(
@@ -63,7 +63,7 @@ impl Spelling for Plain {
         symbol: &Symbol,
         fields: &mut Vec<Field>,
     ) -> Result<(), AllocError> {
-        push_text(
+        push_short(
             alloc,
             SYMBOL,
             joined_symbol_text(POINT, symbol).as_slice(),

@@ -1,6 +1,6 @@
 //! Appending one field to a list.
 
-ghost use Rattle.std.specs.Prelude.{◌≡◌, ◌++◌, ◌∷◌, [], Ok, Err, OnOk, OnErr, take, decimal};
+ghost use Rattle.std.specs.Prelude.{◌≡◌, ◌+◌, ◌<◌, ◌≤◌, ◌++◌, ◌∷◌, [], Ok, Err, OnOk, OnErr, take, length, decimal, vec_len, vec_capacity};
 ghost use Rattle.dialect.specs.Fields.{field};
 
 use crate::fault::SpellFault;
@@ -17,10 +17,30 @@ pub(crate) fn push_text(
 ) -> Result<(), AllocError>
     ensures ok { OnOk result (fields.new.items ≡ fields.old.items ++ field tag value.now ∷ []) }
     ensures err { OnErr result (fields.new.items ≡ fields.old.items) }
+    ensures len { vec_len fields.new ≤ vec_len fields.old + 1 }
+    ensures room { vec_capacity fields.old ≤ vec_capacity fields.new }
+    ensures full { length value.now ≤ 24 → OnErr result (vec_capacity fields.old < vec_len fields.old + 1) }
 {
     let field = Field::from_slice(alloc, tag, value)?;
     fields.push(field)?;
     Ok(())
+}
+
+/// The same, of a value of at most 24 bytes, which lies in its field: only the list may want memory.
+pub(crate) fn push_short(
+    alloc: Global,
+    tag: u32,
+    value: &[u8],
+    fields: &mut Vec<Field>,
+) -> Result<(), AllocError>
+    requires { length value.now ≤ 24 }
+    ensures ok { OnOk result (fields.new.items ≡ fields.old.items ++ field tag value.now ∷ []) }
+    ensures err { OnErr result (fields.new.items ≡ fields.old.items) }
+    ensures len { vec_len fields.new ≤ vec_len fields.old + 1 }
+    ensures room { vec_capacity fields.old ≤ vec_capacity fields.new }
+    ensures full { OnErr result (vec_capacity fields.old < vec_len fields.old + 1) }
+{
+    push_text(alloc, tag, value, fields)
 }
 
 /// Appends a field of a number, in the shortest decimal.
@@ -32,9 +52,12 @@ pub(crate) fn push_number(
 ) -> Result<(), AllocError>
     ensures ok { OnOk result (fields.new.items ≡ fields.old.items ++ field tag (decimal number) ∷ []) }
     ensures err { OnErr result (fields.new.items ≡ fields.old.items) }
+    ensures len { vec_len fields.new ≤ vec_len fields.old + 1 }
+    ensures room { vec_capacity fields.old ≤ vec_capacity fields.new }
+    ensures full { OnErr result (vec_capacity fields.old < vec_len fields.old + 1) }
 {
     let mut digits = Buffer::new();
-    push_text(alloc, tag, digits.format(number).as_bytes(), fields)
+    push_short(alloc, tag, digits.format(number).as_bytes(), fields)
 }
 
 /// Keeps what was appended behind the first `start` fields, or takes it away where memory ran out.

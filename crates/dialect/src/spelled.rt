@@ -14,7 +14,7 @@ use leg::Leg;
 use std::alloc::Global;
 
 impl<S: Spelling> Dialect for S {
-    ghost use Rattle.std.specs.Prelude.{◌≡◌, refl, IfOk, OnOk, OnErr};
+    ghost use Rattle.std.specs.Prelude.{◌≡◌, ◌+◌, ◌<◌, refl, IfOk, OnOk, OnErr, vec_len, vec_capacity};
     ghost use Rattle.dialect.specs.Dialect.{Appends};
     ghost use Rattle.dialect.specs.Lemmas.OrderLaws.{order_back, order_marked, order_short};
     ghost use Rattle.dialect.specs.Lemmas.ReportFits.{report_short};
@@ -44,6 +44,7 @@ impl<S: Spelling> Dialect for S {
         ensures ok { OnOk result
             (Appends (IsOrderOf (S.spelling self.now) leg.now stamp.now) fields.old.items fields.new.items) }
         ensures err { OnErr result (fields.new.items ≡ fields.old.items) }
+        ensures full { OnErr result (vec_capacity fields.old < vec_len fields.old + 10) }
     {
         write_order(self, alloc, leg, stamp, fields)
     }

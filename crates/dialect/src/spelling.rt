@@ -6,9 +6,10 @@ use leg::{LegId, Symbol};
 use std::alloc::{AllocError, Global};
 
 /// How a venue spells a leg's number, the mark of a sweep, a price and a symbol: all that differs between dialects.
-/// The rest of an order and of a report, and every law, is proved once of any spelling.
+/// The rest of an order and of a report, and every law, is proved once of any spelling. Nothing that is appended wants
+/// memory where the list has room for it.
 pub trait Spelling {
-    ghost use Rattle.std.specs.Prelude.{◌≡◌, ◌++◌, ◌∷◌, [], List, OnOk, OnErr};
+    ghost use Rattle.std.specs.Prelude.{◌≡◌, ◌+◌, ◌<◌, ◌≤◌, ◌++◌, ◌∷◌, [], List, OnOk, OnErr, vec_len, vec_capacity};
     ghost use Rattle.fix_text.specs.Tagged.{Tagged};
     ghost use Rattle.dialect.specs.Fields.{field, IsGrown};
     ghost use Rattle.dialect.specs.Spelling.{SpellingParts, IsSpelling};
@@ -18,7 +19,10 @@ pub trait Spelling {
     /// Appends ClOrdID (11), which says which leg of which sweep an order is.
     fn push_id(&self, alloc: Global, id: &LegId, fields: &mut Vec<Field>) -> Result<(), AllocError>
         ensures ok { OnOk result (fields.new.items ≡ fields.old.items ++ field 11 ((spelling self.now).id_text id.now) ∷ []) }
-        ensures err { OnErr result (IsGrown fields.old.items fields.new.items) };
+        ensures err { OnErr result (IsGrown fields.old.items fields.new.items) }
+        ensures len { vec_len fields.new ≤ vec_len fields.old + 1 }
+        ensures room { vec_capacity fields.old ≤ vec_capacity fields.new }
+        ensures full { OnErr result (vec_capacity fields.old < vec_len fields.old + 1) };
 
     /// Reads the value of ClOrdID (11). `None` where it isn't exactly what is written for a leg.
     fn read_id(&self, text: &[u8]) -> Option<LegId>
@@ -27,7 +31,10 @@ pub trait Spelling {
     /// Appends the field that marks a leg of a sweep.
     fn push_mark(&self, alloc: Global, fields: &mut Vec<Field>) -> Result<(), AllocError>
         ensures ok { OnOk result (fields.new.items ≡ fields.old.items ++ (spelling self.now).mark ∷ []) }
-        ensures err { OnErr result (IsGrown fields.old.items fields.new.items) };
+        ensures err { OnErr result (IsGrown fields.old.items fields.new.items) }
+        ensures len { vec_len fields.new ≤ vec_len fields.old + 1 }
+        ensures room { vec_capacity fields.old ≤ vec_capacity fields.new }
+        ensures full { OnErr result (vec_capacity fields.old < vec_len fields.old + 1) };
 
     /// Whether fields carry the mark of a leg of a sweep.
     fn is_marked(&self, fields: &[FieldRef<'_>]) -> bool
@@ -41,7 +48,10 @@ pub trait Spelling {
         fields: &mut Vec<Field>,
     ) -> Result<(), AllocError>
         ensures ok { OnOk result (fields.new.items ≡ fields.old.items ++ field 44 ((spelling self.now).price_text price) ∷ []) }
-        ensures err { OnErr result (IsGrown fields.old.items fields.new.items) };
+        ensures err { OnErr result (IsGrown fields.old.items fields.new.items) }
+        ensures len { vec_len fields.new ≤ vec_len fields.old + 1 }
+        ensures room { vec_capacity fields.old ≤ vec_capacity fields.new }
+        ensures full { OnErr result (vec_capacity fields.old < vec_len fields.old + 1) };
 
     /// Appends the fields of a symbol: Symbol (55) and, where the venue parts it and there is a suffix, SymbolSfx (65).
     fn push_symbol(
@@ -51,7 +61,10 @@ pub trait Spelling {
         fields: &mut Vec<Field>,
     ) -> Result<(), AllocError>
         ensures ok { OnOk result (fields.new.items ≡ fields.old.items ++ (spelling self.now).symbol_fields symbol.now) }
-        ensures err { OnErr result (IsGrown fields.old.items fields.new.items) };
+        ensures err { OnErr result (IsGrown fields.old.items fields.new.items) }
+        ensures len { vec_len fields.new ≤ vec_len fields.old + 2 }
+        ensures room { vec_capacity fields.old ≤ vec_capacity fields.new }
+        ensures full { OnErr result (vec_capacity fields.old < vec_len fields.old + 2) };
 
     /// Reads a symbol from its fields, or answers the first fault.
     fn read_symbol(&self, fields: &[FieldRef<'_>]) -> Result<Symbol, DialectFault>

@@ -9,7 +9,7 @@ use crate::fault::DialectFault;
 use crate::field_value::required;
 use crate::fixed_id::{PLACE_DIGITS, read_fixed_id};
 use crate::mark::{INTERMARKET_SWEEP, has_instruction};
-use crate::push::push_text;
+use crate::push::push_short;
 use crate::spelling::Spelling;
 use crate::split::split_round;
 use crate::tag::{CL_ORD_ID, EXEC_INST, PRICE, SYMBOL, SYMBOL_SFX};
@@ -92,7 +92,7 @@ impl Spelling for Split4 {
         id: &LegId,
         fields: &mut Vec<Field>,
     ) -> Result<(), AllocError> {
-        push_text(alloc, CL_ORD_ID, id_text(id).as_slice(), fields)
+        push_short(alloc, CL_ORD_ID, id_text(id).as_slice(), fields)
     }
 
     fn read_id(&self, text: &[u8]) -> Option<LegId> {
@@ -100,7 +100,7 @@ impl Spelling for Split4 {
     }
 
     fn push_mark(&self, alloc: Global, fields: &mut Vec<Field>) -> Result<(), AllocError> {
-        push_text(alloc, EXEC_INST, INTERMARKET_SWEEP, fields)
+        push_short(alloc, EXEC_INST, INTERMARKET_SWEEP, fields)
     }
 
     fn is_marked(&self, fields: &[FieldRef<'_>]) -> bool {
@@ -113,7 +113,7 @@ impl Spelling for Split4 {
         price: u64,
         fields: &mut Vec<Field>,
     ) -> Result<(), AllocError> {
-        push_text(alloc, PRICE, price_four_text(price).as_slice(), fields)
+        push_short(alloc, PRICE, price_four_text(price).as_slice(), fields)
     }
 
     fn push_symbol(
@@ -122,12 +122,12 @@ impl Spelling for Split4 {
         symbol: &Symbol,
         fields: &mut Vec<Field>,
     ) -> Result<(), AllocError> {
-        push_text(alloc, SYMBOL, symbol.root(), fields)?;
+        push_short(alloc, SYMBOL, symbol.root(), fields)?;
         let suffix = symbol.suffix();
         if suffix.is_empty() {
             Ok(())
         } else {
-            push_text(alloc, SYMBOL_SFX, suffix, fields)
+            push_short(alloc, SYMBOL_SFX, suffix, fields)
         }
     }
 

@@ -1,12 +1,12 @@
 //! How long an order stands and when it was made: TimeInForce (59) and TransactTime (60).
 
-ghost use Rattle.std.specs.Prelude.{◌≡◌, ◌++◌, OnOk, OnErr};
+ghost use Rattle.std.specs.Prelude.{◌≡◌, ◌+◌, ◌<◌, ◌≤◌, ◌++◌, OnOk, OnErr, vec_len, vec_capacity};
 ghost use Rattle.dialect.specs.Time.{immediate_in, immediate_fields};
 ghost use Rattle.dialect.specs.Fields.{IsGrown};
 
 use crate::fault::DialectFault;
 use crate::field_value::{is_value, required};
-use crate::push::push_text;
+use crate::push::push_short;
 use crate::tag::{TIME_IN_FORCE, TRANSACT_TIME};
 use fix_tags::{Stamp, stamp_bytes};
 use fix_text::{Field, FieldRef};
@@ -35,7 +35,10 @@ pub(crate) fn push_immediate(
 ) -> Result<(), AllocError>
     ensures ok { OnOk result (fields.new.items ≡ fields.old.items ++ immediate_fields stamp.now) }
     ensures err { OnErr result (IsGrown fields.old.items fields.new.items) }
+    ensures len { vec_len fields.new ≤ vec_len fields.old + 2 }
+    ensures room { vec_capacity fields.old ≤ vec_capacity fields.new }
+    ensures full { OnErr result (vec_capacity fields.old < vec_len fields.old + 2) }
 {
-    push_text(alloc, TIME_IN_FORCE, IMMEDIATE_OR_CANCEL, fields)?;
-    push_text(alloc, TRANSACT_TIME, &stamp_bytes(stamp), fields)
+    push_short(alloc, TIME_IN_FORCE, IMMEDIATE_OR_CANCEL, fields)?;
+    push_short(alloc, TRANSACT_TIME, &stamp_bytes(stamp), fields)
 }
