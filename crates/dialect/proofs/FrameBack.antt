@@ -11,9 +11,9 @@ use Rattle.fix_text.specs.Reading.{Stream, next_read}
 use Rattle.fix_text.proofs.Lengths.{length-field_text}
 use Rattle.fix_text.proofs.Rewritten.{next_begins}
 use Rattle.fix_tags.specs.CompId.{IsCompId}
-use Rattle.fix_tags.specs.Message.{is_message_number, is_test_id, kind_of, body_fields, kind_fault, body_fault, field_fault, envelope_fields, envelope_refusal}
+use Rattle.fix_tags.specs.Message.{is_reference, is_heart, is_message_number, is_next_number, is_test_id, kind_of, body_fields, kind_fault, body_fault, field_fault, envelope_fields, envelope_refusal}
 use Rattle.fix_tags.specs.Stamp.{StampParts, IsStamp, stamp_text}
-use Rattle.fix_tags.specs.Written.{length-stamp_text}
+use Rattle.fix_tags.proofs.Written.{length-stamp_text}
 use Rattle.fix_tags.specs.declared.body.Body.{Body}
 use Rattle.fix_tags.specs.declared.body.Body.TheVariants as body
 use Rattle.fix_tags.specs.declared.envelope.Envelope.{Envelope}
@@ -61,6 +61,15 @@ test_id_is id range =
 number_is : (n : ℕ) → 1 ≤ n → n ≤ 999999998 → is_message_number n ≡ true
 number_is n low high = and_from _ _ (le-leb 1 n low) (le-leb n 999999998 high)
 
+reference_is : (n : ℕ) → n ≤ 999999999 → is_reference n ≡ true
+reference_is n high = and_from _ _ (le-leb 0 n (omega arith)) (le-leb n 999999999 high)
+
+heart_is : (n : ℕ) → n ≤ 999999 → is_heart n ≡ true
+heart_is n high = and_from _ _ (le-leb 0 n (omega arith)) (le-leb n 999999 high)
+
+next_is : (n : ℕ) → 1 ≤ n → n ≤ 999999999 → is_next_number n ≡ true
+next_is n low high = and_from _ _ (le-leb 1 n low) (le-leb n 999999999 high)
+
 -- ---- what is known of the body of a message that can be written
 
 record IsGood (read : Readers) (content : Content) (b : Body) : Type 0 where
@@ -73,28 +82,28 @@ record IsGood (read : Readers) (content : Content) (b : Body) : Type 0 where
 logon_good : (read : Readers) (heart : ℕ) (reset : Bool) (next : Option ℕ) → heart ≤ 999999 → IsNext next → IsGood read (Logon heart reset next) (body.Logon heart reset next)
 logon_good read heart true None low range = record {
   kind = refl;
-  body = rw (le-leb heart 999999 low) refl;
+  body = rw (heart_is heart low) refl;
   short_kind = omega arith;
   short = omega (arith, length-small (body_fields (body.Logon heart true None)) ((omega arith, omega arith), ((omega arith, short_number heart (omega arith)), ((omega arith, omega arith), tt))));
   says = refl;
 }
 logon_good read heart false None low range = record {
   kind = refl;
-  body = rw (le-leb heart 999999 low) refl;
+  body = rw (heart_is heart low) refl;
   short_kind = omega arith;
   short = omega (arith, length-small (body_fields (body.Logon heart false None)) ((omega arith, omega arith), ((omega arith, short_number heart (omega arith)), tt)));
   says = refl;
 }
 logon_good read heart true (Some next) low range = record {
   kind = refl;
-  body = rw (le-leb heart 999999 low, le-leb 1 next range.0, le-leb next 999999999 range.1) refl;
+  body = rw (heart_is heart low, next_is next range.0 range.1) refl;
   short_kind = omega arith;
   short = omega (arith, length-small (body_fields (body.Logon heart true (Some next))) ((omega arith, omega arith), ((omega arith, short_number heart (omega arith)), ((omega arith, omega arith), ((omega arith, short_number next range.1), tt)))));
   says = refl;
 }
 logon_good read heart false (Some next) low range = record {
   kind = refl;
-  body = rw (le-leb heart 999999 low, le-leb 1 next range.0, le-leb next 999999999 range.1) refl;
+  body = rw (heart_is heart low, next_is next range.0 range.1) refl;
   short_kind = omega arith;
   short = omega (arith, length-small (body_fields (body.Logon heart false (Some next))) ((omega arith, omega arith), ((omega arith, short_number heart (omega arith)), ((omega arith, short_number next range.1), tt))));
   says = refl;
@@ -122,7 +131,7 @@ test_request_good read id range = record {
 resend_request_good : (read : Readers) (begin last : ℕ) → IsReference begin → IsReference last → IsGood read (ResendRequest begin last) (body.ResendRequest begin last)
 resend_request_good read begin last first second = record {
   kind = refl;
-  body = rw (le-leb begin 999999999 first, le-leb last 999999999 second) refl;
+  body = rw (reference_is begin first, reference_is last second) refl;
   short_kind = omega arith;
   short = omega (arith, length-small (body_fields (body.ResendRequest begin last)) ((omega arith, short_number begin first), ((omega arith, short_number last second), tt)));
   says = refl;
@@ -131,7 +140,7 @@ resend_request_good read begin last first second = record {
 reject_good : (read : Readers) (number : ℕ) → IsReference number → IsGood read (Reject number) (body.Reject number)
 reject_good read number range = record {
   kind = refl;
-  body = rw (le-leb number 999999999 range) refl;
+  body = rw (reference_is number range) refl;
   short_kind = omega arith;
   short = omega (arith, length-small (body_fields (body.Reject number)) ((omega arith, short_number number range), tt));
   says = refl;
@@ -140,7 +149,7 @@ reject_good read number range = record {
 gap_fill_good : (read : Readers) (number : ℕ) → IsReference number → IsGood read (GapFill number) (body.GapFill number)
 gap_fill_good read number range = record {
   kind = refl;
-  body = rw (le-leb number 999999999 range) refl;
+  body = rw (reference_is number range) refl;
   short_kind = omega arith;
   short = omega (arith, length-small (body_fields (body.GapFill number)) ((omega arith, omega arith), ((omega arith, short_number number range), tt)));
   says = refl;
@@ -149,7 +158,7 @@ gap_fill_good read number range = record {
 reset_good : (read : Readers) (number : ℕ) → IsReference number → IsGood read (Reset number) (body.Reset number)
 reset_good read number range = record {
   kind = refl;
-  body = rw (le-leb number 999999999 range) refl;
+  body = rw (reference_is number range) refl;
   short_kind = omega arith;
   short = omega (arith, length-small (body_fields (body.Reset number)) ((omega arith, omega arith), ((omega arith, short_number number range), tt)));
   says = refl;
@@ -168,7 +177,7 @@ business_reject_good read beside None range = record {
 }
 business_reject_good read beside (Some number) range = record {
   kind = refl;
-  body = rw (le-leb number 999999999 range) refl;
+  body = rw (reference_is number range) refl;
   short_kind = omega arith;
   short = omega (arith, length-small (body_fields (body.BusinessReject (Some number))) ((omega arith, short_number number range), ((omega arith, omega arith), ((omega arith, omega arith), tt))));
   says = refl;
