@@ -5,7 +5,7 @@ use Rattle.fix_text.specs.Grammar.{Pass, Passes, given_of, garbled_of, skipped_o
 use Rattle.fix_text.specs.Reading.{Stream, fed}
 use Rattle.fix_text.specs.Deciding.{counted, IsNext}
 
--- what a call gave: these bytes were fed, or refused; a frame of these fields was given, more bytes are needed, or it was refused
+-- what a call gave: bytes were fed, or refused; or a frame of these fields, or that more bytes are needed, or a refusal
 pub data Called : Type 0 where
   Fed : List ℕ → Called
   FeedRefused : List ℕ → Called

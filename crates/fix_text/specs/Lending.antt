@@ -14,4 +14,6 @@ next_frame frame stream = record { frame = option_map fields_in frame; stream = 
 
 -- the reader stands behind what the call for the next frame passed, or where it was if that was refused
 abbrev pub LeavesNext : MutBor Stream → Result (Option Frame) ReaderFault → Fml
-LeavesNext reader result = follows_so the_row the_row reader.ghost_name none (λ _ _. ⊤) (λ after. MatchResult result (λ _. after ≡ (next_read reader.now).stream) (λ _. after ≡ reader.now))
+LeavesNext reader result =
+    follows_so the_row the_row reader.ghost_name none (λ _ _. ⊤)
+    (λ after. MatchResult result (λ _. after ≡ (next_read reader.now).stream) (λ _. after ≡ reader.now))

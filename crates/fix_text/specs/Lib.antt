@@ -6,6 +6,7 @@ pub mod Reading
 pub mod Placing
 pub mod FrameFields
 pub mod Passing
+pub mod FrameParts
 pub mod Deciding
 pub mod Lending
 pub mod Calls

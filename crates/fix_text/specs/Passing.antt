@@ -1,5 +1,6 @@
 -- How far a stream was passed, by a place in the bytes that are kept of it.
-use Rattle.std.specs.Prelude.{ℕ, ◌+◌, ◌-◌, ◌*◌, ◌≤◌, List, length, drop, slice_range, Option, Some, None, option_map, IfSome}
+use Rattle.std.specs.Prelude.{ℕ, ◌+◌, ◌-◌, ◌*◌, ◌≤◌, List, length, drop, slice_range}
+use Rattle.std.specs.Prelude.{Option, Some, None, option_map, IfSome}
 use Rattle.fix_text.specs.Reading.{Stream, NextFrame}
 use Rattle.fix_text.specs.Placing.{fields_at, AreWithin}
 use Rattle.fix_text.specs.declared.passed.Body.{Body}
@@ -43,6 +44,6 @@ abbrev pub body_after : ℕ → Option Body → Option Body
 body_after count (Some body) = Some (record { start = body.start - count; end = body.end - count })
 body_after count None = None
 
--- the most bytes that a reader keeps while so many aren't passed: twice as many, counted with a frame that is lent, and 8,192
+-- the most bytes that a reader keeps while so many aren't passed: twice as many, with the frame that is lent, and 8,192
 abbrev pub most_kept : ℕ → ℕ
 most_kept left = 2 * (left + 4103) + 8192

@@ -1,5 +1,5 @@
 //! A frame: fields that are lent from the text in which they lie.
-ghost use Rattle.std.specs.Prelude.{◌≡◌, ◌<◌, Some, length, slice_get, IfOk, IsOkUnless, OnErr, vec_capacity};
+ghost use Rattle.std.specs.Prelude.{◌≡◌, ◌<◌, ◌==◌, Some, length, slice_get, IfOk, IsOkUnless, OnErr, vec_capacity};
 ghost use Rattle.std.specs.Option.{option_map};
 ghost use Rattle.fix_text.specs.Tagged.{value_of};
 ghost use Rattle.fix_text.specs.Reading.{fields_of};
@@ -7,6 +7,7 @@ ghost use Rattle.fix_text.specs.Placing.{AreMore, AreWithin, fields_at};
 
 use crate::field::FieldRef;
 use crate::fields::place_fields;
+use crate::frame_fields::FrameFields;
 use crate::place::Place;
 use crate::reader_fault::ReaderFault;
 
@@ -20,7 +21,7 @@ pub struct Frame<'a> {
 }
 
 impl<'a> Frame<'a> {
-    ghost use Rattle.fix_text.specs.FrameFields.{fields_in};
+    ghost use Rattle.fix_text.specs.FrameFields.{fields_in, fields_left};
 
     /// A frame of any text that is nothing but fields, with `places` as the room for where they lie; what it held is
     /// dropped. The only refusal is want of memory, which comes only where the text is more fields than `places` has
@@ -53,6 +54,23 @@ impl<'a> Frame<'a> {
         ensures { result ≡ length (fields_in self.now) }
     {
         self.places.len()
+    }
+
+    /// Whether there is no field, which isn't so of a frame that a `FrameReader` gave.
+    pub fn is_empty(&self) -> bool
+        ensures { result ≡ (length (fields_in self.now) == 0) }
+    {
+        self.places.is_empty()
+    }
+
+    /// The fields, in order.
+    pub fn iter(&self) -> FrameFields<'a>
+        ensures { fields_left result ≡ fields_in self.now }
+    {
+        FrameFields {
+            text: self.text,
+            places: self.places,
+        }
     }
 
     /// The field at an index, which counts from 0, lent for as long as the frame's own lender lends it.

@@ -1,11 +1,13 @@
 //! Which fields can be written as a frame, and how long their text is.
-ghost use Rattle.std.specs.Prelude.{true, not, nat_lt, Ok, Err, ◌≡◌, ◌+◌, ◌≤◌, ◌++◌, min, length, decimal, if◌then◌else◌};
+ghost use Rattle.std.specs.Prelude.{true, not, nat_lt, Ok, Err, ◌≡◌, ◌+◌, ◌≤◌, min, length, decimal, if◌then◌else◌};
 ghost use Rattle.std.specs.List.{list_all, flat_map};
 ghost use Rattle.fix_text.specs.Text.{field_text, fields_text, holds_soh, begins_with_type, is_writable_tag, is_writable_value, has_writable_tags, has_writable_values};
+ghost use Rattle.fix_text.specs.FrameParts.{all_fields};
 ghost use Rattle.fix_text.specs.declared.fault.TextFault.TheVariants.{BadTag, BadValue, TooLong};
 
 use crate::fault::TextFault;
-use crate::field::{Field, FieldRef, Lend};
+use crate::field::Lend;
+use crate::frame_parts::FrameParts;
 use memchr::memchr;
 
 /// The greatest BodyLength (9), in bytes.
@@ -42,14 +44,14 @@ fn can_write_each_tag<F: Lend>(fields: &[F]) -> bool
     fields.iter().all(|field| can_write_tag(field.lend().tag()))
 }
 
-fn is_typed(head: &[FieldRef<'_>], body: &[FieldRef<'_>], rest: &[Field]) -> bool
-    ensures { result ≡ begins_with_type (head.now ++ body.now ++ rest.now) }
+fn is_typed(parts: &FrameParts<'_>) -> bool
+    ensures { result ≡ begins_with_type (all_fields parts.now) }
 {
-    match head {
+    match parts.head {
         [field, ..] => field.tag() == 35,
-        [] => match body {
+        [] => match parts.body {
             [field, ..] => field.tag() == 35,
-            [] => match rest {
+            [] => match parts.rest {
                 [field, ..] => field.tag() == 35,
                 [] => false,
             },
@@ -57,13 +59,13 @@ fn is_typed(head: &[FieldRef<'_>], body: &[FieldRef<'_>], rest: &[Field]) -> boo
     }
 }
 
-fn can_write_tags(head: &[FieldRef<'_>], body: &[FieldRef<'_>], rest: &[Field]) -> bool
-    ensures { result ≡ has_writable_tags (head.now ++ body.now ++ rest.now) }
+fn can_write_tags(parts: &FrameParts<'_>) -> bool
+    ensures { result ≡ has_writable_tags (all_fields parts.now) }
 {
-    is_typed(head, body, rest)
-        && can_write_each_tag(head)
-        && can_write_each_tag(body)
-        && can_write_each_tag(rest)
+    is_typed(parts)
+        && can_write_each_tag(parts.head)
+        && can_write_each_tag(parts.body)
+        && can_write_each_tag(parts.rest)
 }
 
 /// The number of decimal digits of a tag or a length.
@@ -90,10 +92,12 @@ fn can_write_each_value<F: Lend>(fields: &[F]) -> bool
         .all(|field| can_write_value(field.lend().value()))
 }
 
-fn can_write_values(head: &[FieldRef<'_>], body: &[FieldRef<'_>], rest: &[Field]) -> bool
-    ensures { result ≡ has_writable_values (head.now ++ body.now ++ rest.now) }
+fn can_write_values(parts: &FrameParts<'_>) -> bool
+    ensures { result ≡ has_writable_values (all_fields parts.now) }
 {
-    can_write_each_value(head) && can_write_each_value(body) && can_write_each_value(rest)
+    can_write_each_value(parts.head)
+        && can_write_each_value(parts.body)
+        && can_write_each_value(parts.rest)
 }
 
 /// The length of text that is there and of the written fields, or `TOO_LONG` where it is above the
@@ -113,16 +117,14 @@ fn length_with<F: Lend>(before: usize, fields: &[F]) -> usize
 
 /// The length of the text of fields that can be written one by one, or that it is above the greatest
 /// body.
-pub fn text_length(
-    head: &[FieldRef<'_>],
-    body: &[FieldRef<'_>],
-    rest: &[Field],
-) -> Result<usize, TextFault>
-    requires tags { has_writable_tags (head.now ++ body.now ++ rest.now) ≡ true }
-    ensures { let fields = head.now ++ body.now ++ rest.now in
+pub fn text_length(parts: &FrameParts<'_>) -> Result<usize, TextFault>
+    requires tags { has_writable_tags (all_fields parts.now) ≡ true }
+    ensures { let fields = all_fields parts.now in
         result ≡ (if nat_lt 4096 (length (fields_text fields)) then Err TooLong else Ok (length (fields_text fields))) }
 {
-    let length = length_with(length_with(length_with(0, head), body), rest);
+    let head = length_with(0, parts.head);
+    let front = length_with(head, parts.body);
+    let length = length_with(front, parts.rest);
     if length > MAX_BODY {
         return Err(TextFault::TooLong);
     }
@@ -130,18 +132,14 @@ pub fn text_length(
 }
 
 /// Looks for a field that can't be written: each fault is tried over all fields before the next.
-pub fn check_fields(
-    head: &[FieldRef<'_>],
-    body: &[FieldRef<'_>],
-    rest: &[Field],
-) -> Result<(), TextFault>
-    ensures { let fields = head.now ++ body.now ++ rest.now in
+pub fn check_fields(parts: &FrameParts<'_>) -> Result<(), TextFault>
+    ensures { let fields = all_fields parts.now in
         result ≡ (if not (has_writable_tags fields) then Err BadTag else (if not (has_writable_values fields) then Err BadValue else Ok tt)) }
 {
-    if !can_write_tags(head, body, rest) {
+    if !can_write_tags(parts) {
         return Err(TextFault::BadTag);
     }
-    if !can_write_values(head, body, rest) {
+    if !can_write_values(parts) {
         return Err(TextFault::BadValue);
     }
     Ok(())

@@ -2,11 +2,13 @@
 ghost use Rattle.std.specs.Prelude.{true, Err, ◌≡◌, ◌+◌, ◌<◌, ◌≤◌, ◌++◌, List, length, drop, vec_len, vec_capacity, IsOkUnless, OnOk, OnErr, MatchOption, ℕ};
 ghost use Rattle.std.specs.List.{flat_map};
 ghost use Rattle.fix_text.specs.Text.{field_text, fields_text, has_writable_tags, has_writable_values};
+ghost use Rattle.fix_text.specs.FrameParts.{all_fields};
 ghost use Rattle.fix_text.specs.Frame.{HasRoom, Appends, header_text, trailer_text, framed, frame_text, frame_refusal};
 
 use crate::checksum::sum256;
 use crate::fault::TextFault;
 use crate::field::{Field, FieldRef, Lend};
+use crate::frame_parts::FrameParts;
 use crate::refusal::{check_fields, digit_count, text_length};
 use itoa::Buffer;
 
@@ -84,22 +86,16 @@ fn push_trailer(start: usize, out: &mut Vec<u8>)
 }
 
 /// Appends the frame of fields whose text is of this length, for which there is room.
-fn push_frame(
-    length_of_text: usize,
-    head: &[FieldRef<'_>],
-    body: &[FieldRef<'_>],
-    rest: &[Field],
-    out: &mut Vec<u8>,
-)
-    requires length { length_of_text ≡ length (fields_text (head.now ++ body.now ++ rest.now)) }
-    requires room { HasRoom out.old (frame_text (head.now ++ body.now ++ rest.now)) }
-    ensures { Appends out.old out.new (frame_text (head.now ++ body.now ++ rest.now)) }
+fn push_frame(length_of_text: usize, parts: &FrameParts<'_>, out: &mut Vec<u8>)
+    requires length { length_of_text ≡ length (fields_text (all_fields parts.now)) }
+    requires room { HasRoom out.old (frame_text (all_fields parts.now)) }
+    ensures { Appends out.old out.new (frame_text (all_fields parts.now)) }
 {
     let start = out.len();
     push_header(length_of_text, out);
-    push_fields(head, out);
-    push_fields(body, out);
-    push_fields(rest, out);
+    push_fields(parts.head, out);
+    push_fields(parts.body, out);
+    push_fields(parts.rest, out);
     push_trailer(start, out);
 }
 
@@ -120,18 +116,20 @@ pub fn write_writable_parts(
     ensures asked { OnErr result (vec_capacity out.new ≡ vec_capacity out.old) }
     ensures full { result ≡ Err TextFault.OutOfMemory → vec_capacity out.old < vec_len out.old + length (frame_text (head.now ++ body.now ++ rest.now)) }
 {
-    let length_of_text = text_length(head, body, rest)?;
+    let parts = FrameParts { head, body, rest };
+    let length_of_text = text_length(&parts)?;
     if out.reserve(frame_length(length_of_text)).is_err() {
         return Err(TextFault::OutOfMemory);
     }
-    push_frame(length_of_text, head, body, rest, out);
+    push_frame(length_of_text, &parts, out);
     Ok(())
 }
 
 /// Appends the one written frame of the fields of `head`, `body` and `rest`, one behind the other,
 /// as `write_frame` does of one list. So what lies apart, or is lent, need not be copied.
 ///
-/// Memory is asked for once, before the first byte, and only where `out` has no room for the frame.
+/// Memory is asked for before the first byte, and only where `out` has no room for the frame; a refusal leaves its room as
+/// it was.
 pub fn write_frame_parts(
     head: &[FieldRef<'_>],
     body: &[FieldRef<'_>],
@@ -144,7 +142,7 @@ pub fn write_frame_parts(
     ensures asked { OnErr result (vec_capacity out.new ≡ vec_capacity out.old) }
     ensures full { result ≡ Err TextFault.OutOfMemory → vec_capacity out.old < vec_len out.old + length (frame_text (head.now ++ body.now ++ rest.now)) }
 {
-    check_fields(head, body, rest)?;
+    check_fields(&FrameParts { head, body, rest })?;
     write_writable_parts(head, body, rest, out)
 }
 

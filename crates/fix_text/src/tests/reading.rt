@@ -131,6 +131,11 @@ fn a_text_of_fields_is_a_frame(rt: HostRuntime) -> Result<(), Fail> {
     assert!(rt; is_field(&frame, 2, 999_999, b"b=c"));
     assert_eq!(rt; frame.get(58), Some(b"a".as_slice()));
     assert_eq!(rt; frame.get(10), None);
+    let mut tags = [0u32; 4];
+    for (tag, field) in tags.iter_mut().zip(frame.iter()) {
+        *tag = field.tag();
+    }
+    assert_eq!(rt; tags, [58, 1, 999_999, 58]);
     let others: [&[u8]; 6] = [
         b"58=a",
         b"58=a\x01\x01",
@@ -143,7 +148,8 @@ fn a_text_of_fields_is_a_frame(rt: HostRuntime) -> Result<(), Fail> {
         assert!(rt; Frame::read(other, &mut places)?.is_none());
     }
     let nothing = Frame::read(b"", &mut places)?.ok_or("a frame")?;
-    assert_eq!(rt; nothing.len(), 0);
+    assert!(rt; nothing.is_empty());
+    assert!(rt; nothing.iter().next().is_none());
     Ok(())
 }
 
