@@ -6,7 +6,8 @@ use Rattle.std.proofs.lemmas.List.{at_drop_more, take_more}
 use Rattle.std.proofs.lemmas.List.Folds.{list_all_more}
 use Rattle.std.proofs.lemmas.Str.Parse.{digits_value_short}
 use Rattle.fix_tags.proofs.Spelled.{own}
-use Rattle.fix_tags.specs.Digits.{number_after, digits_number, leading_digits, after_digits, all_digits}
+use Rattle.fix_text.specs.Grammar.{number_after}
+use Rattle.fix_tags.specs.Digits.{digits_number, leading_digits, after_digits, all_digits}
 
 -- so many digits write a number below that power of ten
 pub digits_number-lt : (k : ℕ) (ds : List ℕ) → all_digits ds ≡ true → length ds ≤ k → digits_number ds < 10 ^ k
@@ -15,7 +16,7 @@ digits_number-lt k ds digits short = digits_value_short own ds k digits short
 -- digits that follow those of a number make no smaller number
 pub number_after-ge : (n : ℕ) (ds : List ℕ) → n ≤ number_after n ds
 number_after-ge n [] = omega arith
-number_after-ge n (c ∷ cs) = omega (arith, number_after-ge (n * 10 + (c - 48)) cs)
+number_after-ge n (c ∷ cs) = omega (arith, number_after-ge (10 * n + (c - 48)) cs)
 
 -- past a limit it doesn't matter by how much
 number_after-min_by : (limit n : ℕ) (ds : List ℕ) → (limit ≤ n) ⊎ (n < limit) → min limit (number_after (min limit n) ds) ≡ min limit (number_after n ds)
@@ -49,16 +50,16 @@ after_digits-more text i h digit =
     ∙ ap (λ b. cond b (after_digits (drop (i + 1) text)) (get_or text i 0 ∷ drop (i + 1) text)) digit
 
 -- one more digit of a number that is read up to a limit
-pub number_more : (limit v w c : ℕ) (text : List ℕ) (i : ℕ) → i < length text → c ≡ get_or text i 0 → is_ascii_digit c ≡ true → w ≡ min limit (v * 10 + (c - 48)) → min limit (number_after w (leading_digits (drop (i + 1) text))) ≡ min limit (number_after v (leading_digits (drop i text)))
+pub number_more : (limit v w c : ℕ) (text : List ℕ) (i : ℕ) → i < length text → c ≡ get_or text i 0 → is_ascii_digit c ≡ true → w ≡ min limit (10 * v + (c - 48)) → min limit (number_after w (leading_digits (drop (i + 1) text))) ≡ min limit (number_after v (leading_digits (drop i text)))
 number_more limit v w c text i h at digit is =
     let digit_there : is_ascii_digit (get_or text i 0) ≡ true = rw (← at) digit in
-    rw (is, leading_digits-more text i h digit_there, ← at) (number_after-min limit (v * 10 + (c - 48)) (leading_digits (drop (i + 1) text)))
+    rw (is, leading_digits-more text i h digit_there, ← at) (number_after-min limit (10 * v + (c - 48)) (leading_digits (drop (i + 1) text)))
 
-number_after-push : (n : ℕ) (ds : List ℕ) (c : ℕ) → number_after n (ds ++ c ∷ []) ≡ number_after n ds * 10 + (c - 48)
+number_after-push : (n : ℕ) (ds : List ℕ) (c : ℕ) → number_after n (ds ++ c ∷ []) ≡ 10 * number_after n ds + (c - 48)
 number_after-push n [] c = refl
-number_after-push n (d ∷ ds) c = number_after-push (n * 10 + (d - 48)) ds c
+number_after-push n (d ∷ ds) c = number_after-push (10 * n + (d - 48)) ds c
 
 -- one more digit of a number that is read from its front
-pub digits_more : (text : List ℕ) (i : ℕ) → i < length text → is_ascii_digit (get_or text i 0) ≡ true → all_digits (take i text) ≡ true → (digits_number (take (i + 1) text) ≡ digits_number (take i text) * 10 + (get_or text i 0 - 48)) × (all_digits (take (i + 1) text) ≡ true)
+pub digits_more : (text : List ℕ) (i : ℕ) → i < length text → is_ascii_digit (get_or text i 0) ≡ true → all_digits (take i text) ≡ true → (digits_number (take (i + 1) text) ≡ 10 * digits_number (take i text) + (get_or text i 0 - 48)) × (all_digits (take (i + 1) text) ≡ true)
 digits_more text i h digit before =
     (rw (take_more text i 0 h) (number_after-push 0 (take i text) (get_or text i 0)), rw (list_all_more is_ascii_digit text i 0 h, before) digit)

@@ -11,7 +11,7 @@ use Rattle.fix_tags.specs.declared.tag_fault.TagFault.{TagFault}
 use Rattle.fix_tags.proofs.Lookups.{flag_or, value_of-time, value_of-dup, value_of-resend}
 
 -- what a step gives is handed on
-bind_ok : {A B : Type 0} (r : Result A TagFault) (x : A) (f : A → Result B TagFault) (y : Result B TagFault) → r ≡ Ok x → f x ≡ y → (r >>= f) ≡ y
+pub bind_ok : {A B : Type 0} (r : Result A TagFault) (x : A) (f : A → Result B TagFault) (y : Result B TagFault) → r ≡ Ok x → f x ≡ y → (r >>= f) ≡ y
 bind_ok r x f y found next = rw found next
 
 -- a field that is there and reads well

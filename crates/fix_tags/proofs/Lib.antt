@@ -8,8 +8,10 @@ pub mod Gathered
 pub mod HeaderBack
 pub mod Lookups
 pub mod MessageBack
+pub mod MessageLaws
 pub mod Outcomes
 pub mod ReadBack
+pub mod Said
 pub mod Spelled
 pub mod Readings
 pub mod Steps

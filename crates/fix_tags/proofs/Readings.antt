@@ -46,7 +46,8 @@ record IsBody (text : List ℕ) (fields : List Tagged) (body : Body) : Type 0 wh
   says : SaysBody fields body
   range : IsReadableBody body
 
-is_body : (text : List ℕ) (fields : List Tagged) (read body : Body) → IsBody text fields read → ◌≡◌ {A = Result Body TagFault} (Ok read) (Ok body) → IsBody text fields body
+is_body : (text : List ℕ) (fields : List Tagged) (read body : Body) → IsBody text fields read
+    → ◌≡◌ {A = Result Body TagFault} (Ok read) (Ok body) → IsBody text fields body
 is_body text fields read body is e = subst (IsBody text fields) (same_ok read body e) is
 
 logon_is : (fields : List Tagged) (body : Body) → logon_read fields ≡ Ok body → IsBody (codes "A") fields body
@@ -74,45 +75,62 @@ heartbeat_is fields body e =
     let found = says_text_if_any fields 112 id first in
     is_body (codes "0") fields (Heartbeat id) body (record { kind = refl; says = found.0; range = found.1 }) e1)
 
-test_request_is : (fields : List Tagged) (body : Body) → test_request_read fields ≡ Ok body → IsBody (codes "1") fields body
+test_request_is : (fields : List Tagged) (body : Body) → test_request_read fields ≡ Ok body
+    → IsBody (codes "1") fields body
 test_request_is fields body e =
     step _ (required fields 112 (short_text 64)) body e (λ id first e1.
     let found = says_text fields 112 64 id first in
     is_body (codes "1") fields (TestRequest id) body (record { kind = refl; says = found.0; range = found.1 }) e1)
 
-resend_request_is : (fields : List Tagged) (body : Body) → resend_request_read fields ≡ Ok body → IsBody (codes "2") fields body
+resend_request_is : (fields : List Tagged) (body : Body) → resend_request_read fields ≡ Ok body
+    → IsBody (codes "2") fields body
 resend_request_is fields body e =
     step _ (required fields 7 (number_if is_reference)) body e (λ begin first e1.
     step _ (required fields 16 (number_if is_reference)) body e1 (λ last second e2.
     let from = says_number fields 7 is_reference begin first in
     let upto = says_number fields 16 is_reference last second in
-    is_body (codes "2") fields (ResendRequest begin last) body (record { kind = refl; says = (from.0, upto.0); range = (reference_from begin from.1, reference_from last upto.1) }) e2))
+    is_body (codes "2") fields (ResendRequest begin last) body (record {
+      kind = refl;
+      says = (from.0, upto.0);
+      range = (reference_from begin from.1, reference_from last upto.1);
+    }) e2))
 
 reject_is : (fields : List Tagged) (body : Body) → reject_read fields ≡ Ok body → IsBody (codes "3") fields body
 reject_is fields body e =
     step _ (required fields 45 (number_if is_reference)) body e (λ number first e1.
     let found = says_number fields 45 is_reference number first in
-    is_body (codes "3") fields (Reject number) body (record { kind = refl; says = found.0; range = reference_from number found.1 }) e1)
+    is_body (codes "3") fields (Reject number) body
+    (record { kind = refl; says = found.0; range = reference_from number found.1 }) e1)
 
-reset_or_fill_is : (fields : List Tagged) (fills : Bool) (number : ℕ) → SaysFlag fields 123 fills → SaysNumber fields 36 number → IsReference number → IsBody (codes "4") fields (reset_or_fill fills number)
+reset_or_fill_is : (fields : List Tagged) (fills : Bool) (number : ℕ) → SaysFlag fields 123 fills
+    → SaysNumber fields 36 number → IsReference number → IsBody (codes "4") fields (reset_or_fill fills number)
 reset_or_fill_is fields true number flag says range = record { kind = refl; says = (flag, says); range = range }
 reset_or_fill_is fields false number flag says range = record { kind = refl; says = (flag, says); range = range }
 
-sequence_reset_is : (fields : List Tagged) (body : Body) → sequence_reset_read fields ≡ Ok body → IsBody (codes "4") fields body
+sequence_reset_is : (fields : List Tagged) (body : Body) → sequence_reset_read fields ≡ Ok body
+    → IsBody (codes "4") fields body
 sequence_reset_is fields body e =
     step _ (flag_at fields 123) body e (λ fills first e1.
     step _ (required fields 36 (number_if is_reference)) body e1 (λ number second e2.
     let found = says_number fields 36 is_reference number second in
-    is_body (codes "4") fields (reset_or_fill fills number) body (reset_or_fill_is fields fills number (says_flag fields 123 fills first) found.0 (reference_from number found.1)) e2))
+    is_body (codes "4") fields (reset_or_fill fills number) body
+    (reset_or_fill_is fields fills number (says_flag fields 123 fills first) found.0 (reference_from number found.1)) e2))
 
-business_reject_is : (fields : List Tagged) (body : Body) → business_reject_read fields ≡ Ok body → IsBody (codes "j") fields body
+business_reject_is : (fields : List Tagged) (body : Body) → business_reject_read fields ≡ Ok body
+    → IsBody (codes "j") fields body
 business_reject_is fields body e =
     step _ (optional fields 45 (some_number is_reference) None) body e (λ number first e1.
     let found = says_number_if_any fields 45 is_reference number first in
-    is_body (codes "j") fields (BusinessReject number) body (record { kind = refl; says = found.0; range = reference_if_any number found.1 }) e1)
+    is_body (codes "j") fields (BusinessReject number) body
+    (record { kind = refl; says = found.0; range = reference_if_any number found.1 }) e1)
+
+logout_is : (fields : List Tagged) (body : Body) → ◌≡◌ {A = Result Body TagFault} (Ok Logout) (Ok body) → IsBody (codes "5") fields body
+logout_is fields body e = is_body (codes "5") fields Logout body (record { kind = refl; says = tt; range = tt }) e
 
 -- the fields that are kept are the application's
-kept_by : (b : Bool) (f : Tagged) (fields : List Tagged) → is_app_tag f.tag ≡ b → list_all (λ f. is_app_tag f.tag) fields ≡ true → list_all (λ f. is_app_tag f.tag) (cond b (f ∷ fields) fields) ≡ true
+kept_by : (b : Bool) (f : Tagged) (fields : List Tagged) → is_app_tag f.tag ≡ b
+    → list_all (λ f. is_app_tag f.tag) fields ≡ true
+    → list_all (λ f. is_app_tag f.tag) (cond b (f ∷ fields) fields) ≡ true
 kept_by true f fields is rest = rw (is, rest) refl
 kept_by false f fields is rest = rest
 
@@ -120,32 +138,41 @@ all_kept : (fields : List Tagged) → list_all (λ f. is_app_tag f.tag) (filter 
 all_kept [] = refl
 all_kept (f ∷ fields) = kept_by (is_app_tag f.tag) f (filter (λ f. is_app_tag f.tag) fields) refl (all_kept fields)
 
-app_is : (kind : List ℕ) (fields : List Tagged) (body : Body) → IsShortText 8 kind → is_session_kind kind ≡ false → app_read kind fields ≡ Ok body → IsBody kind fields body
+app_is : (kind : List ℕ) (fields : List Tagged) (body : Body) → IsShortText 8 kind → is_session_kind kind ≡ false
+    → app_read kind fields ≡ Ok body → IsBody kind fields body
 app_is kind fields body short other e =
-    is_body kind fields (App kind (filter (λ f. is_app_tag f.tag) fields)) body (record { kind = refl; says = refl; range = (short, other, all_kept fields) }) e
+    is_body kind fields (App kind (filter (λ f. is_app_tag f.tag) fields)) body
+    (record { kind = refl; says = refl; range = (short, other, all_kept fields) }) e
 
 -- a test and what is read where it passes
-chosen : {P : Type 0} (b : Bool) (x y : Result Body TagFault) (body : Body) → (b ≡ true → x ≡ Ok body → P) → (b ≡ false → y ≡ Ok body → P) → cond b x y ≡ Ok body → P
+chosen : {P : Type 0} (b : Bool) (x y : Result Body TagFault) (body : Body) → (b ≡ true → x ≡ Ok body → P)
+    → (b ≡ false → y ≡ Ok body → P) → cond b x y ≡ Ok body → P
 chosen true x y body here later e = here refl e
 chosen false x y body here later e = later refl e
 
-byte_is : (c d : ℕ) (fields : List Tagged) (body : Body) → (c == d) ≡ true → IsBody (d ∷ []) fields body → IsBody (c ∷ []) fields body
+byte_is : (c d : ℕ) (fields : List Tagged) (body : Body) → (c == d) ≡ true → IsBody (d ∷ []) fields body
+    → IsBody (c ∷ []) fields body
 byte_is c d fields body same is = subst (λ (k : ℕ). IsBody (k ∷ []) fields body) (sym (eqb-true c d same)) is
 
-body_of_byte_is : (c : ℕ) (fields : List Tagged) (body : Body) → IsShortText 8 (c ∷ []) → body_of_byte c fields ≡ Ok body → IsBody (c ∷ []) fields body
+body_of_byte_is : (c : ℕ) (fields : List Tagged) (body : Body) → IsShortText 8 (c ∷ [])
+    → body_of_byte c fields ≡ Ok body → IsBody (c ∷ []) fields body
 body_of_byte_is c fields body short e =
     chosen (c == 65) _ _ body (λ same read. byte_is c 65 fields body same (logon_is fields body read)) (λ n65 e0.
     chosen (c == 48) _ _ body (λ same read. byte_is c 48 fields body same (heartbeat_is fields body read)) (λ n48 e1.
     chosen (c == 49) _ _ body (λ same read. byte_is c 49 fields body same (test_request_is fields body read)) (λ n49 e2.
-    chosen (c == 50) _ _ body (λ same read. byte_is c 50 fields body same (resend_request_is fields body read)) (λ n50 e3.
+    chosen (c == 50) _ _ body (λ same read. byte_is c 50 fields body same (resend_request_is fields body read))
+    (λ n50 e3.
     chosen (c == 51) _ _ body (λ same read. byte_is c 51 fields body same (reject_is fields body read)) (λ n51 e4.
-    chosen (c == 52) _ _ body (λ same read. byte_is c 52 fields body same (sequence_reset_is fields body read)) (λ n52 e5.
-    chosen (c == 53) _ _ body (λ same read. byte_is c 53 fields body same (is_body (codes "5") fields Logout body (record { kind = refl; says = tt; range = tt }) read)) (λ n53 e6.
-    chosen (c == 106) _ _ body (λ same read. byte_is c 106 fields body same (business_reject_is fields body read)) (λ n106 e7.
+    chosen (c == 52) _ _ body (λ same read. byte_is c 52 fields body same (sequence_reset_is fields body read))
+    (λ n52 e5.
+    chosen (c == 53) _ _ body (λ same read. byte_is c 53 fields body same (logout_is fields body read)) (λ n53 e6.
+    chosen (c == 106) _ _ body (λ same read. byte_is c 106 fields body same (business_reject_is fields body read))
+    (λ n106 e7.
     let other : is_session_byte c ≡ false = rw (n65, n48, n49, n50, n51, n52, n53, n106) refl in
     app_is (c ∷ []) fields body short other e7) e6) e5) e4) e3) e2) e1) e0) e
 
-body_is : (kind : List ℕ) (fields : List Tagged) (body : Body) → IsShortText 8 kind → body_read kind fields ≡ Ok body → IsBody kind fields body
+body_is : (kind : List ℕ) (fields : List Tagged) (body : Body) → IsShortText 8 kind → body_read kind fields ≡ Ok body
+    → IsBody kind fields body
 body_is [] fields body short e = app_is [] fields body short refl e
 body_is (c ∷ []) fields body short e = body_of_byte_is c fields body short e
 body_is (c ∷ d ∷ ds) fields body short e = app_is (c ∷ d ∷ ds) fields body short refl e
@@ -171,7 +198,8 @@ envelope_read-Ok fields e read =
     step _ (flag_at fields 43) e e5 (λ poss_dup sixth e6.
     step _ (flag_at fields 97) e e6 (λ poss_resend seventh e7.
     step _ (body_read kind fields) e e7 (λ body eighth e8.
-    let is : Envelope = record { sender = sender; target = target; number = number; poss_dup = poss_dup; poss_resend = poss_resend; body = body } in
+    let is : Envelope =
+    record { sender = sender; target = target; number = number; poss_dup = poss_dup; poss_resend = poss_resend; body = body } in
     let kind_says = says_text fields 35 8 kind first in
     let from = required-Ok fields 49 comp_id_of sender second in
     let sender_is = comp_id_of-Some from.0 sender from.2 in
@@ -182,7 +210,13 @@ envelope_read-Ok fields e read =
     let sent = required-Ok fields 52 anything time fifth in
     let body_says = body_is kind fields body kind_says.1 eighth in
     subst (λ (e : Envelope). IsRead e fields) (same_ok is e e8) (record {
-      range = record { sender = sender_is.1; target = target_is.1; number_from = numbered.0; number = numbered.1; body = body_says.range };
+      range = record {
+        sender = sender_is.1;
+        target = target_is.1;
+        number_from = numbered.0;
+        number = numbered.1;
+        body = body_says.range;
+      };
       says = record {
         kind = kind_says.0 ∙ ap Some body_says.kind;
         sender = from.1 ∙ ap Some sender_is.0;
@@ -202,12 +236,14 @@ pub is_reading : (fields : List Tagged) (e : Envelope) → envelope_read fields 
 is_reading fields e read = (envelope_read-Ok fields e read).says
 
 -- of whatever the reading of a message answers
-pub read_in_range : (fields : List Tagged) (result : Result Envelope ReadFault) → ReadsEnvelope result (envelope_read fields) → IfOk result (λ e. IsReadable e)
+pub read_in_range : (fields : List Tagged) (result : Result Envelope ReadFault)
+    → ReadsEnvelope result (envelope_read fields) → IfOk result (λ e. IsReadable e)
 read_in_range fields (Ok e) read = in_range fields e read
 read_in_range fields (Err (Tag fault)) read = tt
 read_in_range fields (Err OutOfMemory) read = tt
 
-pub read_says : (fields : List Tagged) (result : Result Envelope ReadFault) → ReadsEnvelope result (envelope_read fields) → IfOk result (λ e. IsReadingOf e fields)
+pub read_says : (fields : List Tagged) (result : Result Envelope ReadFault)
+    → ReadsEnvelope result (envelope_read fields) → IfOk result (λ e. IsReadingOf e fields)
 read_says fields (Ok e) read = is_reading fields e read
 read_says fields (Err (Tag fault)) read = tt
 read_says fields (Err OutOfMemory) read = tt

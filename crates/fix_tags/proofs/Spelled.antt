@@ -5,7 +5,8 @@ use Rattle.std.proofs.lemmas.Bool.{and_parts, and_from}
 use Rattle.std.proofs.lemmas.Bool.Decides.{nat_tests}
 use Rattle.std.proofs.lemmas.Fmt.{digits_decimal, digits_value-decimal}
 use Rattle.std.proofs.lemmas.Str.Parse.{IsNumeralModel, IsDigitsTest, FoldsDigits, numerals_by_fold}
-use Rattle.fix_tags.specs.Digits.{number_after, digits_number, leading_digits, after_digits, all_digits, number_in, digit_at, two_digits, three_digits, four_digits}
+use Rattle.fix_text.specs.Grammar.{number_after}
+use Rattle.fix_tags.specs.Digits.{digits_number, leading_digits, after_digits, all_digits, number_in, digit_at, two_digits, three_digits, four_digits}
 
 -- our words for digits, and for the number that they write, are std's
 all_digits_test : IsDigitsTest (λ ds. all_digits ds ≡ true)

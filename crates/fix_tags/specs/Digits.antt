@@ -1,12 +1,8 @@
 -- Decimal digits of a field's value, as ASCII writes them: 48 is '0' and 57 is '9'.
-use Rattle.std.specs.Prelude.{ℕ, ◌+◌, ◌-◌, ◌*◌, ◌/◌, ◌%◌, List, [], ◌∷◌, Bool, ◌&&◌, Option, Some, None, ◌==◌, nat_le, if◌then◌else◌}
+use Rattle.std.specs.Prelude.{ℕ, ◌+◌, ◌/◌, ◌%◌, List, [], ◌∷◌, Bool, ◌&&◌, Option, Some, None, ◌==◌, nat_le, if◌then◌else◌}
 use Rattle.std.specs.Char.{is_ascii_digit}
 use Rattle.std.specs.List.{list_all}
-
--- the number that digits write when they follow those of n
-abbrev pub number_after : ℕ → List ℕ → ℕ
-number_after n [] = n
-number_after n (c ∷ cs) = number_after (n * 10 + (c - 48)) cs
+use Rattle.fix_text.specs.Grammar.{number_after}
 
 -- the number that digits write
 abbrev pub digits_number : List ℕ → ℕ

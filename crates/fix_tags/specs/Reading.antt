@@ -163,13 +163,24 @@ abbrev pub body_read : List ℕ → List Tagged → Result Body TagFault
 body_read (c ∷ []) fields = body_of_byte c fields
 body_read kind fields = app_read kind fields
 
+-- the message of these parts
+abbrev pub message_of : List ℕ → List ℕ → ℕ → Bool → Bool → Body → Envelope
+message_of sender target number poss_dup poss_resend body = record {
+  sender = sender;
+  target = target;
+  number = number;
+  poss_dup = poss_dup;
+  poss_resend = poss_resend;
+  body = body;
+}
+
 -- the message of this kind and header, from its marks on
 abbrev pub message_read : List ℕ → List ℕ → List ℕ → ℕ → List Tagged → Result Envelope TagFault
 message_read kind sender target number fields = do
   poss_dup ← flag_at fields 43
   poss_resend ← flag_at fields 97
   body ← body_read kind fields
-  Ok (record { sender = sender; target = target; number = number; poss_dup = poss_dup; poss_resend = poss_resend; body = body })
+  Ok (message_of sender target number poss_dup poss_resend body)
 
 -- the message of a frame's fields
 unfoldable pub envelope_read : List Tagged → Result Envelope TagFault
@@ -179,7 +190,4 @@ envelope_read fields = do
   target ← required fields 56 comp_id_of
   number ← required fields 34 (number_if is_message_number)
   time ← required fields 52 anything
-  poss_dup ← flag_at fields 43
-  poss_resend ← flag_at fields 97
-  body ← body_read kind fields
-  Ok (record { sender = sender; target = target; number = number; poss_dup = poss_dup; poss_resend = poss_resend; body = body })
+  message_read kind sender target number fields

@@ -18,7 +18,7 @@ pub(crate) fn leading_number(bytes: &[u8]) -> (u64, &[u8])
         if !byte.is_ascii_digit() {
             return (value, &bytes[count..]);
         }
-        value = CAP.min(value * 10 + u64::from(*byte - b'0'));
+        value = CAP.min(10 * value + u64::from(*byte - b'0'));
     }
     (value, &[])
 }
@@ -35,7 +35,7 @@ pub(crate) fn short_number(bytes: &[u8]) -> Option<u16>
         if !byte.is_ascii_digit() {
             return None;
         }
-        value = value * 10 + u16::from(*byte - b'0');
+        value = 10 * value + u16::from(*byte - b'0');
     }
     Some(value)
 }

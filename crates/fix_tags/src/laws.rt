@@ -1,6 +1,6 @@
 //! What is written is read back: each law is the contract of a function that does nothing.
 
-ghost use Rattle.std.specs.Prelude.{◌≡◌, ◌≤◌, ℕ, List, length, true, None, Some, decimal};
+ghost use Rattle.std.specs.Prelude.{◌≡◌, ◌≤◌, ℕ, List, length, true, None, Some, Ok, decimal};
 ghost use Rattle.fix_text.specs.Frame.{frame_text};
 ghost use Rattle.fix_text.specs.Tagged.{Tagged};
 ghost use Rattle.fix_text.specs.Text.{fields_text};
@@ -12,7 +12,10 @@ ghost use Rattle.fix_tags.specs.Message.{is_app_kind, is_message_number, envelop
 ghost use Rattle.fix_tags.specs.Flag.{flag_of, flag_text};
 ghost use Rattle.fix_tags.specs.Number.{number_of};
 ghost use Rattle.fix_tags.specs.Price.{price_of, price_short, price_four};
+ghost use Rattle.fix_tags.specs.Readable.{IsReadable};
+ghost use Rattle.fix_tags.specs.Reading.{envelope_read};
 ghost use Rattle.fix_tags.specs.ReadsBack.{ReadsBackAs};
+ghost use Rattle.fix_tags.specs.Says.{IsReadingOf};
 ghost use Rattle.fix_tags.specs.Shares.{shares_of};
 ghost use Rattle.fix_tags.specs.Stamp.{StampParts, IsStamp, stamp_text, stamp_read};
 
@@ -71,4 +74,9 @@ pub fn application_messages_fit()
 pub fn written_messages_read_back()
     ensures { (e : Envelope) (s : StampParts) → envelope_refusal e s ≡ None → IsCompId e.sender → IsCompId e.target →
         ReadsBackAs e (frame_text (envelope_fields e s)) }
+{}
+
+/// A message in range that the fields say is the one that is read from them, and no other is.
+pub fn what_fields_say_is_read()
+    ensures { (e : Envelope) (fields : List Tagged) → IsReadable e → IsReadingOf e fields → envelope_read fields ≡ Ok e }
 {}

@@ -1,5 +1,6 @@
 use Rattle.std.proofs.Common.{◌≡◌, ◌≤◌, min, drop}
-use Rattle.fix_tags.specs.Digits.{number_after, leading_digits, after_digits, digits_number}
+use Rattle.fix_text.specs.Grammar.{number_after}
+use Rattle.fix_tags.specs.Digits.{leading_digits, after_digits, digits_number}
 use Rattle.fix_tags.proofs.digits.leading_number.Given as goal
 
 -- the digits that are left, after those of the value, write the whole number, up to the limit

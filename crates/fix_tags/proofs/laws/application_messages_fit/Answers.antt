@@ -1,5 +1,5 @@
-use Rattle.fix_tags.proofs.AppFits.{app_not_refused}
+use Rattle.fix_tags.proofs.MessageLaws.{application_messages_fit}
 use Rattle.fix_tags.proofs.laws.application_messages_fit.Goals as goal
 
 pub returns : goal.returns
-returns c = app_not_refused
+returns c = application_messages_fit

@@ -1,5 +1,5 @@
-use Rattle.fix_tags.proofs.StreamBack.{unrefused_reads_back}
+use Rattle.fix_tags.proofs.MessageLaws.{written_messages_read_back}
 use Rattle.fix_tags.proofs.laws.written_messages_read_back.Goals as goal
 
 pub returns : goal.returns
-returns c = unrefused_reads_back
+returns c = written_messages_read_back
