@@ -1,7 +1,7 @@
 -- A message that can be written is refused under no header, and read back from its frame, in any dialect.
 use Rattle.std.proofs.Common.{◌≡◌, ℕ, ◌+◌, ◌*◌, ◌≤◌, Bool, true, false, cond, List, [], ◌∷◌, ◌++◌, length, nat_lt, nat_le, decimal, codes, Option, Some, None, Result, Ok, Err, refl, sym, ap, subst, ◌∙◌, arith, length-append}
 use Rattle.std.specs.List.{AllByRecursion}
-use Rattle.std.proofs.lemmas.Bool.{and_parts, and_from, le-leb}
+use Rattle.std.proofs.lemmas.Bool.{and_parts, and_from}
 use Rattle.std.proofs.lemmas.Bool.Decides.{nat_tests}
 use Rattle.std.proofs.lemmas.Fmt.{length-decimal-le}
 use Rattle.fix_text.specs.Tagged.{Tagged}
@@ -11,9 +11,9 @@ use Rattle.fix_text.specs.Reading.{Stream, next_read}
 use Rattle.fix_text.proofs.Lengths.{length-field_text}
 use Rattle.fix_text.proofs.Rewritten.{next_begins}
 use Rattle.fix_tags.specs.CompId.{IsCompId}
-use Rattle.fix_tags.specs.Message.{is_reference, is_heart, is_message_number, is_next_number, is_test_id, kind_of, body_fields, kind_fault, body_fault, field_fault, envelope_fields, envelope_refusal}
+use Rattle.fix_tags.specs.Message.{is_reference, is_message_number, is_heart, is_next_number, is_test_id, kind_of, body_fields, kind_fault, body_fault, field_fault, envelope_fields, envelope_refusal}
 use Rattle.fix_tags.specs.Stamp.{StampParts, IsStamp, stamp_text}
-use Rattle.fix_tags.proofs.Written.{length-stamp_text}
+use Rattle.fix_tags.specs.Written.{length-stamp_text}
 use Rattle.fix_tags.specs.declared.body.Body.{Body}
 use Rattle.fix_tags.specs.declared.body.Body.TheVariants as body
 use Rattle.fix_tags.specs.declared.envelope.Envelope.{Envelope}
@@ -59,16 +59,16 @@ test_id_is id range =
     let parts = and_parts (nat_le (length id) 64) (is_writable_value id) range in and_from _ _ parts.1 parts.0
 
 number_is : (n : ℕ) → 1 ≤ n → n ≤ 999999998 → is_message_number n ≡ true
-number_is n low high = and_from _ _ (le-leb 1 n low) (le-leb n 999999998 high)
+number_is n low high = grind (arith, nat_tests)
 
 reference_is : (n : ℕ) → n ≤ 999999999 → is_reference n ≡ true
-reference_is n high = and_from _ _ (le-leb 0 n (omega arith)) (le-leb n 999999999 high)
+reference_is n high = grind (arith, nat_tests)
 
-heart_is : (n : ℕ) → n ≤ 999999 → is_heart n ≡ true
-heart_is n high = and_from _ _ (le-leb 0 n (omega arith)) (le-leb n 999999 high)
+heart_is : (seconds : ℕ) → seconds ≤ 999999 → is_heart seconds ≡ true
+heart_is seconds high = grind (arith, nat_tests)
 
 next_is : (n : ℕ) → 1 ≤ n → n ≤ 999999999 → is_next_number n ≡ true
-next_is n low high = and_from _ _ (le-leb 1 n low) (le-leb n 999999999 high)
+next_is n low high = grind (arith, nat_tests)
 
 -- ---- what is known of the body of a message that can be written
 
@@ -79,33 +79,70 @@ record IsGood (read : Readers) (content : Content) (b : Body) : Type 0 where
   short : length (fields_text (body_fields b)) ≤ 3000
   says : content_of read b ≡ content
 
-logon_good : (read : Readers) (heart : ℕ) (reset : Bool) (next : Option ℕ) → heart ≤ 999999 → IsNext next → IsGood read (Logon heart reset next) (body.Logon heart reset next)
+logon_good : (read : Readers) (heart : ℕ) (reset : Bool) (next : Option ℕ) → heart ≤ 999999 → IsNext next
+    → IsGood read (Logon heart reset next) (body.Logon heart reset next)
 logon_good read heart true None low range = record {
   kind = refl;
   body = rw (heart_is heart low) refl;
   short_kind = omega arith;
-  short = omega (arith, length-small (body_fields (body.Logon heart true None)) ((omega arith, omega arith), ((omega arith, short_number heart (omega arith)), ((omega arith, omega arith), tt))));
+  short = omega (
+    arith,
+    length-small (body_fields (body.Logon heart true None)) (
+      (omega arith, omega arith),
+      ((omega arith, short_number heart (omega arith)), ((omega arith, omega arith), tt)),
+    ),
+  );
   says = refl;
 }
 logon_good read heart false None low range = record {
   kind = refl;
   body = rw (heart_is heart low) refl;
   short_kind = omega arith;
-  short = omega (arith, length-small (body_fields (body.Logon heart false None)) ((omega arith, omega arith), ((omega arith, short_number heart (omega arith)), tt)));
+  short = omega (
+    arith,
+    length-small (body_fields (body.Logon heart false None)) (
+      (omega arith, omega arith),
+      ((omega arith, short_number heart (omega arith)), tt),
+    ),
+  );
   says = refl;
 }
 logon_good read heart true (Some next) low range = record {
   kind = refl;
   body = rw (heart_is heart low, next_is next range.0 range.1) refl;
   short_kind = omega arith;
-  short = omega (arith, length-small (body_fields (body.Logon heart true (Some next))) ((omega arith, omega arith), ((omega arith, short_number heart (omega arith)), ((omega arith, omega arith), ((omega arith, short_number next range.1), tt)))));
+  short = omega (
+    arith,
+    length-small (body_fields (body.Logon heart true (Some next))) (
+      (omega arith, omega arith),
+      (
+        (omega arith, short_number heart (omega arith)),
+        (
+          (omega arith, omega arith),
+          (
+            (
+              omega arith,
+              short_number next range.1,
+            ),
+            tt,
+          ),
+        ),
+      ),
+    ),
+  );
   says = refl;
 }
 logon_good read heart false (Some next) low range = record {
   kind = refl;
   body = rw (heart_is heart low, next_is next range.0 range.1) refl;
   short_kind = omega arith;
-  short = omega (arith, length-small (body_fields (body.Logon heart false (Some next))) ((omega arith, omega arith), ((omega arith, short_number heart (omega arith)), ((omega arith, short_number next range.1), tt))));
+  short = omega (
+    arith,
+    length-small (body_fields (body.Logon heart false (Some next))) (
+      (omega arith, omega arith),
+      ((omega arith, short_number heart (omega arith)), ((omega arith, short_number next range.1), tt)),
+    ),
+  );
   says = refl;
 }
 
@@ -119,7 +156,8 @@ heartbeat_good read (Some id) range = record {
   says = refl;
 }
 
-test_request_good : (read : Readers) (id : List ℕ) → IsFreeText 64 id → IsGood read (TestRequest id) (body.TestRequest id)
+test_request_good : (read : Readers) (id : List ℕ) → IsFreeText 64 id
+    → IsGood read (TestRequest id) (body.TestRequest id)
 test_request_good read id range = record {
   kind = refl;
   body = rw (test_id_is id range) refl;
@@ -128,12 +166,22 @@ test_request_good read id range = record {
   says = refl;
 }
 
-resend_request_good : (read : Readers) (begin last : ℕ) → IsReference begin → IsReference last → IsGood read (ResendRequest begin last) (body.ResendRequest begin last)
+resend_request_good : (read : Readers) (begin last : ℕ) → IsReference begin → IsReference last
+    → IsGood read (ResendRequest begin last) (body.ResendRequest begin last)
 resend_request_good read begin last first second = record {
   kind = refl;
   body = rw (reference_is begin first, reference_is last second) refl;
   short_kind = omega arith;
-  short = omega (arith, length-small (body_fields (body.ResendRequest begin last)) ((omega arith, short_number begin first), ((omega arith, short_number last second), tt)));
+  short = omega (
+    arith,
+    length-small (body_fields (body.ResendRequest begin last)) (
+      (
+        omega arith,
+        short_number begin first,
+      ),
+      ((omega arith, short_number last second), tt),
+    ),
+  );
   says = refl;
 }
 
@@ -151,7 +199,19 @@ gap_fill_good read number range = record {
   kind = refl;
   body = rw (reference_is number range) refl;
   short_kind = omega arith;
-  short = omega (arith, length-small (body_fields (body.GapFill number)) ((omega arith, omega arith), ((omega arith, short_number number range), tt)));
+  short = omega (
+    arith,
+    length-small (body_fields (body.GapFill number)) (
+      (omega arith, omega arith),
+      (
+        (
+          omega arith,
+          short_number number range,
+        ),
+        tt,
+      ),
+    ),
+  );
   says = refl;
 }
 
@@ -160,31 +220,61 @@ reset_good read number range = record {
   kind = refl;
   body = rw (reference_is number range) refl;
   short_kind = omega arith;
-  short = omega (arith, length-small (body_fields (body.Reset number)) ((omega arith, omega arith), ((omega arith, short_number number range), tt)));
+  short = omega (
+    arith,
+    length-small (body_fields (body.Reset number)) (
+      (omega arith, omega arith),
+      (
+        (
+          omega arith,
+          short_number number range,
+        ),
+        tt,
+      ),
+    ),
+  );
   says = refl;
 }
 
 logout_good : (read : Readers) → IsGood read Logout body.Logout
 logout_good read = record { kind = refl; body = refl; short_kind = omega arith; short = omega arith; says = refl }
 
-business_reject_good : (read : Readers) (beside : Option OrderViewParts) (number : Option ℕ) → IsWritableContent beside (BusinessReject number) → IsGood read (BusinessReject number) (body.BusinessReject number)
+business_reject_good : (read : Readers) (beside : Option OrderViewParts) (number : Option ℕ)
+    → IsWritableContent beside (BusinessReject number)
+    → IsGood read (BusinessReject number) (body.BusinessReject number)
 business_reject_good read beside None range = record {
   kind = refl;
   body = refl;
   short_kind = omega arith;
-  short = omega (arith, length-small (body_fields (body.BusinessReject None)) ((omega arith, omega arith), ((omega arith, omega arith), tt)));
+  short = omega (
+    arith,
+    length-small (body_fields (body.BusinessReject None)) (
+      (omega arith, omega arith),
+      ((omega arith, omega arith), tt),
+    ),
+  );
   says = refl;
 }
 business_reject_good read beside (Some number) range = record {
   kind = refl;
   body = rw (reference_is number range) refl;
   short_kind = omega arith;
-  short = omega (arith, length-small (body_fields (body.BusinessReject (Some number))) ((omega arith, short_number number range), ((omega arith, omega arith), ((omega arith, omega arith), tt))));
+  short = omega (
+    arith,
+    length-small (body_fields (body.BusinessReject (Some number))) (
+      (
+        omega arith,
+        short_number number range,
+      ),
+      ((omega arith, omega arith), ((omega arith, omega arith), tt)),
+    ),
+  );
   says = refl;
 }
 
 -- an application message of one of the two kinds
-order_good : (read : Readers) (leg : Leg) (fields : List Tagged) → FitsMessage fields → read.order fields ≡ Ok leg → IsGood read (Order (Ok leg)) (body.App (codes "D") fields)
+order_good : (read : Readers) (leg : Leg) (fields : List Tagged) → FitsMessage fields → read.order fields ≡ Ok leg
+    → IsGood read (Order (Ok leg)) (body.App (codes "D") fields)
 order_good read leg fields fits is = record {
   kind = refl;
   body = no_app_fault fields fits.app;
@@ -193,7 +283,8 @@ order_good read leg fields fits is = record {
   says = ap Order is;
 }
 
-report_good : (read : Readers) (report : Report) (fields : List Tagged) → FitsMessage fields → read.report fields ≡ Ok report → IsGood read (OrderReport (Ok report)) (body.App (codes "8") fields)
+report_good : (read : Readers) (report : Report) (fields : List Tagged) → FitsMessage fields
+    → read.report fields ≡ Ok report → IsGood read (OrderReport (Ok report)) (body.App (codes "8") fields)
 report_good read report fields fits is = record {
   kind = refl;
   body = no_app_fault fields fits.app;
@@ -206,29 +297,41 @@ report_good read report fields fits is = record {
 
 -- what is written is read back and fits a message
 pub record Agrees (w : Writers) (read : Readers) : Type 0 where
-  pub order_back : (leg : Leg) (stamp : StampParts) (fields : List Tagged) → w.IsOrder leg stamp fields → read.order fields ≡ Ok leg
-  pub order_fits : (leg : Leg) (stamp : StampParts) (fields : List Tagged) → w.IsOrder leg stamp fields → FitsMessage fields
-  pub report_back : (report : Report) (view : OrderViewParts) (fields : List Tagged) → w.IsReport report view fields → read.report fields ≡ Ok report
-  pub report_fits : (report : Report) (view : OrderViewParts) (fields : List Tagged) → w.IsReport report view fields → FitsMessage fields
+  pub order_back : (leg : Leg) (stamp : StampParts) (fields : List Tagged) → w.IsOrder leg stamp fields
+      → read.order fields ≡ Ok leg
+  pub order_fits : (leg : Leg) (stamp : StampParts) (fields : List Tagged) → w.IsOrder leg stamp fields
+      → FitsMessage fields
+  pub report_back : (report : Report) (view : OrderViewParts) (fields : List Tagged) → w.IsReport report view fields
+      → read.report fields ≡ Ok report
+  pub report_fits : (report : Report) (view : OrderViewParts) (fields : List Tagged) → w.IsReport report view fields
+      → FitsMessage fields
 
-good_from : (read : Readers) (content : Content) (own b : Body) → b ≡ own → IsGood read content own → IsGood read content b
+good_from : (read : Readers) (content : Content) (own b : Body) → b ≡ own → IsGood read content own
+    → IsGood read content b
 good_from read content own b is good = subst (IsGood read content) (sym is) good
 
-good : (w : Writers) (read : Readers) (stamp : StampParts) (beside : Option OrderViewParts) (content : Content) (b : Body) → Agrees w read → IsWritableContent beside content → IsBody w stamp beside content b → IsGood read content b
-good w read stamp beside (Logon heart reset next) b agrees range is = good_from read _ _ b is (logon_good read heart reset next range.0 range.1)
+good : (w : Writers) (read : Readers) (stamp : StampParts) (beside : Option OrderViewParts) (content : Content)
+    (b : Body) → Agrees w read → IsWritableContent beside content → IsBody w stamp beside content b
+    → IsGood read content b
+good w read stamp beside (Logon heart reset next) b agrees range is = good_from read _ _ b is
+    (logon_good read heart reset next range.0 range.1)
 good w read stamp beside (Heartbeat id) b agrees range is = good_from read _ _ b is (heartbeat_good read id range)
 good w read stamp beside (TestRequest id) b agrees range is = good_from read _ _ b is (test_request_good read id range)
-good w read stamp beside (ResendRequest begin last) b agrees range is = good_from read _ _ b is (resend_request_good read begin last range.0 range.1)
+good w read stamp beside (ResendRequest begin last) b agrees range is = good_from read _ _ b is
+    (resend_request_good read begin last range.0 range.1)
 good w read stamp beside (Reject number) b agrees range is = good_from read _ _ b is (reject_good read number range)
 good w read stamp beside (GapFill number) b agrees range is = good_from read _ _ b is (gap_fill_good read number range)
 good w read stamp beside (Reset number) b agrees range is = good_from read _ _ b is (reset_good read number range)
 good w read stamp beside Logout b agrees range is = good_from read _ _ b is (logout_good read)
-good w read stamp beside (BusinessReject number) b agrees range is = good_from read _ _ b is (business_reject_good read beside number range)
+good w read stamp beside (BusinessReject number) b agrees range is = good_from read _ _ b is
+    (business_reject_good read beside number range)
 good w read stamp beside (Order (Ok leg)) b agrees range is =
-    good_from read _ _ b is.body_is (order_good read leg is.fields (agrees.order_fits leg stamp is.fields is.written) (agrees.order_back leg stamp is.fields is.written))
+    good_from read _ _ b is.body_is (order_good read leg is.fields (agrees.order_fits leg stamp is.fields is.written)
+    (agrees.order_back leg stamp is.fields is.written))
 good w read stamp beside (Order (Err fault)) b agrees range is = absurd range
 good w read stamp (Some view) (OrderReport (Ok report)) b agrees range is =
-    good_from read _ _ b is.body_is (report_good read report is.fields (agrees.report_fits report view is.fields is.written) (agrees.report_back report view is.fields is.written))
+    good_from read _ _ b is.body_is (report_good read report is.fields
+    (agrees.report_fits report view is.fields is.written) (agrees.report_back report view is.fields is.written))
 good w read stamp None (OrderReport (Ok report)) b agrees range is = absurd range
 good w read stamp beside (OrderReport (Err fault)) b agrees range is = absurd range
 good w read stamp beside Other b agrees range is = absurd range
@@ -245,45 +348,56 @@ module _ (m : Message) (b : Body) (stamp : StampParts) (kind : kind_fault b ≡ 
 
   fits_frame : length (fields_text (envelope_fields (envelope_of m b) stamp)) ≤ 4096
   fits_frame =
-      let at_most = header_length (envelope_of m b) (stamp_text stamp) (body_fields b) short_kind from to number (omega (arith, length-stamp_text stamp)) in
+      let at_most = header_length (envelope_of m b) (stamp_text stamp) (body_fields b) short_kind from to number
+      (omega (arith, length-stamp_text stamp)) in
       omega (arith, at_most, short)
 
   unrefused : envelope_refusal (envelope_of m b) stamp ≡ None
   unrefused = rw (faultless, not_long (length (fields_text (envelope_fields (envelope_of m b) stamp))) fits_frame) refl
 
-  read_again : (read : Readers) (stream : Stream) (rest : List ℕ) → content_of read b ≡ m.content → stream.rest ≡ frame_text (envelope_fields (envelope_of m b) stamp) ++ rest → IsReadAs read stream rest m
+  read_again : (read : Readers) (stream : Stream) (rest : List ℕ) → content_of read b ≡ m.content
+      → stream.rest ≡ frame_text (envelope_fields (envelope_of m b) stamp) ++ rest → IsReadAs read stream rest m
   read_again read stream rest seen begins =
       let fields : List Tagged = envelope_fields (envelope_of m b) stamp in
       let good_fields = good_message (envelope_of m b) stamp from to faultless in
       record {
         fields = fields;
-        next = next_begins stream fields rest (record { tags = good_tags fields good_fields; values = good_values fields good_fields; short = fits_frame; bytes = begins });
+        next = next_begins stream fields rest
+            (record { tags = good_tags fields good_fields; values = good_values fields good_fields; short = fits_frame; bytes = begins });
         envelope = envelope_of m b;
         is_read = envelope_read-written (envelope_of m b) stamp from to faultless;
         is_seen = ap (λ (c : Content). record m { content = c }) seen;
       }
 
 -- a message that can be written is never refused
-pub never_refused : (w : Writers) (read : Readers) (stamp : StampParts) (out : Outgoing) (b : Body) → Agrees w read → IsWritable out → IsBody w stamp out.beside out.message.content b → envelope_refusal (envelope_of out.message b) stamp ≡ None
+pub never_refused : (w : Writers) (read : Readers) (stamp : StampParts) (out : Outgoing) (b : Body) → Agrees w read
+    → IsWritable out → IsBody w stamp out.beside out.message.content b
+    → envelope_refusal (envelope_of out.message b) stamp ≡ None
 never_refused w read stamp out b agrees range is =
     let fine = good w read stamp out.beside out.message.content b agrees range.content is in
     unrefused out.message b stamp fine.kind fine.body fine.short_kind fine.short range.from range.to (number_is out.message.number range.number_from range.number_to)
 
 -- its frame is read back
-pub frame_back : (w : Writers) (read : Readers) (stamp : StampParts) (out : Outgoing) (bytes rest : List ℕ) (stream : Stream) → Agrees w read → IsWritable out → IsFramed w stamp out bytes → stream.rest ≡ bytes ++ rest → IsReadAs read stream rest out.message
+pub frame_back : (w : Writers) (read : Readers) (stamp : StampParts) (out : Outgoing) (bytes rest : List ℕ)
+    (stream : Stream) → Agrees w read → IsWritable out → IsFramed w stamp out bytes → stream.rest ≡ bytes ++ rest
+    → IsReadAs read stream rest out.message
 frame_back w read stamp out bytes rest stream agrees range is begins =
     let fine = good w read stamp out.beside out.message.content is.says agrees range.content is.is_body in
-    let begins_so : stream.rest ≡ frame_text (envelope_fields (envelope_of out.message is.says) stamp) ++ rest = begins ∙ ap (λ (text : List ℕ). text ++ rest) is.written in
+    let begins_so : stream.rest ≡ frame_text (envelope_fields
+    (envelope_of out.message is.says) stamp) ++ rest = begins ∙ ap (λ (text : List ℕ). text ++ rest) is.written in
     read_again out.message is.says stamp fine.kind fine.body fine.short_kind fine.short range.from range.to (number_is out.message.number range.number_from range.number_to) read stream rest fine.says begins_so
 
 -- ---- there is a frame
 
 -- there are fields for every order and report in range
 pub record Exists (w : Writers) : Type 0 where
-  pub order : (leg : Leg) (stamp : StampParts) → IsLeg leg → IsStamp stamp → (fields : List Tagged) × w.IsOrder leg stamp fields
-  pub report : (report : Report) (view : OrderViewParts) → IsReport report → IsOrderView view → view.leg.id ≡ report.id → (fields : List Tagged) × w.IsReport report view fields
+  pub order : (leg : Leg) (stamp : StampParts) → IsLeg leg → IsStamp stamp
+      → (fields : List Tagged) × w.IsOrder leg stamp fields
+  pub report : (report : Report) (view : OrderViewParts) → IsReport report → IsOrderView view
+      → view.leg.id ≡ report.id → (fields : List Tagged) × w.IsReport report view fields
 
-body_exists : (w : Writers) (stamp : StampParts) (beside : Option OrderViewParts) (content : Content) → Exists w → IsStamp stamp → IsWritableContent beside content → (b : Body) × IsBody w stamp beside content b
+body_exists : (w : Writers) (stamp : StampParts) (beside : Option OrderViewParts) (content : Content) → Exists w
+    → IsStamp stamp → IsWritableContent beside content → (b : Body) × IsBody w stamp beside content b
 body_exists w stamp beside (Logon heart reset next) exist at range = (body.Logon heart reset next, refl)
 body_exists w stamp beside (Heartbeat id) exist at range = (body.Heartbeat id, refl)
 body_exists w stamp beside (TestRequest id) exist at range = (body.TestRequest id, refl)
@@ -304,7 +418,10 @@ body_exists w stamp None (OrderReport (Ok report)) exist at range = absurd range
 body_exists w stamp beside (OrderReport (Err fault)) exist at range = absurd range
 body_exists w stamp beside Other exist at range = absurd range
 
-pub frame_exists : (w : Writers) (stamp : StampParts) (out : Outgoing) → Exists w → IsStamp stamp → IsWritable out → (bytes : List ℕ) × IsFramed w stamp out bytes
+pub frame_exists : (w : Writers) (stamp : StampParts) (out : Outgoing) → Exists w → IsStamp stamp → IsWritable out
+    → (bytes : List ℕ) × IsFramed w stamp out bytes
 frame_exists w stamp out exist at range =
-    let written = body_exists w stamp out.beside out.message.content exist at range.content in
-    (frame_text (envelope_fields (envelope_of out.message written.0) stamp), record { says = written.0; is_body = written.1; written = refl })
+    let written = body_exists w stamp out.beside out.message.content exist at range.content in (
+      frame_text (envelope_fields (envelope_of out.message written.0) stamp),
+      record { says = written.0; is_body = written.1; written = refl },
+    )

@@ -30,7 +30,8 @@ has_text : (wanted : List ℕ) (o : Option (List ℕ)) → option_map_or (is_tex
 has_text wanted None e = cc
 has_text wanted (Some text) e = ap Some ((bytes_eq-Decides text wanted).0 e)
 
-side_of-byte : (b d : Bool) (c : ℕ) (side : Side) → (c == 49) ≡ b → (c == 50) ≡ d → cond b (Some Buy) (cond d (Some Sell) None) ≡ Some side → c ∷ [] ≡ side_text side
+side_of-byte : (b d : Bool) (c : ℕ) (side : Side) → (c == 49) ≡ b → (c == 50) ≡ d
+    → cond b (Some Buy) (cond d (Some Sell) None) ≡ Some side → c ∷ [] ≡ side_text side
 side_of-byte true d c side buys sells e = subst (λ (side : Side). c ∷ [] ≡ side_text side) (same_Some Buy side e) (ap (λ x. x ∷ []) (eqb-true c 49 buys))
 side_of-byte false true c side buys sells e = subst (λ (side : Side). c ∷ [] ≡ side_text side) (same_Some Sell side e) (ap (λ x. x ∷ []) (eqb-true c 50 sells))
 side_of-byte false false c side buys sells e = cc
@@ -41,7 +42,8 @@ side_of-Some (c ∷ []) side e = side_of-byte (c == 49) (c == 50) c side refl re
 side_of-Some (c ∷ d ∷ ds) side e = cc
 
 -- what the fields 40 and 54 say
-limit_order_in-Ok : (fields : List Tagged) (u : Unit {0}) → limit_order_in fields ≡ Ok u → value_of fields 40 ≡ Some (codes "2")
+limit_order_in-Ok : (fields : List Tagged) (u : Unit {0}) → limit_order_in fields ≡ Ok u
+    → value_of fields 40 ≡ Some (codes "2")
 limit_order_in-Ok fields u e =
     let b = bind_ok (required fields 40) (λ text. unless (is_text (codes "2") text) (Bad 40)) u e in
     was_some _ _ _ b.1 ∙ ap Some ((bytes_eq-Decides b.0 (codes "2")).0 (unless_ok _ _ u b.2))
@@ -57,7 +59,10 @@ record SaysLimit (fields : List Tagged) (limit : Limit) : Type 0 where
   price : ReadsAs price_of fields 44 limit.price
   side : value_of fields 54 ≡ Some (side_text limit.side)
 
-limit_says : (fields : List Tagged) (limit : Limit) (u : Unit {0}) → required_as order_shares_of fields 38 ≡ Ok limit.shares → limit_order_in fields ≡ Ok u → required_as price_of fields 44 ≡ Ok limit.price → required_as side_of fields 54 ≡ Ok limit.side → SaysLimit fields limit
+limit_says : (fields : List Tagged) (limit : Limit) (u : Unit {0})
+    → required_as order_shares_of fields 38 ≡ Ok limit.shares → limit_order_in fields ≡ Ok u
+    → required_as price_of fields 44 ≡ Ok limit.price → required_as side_of fields 54 ≡ Ok limit.side
+    → SaysLimit fields limit
 limit_says fields limit u first second third fourth =
     let shares = required_as-Ok order_shares_of fields 38 limit.shares first in
     let side = required_as-Ok side_of fields 54 limit.side fourth in
@@ -94,7 +99,10 @@ immediate_in-Ok fields u e =
     }))
 
 -- what is known of the parts that were read
-parts_say : (s : SpellingParts) (fields : List Tagged) (id : LegIdParts) (limit : Limit) (symbol : SymbolParts) (u v : Unit {0}) → IsSpelling s → required_as s.id_of fields 11 ≡ Ok id → unless (s.is_marked fields) NotMarked ≡ Ok u → limit_in fields ≡ Ok limit → s.symbol_in fields ≡ Ok symbol → immediate_in fields ≡ Ok v → IsReadingOf s (leg_of id symbol limit) fields
+parts_say : (s : SpellingParts) (fields : List Tagged) (id : LegIdParts) (limit : Limit) (symbol : SymbolParts)
+    (u v : Unit {0}) → IsSpelling s → required_as s.id_of fields 11 ≡ Ok id
+    → unless (s.is_marked fields) NotMarked ≡ Ok u → limit_in fields ≡ Ok limit → s.symbol_in fields ≡ Ok symbol
+    → immediate_in fields ≡ Ok v → IsReadingOf s (leg_of id symbol limit) fields
 parts_say s fields id limit symbol u v laws first second third fourth fifth =
     let id_read = required_as-Ok s.id_of fields 11 id first in
     let limit_read = limit_in-Ok fields limit third in
@@ -111,7 +119,8 @@ parts_say s fields id limit symbol u v laws first second third fourth fifth =
       timed = time_read.timed;
     }
 
-order_read_of-Ok : (s : SpellingParts) (fields : List Tagged) (leg : Leg) → IsSpelling s → order_read_of s fields ≡ Ok leg → IsReadingOf s leg fields
+order_read_of-Ok : (s : SpellingParts) (fields : List Tagged) (leg : Leg) → IsSpelling s
+    → order_read_of s fields ≡ Ok leg → IsReadingOf s leg fields
 unfolding order_read_of
 order_read_of-Ok s fields leg laws e =
     step _ (required_as s.id_of fields 11) leg e (λ id first e1.
@@ -119,8 +128,10 @@ order_read_of-Ok s fields leg laws e =
     step _ (limit_in fields) leg e2 (λ limit third e3.
     step _ (s.symbol_in fields) leg e3 (λ symbol fourth e4.
     step _ (immediate_in fields) leg e4 (λ v fifth e5.
-    subst (λ (leg : Leg). IsReadingOf s leg fields) (same_ok _ leg e5) (parts_say s fields id limit symbol u v laws first second third fourth fifth))))))
+    subst (λ (leg : Leg). IsReadingOf s leg fields) (same_ok _ leg e5)
+    (parts_say s fields id limit symbol u v laws first second third fourth fifth))))))
 
-pub order_reading : (s : SpellingParts) (fields : List Tagged) (read : Result Leg DialectFault) → IsSpelling s → read ≡ order_read_of s fields → IfOk read (λ leg. IsReadingOf s leg fields)
+pub order_reading : (s : SpellingParts) (fields : List Tagged) (read : Result Leg DialectFault) → IsSpelling s
+    → read ≡ order_read_of s fields → IfOk read (λ leg. IsReadingOf s leg fields)
 order_reading s fields (Ok leg) laws e = order_read_of-Ok s fields leg laws (sym e)
 order_reading s fields (Err fault) laws e = tt

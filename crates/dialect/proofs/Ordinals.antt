@@ -1,27 +1,21 @@
 -- A number that counts from 1 is read from its shortest decimal alone.
-use Rattle.std.proofs.Common.{◌≡◌, ℕ, zero, suc, ◌^◌, ◌<◌, ◌≤◌, Bool, true, false, cond, ◌&&◌, List, [], ◌∷◌, length, get_or, decimal, Option, Some, None, refl, sym, ap, ◌∙◌, arith, rules}
+use Rattle.std.proofs.Common.{◌≡◌, ℕ, zero, suc, ◌^◌, ◌<◌, ◌≤◌, Bool, true, false, cond, ◌&&◌, List, [], ◌∷◌, length, get_or, decimal, Option, Some, None, refl, sym, ap, ◌∙◌, arith}
 use Rattle.std.specs.Char.{is_ascii_digit}
 use Rattle.std.proofs.lemmas.Bool.{and_parts, and_from, ltb-true, eqb-true, cond-false, cond-true, true≢false}
 use Rattle.std.proofs.lemmas.Bool.Decides.{nat_tests}
 use Rattle.std.proofs.lemmas.Fmt.{first_decimal, decimal_digit, decimal-digits_value}
 use Rattle.std.proofs.lemmas.Option.{cond_some}
-use Rattle.std.proofs.lemmas.Str.Parse.{IsNumeralModel, IsDigitsTest, FoldsDigits, numerals_by_fold}
-use Rattle.fix_tags.specs.Digits.{number_after, digits_number, leading_digits, after_digits, all_digits, within}
+use Rattle.fix_tags.specs.Digits.{digits_number, leading_digits, after_digits, all_digits, within}
 use Rattle.fix_tags.specs.Number.{number_of}
+use Rattle.fix_tags.specs.Spelled.{own}
 use Rattle.dialect.specs.Ordinal.{ordinal_of, begins_with_zero}
 use Rattle.dialect.specs.Lemmas.OrdinalLaws.{IsOrdinal, passes, passes-true, passes-false}
 
-all_digits_test : IsDigitsTest (λ ds. all_digits ds ≡ true)
-all_digits_test = search rules
-
-number_folds : FoldsDigits number_after
-number_folds = search rules
-
-own : IsNumeralModel (λ ds. all_digits ds ≡ true) (number_after 0)
-own = numerals_by_fold _ all_digits_test number_after number_folds
-
 -- a text that ends with its leading digits is these digits
-only_digits_by : (b : Bool) (c : ℕ) (cs : List ℕ) → is_ascii_digit c ≡ b → (length (after_digits cs) ≡ 0 → (leading_digits cs ≡ cs) × (all_digits cs ≡ true)) → length (cond b (after_digits cs) (c ∷ cs)) ≡ 0 → (cond b (c ∷ leading_digits cs) [] ≡ c ∷ cs) × ((is_ascii_digit c && all_digits cs) ≡ true)
+only_digits_by : (b : Bool) (c : ℕ) (cs : List ℕ) → is_ascii_digit c ≡ b
+    → (length (after_digits cs) ≡ 0 → (leading_digits cs ≡ cs) × (all_digits cs ≡ true))
+    → length (cond b (after_digits cs) (c ∷ cs)) ≡ 0
+    → (cond b (c ∷ leading_digits cs) [] ≡ c ∷ cs) × ((is_ascii_digit c && all_digits cs) ≡ true)
 only_digits_by true c cs digit rest h = (ap (λ t. c ∷ t) (rest h).0, and_from _ _ digit (rest h).1)
 only_digits_by false c cs digit rest h = absurd (omega arith)
 
@@ -82,11 +76,13 @@ pub ordinal_of-none : (greatest : ℕ) (text : List ℕ) → number_of text ≡ 
 unfolding ordinal_of
 ordinal_of-none greatest text e = rw e refl
 
-ordinal_of-at : (greatest : ℕ) (text : List ℕ) (n : ℕ) → number_of text ≡ Some n → ordinal_of greatest text ≡ cond (passes greatest text n) (Some n) None
+ordinal_of-at : (greatest : ℕ) (text : List ℕ) (n : ℕ) → number_of text ≡ Some n
+    → ordinal_of greatest text ≡ cond (passes greatest text n) (Some n) None
 unfolding ordinal_of
 ordinal_of-at greatest text n e = rw e refl
 
-pub ordinal_of-above : (greatest : ℕ) (text : List ℕ) (n : ℕ) → number_of text ≡ Some n → greatest < n → ordinal_of greatest text ≡ None
+pub ordinal_of-above : (greatest : ℕ) (text : List ℕ) (n : ℕ) → number_of text ≡ Some n → greatest < n
+    → ordinal_of greatest text ≡ None
 ordinal_of-above greatest text n e above =
     ordinal_of-at greatest text n e ∙ cond-false _ (Some n) None (passes-false greatest text n (λ is. omega (arith, is.high)))
 
@@ -95,19 +91,22 @@ from_one : (text : List ℕ) (n : ℕ) → begins_with_zero text ≡ false → d
 from_one text zero plain e = absurd (true≢false (ap begins_with_zero (sym (decimal_digit 0 (omega arith)) ∙ e) ∙ plain))
 from_one text (suc n) plain e = omega arith
 
-pub ordinal_of-shortest : (greatest : ℕ) (text : List ℕ) (n : ℕ) → begins_with_zero text ≡ false → number_of text ≡ Some n → n ≤ greatest → (ordinal_of greatest text ≡ Some n) × (1 ≤ n)
+pub ordinal_of-shortest : (greatest : ℕ) (text : List ℕ) (n : ℕ) → begins_with_zero text ≡ false
+    → number_of text ≡ Some n → n ≤ greatest → (ordinal_of greatest text ≡ Some n) × (1 ≤ n)
 ordinal_of-shortest greatest text n plain e high =
     let text_is = decimal_again text n plain (number_of-Some text n e) in
     let low = from_one text n plain text_is in
     let is : IsOrdinal greatest text n = record { low = low; high = high; text_is = text_is } in
     (ordinal_of-at greatest text n e ∙ cond-true _ (Some n) None (passes-true greatest text n is), low)
 
-never_zero : (greatest : ℕ) (text : List ℕ) (n : ℕ) → begins_with_zero text ≡ true → number_of text ≡ Some n → IsOrdinal greatest text n → ⊥
+never_zero : (greatest : ℕ) (text : List ℕ) (n : ℕ) → begins_with_zero text ≡ true → number_of text ≡ Some n
+    → IsOrdinal greatest text n → ⊥
 never_zero greatest text n starts e is =
     let writes = number_of-Some text n e in
     not_decimal text n starts is.low (omega (arith, writes.small)) is.text_is
 
-ordinal_of-zero_by : (greatest : ℕ) (text : List ℕ) → begins_with_zero text ≡ true → (o : Option ℕ) → number_of text ≡ o → ordinal_of greatest text ≡ None
+ordinal_of-zero_by : (greatest : ℕ) (text : List ℕ) → begins_with_zero text ≡ true → (o : Option ℕ)
+    → number_of text ≡ o → ordinal_of greatest text ≡ None
 ordinal_of-zero_by greatest text starts None e = ordinal_of-none greatest text e
 ordinal_of-zero_by greatest text starts (Some n) e =
     ordinal_of-at greatest text n e ∙ cond-false _ (Some n) None (passes-false greatest text n (never_zero greatest text n starts e))

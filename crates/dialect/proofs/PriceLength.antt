@@ -8,7 +8,8 @@ length-point_and : (ds : List ℕ) → length (point_and ds) ≤ 1 + length ds
 length-point_and [] = omega arith
 length-point_and (d ∷ ds) = omega arith
 
-length-without_by : (b : Bool) (d : ℕ) (ds : List ℕ) → length (without_last_zeros ds) ≤ length ds → length (cond b [] (d ∷ without_last_zeros ds)) ≤ length (d ∷ ds)
+length-without_by : (b : Bool) (d : ℕ) (ds : List ℕ) → length (without_last_zeros ds) ≤ length ds
+    → length (cond b [] (d ∷ without_last_zeros ds)) ≤ length (d ∷ ds)
 length-without_by true d ds h = omega arith
 length-without_by false d ds h = omega arith
 

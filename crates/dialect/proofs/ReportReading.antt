@@ -26,7 +26,8 @@ record IsText (greatest : ℕ) (fields : List Tagged) (tag : ℕ) (text : List �
   in_range : IsFreeText greatest text
   there : value_of fields tag ≡ Some text
 
-free_text-Ok : (greatest : ℕ) (fields : List Tagged) (tag : ℕ) (text : List ℕ) → required_as (free_text_of greatest) fields tag ≡ Ok text → IsText greatest fields tag text
+free_text-Ok : (greatest : ℕ) (fields : List Tagged) (tag : ℕ) (text : List ℕ)
+    → required_as (free_text_of greatest) fields tag ≡ Ok text → IsText greatest fields tag text
 free_text-Ok greatest fields tag text e =
     let read = required_as-Ok (free_text_of greatest) fields tag text e in
     let is = cond_some _ read.text text read.reads_as in
@@ -37,14 +38,18 @@ record AreShares (fields : List Tagged) (shares : ℕ) : Type 0 where
   in_range : IsShares shares
   reads_as : ReadsAs shares_of fields 32 shares
 
-order_shares_of-Some : (text : List ℕ) (shares : ℕ) → order_shares_of text ≡ Some shares → (shares_of text ≡ Some shares) × IsShares shares
+order_shares_of-Some : (text : List ℕ) (shares : ℕ) → order_shares_of text ≡ Some shares
+    → (shares_of text ≡ Some shares) × IsShares shares
 order_shares_of-Some text shares e =
     option_and_then_some _ (shares_of text) shares e (λ n is test.
     let passed = cond_some _ n shares test in
-    let bounds = and_parts _ _ passed.0 in
-    (is ∙ ap Some passed.1, subst IsShares passed.1 (record { low = leb-true _ _ bounds.0; high = leb-true _ _ bounds.1 })))
+    let bounds = and_parts _ _ passed.0 in (
+      is ∙ ap Some passed.1,
+      subst IsShares passed.1 (record { low = leb-true _ _ bounds.0; high = leb-true _ _ bounds.1 }),
+    ))
 
-shares-Ok : (fields : List Tagged) (shares : ℕ) → required_as order_shares_of fields 32 ≡ Ok shares → AreShares fields shares
+shares-Ok : (fields : List Tagged) (shares : ℕ) → required_as order_shares_of fields 32 ≡ Ok shares
+    → AreShares fields shares
 shares-Ok fields shares e =
     let read = required_as-Ok order_shares_of fields 32 shares e in
     let is = order_shares_of-Some read.text shares read.reads_as in
@@ -75,36 +80,49 @@ trade_in-Ok : (fields : List Tagged) (kind : ReportKind) → trade_in fields ≡
 trade_in-Ok fields kind e =
     step _ (fill_in fields) kind e (λ fill first e1.
     let read = fill_in-Ok fields fill first in
-    subst (IsKindRead fields (70 ∷ [])) (same_ok (Trade fill) kind e1) (record { in_range = read.in_range; text_is = refl; detail = read.says }))
+    subst (IsKindRead fields (70 ∷ [])) (same_ok (Trade fill) kind e1)
+    (record { in_range = read.in_range; text_is = refl; detail = read.says }))
 
 bust_in-Ok : (fields : List Tagged) (kind : ReportKind) → bust_in fields ≡ Ok kind → IsKindRead fields (72 ∷ []) kind
 bust_in-Ok fields kind e =
     step _ (required_as (free_text_of 64) fields 19) kind e (λ id first e1.
     let read = free_text-Ok 64 fields 19 id first in
-    subst (IsKindRead fields (72 ∷ [])) (same_ok (Bust id) kind e1) (record { in_range = read.in_range; text_is = refl; detail = read.there }))
+    subst (IsKindRead fields (72 ∷ [])) (same_ok (Bust id) kind e1)
+    (record { in_range = read.in_range; text_is = refl; detail = read.there }))
 
 -- one more byte is tried
-tried : (fields : List Tagged) (c code : ℕ) (kind : ReportKind) (b : Bool) (here later : Result ReportKind DialectFault) → (c == code) ≡ b → cond b here later ≡ Ok kind → (here ≡ Ok kind → IsKindRead fields (code ∷ []) kind) → (later ≡ Ok kind → IsKindRead fields (c ∷ []) kind) → IsKindRead fields (c ∷ []) kind
+tried : (fields : List Tagged) (c code : ℕ) (kind : ReportKind) (b : Bool)
+    (here later : Result ReportKind DialectFault) → (c == code) ≡ b → cond b here later ≡ Ok kind
+    → (here ≡ Ok kind → IsKindRead fields (code ∷ []) kind) → (later ≡ Ok kind → IsKindRead fields (c ∷ []) kind)
+    → IsKindRead fields (c ∷ []) kind
 tried fields c code kind true here later is e this other =
     subst (λ byte. IsKindRead fields (byte ∷ []) kind) (sym (eqb-true c code is)) (this e)
 tried fields c code kind false here later is e this other = other e
 
-kind_of_byte-Ok : (fields : List Tagged) (c : ℕ) (kind : ReportKind) → kind_of_byte fields c ≡ Ok kind → IsKindRead fields (c ∷ []) kind
+kind_of_byte-Ok : (fields : List Tagged) (c : ℕ) (kind : ReportKind) → kind_of_byte fields c ≡ Ok kind
+    → IsKindRead fields (c ∷ []) kind
 kind_of_byte-Ok fields c kind e =
-    tried fields c 48 kind (c == 48) _ _ refl e (λ is. subst (IsKindRead fields (48 ∷ [])) (same_ok New kind is) (record { in_range = tt; text_is = refl; detail = tt })) (λ e1.
+    tried fields c 48 kind (c == 48) _ _ refl e (λ is. subst (IsKindRead fields (48 ∷ [])) (same_ok New kind is)
+    (record { in_range = tt; text_is = refl; detail = tt })) (λ e1.
     tried fields c 70 kind (c == 70) _ _ refl e1 (trade_in-Ok fields kind) (λ e2.
-    tried fields c 52 kind (c == 52) _ _ refl e2 (λ is. subst (IsKindRead fields (52 ∷ [])) (same_ok Canceled kind is) (record { in_range = tt; text_is = refl; detail = tt })) (λ e3.
-    tried fields c 56 kind (c == 56) _ _ refl e3 (λ is. subst (IsKindRead fields (56 ∷ [])) (same_ok Rejected kind is) (record { in_range = tt; text_is = refl; detail = tt })) (λ e4.
-    tried fields c 67 kind (c == 67) _ _ refl e4 (λ is. subst (IsKindRead fields (67 ∷ [])) (same_ok Expired kind is) (record { in_range = tt; text_is = refl; detail = tt })) (λ e5.
+    tried fields c 52 kind (c == 52) _ _ refl e2 (λ is. subst (IsKindRead fields (52 ∷ []))
+    (same_ok Canceled kind is) (record { in_range = tt; text_is = refl; detail = tt })) (λ e3.
+    tried fields c 56 kind (c == 56) _ _ refl e3 (λ is. subst (IsKindRead fields (56 ∷ []))
+    (same_ok Rejected kind is) (record { in_range = tt; text_is = refl; detail = tt })) (λ e4.
+    tried fields c 67 kind (c == 67) _ _ refl e4 (λ is. subst (IsKindRead fields (67 ∷ [])) (same_ok Expired kind is)
+    (record { in_range = tt; text_is = refl; detail = tt })) (λ e5.
     tried fields c 72 kind (c == 72) _ _ refl e5 (bust_in-Ok fields kind) (λ e6. cc))))))
 
-kind_of_text-Ok : (fields : List Tagged) (text : List ℕ) (kind : ReportKind) → kind_of_text fields text ≡ Ok kind → IsKindRead fields text kind
+kind_of_text-Ok : (fields : List Tagged) (text : List ℕ) (kind : ReportKind) → kind_of_text fields text ≡ Ok kind
+    → IsKindRead fields text kind
 kind_of_text-Ok fields [] kind e = cc
 kind_of_text-Ok fields (c ∷ []) kind e = kind_of_byte-Ok fields c kind e
 kind_of_text-Ok fields (c ∷ d ∷ ds) kind e = cc
 
 -- what is known of the parts that were read
-parts_say : (s : SpellingParts) (fields : List Tagged) (id : LegIdParts) (exec : List ℕ) (kind : ReportKind) → IsSpelling s → required_as s.id_of fields 11 ≡ Ok id → required_as (free_text_of 64) fields 17 ≡ Ok exec → kind_in fields ≡ Ok kind → IsReportReadingOf s (record { id = id; exec = exec; kind = kind }) fields
+parts_say : (s : SpellingParts) (fields : List Tagged) (id : LegIdParts) (exec : List ℕ) (kind : ReportKind)
+    → IsSpelling s → required_as s.id_of fields 11 ≡ Ok id → required_as (free_text_of 64) fields 17 ≡ Ok exec
+    → kind_in fields ≡ Ok kind → IsReportReadingOf s (record { id = id; exec = exec; kind = kind }) fields
 parts_say s fields id exec kind laws first second third =
     let id_read = required_as-Ok s.id_of fields 11 id first in
     let id_is = laws.id_says id_read.text id id_read.reads_as in
@@ -119,14 +137,17 @@ parts_say s fields id exec kind laws first second third =
       detail = kind_read.detail;
     }
 
-report_read_of-Ok : (s : SpellingParts) (fields : List Tagged) (report : Report) → IsSpelling s → report_read_of s fields ≡ Ok report → IsReportReadingOf s report fields
+report_read_of-Ok : (s : SpellingParts) (fields : List Tagged) (report : Report) → IsSpelling s
+    → report_read_of s fields ≡ Ok report → IsReportReadingOf s report fields
 unfolding report_read_of
 report_read_of-Ok s fields report laws e =
     step _ (required_as s.id_of fields 11) report e (λ id first e1.
     step _ (required_as (free_text_of 64) fields 17) report e1 (λ exec second e2.
     step _ (kind_in fields) report e2 (λ kind third e3.
-    subst (λ (r : Report). IsReportReadingOf s r fields) (same_ok _ report e3) (parts_say s fields id exec kind laws first second third))))
+    subst (λ (r : Report). IsReportReadingOf s r fields) (same_ok _ report e3)
+    (parts_say s fields id exec kind laws first second third))))
 
-pub report_reading : (s : SpellingParts) (fields : List Tagged) (read : Result Report DialectFault) → IsSpelling s → read ≡ report_read_of s fields → IfOk read (λ report. IsReportReadingOf s report fields)
+pub report_reading : (s : SpellingParts) (fields : List Tagged) (read : Result Report DialectFault) → IsSpelling s
+    → read ≡ report_read_of s fields → IfOk read (λ report. IsReportReadingOf s report fields)
 report_reading s fields (Ok report) laws e = report_read_of-Ok s fields report laws (sym e)
 report_reading s fields (Err fault) laws e = tt

@@ -5,7 +5,8 @@ use Rattle.std.proofs.lemmas.List.{length-take}
 use Rattle.dialect.specs.Digits.{fixed_of}
 use Rattle.dialect.specs.Coded.{coded_id_of}
 
-fixed_of-other : (base width greatest : ℕ) (text : List ℕ) → length text < width → fixed_of base width greatest text ≡ None
+fixed_of-other : (base width greatest : ℕ) (text : List ℕ) → length text < width
+    → fixed_of base width greatest text ≡ None
 unfolding fixed_of
 fixed_of-other base width greatest text short =
     cond-false (length text == width) _ None (ne_eqb (length text) width (λ e. omega arith))

@@ -1,4 +1,5 @@
--- A trade: how many shares, and the price as the exchange spelled it (FIX 4.4 Volume 4, ExecutionReport: LastQty, LastPx).
+-- A trade: how many shares, and the price as the exchange spelled it (FIX 4.4 Volume 4, ExecutionReport: LastQty,
+-- LastPx).
 use Rattle.std.specs.Prelude.{ℕ, List, Option, Some, None, if◌then◌else◌}
 use Rattle.leg.specs.Terms.{is_shares, IsShares}
 use Rattle.dialect.specs.FreeText.{IsFreeText}

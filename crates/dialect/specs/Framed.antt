@@ -1,4 +1,4 @@
--- A message as the bytes of one frame, in a dialect: what may be written, and what a stream that begins with it reads as.
+-- A message as the bytes of one frame, in a dialect, and as what a stream that begins with it reads as.
 use Rattle.std.specs.Prelude.{◌≡◌, ℕ, false, List, ◌++◌, Option, Some, None, Result, Ok, Err, codes}
 use Rattle.fix_text.specs.Tagged.{Tagged}
 use Rattle.fix_text.specs.Frame.{frame_text}

@@ -1,4 +1,5 @@
--- How much an order is for, at which limit, and on which side (FIX 4.4 Volume 4, NewOrderSingle: OrderQty, OrdType, Price, Side).
+-- How much an order is for, at which limit, and on which side (FIX 4.4 Volume 4, NewOrderSingle: OrderQty, OrdType,
+-- Price, Side).
 use Rattle.std.specs.Prelude.{ℕ, List, [], ◌∷◌, Option, Some, None, option_and_then, codes, decimal, Result, Ok, ◌==◌, if◌then◌else◌}
 use Rattle.fix_text.specs.Tagged.{Tagged}
 use Rattle.fix_tags.specs.Shares.{shares_of}
@@ -55,4 +56,7 @@ limit_fields shares price side =
 -- the leg of an order
 abbrev pub leg_of : LegIdParts → SymbolParts → Limit → Leg
 leg_of id symbol limit =
-    record { id = id; terms = record { symbol = symbol; side = limit.side; shares = limit.shares; price = limit.price } }
+    record {
+      id = id;
+      terms = record { symbol = symbol; side = limit.side; shares = limit.shares; price = limit.price };
+    }

@@ -78,4 +78,10 @@ content_of read (body.App kind fields) = application read kind fields
 
 -- an envelope as a message
 abbrev pub seen : Readers → Envelope → Message
-seen read e = record { from = e.sender; to = e.target; number = e.number; poss_dup = e.poss_dup; content = content_of read e.body }
+seen read e = record {
+  from = e.sender;
+  to = e.target;
+  number = e.number;
+  poss_dup = e.poss_dup;
+  content = content_of read e.body;
+}

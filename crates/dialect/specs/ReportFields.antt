@@ -51,7 +51,8 @@ abbrev pub event_fields : SpellingParts → Report → OrderViewParts → List T
 event_fields s report view =
     field 37 view.order_id ∷ field 17 report.exec ∷ []
     ++ cancelled_fields report.kind
-    ++ field 150 (exec_type_text report.kind) ∷ field 39 (ord_status_text report.kind view.leaves) ∷ field 11 (s.id_text report.id) ∷ []
+    ++ field 150 (exec_type_text report.kind) ∷ field 39 (ord_status_text report.kind view.leaves)
+    ∷ field 11 (s.id_text report.id) ∷ []
 
 -- the side, what was traded, and how many shares are open and filled; no average price is kept (6=0)
 abbrev pub amount_fields : Report → OrderViewParts → List Tagged

@@ -1,4 +1,5 @@
--- What a dialect is made of, beside what all dialects share: how it spells a leg's number, the mark of a sweep, a price and a symbol.
+-- What a dialect is made of, beside what all dialects share: how it spells a leg's number, the mark of a sweep, a
+-- price and a symbol.
 use Rattle.std.specs.Prelude.{◌≡◌, ◌⊎◌, true, ℕ, Bool, List, [], ◌∷◌, map, Option, Some, Result, Ok}
 use Rattle.std.specs.List.{AllByRecursion}
 use Rattle.fix_text.specs.Tagged.{Tagged, value_of}
@@ -20,7 +21,8 @@ pub record SpellingParts : Type 0 where
   pub is_marked : List Tagged → Bool
   -- the text of a price in Price (44); every dialect reads a price in all its spellings
   pub price_text : ℕ → List ℕ
-  -- the fields of a symbol, Symbol (55) and where it has one SymbolSfx (65), and the symbol that fields say, or the first fault
+  -- the fields of a symbol, Symbol (55) and where it has one SymbolSfx (65), and the symbol that fields say, or the
+  -- first fault
   pub symbol_fields : SymbolParts → List Tagged
   pub symbol_in : List Tagged → Result SymbolParts DialectFault
 
@@ -39,9 +41,13 @@ pub record IsSpelling (s : SpellingParts) : Type 0 where
   pub mark_apart : AllByRecursion (λ tag. has_no tag (s.mark ∷ []) ≡ true) shared_tags
   pub price_reads_back : (price : ℕ) → IsPrice price → price_of (s.price_text price) ≡ Some price
   pub price_short : (price : ℕ) → IsPrice price → IsShortValue (s.price_text price)
-  pub symbol_tags : (symbol : SymbolParts) → (map (λ f. f.tag) (s.symbol_fields symbol) ≡ 55 ∷ []) ⊎ (map (λ f. f.tag) (s.symbol_fields symbol) ≡ 55 ∷ 65 ∷ [])
+  pub symbol_tags : (symbol : SymbolParts)
+      → (map (λ f. f.tag) (s.symbol_fields symbol) ≡ 55 ∷ [])
+      ⊎ (map (λ f. f.tag) (s.symbol_fields symbol) ≡ 55 ∷ 65 ∷ [])
   pub symbol_short : (symbol : SymbolParts) → IsSymbol symbol → AllByRecursion IsShortField (s.symbol_fields symbol)
   pub symbol_reads_back : (symbol : SymbolParts) (fields : List Tagged) → IsSymbol symbol
-      → value_of fields 55 ≡ value_of (s.symbol_fields symbol) 55 → value_of fields 65 ≡ value_of (s.symbol_fields symbol) 65
+      → value_of fields 55 ≡ value_of (s.symbol_fields symbol) 55
+      → value_of fields 65 ≡ value_of (s.symbol_fields symbol) 65
       → s.symbol_in fields ≡ Ok symbol
-  pub symbol_says : (symbol : SymbolParts) (fields : List Tagged) → s.symbol_in fields ≡ Ok symbol → AreIn fields (s.symbol_fields symbol)
+  pub symbol_says : (symbol : SymbolParts) (fields : List Tagged) → s.symbol_in fields ≡ Ok symbol
+      → AreIn fields (s.symbol_fields symbol)

@@ -62,7 +62,8 @@ IsWritableContent beside (Order read) = IsWritableOrder read
 IsWritableContent beside (OrderReport read) = IsWritableReport read beside
 IsWritableContent beside Other = ⊥
 
--- a message that is never refused: its names are comp ids, its number (34) is 1 to 999,999,998, and what it says can be written
+-- a message that is never refused: its names are comp ids, its number (34) is 1 to 999,999,998, and what it says can
+-- be written
 pub record IsWritable (out : Outgoing) : Type 0 where
   pub from : IsCompId out.message.from
   pub to : IsCompId out.message.to

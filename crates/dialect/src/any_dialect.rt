@@ -6,8 +6,9 @@ ghost use Rattle.dialect.specs.DialectName.{dialect_named};
 use crate::coded::Coded;
 use crate::fault::DialectFault;
 use crate::plain::Plain;
-use crate::spelling::Spelling;
+use crate::spelling::{IdText, Spelling};
 use crate::split4::Split4;
+use fix_tags::PriceText;
 use fix_text::{Field, FieldRef};
 use leg::{LegId, Symbol};
 use std::alloc::{AllocError, Global};
@@ -40,16 +41,11 @@ impl Spelling for AnyDialect {
 
     ghost spelling = { any_spelling };
 
-    fn push_id(
-        &self,
-        alloc: Global,
-        id: &LegId,
-        fields: &mut Vec<Field>,
-    ) -> Result<(), AllocError> {
+    fn id_text(&self, id: &LegId) -> IdText {
         match self {
-            AnyDialect::Plain => Plain.push_id(alloc, id, fields),
-            AnyDialect::Split4 => Split4.push_id(alloc, id, fields),
-            AnyDialect::Coded => Coded.push_id(alloc, id, fields),
+            AnyDialect::Plain => Plain.id_text(id),
+            AnyDialect::Split4 => Split4.id_text(id),
+            AnyDialect::Coded => Coded.id_text(id),
         }
     }
 
@@ -61,11 +57,11 @@ impl Spelling for AnyDialect {
         }
     }
 
-    fn push_mark(&self, alloc: Global, fields: &mut Vec<Field>) -> Result<(), AllocError> {
+    fn mark(&self) -> FieldRef<'static> {
         match self {
-            AnyDialect::Plain => Plain.push_mark(alloc, fields),
-            AnyDialect::Split4 => Split4.push_mark(alloc, fields),
-            AnyDialect::Coded => Coded.push_mark(alloc, fields),
+            AnyDialect::Plain => Plain.mark(),
+            AnyDialect::Split4 => Split4.mark(),
+            AnyDialect::Coded => Coded.mark(),
         }
     }
 
@@ -77,16 +73,11 @@ impl Spelling for AnyDialect {
         }
     }
 
-    fn push_price(
-        &self,
-        alloc: Global,
-        price: u64,
-        fields: &mut Vec<Field>,
-    ) -> Result<(), AllocError> {
+    fn price_text(&self, price: u64) -> PriceText {
         match self {
-            AnyDialect::Plain => Plain.push_price(alloc, price, fields),
-            AnyDialect::Split4 => Split4.push_price(alloc, price, fields),
-            AnyDialect::Coded => Coded.push_price(alloc, price, fields),
+            AnyDialect::Plain => Plain.price_text(price),
+            AnyDialect::Split4 => Split4.price_text(price),
+            AnyDialect::Coded => Coded.price_text(price),
         }
     }
 

@@ -5,14 +5,13 @@ ghost use Rattle.dialect.specs.Coded.{coded_id_text, coded_id_of};
 
 use crate::digits::append_digits;
 use crate::fault::DialectFault;
-use crate::field_value::{is_value, required};
+use crate::field_value::is_value;
 use crate::fixed_id::{PLACE_DIGITS, read_fixed_id};
 use crate::push::push_short;
-use crate::spelling::Spelling;
-use crate::symbol_text::{joined_symbol_text, read_joined_symbol};
-use crate::tag::{CL_ORD_ID, PRICE, SWEEP_LEG, SYMBOL};
-use arrayvec::ArrayVec;
-use fix_tags::price_four_text;
+use crate::spelling::{IdText, Spelling};
+use crate::symbol_text::{joined_symbol_in, joined_symbol_text};
+use crate::tag::{SWEEP_LEG, SYMBOL};
+use fix_tags::{PriceText, price_four_text};
 use fix_text::{Field, FieldRef};
 use leg::{LegId, Symbol};
 use std::alloc::{AllocError, Global};
@@ -28,9 +27,6 @@ const BASE: u64 = 16;
 /// How many digits a sweep's number has.
 const SWEEP_DIGITS: usize = 16;
 
-/// The length of a leg's number.
-const ID_LEN: usize = 18;
-
 /// The value of field 9001 on a leg of a sweep.
 const YES: &[u8] = b"Y";
 
@@ -38,10 +34,10 @@ const YES: &[u8] = b"Y";
 const SLASH: u8 = b'/';
 
 #[tactic(auto, unfolding(crate::specs::Coded::coded_id_text))]
-fn id_text(id: &LegId) -> ArrayVec<u8, ID_LEN>
+fn id_text(id: &LegId) -> IdText
     ensures { result.items ≡ coded_id_text id.now }
 {
-    let mut text = ArrayVec::new();
+    let mut text = IdText::new();
     append_digits(BASE, SWEEP_DIGITS, id.sweep(), &mut text);
     append_digits(BASE, PLACE_DIGITS, u64::from(id.place()), &mut text);
     text
@@ -62,34 +58,24 @@ impl Spelling for Coded {
 
     ghost spelling = { λ _. coded };
 
-    fn push_id(
-        &self,
-        alloc: Global,
-        id: &LegId,
-        fields: &mut Vec<Field>,
-    ) -> Result<(), AllocError> {
-        push_short(alloc, CL_ORD_ID, id_text(id).as_slice(), fields)
+    fn id_text(&self, id: &LegId) -> IdText {
+        id_text(id)
     }
 
     fn read_id(&self, text: &[u8]) -> Option<LegId> {
         read_id(text)
     }
 
-    fn push_mark(&self, alloc: Global, fields: &mut Vec<Field>) -> Result<(), AllocError> {
-        push_short(alloc, SWEEP_LEG, YES, fields)
+    fn mark(&self) -> FieldRef<'static> {
+        FieldRef::new(SWEEP_LEG, YES)
     }
 
     fn is_marked(&self, fields: &[FieldRef<'_>]) -> bool {
         is_value(fields, SWEEP_LEG, YES)
     }
 
-    fn push_price(
-        &self,
-        alloc: Global,
-        price: u64,
-        fields: &mut Vec<Field>,
-    ) -> Result<(), AllocError> {
-        push_short(alloc, PRICE, price_four_text(price).as_slice(), fields)
+    fn price_text(&self, price: u64) -> PriceText {
+        price_four_text(price)
     }
 
     fn push_symbol(
@@ -107,8 +93,7 @@ impl Spelling for Coded {
     }
 
     fn read_symbol(&self, fields: &[FieldRef<'_>]) -> Result<Symbol, DialectFault> {
-        let text = required(fields, SYMBOL)?;
-        read_joined_symbol(SLASH, text).ok_or(DialectFault::Bad(SYMBOL))
+        joined_symbol_in(SLASH, fields)
     }
 
     ghost is_spelling = { λ _. coded_is_spelling };

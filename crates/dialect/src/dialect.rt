@@ -12,16 +12,16 @@ use std::alloc::Global;
 /// on it (ExecutionReport) in those of kind `8`, without those of the header. What is written for a leg or a report is
 /// a relation, what is read from fields a function, and the laws join the two.
 pub trait Dialect {
-    ghost use Rattle.std.specs.Prelude.{◌≡◌, ◌+◌, ◌<◌, List, Result, Ok, OnOk, OnErr, vec_len, vec_capacity};
-    ghost use Rattle.fix_text.specs.Tagged.{Tagged};
-    ghost use Rattle.fix_tags.specs.Stamp.{StampParts, IsStamp};
+    ghost use Rattle.std.specs.Prelude.{◌≡◌, ◌+◌, ◌<◌, List, Some, Result, Ok, OnOk, OnErr, vec_len, vec_capacity};
+    ghost use Rattle.fix_text.specs.Tagged.{Tagged, value_of};
+    ghost use Rattle.fix_tags.specs.Stamp.{StampParts, IsStamp, stamp_text};
     ghost use Rattle.leg.specs.declared.leg.Leg.{Leg};
     ghost use Rattle.leg.specs.Leg.{IsLeg};
     ghost use Rattle.dialect.specs.declared.fault.DialectFault.{DialectFault};
     ghost use Rattle.dialect.specs.declared.report.Report.{Report};
     ghost use Rattle.dialect.specs.OrderView.{OrderViewParts, IsOrderView};
     ghost use Rattle.dialect.specs.Report.{IsReport as IsInRange};
-    ghost use Rattle.dialect.specs.Dialect.{Appends, IsMarked, FitsMessage};
+    ghost use Rattle.dialect.specs.Dialect.{Appends, IsMarked, FitsMessage, SaysView};
 
     // The fields that may be written for a leg, with this stamp as TransactTime (60).
     ghost IsOrder: { Self → Leg → StampParts → List Tagged → Type 0 };
@@ -88,6 +88,10 @@ pub trait Dialect {
     ghost order_is_marked: { (d : Self) (leg : Leg) (stamp : StampParts) (fields : List Tagged) →
         IsOrder d leg stamp fields → IsMarked (mark d) fields };
 
+    // An order has the stamp as TransactTime (60).
+    ghost order_is_timed: { (d : Self) (leg : Leg) (stamp : StampParts) (fields : List Tagged) →
+        IsOrder d leg stamp fields → value_of fields 60 ≡ Some (stamp_text stamp) };
+
     // An order can be written into a message, in at most 1,000 bytes.
     ghost order_fits: { (d : Self) (leg : Leg) (stamp : StampParts) (fields : List Tagged) →
         IsOrder d leg stamp fields → FitsMessage fields };
@@ -99,6 +103,10 @@ pub trait Dialect {
     // What was written of a report is read back.
     ghost report_reads_back: { (d : Self) (report : Report) (view : OrderViewParts) (fields : List Tagged) →
         IsReport d report view fields → report_read d fields ≡ Ok report };
+
+    // A report says what its exchange knew of the order.
+    ghost report_says_view: { (d : Self) (report : Report) (view : OrderViewParts) (fields : List Tagged) →
+        IsReport d report view fields → SaysView report view fields };
 
     // A report can be written into a message, in at most 1,000 bytes.
     ghost report_fits: { (d : Self) (report : Report) (view : OrderViewParts) (fields : List Tagged) →

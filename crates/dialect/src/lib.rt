@@ -48,7 +48,7 @@ pub use note::Note;
 pub use order_view::OrderView;
 pub use plain::Plain;
 pub use report::{Report, ReportKind};
-pub use spelling::Spelling;
+pub use spelling::{IdText, Spelling};
 pub use split4::Split4;
 pub use symbol_text::read_symbol;
 

@@ -143,6 +143,11 @@ pub(crate) fn push_limit<S: Spelling>(
 {
     push_number(alloc, ORDER_QTY, terms.shares(), fields)?;
     push_short(alloc, ORD_TYPE, LIMIT_ORDER, fields)?;
-    spelling.push_price(alloc, terms.price(), fields)?;
+    push_short(
+        alloc,
+        PRICE,
+        spelling.price_text(terms.price()).as_slice(),
+        fields,
+    )?;
     push_short(alloc, SIDE, side_text(terms.side()), fields)
 }

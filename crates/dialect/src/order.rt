@@ -8,7 +8,7 @@ ghost use Rattle.dialect.specs.Order.{IsOrderOf, order_fields, order_read_of};
 use crate::fault::{DialectFault, SpellFault};
 use crate::field_value::required;
 use crate::limit::{leg_of, push_limit, read_limit};
-use crate::push::all_or_nothing;
+use crate::push::{all_or_nothing, push_short};
 use crate::spelling::Spelling;
 use crate::tag::CL_ORD_ID;
 use crate::time::{check_immediate, push_immediate};
@@ -63,8 +63,14 @@ fn push_order<S: Spelling>(
     ensures full { OnErr result (vec_capacity fields.old < vec_len fields.old + 10) }
 {
     fields.reserve(MAX_ORDER_LEN)?;
-    spelling.push_id(alloc, &leg.id, fields)?;
-    spelling.push_mark(alloc, fields)?;
+    push_short(
+        alloc,
+        CL_ORD_ID,
+        spelling.id_text(&leg.id).as_slice(),
+        fields,
+    )?;
+    let mark = spelling.mark();
+    push_short(alloc, mark.tag(), mark.value(), fields)?;
     push_limit(spelling, alloc, &leg.terms, fields)?;
     spelling.push_symbol(alloc, leg.terms.symbol(), fields)?;
     push_immediate(alloc, stamp, fields)

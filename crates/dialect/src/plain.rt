@@ -1,14 +1,13 @@
 //! The dialect Plain.
 
 use crate::fault::DialectFault;
-use crate::field_value::required;
 use crate::mark::{INTERMARKET_SWEEP, has_instruction};
 use crate::plain_id::{plain_id_text, read_plain_id};
 use crate::push::push_short;
-use crate::spelling::Spelling;
-use crate::symbol_text::{joined_symbol_text, read_joined_symbol};
-use crate::tag::{CL_ORD_ID, EXEC_INST, PRICE, SYMBOL};
-use fix_tags::price_short_text;
+use crate::spelling::{IdText, Spelling};
+use crate::symbol_text::{joined_symbol_in, joined_symbol_text};
+use crate::tag::{EXEC_INST, SYMBOL};
+use fix_tags::{PriceText, price_short_text};
 use fix_text::{Field, FieldRef};
 use leg::{LegId, Symbol};
 use std::alloc::{AllocError, Global};
@@ -27,34 +26,24 @@ impl Spelling for Plain {
 
     ghost spelling = { λ _. plain };
 
-    fn push_id(
-        &self,
-        alloc: Global,
-        id: &LegId,
-        fields: &mut Vec<Field>,
-    ) -> Result<(), AllocError> {
-        push_short(alloc, CL_ORD_ID, plain_id_text(id).as_slice(), fields)
+    fn id_text(&self, id: &LegId) -> IdText {
+        plain_id_text(id)
     }
 
     fn read_id(&self, text: &[u8]) -> Option<LegId> {
         read_plain_id(text)
     }
 
-    fn push_mark(&self, alloc: Global, fields: &mut Vec<Field>) -> Result<(), AllocError> {
-        push_short(alloc, EXEC_INST, INTERMARKET_SWEEP, fields)
+    fn mark(&self) -> FieldRef<'static> {
+        FieldRef::new(EXEC_INST, INTERMARKET_SWEEP)
     }
 
     fn is_marked(&self, fields: &[FieldRef<'_>]) -> bool {
         has_instruction(fields, INTERMARKET_SWEEP)
     }
 
-    fn push_price(
-        &self,
-        alloc: Global,
-        price: u64,
-        fields: &mut Vec<Field>,
-    ) -> Result<(), AllocError> {
-        push_short(alloc, PRICE, price_short_text(price).as_slice(), fields)
+    fn price_text(&self, price: u64) -> PriceText {
+        price_short_text(price)
     }
 
     fn push_symbol(
@@ -72,8 +61,7 @@ impl Spelling for Plain {
     }
 
     fn read_symbol(&self, fields: &[FieldRef<'_>]) -> Result<Symbol, DialectFault> {
-        let text = required(fields, SYMBOL)?;
-        read_joined_symbol(POINT, text).ok_or(DialectFault::Bad(SYMBOL))
+        joined_symbol_in(POINT, fields)
     }
 
     ghost is_spelling = { λ _. plain_is_spelling };

@@ -5,13 +5,10 @@ ghost use Rattle.dialect.specs.Plain.{numbers_of, plain_id_of};
 ghost use Rattle.leg.specs.LegId.{leg_id_text};
 
 use crate::ordinal::read_ordinal;
+use crate::spelling::IdText;
 use crate::split::split_round;
-use arrayvec::ArrayVec;
 use itoa::Buffer;
 use leg::{LegId, MAX_PLACE, MAX_SWEEP};
-
-/// The greatest length of a leg's number: `S`, 12 digits, `L` and 2 digits.
-const MAX_LEN: usize = 16;
 
 /// Reads the two numbers round the first `L`.
 fn read_numbers(text: &[u8]) -> Option<LegId>
@@ -35,11 +32,11 @@ pub(crate) fn read_plain_id(text: &[u8]) -> Option<LegId>
 }
 
 /// The one spelling of a leg's number.
-pub(crate) fn plain_id_text(id: &LegId) -> ArrayVec<u8, MAX_LEN>
+pub(crate) fn plain_id_text(id: &LegId) -> IdText
     ensures { result.items ≡ leg_id_text id.now }
 {
     let mut digits = Buffer::new();
-    let mut text = ArrayVec::new();
+    let mut text = IdText::new();
     text.push(b'S');
     text.try_extend_from_slice(digits.format(id.sweep()).as_bytes())
         .unwrap();

@@ -8,14 +8,14 @@ ghost use Rattle.dialect.specs.ReportFields.{exec_type_text, ord_status_text, ca
 use crate::fault::SpellFault;
 use crate::limit::side_text;
 use crate::order_view::OrderView;
-use crate::push::{all_or_nothing, push_number, push_text};
+use crate::push::{all_or_nothing, push_number, push_short, push_text};
 use crate::report::{Report, ReportKind};
 use crate::report_tag::{
     AVG_PX, CUM_QTY, EXEC_ID, EXEC_REF_ID, EXEC_TYPE, LAST_PX, LAST_QTY, LEAVES_QTY, ORD_STATUS,
     ORDER_ID,
 };
 use crate::spelling::Spelling;
-use crate::tag::SIDE;
+use crate::tag::{CL_ORD_ID, SIDE};
 use fix_text::Field;
 use std::alloc::{AllocError, Global};
 
@@ -104,7 +104,12 @@ fn push_event<S: Spelling>(
         ord_status_text(kind, view.leaves()),
         fields,
     )?;
-    spelling.push_id(alloc, &report.id, fields)
+    push_short(
+        alloc,
+        CL_ORD_ID,
+        spelling.id_text(&report.id).as_slice(),
+        fields,
+    )
 }
 
 /// Appends 54 to 6.

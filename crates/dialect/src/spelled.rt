@@ -16,9 +16,9 @@ use std::alloc::Global;
 impl<S: Spelling> Dialect for S {
     ghost use Rattle.std.specs.Prelude.{◌≡◌, ◌+◌, ◌<◌, refl, IfOk, OnOk, OnErr, vec_len, vec_capacity};
     ghost use Rattle.dialect.specs.Dialect.{Appends};
-    ghost use Rattle.dialect.specs.Lemmas.OrderLaws.{order_back, order_marked, order_short};
+    ghost use Rattle.dialect.specs.Lemmas.OrderLaws.{order_back, order_marked, order_timed, order_short};
     ghost use Rattle.dialect.specs.Lemmas.ReportFits.{report_short};
-    ghost use Rattle.dialect.specs.Lemmas.ReportLaws.{report_back};
+    ghost use Rattle.dialect.specs.Lemmas.ReportLaws.{report_back, report_said};
     ghost use Rattle.dialect.specs.Order.{IsOrderOf, IsReadingOf, order_fields, order_read_of};
     ghost use Rattle.dialect.specs.ReportFields.{IsReportOf, report_fields};
     ghost use Rattle.dialect.specs.ReportRead.{report_read_of};
@@ -87,6 +87,8 @@ impl<S: Spelling> Dialect for S {
 
     ghost order_is_marked = { λ d leg stamp fields is. order_marked (S.spelling d) leg stamp fields (S.is_spelling d) is };
 
+    ghost order_is_timed = { λ d leg stamp fields is. order_timed (S.spelling d) leg stamp fields (S.is_spelling d) is };
+
     ghost order_fits = { λ d leg stamp fields is. order_short (S.spelling d) leg stamp fields (S.is_spelling d) is };
 
     ghost report_exists = { λ d report view in_range view_in_range own_leg. (
@@ -95,6 +97,8 @@ impl<S: Spelling> Dialect for S {
     ) };
 
     ghost report_reads_back = { λ d report view fields is. report_back (S.spelling d) report view fields (S.is_spelling d) is };
+
+    ghost report_says_view = { λ d report view fields is. report_said (S.spelling d) report view fields (S.is_spelling d) is };
 
     ghost report_fits = { λ d report view fields is. report_short (S.spelling d) report view fields (S.is_spelling d) is };
 }

@@ -1,59 +1,53 @@
 //! What differs between dialects.
 
 use crate::fault::DialectFault;
+use arrayvec::ArrayVec;
+use fix_tags::PriceText;
 use fix_text::{Field, FieldRef};
 use leg::{LegId, Symbol};
 use std::alloc::{AllocError, Global};
 
+/// The most bytes of the text of a leg's number.
+const MAX_ID_TEXT: usize = 24;
+
+/// The text of a leg's number.
+pub type IdText = ArrayVec<u8, MAX_ID_TEXT>;
+
 /// How a venue spells a leg's number, the mark of a sweep, a price and a symbol: all that differs between dialects.
-/// The rest of an order and of a report, and every law, is proved once of any spelling. Nothing that is appended wants
-/// memory where the list has room for it.
+/// The rest of an order and of a report, and every law, is proved once of any spelling. Each value is so short that a
+/// field takes no memory.
 pub trait Spelling {
-    ghost use Rattle.std.specs.Prelude.{◌≡◌, ◌+◌, ◌<◌, ◌≤◌, ◌++◌, ◌∷◌, [], List, OnOk, OnErr, vec_len, vec_capacity};
+    ghost use Rattle.std.specs.Prelude.{◌≡◌, ◌+◌, ◌<◌, ◌≤◌, ◌++◌, List, length, OnOk, OnErr, vec_len, vec_capacity};
     ghost use Rattle.fix_text.specs.Tagged.{Tagged};
-    ghost use Rattle.dialect.specs.Fields.{field, IsGrown};
+    ghost use Rattle.dialect.specs.Fields.{IsGrown};
     ghost use Rattle.dialect.specs.Spelling.{SpellingParts, IsSpelling};
 
     ghost spelling: { Self → SpellingParts };
 
-    /// Appends ClOrdID (11), which says which leg of which sweep an order is.
-    fn push_id(&self, alloc: Global, id: &LegId, fields: &mut Vec<Field>) -> Result<(), AllocError>
-        ensures ok { OnOk result (fields.new.items ≡ fields.old.items ++ field 11 ((spelling self.now).id_text id.now) ∷ []) }
-        ensures err { OnErr result (IsGrown fields.old.items fields.new.items) }
-        ensures len { vec_len fields.new ≤ vec_len fields.old + 1 }
-        ensures room { vec_capacity fields.old ≤ vec_capacity fields.new }
-        ensures full { OnErr result (vec_capacity fields.old < vec_len fields.old + 1) };
+    /// The value of ClOrdID (11), which says which leg of which sweep an order is.
+    fn id_text(&self, id: &LegId) -> IdText
+        ensures value { result.items ≡ (spelling self.now).id_text id.now };
 
     /// Reads the value of ClOrdID (11). `None` where it isn't exactly what is written for a leg.
     fn read_id(&self, text: &[u8]) -> Option<LegId>
         ensures value { result ≡ (spelling self.now).id_of text.now };
 
-    /// Appends the field that marks a leg of a sweep.
-    fn push_mark(&self, alloc: Global, fields: &mut Vec<Field>) -> Result<(), AllocError>
-        ensures ok { OnOk result (fields.new.items ≡ fields.old.items ++ (spelling self.now).mark ∷ []) }
-        ensures err { OnErr result (IsGrown fields.old.items fields.new.items) }
-        ensures len { vec_len fields.new ≤ vec_len fields.old + 1 }
-        ensures room { vec_capacity fields.old ≤ vec_capacity fields.new }
-        ensures full { OnErr result (vec_capacity fields.old < vec_len fields.old + 1) };
+    /// The field that marks a leg of a sweep.
+    fn mark(&self) -> FieldRef<'static>
+        ensures value { result ≡ (spelling self.now).mark }
+        ensures short { length result.value ≤ 24 };
 
     /// Whether fields carry the mark of a leg of a sweep.
     fn is_marked(&self, fields: &[FieldRef<'_>]) -> bool
         ensures value { result ≡ (spelling self.now).is_marked fields.now };
 
-    /// Appends Price (44), of a price in ten-thousandths of a dollar.
-    fn push_price(
-        &self,
-        alloc: Global,
-        price: u64,
-        fields: &mut Vec<Field>,
-    ) -> Result<(), AllocError>
-        ensures ok { OnOk result (fields.new.items ≡ fields.old.items ++ field 44 ((spelling self.now).price_text price) ∷ []) }
-        ensures err { OnErr result (IsGrown fields.old.items fields.new.items) }
-        ensures len { vec_len fields.new ≤ vec_len fields.old + 1 }
-        ensures room { vec_capacity fields.old ≤ vec_capacity fields.new }
-        ensures full { OnErr result (vec_capacity fields.old < vec_len fields.old + 1) };
+    /// The value of Price (44), of a price in ten-thousandths of a dollar.
+    fn price_text(&self, price: u64) -> PriceText
+        ensures value { result.items ≡ (spelling self.now).price_text price }
+        ensures short { length result.items ≤ 24 };
 
     /// Appends the fields of a symbol: Symbol (55) and, where the venue parts it and there is a suffix, SymbolSfx (65).
+    /// It wants memory only where the list has no room for two more fields.
     fn push_symbol(
         &self,
         alloc: Global,

@@ -10,11 +10,10 @@ use crate::field_value::required;
 use crate::fixed_id::{PLACE_DIGITS, read_fixed_id};
 use crate::mark::{INTERMARKET_SWEEP, has_instruction};
 use crate::push::push_short;
-use crate::spelling::Spelling;
+use crate::spelling::{IdText, Spelling};
 use crate::split::split_round;
-use crate::tag::{CL_ORD_ID, EXEC_INST, PRICE, SYMBOL, SYMBOL_SFX};
-use arrayvec::ArrayVec;
-use fix_tags::price_four_text;
+use crate::tag::{EXEC_INST, SYMBOL, SYMBOL_SFX};
+use fix_tags::{PriceText, price_four_text};
 use fix_text::{Field, FieldRef, first_ref};
 use leg::{LegId, Symbol};
 use std::alloc::{AllocError, Global};
@@ -34,14 +33,11 @@ const SWEEP_DIGITS: usize = 12;
 /// What stands between a sweep's number and a place.
 const DASH: u8 = b'-';
 
-/// The length of a leg's number.
-const ID_LEN: usize = 15;
-
 #[tactic(auto, unfolding(crate::specs::Split4::split4_id_text))]
-fn id_text(id: &LegId) -> ArrayVec<u8, ID_LEN>
+fn id_text(id: &LegId) -> IdText
     ensures { result.items ≡ split4_id_text id.now }
 {
-    let mut text = ArrayVec::new();
+    let mut text = IdText::new();
     append_digits(BASE, SWEEP_DIGITS, id.sweep(), &mut text);
     text.push(DASH);
     append_digits(BASE, PLACE_DIGITS, u64::from(id.place()), &mut text);
@@ -86,34 +82,24 @@ impl Spelling for Split4 {
 
     ghost spelling = { λ _. split4 };
 
-    fn push_id(
-        &self,
-        alloc: Global,
-        id: &LegId,
-        fields: &mut Vec<Field>,
-    ) -> Result<(), AllocError> {
-        push_short(alloc, CL_ORD_ID, id_text(id).as_slice(), fields)
+    fn id_text(&self, id: &LegId) -> IdText {
+        id_text(id)
     }
 
     fn read_id(&self, text: &[u8]) -> Option<LegId> {
         read_id(text)
     }
 
-    fn push_mark(&self, alloc: Global, fields: &mut Vec<Field>) -> Result<(), AllocError> {
-        push_short(alloc, EXEC_INST, INTERMARKET_SWEEP, fields)
+    fn mark(&self) -> FieldRef<'static> {
+        FieldRef::new(EXEC_INST, INTERMARKET_SWEEP)
     }
 
     fn is_marked(&self, fields: &[FieldRef<'_>]) -> bool {
         has_instruction(fields, INTERMARKET_SWEEP)
     }
 
-    fn push_price(
-        &self,
-        alloc: Global,
-        price: u64,
-        fields: &mut Vec<Field>,
-    ) -> Result<(), AllocError> {
-        push_short(alloc, PRICE, price_four_text(price).as_slice(), fields)
+    fn price_text(&self, price: u64) -> PriceText {
+        price_four_text(price)
     }
 
     fn push_symbol(

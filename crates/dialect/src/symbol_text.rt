@@ -2,10 +2,15 @@
 
 ghost use Rattle.std.specs.Prelude.{◌≡◌};
 ghost use Rattle.leg.specs.Symbol.{joined_text};
+ghost use Rattle.dialect.specs.Fields.{required_as};
 ghost use Rattle.dialect.specs.JoinedSymbol.{joined_symbol_of};
 
+use crate::fault::DialectFault;
+use crate::field_value::required;
 use crate::split::split_round;
+use crate::tag::SYMBOL;
 use arrayvec::ArrayVec;
+use fix_text::FieldRef;
 use leg::Symbol;
 
 /// The greatest length of a symbol: a root of 6 letters, a separator and 3 letters.
@@ -13,7 +18,7 @@ const MAX_LEN: usize = 10;
 
 /// Reads a root of 1 to 6 letters A to Z and, behind the first separator, a suffix of 1 to 3.
 #[tactic(auto, unfolding(crate::specs::JoinedSymbol::joined_symbol_of))]
-pub(crate) fn read_joined_symbol(separator: u8, text: &[u8]) -> Option<Symbol>
+fn read_joined_symbol(separator: u8, text: &[u8]) -> Option<Symbol>
     ensures { result ≡ joined_symbol_of separator text.now }
 {
     match split_round(text, separator) {
@@ -21,6 +26,17 @@ pub(crate) fn read_joined_symbol(separator: u8, text: &[u8]) -> Option<Symbol>
         Some((_, [])) => None,
         Some((root, suffix)) => Symbol::new(root, suffix).ok(),
     }
+}
+
+/// Reads a symbol in the one field Symbol (55).
+pub(crate) fn joined_symbol_in(
+    separator: u8,
+    fields: &[FieldRef<'_>],
+) -> Result<Symbol, DialectFault>
+    ensures { result ≡ required_as (joined_symbol_of separator) fields.now 55 }
+{
+    let text = required(fields, SYMBOL)?;
+    read_joined_symbol(separator, text).ok_or(DialectFault::Bad(SYMBOL))
 }
 
 /// Reads a symbol as `BRK.B`, or `IBM` where it has no suffix.

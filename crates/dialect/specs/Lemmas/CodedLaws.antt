@@ -22,7 +22,8 @@ use Rattle.dialect.specs.Spelling.{IsSpelling}
 use Rattle.dialect.specs.Coded.{coded, coded_id_text, coded_id_of}
 
 -- the first 16 bytes are the sweep's
-parts_again : (id : LegIdParts) → (take 16 (coded_id_text id) ≡ digits 16 16 id.sweep) × (drop 16 (coded_id_text id) ≡ digits 16 2 id.place)
+parts_again : (id : LegIdParts)
+    → (take 16 (coded_id_text id) ≡ digits 16 16 id.sweep) × (drop 16 (coded_id_text id) ≡ digits 16 2 id.place)
 unfolding coded_id_text
 parts_again id = (refl, refl)
 
@@ -50,7 +51,8 @@ short_id id range =
     let whole : length (front ++ back) ≡ 18 = length-append front back ∙ ap₂ (λ m n. m + n) (length-digits 16 16 id.sweep) (length-digits 16 2 id.place) in
     short_value (front ++ back) (omega (arith, whole)) (omega (arith, whole)) (All-append IsNotSoh front back (no_soh 16 id.sweep) (no_soh 2 id.place))
 
-mark_read : (fields : List Tagged) → value_of fields 9001 ≡ Some (codes "Y") → has_value (is_text (codes "Y")) fields 9001 ≡ true
+mark_read : (fields : List Tagged) → value_of fields 9001 ≡ Some (codes "Y")
+    → has_value (is_text (codes "Y")) fields 9001 ≡ true
 mark_read fields there = ap (λ o. option_map_or (is_text (codes "Y")) o false) there
 
 among_itself : is_among (codes "Y") (codes "Y") ≡ true

@@ -44,7 +44,8 @@ rest_of base zero n = n
 rest_of base (suc width) n = rest_of base width (n / base)
 
 -- what is written is read back
-number_after-digits : (base width n : ℕ) (back : List ℕ) → 2 ≤ base → base ≤ 16 → rest_of base width n ≡ 0 → number_after base 0 (digits base width n ++ back) ≡ number_after base n back
+number_after-digits : (base width n : ℕ) (back : List ℕ) → 2 ≤ base → base ≤ 16 → rest_of base width n ≡ 0
+    → number_after base 0 (digits base width n ++ back) ≡ number_after base n back
 number_after-digits base zero n back low high none = ap (λ m. number_after base m back) (sym none)
 number_after-digits base (suc width) n back low high none =
     let last = n % base in
@@ -55,7 +56,8 @@ number_after-digits base (suc width) n back low high none =
     ∙ ap (λ m. number_after base m back) (div-add-mod' n base)
 
 -- what is read is what is written
-number_after-Some : (base width whole n m : ℕ) (text : List ℕ) → 2 ≤ base → base ≤ 16 → whole ≡ width + length text → number_after base n text ≡ Some m → digits base whole m ≡ digits base width n ++ text
+number_after-Some : (base width whole n m : ℕ) (text : List ℕ) → 2 ≤ base → base ≤ 16 → whole ≡ width + length text
+    → number_after base n text ≡ Some m → digits base whole m ≡ digits base width n ++ text
 number_after-Some base width whole n m [] low high is e =
     let same : whole ≡ width = omega arith in
     ap₂ (λ w x. digits base w x) same (sym (same_Some n m e)) ∙ sym (append-nil (digits base width n))
@@ -68,7 +70,8 @@ number_after-Some base width whole n m (c ∷ text) low high is e =
     ∙ append_assoc (digits base width n) (c ∷ []) text)
 
 -- a number that fits its width
-pub fixed_of-digits : (base width greatest n : ℕ) → 2 ≤ base → base ≤ 16 → 1 ≤ n → n ≤ greatest → rest_of base width n ≡ 0 → fixed_of base width greatest (digits base width n) ≡ Some n
+pub fixed_of-digits : (base width greatest n : ℕ) → 2 ≤ base → base ≤ 16 → 1 ≤ n → n ≤ greatest
+    → rest_of base width n ≡ 0 → fixed_of base width greatest (digits base width n) ≡ Some n
 unfolding fixed_of
 fixed_of-digits base width greatest n low high from to none =
     let read : number_after base 0 (digits base width n) ≡ Some n = ap (number_after base 0) (sym (append-nil (digits base width n))) ∙ number_after-digits base width n [] low high none in
@@ -84,7 +87,8 @@ chosen : (b : Bool) (o : Option ℕ) (n : ℕ) → cond b o None ≡ Some n → 
 chosen true o n e = (refl, e)
 chosen false o n e = cc
 
-pub fixed_of-Some : (base width greatest : ℕ) (text : List ℕ) (n : ℕ) → 2 ≤ base → base ≤ 16 → fixed_of base width greatest text ≡ Some n → IsFixed base width greatest text n
+pub fixed_of-Some : (base width greatest : ℕ) (text : List ℕ) (n : ℕ) → 2 ≤ base → base ≤ 16
+    → fixed_of base width greatest text ≡ Some n → IsFixed base width greatest text n
 unfolding fixed_of
 fixed_of-Some base width greatest text n low high e =
     let parts = chosen (length text == width) _ n e in
@@ -96,4 +100,11 @@ fixed_of-Some base width greatest text n low high e =
     let high_k : k ≤ greatest = leb-true k greatest to.0 in
     let low_m : 1 ≤ m = leb-true 1 m from.0 in
     let spelled = number_after-Some base 0 width 0 k text low high (omega (arith, long)) read in
-    subst (IsFixed base width greatest text) (to.1 ∙ from.1) (record { low = omega (arith, to.1); high = high_k; text_is = spelled })))
+    subst (IsFixed base width greatest text) (to.1 ∙ from.1) (record {
+      low = omega (
+        arith,
+        to.1,
+      );
+      high = high_k;
+      text_is = spelled;
+    })))

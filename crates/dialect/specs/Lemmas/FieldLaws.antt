@@ -12,7 +12,8 @@ use Rattle.dialect.specs.Fields.{field}
 use Rattle.dialect.specs.ShortFields.{IsShortValue, IsShortField}
 use Rattle.dialect.specs.Dialect.{FitsMessage}
 
-pub short_field : (tag : ℕ) (value : List ℕ) → (is_writable_tag tag && not (is_header_tag tag)) ≡ true → IsShortValue value → IsShortField (field tag value)
+pub short_field : (tag : ℕ) (value : List ℕ) → (is_writable_tag tag && not (is_header_tag tag)) ≡ true
+    → IsShortValue value → IsShortField (field tag value)
 short_field tag value own short = record { tag = own; value = short }
 
 -- a field that an application message takes, its tag of at most these digits and its value of at most these bytes
@@ -22,12 +23,15 @@ pub record IsFieldWithin (most_digits most_bytes : ℕ) (f : Tagged) : Type 0 wh
   pub writable : is_writable_value f.value ≡ true
   pub short : length f.value ≤ most_bytes
 
-are_app_fields-within : (most_digits most_bytes : ℕ) (fields : List Tagged) → AllByRecursion (IsFieldWithin most_digits most_bytes) fields → are_app_fields fields ≡ true
+are_app_fields-within : (most_digits most_bytes : ℕ) (fields : List Tagged)
+    → AllByRecursion (IsFieldWithin most_digits most_bytes) fields → are_app_fields fields ≡ true
 are_app_fields-within most_digits most_bytes [] are = refl
 are_app_fields-within most_digits most_bytes (first ∷ fields) are =
     and_from _ _ (and_from _ _ are.0.tag are.0.writable) (are_app_fields-within most_digits most_bytes fields are.1)
 
-length-fields_text-within : (most_digits most_bytes : ℕ) (fields : List Tagged) → AllByRecursion (IsFieldWithin most_digits most_bytes) fields → length (fields_text fields) ≤ length fields * (most_digits + 1 + most_bytes + 1)
+length-fields_text-within : (most_digits most_bytes : ℕ) (fields : List Tagged)
+    → AllByRecursion (IsFieldWithin most_digits most_bytes) fields
+    → length (fields_text fields) ≤ length fields * (most_digits + 1 + most_bytes + 1)
 length-fields_text-within most_digits most_bytes [] are = omega arith
 length-fields_text-within most_digits most_bytes (first ∷ fields) are =
     let here = length-field_text first in
@@ -35,7 +39,9 @@ length-fields_text-within most_digits most_bytes (first ∷ fields) are =
     omega (arith, here, whole, are.0.digits, are.0.short, length-fields_text-within most_digits most_bytes fields are.1)
 
 -- fields that are together within the limit
-pub FitsMessage-within : (most_digits most_bytes : ℕ) (fields : List Tagged) → AllByRecursion (IsFieldWithin most_digits most_bytes) fields → length fields * (most_digits + 1 + most_bytes + 1) ≤ 1000 → FitsMessage fields
+pub FitsMessage-within : (most_digits most_bytes : ℕ) (fields : List Tagged)
+    → AllByRecursion (IsFieldWithin most_digits most_bytes) fields
+    → length fields * (most_digits + 1 + most_bytes + 1) ≤ 1000 → FitsMessage fields
 FitsMessage-within most_digits most_bytes fields are few = record {
   app = are_app_fields-within most_digits most_bytes fields are;
   short = omega (arith, length-fields_text-within most_digits most_bytes fields are);
@@ -44,7 +50,8 @@ FitsMessage-within most_digits most_bytes fields are few = record {
 length-tag : (tag : ℕ) → is_writable_tag tag ≡ true → length (decimal tag) ≤ 6
 length-tag tag writable = length-decimal-le 6 tag (omega arith) (grind (arith, nat_tests)) (grind (arith, nat_tests))
 
-within_six_digits : (fields : List Tagged) → AllByRecursion IsShortField fields → AllByRecursion (IsFieldWithin 6 32) fields
+within_six_digits : (fields : List Tagged) → AllByRecursion IsShortField fields
+    → AllByRecursion (IsFieldWithin 6 32) fields
 within_six_digits [] short = tt
 within_six_digits (first ∷ fields) short =
     let here : IsFieldWithin 6 32 first = record {
@@ -56,6 +63,7 @@ within_six_digits (first ∷ fields) short =
     (here, within_six_digits fields short.1)
 
 -- up to 25 fields with any tag and a value of at most 32 bytes
-pub FitsMessage-short : (fields : List Tagged) → AllByRecursion IsShortField fields → length fields ≤ 25 → FitsMessage fields
+pub FitsMessage-short : (fields : List Tagged) → AllByRecursion IsShortField fields → length fields ≤ 25
+    → FitsMessage fields
 FitsMessage-short fields short few =
     FitsMessage-within 6 32 fields (within_six_digits fields short) (omega arith)

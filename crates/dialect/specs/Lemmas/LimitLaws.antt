@@ -21,12 +21,16 @@ side_of-text Buy = refl
 side_of-text Sell = refl
 
 -- 38 to 54, where the text of the price reads as it
-pub limit_in-written : (fields : List Tagged) (limit : Limit) (text : List ℕ) → IsShares limit.shares → price_of text ≡ Some limit.price → value_of fields 38 ≡ Some (decimal limit.shares) → value_of fields 40 ≡ Some (codes "2") → value_of fields 44 ≡ Some text → value_of fields 54 ≡ Some (side_text limit.side) → limit_in fields ≡ Ok limit
+pub limit_in-written : (fields : List Tagged) (limit : Limit) (text : List ℕ) → IsShares limit.shares
+    → price_of text ≡ Some limit.price → value_of fields 38 ≡ Some (decimal limit.shares)
+    → value_of fields 40 ≡ Some (codes "2") → value_of fields 44 ≡ Some text
+    → value_of fields 54 ≡ Some (side_text limit.side) → limit_in fields ≡ Ok limit
 unfolding limit_in
 limit_in-written fields limit text range says shares kind price side =
     rw (shares, order_shares_of-decimal limit.shares range, kind, price, says, side, side_of-text limit.side) refl
 
 -- 59 and 60
-pub immediate_in-written : (fields : List Tagged) (time : List ℕ) → value_of fields 59 ≡ Some (codes "3") → value_of fields 60 ≡ Some time → immediate_in fields ≡ Ok tt
+pub immediate_in-written : (fields : List Tagged) (time : List ℕ) → value_of fields 59 ≡ Some (codes "3")
+    → value_of fields 60 ≡ Some time → immediate_in fields ≡ Ok tt
 unfolding immediate_in
 immediate_in-written fields time immediate there = rw (immediate, there) refl

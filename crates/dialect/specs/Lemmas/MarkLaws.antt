@@ -17,7 +17,8 @@ sweep_mark_read fields there =
     ap (λ o. option_map_or (is_among (codes "f")) o false) there ∙ is_among-alone
 
 -- a field that passes a test is there
-pub value_passes : (test : List ℕ → Bool) (o : Option (List ℕ)) → option_map_or test o false ≡ true → (text : List ℕ) × (o ≡ Some text) × (test text ≡ true)
+pub value_passes : (test : List ℕ → Bool) (o : Option (List ℕ)) → option_map_or test o false ≡ true
+    → (text : List ℕ) × (o ≡ Some text) × (test text ≡ true)
 value_passes test None e = cc
 value_passes test (Some text) e = (text, refl, e)
 

@@ -20,15 +20,18 @@ use Rattle.dialect.specs.Spelling.{SpellingParts, IsSpelling}
 use Rattle.dialect.specs.Order.{order_fields, IsOrderOf, order_read_of}
 
 -- a look-up passes over a field of another tag
-passed_by : (b : Bool) (tag : ℕ) (first : Tagged) (fields : List Tagged) → (first.tag == tag) ≡ b → not (tag == first.tag) ≡ true → value_of (first ∷ fields) tag ≡ value_of fields tag
+passed_by : (b : Bool) (tag : ℕ) (first : Tagged) (fields : List Tagged) → (first.tag == tag) ≡ b
+    → not (tag == first.tag) ≡ true → value_of (first ∷ fields) tag ≡ value_of fields tag
 passed_by true tag first fields e other = absurd (grind (arith, nat_tests))
 passed_by false tag first fields e other = ap (λ b. cond b (Some first.value) (value_of fields tag)) e
 
-passed : (tag : ℕ) (first : Tagged) (fields : List Tagged) → not (tag == first.tag) ≡ true → value_of (first ∷ fields) tag ≡ value_of fields tag
+passed : (tag : ℕ) (first : Tagged) (fields : List Tagged) → not (tag == first.tag) ≡ true
+    → value_of (first ∷ fields) tag ≡ value_of fields tag
 passed tag first fields other = passed_by (first.tag == tag) tag first fields refl other
 
 -- fields of other tags don't matter, before and behind
-value_of-behind : (tag : ℕ) (front back : List Tagged) → has_no tag front ≡ true → value_of (front ++ back) tag ≡ value_of back tag
+value_of-behind : (tag : ℕ) (front back : List Tagged) → has_no tag front ≡ true
+    → value_of (front ++ back) tag ≡ value_of back tag
 value_of-behind tag [] back none = refl
 value_of-behind tag (first ∷ front) back none =
     let parts = and_parts (not (tag == first.tag)) (has_no tag front) none in
@@ -40,7 +43,8 @@ value_of-none tag (first ∷ fields) none =
     let parts = and_parts (not (tag == first.tag)) (has_no tag fields) none in
     passed tag first fields parts.0 ∙ value_of-none tag fields parts.1
 
-value_of-before : (tag : ℕ) (front back : List Tagged) → has_no tag back ≡ true → value_of (front ++ back) tag ≡ value_of front tag
+value_of-before : (tag : ℕ) (front back : List Tagged) → has_no tag back ≡ true
+    → value_of (front ++ back) tag ≡ value_of front tag
 value_of-before tag [] back none = value_of-none tag back none
 value_of-before tag (first ∷ front) back none =
     ap (λ o. cond (first.tag == tag) (Some first.value) o) (value_of-before tag front back none)
@@ -62,7 +66,8 @@ length-tags (first ∷ fields) = ap suc (length-tags fields)
 abbrev pub IsSymbolTags : List Tagged → Type 0
 IsSymbolTags fields = (map (λ f. f.tag) fields ≡ 55 ∷ []) ⊎ (map (λ f. f.tag) fields ≡ 55 ∷ 65 ∷ [])
 
-symbol_has_no : (tag : ℕ) (fields : List Tagged) → is_no_tag tag (55 ∷ 65 ∷ []) ≡ true → IsSymbolTags fields → has_no tag fields ≡ true
+symbol_has_no : (tag : ℕ) (fields : List Tagged) → is_no_tag tag (55 ∷ 65 ∷ []) ≡ true → IsSymbolTags fields
+    → has_no tag fields ≡ true
 symbol_has_no tag fields none (inl tags) = has_no-tags tag fields ∙ ap (is_no_tag tag) tags ∙ grind (arith, nat_tests)
 symbol_has_no tag fields none (inr tags) = has_no-tags tag fields ∙ ap (is_no_tag tag) tags ∙ none
 
@@ -70,7 +75,8 @@ length-symbol : (fields : List Tagged) → IsSymbolTags fields → length fields
 length-symbol fields (inl tags) = omega (arith, length-tags fields, ap length tags)
 length-symbol fields (inr tags) = omega (arith, length-tags fields, ap length tags)
 
-AllByRecursion-append : {A : Type 0} (P : A → Type 0) (xs ys : List A) → AllByRecursion P xs → AllByRecursion P ys → AllByRecursion P (xs ++ ys)
+AllByRecursion-append : {A : Type 0} (P : A → Type 0) (xs ys : List A) → AllByRecursion P xs → AllByRecursion P ys
+    → AllByRecursion P (xs ++ ys)
 AllByRecursion-append P [] ys p q = q
 AllByRecursion-append P (x ∷ xs) ys p q = (p.0, AllByRecursion-append P xs ys p.1 q)
 
@@ -98,17 +104,20 @@ record Looks (s : SpellingParts) (leg : Leg) (stamp : StampParts) (fields : List
   time : value_of fields 60 ≡ Some (stamp_text stamp)
 
 -- the mark is found behind the id
-mark_found : (s : SpellingParts) (id : List ℕ) (rest : List Tagged) → not (11 == s.mark.tag) ≡ true → value_of (field 11 id ∷ s.mark ∷ rest) s.mark.tag ≡ Some s.mark.value
+mark_found : (s : SpellingParts) (id : List ℕ) (rest : List Tagged) → not (11 == s.mark.tag) ≡ true
+    → value_of (field 11 id ∷ s.mark ∷ rest) s.mark.tag ≡ Some s.mark.value
 mark_found s id rest other =
     ap (λ b. cond b (Some id) (value_of (s.mark ∷ rest) s.mark.tag)) (not-true (11 == s.mark.tag) other)
     ∙ cond-true (s.mark.tag == s.mark.tag) (Some s.mark.value) (value_of rest s.mark.tag) (eq-eqb _ _ refl)
 
 -- behind the id and the mark
-behind_mark : (s : SpellingParts) (id : List ℕ) (rest : List Tagged) (tag : ℕ) → (11 == tag) ≡ false → has_no tag (s.mark ∷ []) ≡ true → value_of (field 11 id ∷ s.mark ∷ rest) tag ≡ value_of rest tag
+behind_mark : (s : SpellingParts) (id : List ℕ) (rest : List Tagged) (tag : ℕ) → (11 == tag) ≡ false
+    → has_no tag (s.mark ∷ []) ≡ true → value_of (field 11 id ∷ s.mark ∷ rest) tag ≡ value_of rest tag
 behind_mark s id rest tag other apart =
     ap (λ b. cond b (Some id) (value_of (s.mark ∷ rest) tag)) other ∙ passed tag s.mark rest (mark_other s tag apart)
 
-looks : (s : SpellingParts) (leg : Leg) (stamp : StampParts) → IsSpelling s → Looks s leg stamp (order_fields s leg stamp)
+looks : (s : SpellingParts) (leg : Leg) (stamp : StampParts) → IsSpelling s
+    → Looks s leg stamp (order_fields s leg stamp)
 looks s leg stamp laws =
     let apart = laws.mark_apart in
     let id = s.id_text leg.id in
@@ -131,7 +140,8 @@ looks s leg stamp laws =
     }
 
 -- what is written is read back
-reads_back : (s : SpellingParts) (leg : Leg) (stamp : StampParts) (fields : List Tagged) → IsSpelling s → IsLeg leg → Looks s leg stamp fields → order_read_of s fields ≡ Ok leg
+reads_back : (s : SpellingParts) (leg : Leg) (stamp : StampParts) (fields : List Tagged) → IsSpelling s → IsLeg leg
+    → Looks s leg stamp fields → order_read_of s fields ≡ Ok leg
 unfolding order_read_of
 reads_back s leg stamp fields laws range found =
     let terms = range.terms in
@@ -142,22 +152,33 @@ reads_back s leg stamp fields laws range found =
     let timed = immediate_in-written fields _ found.immediate found.time in
     rw (found.id, laws.id_reads_back leg.id range.id, laws.mark_is_read fields found.mark, limited, symbol, timed) refl
 
-pub order_back : (s : SpellingParts) (leg : Leg) (stamp : StampParts) (fields : List Tagged) → IsSpelling s → IsOrderOf s leg stamp fields → order_read_of s fields ≡ Ok leg
+pub order_back : (s : SpellingParts) (leg : Leg) (stamp : StampParts) (fields : List Tagged) → IsSpelling s
+    → IsOrderOf s leg stamp fields → order_read_of s fields ≡ Ok leg
 order_back s leg stamp fields laws is =
     ap (order_read_of s) is.written
     ∙ reads_back s leg stamp (order_fields s leg stamp) laws is.leg_in_range (looks s leg stamp laws)
 
 -- it carries the mark, and is immediate or cancel
-marked : (s : SpellingParts) (leg : Leg) (stamp : StampParts) → IsSpelling s → IsMarked s.mark (order_fields s leg stamp)
+marked : (s : SpellingParts) (leg : Leg) (stamp : StampParts) → IsSpelling s
+    → IsMarked s.mark (order_fields s leg stamp)
 marked s leg stamp laws =
     let found = looks s leg stamp laws in record { marked = found.mark; immediate = found.immediate }
 
-pub order_marked : (s : SpellingParts) (leg : Leg) (stamp : StampParts) (fields : List Tagged) → IsSpelling s → IsOrderOf s leg stamp fields → IsMarked s.mark fields
+pub order_marked : (s : SpellingParts) (leg : Leg) (stamp : StampParts) (fields : List Tagged) → IsSpelling s
+    → IsOrderOf s leg stamp fields → IsMarked s.mark fields
 order_marked s leg stamp fields laws is =
     subst (IsMarked s.mark) (sym is.written) (marked s leg stamp laws)
 
+-- it has its stamp
+pub order_timed : (s : SpellingParts) (leg : Leg) (stamp : StampParts) (fields : List Tagged) → IsSpelling s
+    → IsOrderOf s leg stamp fields → value_of fields 60 ≡ Some (stamp_text stamp)
+order_timed s leg stamp fields laws is =
+    subst (λ (fields : List Tagged). value_of fields 60 ≡ Some (stamp_text stamp)) (sym is.written)
+    (looks s leg stamp laws).time
+
 -- it fits a message
-short_front : (s : SpellingParts) (leg : Leg) → IsSpelling s → IsLeg leg → AllByRecursion IsShortField (order_front s leg)
+short_front : (s : SpellingParts) (leg : Leg) → IsSpelling s → IsLeg leg
+    → AllByRecursion IsShortField (order_front s leg)
 short_front s leg laws range =
     let terms = range.terms in (
       short_field 11 _ refl (laws.id_short leg.id range.id),
@@ -176,7 +197,8 @@ short_front s leg laws range =
       ),
     )
 
-fits : (s : SpellingParts) (leg : Leg) (stamp : StampParts) → IsSpelling s → IsLeg leg → FitsMessage (order_fields s leg stamp)
+fits : (s : SpellingParts) (leg : Leg) (stamp : StampParts) → IsSpelling s → IsLeg leg
+    → FitsMessage (order_fields s leg stamp)
 fits s leg stamp laws range =
     let symbol = s.symbol_fields leg.terms.symbol in
     let last : AllByRecursion IsShortField (immediate_fields stamp) = (short_field 59 _ refl (short_byte 51 (λ e. omega arith)), (short_field 60 _ refl (short_stamp stamp), tt)) in
@@ -185,6 +207,7 @@ fits s leg stamp laws range =
     let few = length-symbol symbol (laws.symbol_tags leg.terms.symbol) in
     FitsMessage-short (order_fields s leg stamp) all (omega (arith, few, length-append symbol (immediate_fields stamp)))
 
-pub order_short : (s : SpellingParts) (leg : Leg) (stamp : StampParts) (fields : List Tagged) → IsSpelling s → IsOrderOf s leg stamp fields → FitsMessage fields
+pub order_short : (s : SpellingParts) (leg : Leg) (stamp : StampParts) (fields : List Tagged) → IsSpelling s
+    → IsOrderOf s leg stamp fields → FitsMessage fields
 order_short s leg stamp fields laws is =
     subst FitsMessage (sym is.written) (fits s leg stamp laws is.leg_in_range)

@@ -9,7 +9,8 @@ use Rattle.fix_tags.proofs.ReadBack.{number_of-decimal}
 use Rattle.dialect.specs.Ordinal.{ordinal_of}
 
 -- a number that counts from 1
-pub ordinal_of-decimal : (greatest n : ℕ) → 1 ≤ n → n ≤ greatest → greatest ≤ 999_999_999_999 → ordinal_of greatest (decimal n) ≡ Some n
+pub ordinal_of-decimal : (greatest n : ℕ) → 1 ≤ n → n ≤ greatest → greatest ≤ 999_999_999_999
+    → ordinal_of greatest (decimal n) ≡ Some n
 unfolding ordinal_of
 ordinal_of-decimal greatest n low high limit =
     rw (number_of-decimal n (omega arith), le-leb 1 n low, le-leb n greatest high, (bytes_eq-Decides (decimal n) (decimal n)).1 refl) refl
@@ -34,10 +35,12 @@ passes-tells greatest text n e =
     let bounds = and_parts _ _ parts.0 in
     record { low = leb-true _ _ bounds.0; high = leb-true _ _ bounds.1; text_is = (bytes_eq-Decides (decimal n) text).0 parts.1 }
 
-pub passes-false : (greatest : ℕ) (text : List ℕ) (n : ℕ) → (IsOrdinal greatest text n → ⊥) → passes greatest text n ≡ false
+pub passes-false : (greatest : ℕ) (text : List ℕ) (n : ℕ) → (IsOrdinal greatest text n → ⊥)
+    → passes greatest text n ≡ false
 passes-false greatest text n never = false_from_ne_true _ (λ e. never (passes-tells greatest text n e))
 
-pub ordinal_of-Some : (greatest : ℕ) (text : List ℕ) (n : ℕ) → ordinal_of greatest text ≡ Some n → IsOrdinal greatest text n
+pub ordinal_of-Some : (greatest : ℕ) (text : List ℕ) (n : ℕ) → ordinal_of greatest text ≡ Some n
+    → IsOrdinal greatest text n
 unfolding ordinal_of
 ordinal_of-Some greatest text n e =
     option_and_then_some _ (number_of text) n e (λ m from then. let parts = cond_some _ m n then in subst (IsOrdinal greatest text) parts.1 (passes-tells greatest text m parts.0))

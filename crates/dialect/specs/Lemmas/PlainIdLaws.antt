@@ -51,7 +51,8 @@ chosen true o id e = (refl, e)
 chosen false o id e = cc
 
 -- what is read is what is written
-pub plain_id_of-Some : (text : List ℕ) (id : LegIdParts) → plain_id_of text ≡ Some id → IsLegId id × (text ≡ leg_id_text id)
+pub plain_id_of-Some : (text : List ℕ) (id : LegIdParts) → plain_id_of text ≡ Some id
+    → IsLegId id × (text ≡ leg_id_text id)
 unfolding plain_id_of
 plain_id_of-Some [] id e = cc
 plain_id_of-Some (c ∷ cs) id e =

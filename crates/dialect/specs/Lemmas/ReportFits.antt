@@ -29,7 +29,8 @@ IsReportField f = IsFieldWithin 3 64 f
 abbrev AreReportFields : List Tagged → Type 0
 AreReportFields fields = AllByRecursion IsReportField fields
 
-AreReportFields-append : (front back : List Tagged) → AreReportFields front → AreReportFields back → AreReportFields (front ++ back)
+AreReportFields-append : (front back : List Tagged) → AreReportFields front → AreReportFields back
+    → AreReportFields (front ++ back)
 AreReportFields-append [] back before behind = behind
 AreReportFields-append (first ∷ front) back before behind =
     (before.0, AreReportFields-append front back before.1 behind)
@@ -37,7 +38,8 @@ AreReportFields-append (first ∷ front) back before behind =
 length-report_tag : (tag : ℕ) → tag ≤ 999 → length (decimal tag) ≤ 3
 length-report_tag tag small = length-decimal-le 3 tag (omega arith) (omega arith) (omega arith)
 
-free_field : (tag greatest : ℕ) (value : List ℕ) → (is_writable_tag tag && not (is_header_tag tag)) ≡ true → tag ≤ 999 → greatest ≤ 64 → IsFreeText greatest value → IsReportField (field tag value)
+free_field : (tag greatest : ℕ) (value : List ℕ) → (is_writable_tag tag && not (is_header_tag tag)) ≡ true → tag ≤ 999
+    → greatest ≤ 64 → IsFreeText greatest value → IsReportField (field tag value)
 free_field tag greatest value own small short range =
     let parts = and_parts (nat_le (length value) greatest) _ range in
     let within = leb-true _ _ parts.0 in
@@ -56,10 +58,12 @@ narrow_field f small short = record {
   short = omega (arith, short.value.short);
 }
 
-short_report_field : (tag : ℕ) (value : List ℕ) → (is_writable_tag tag && not (is_header_tag tag)) ≡ true → tag ≤ 999 → IsShortValue value → IsReportField (field tag value)
+short_report_field : (tag : ℕ) (value : List ℕ) → (is_writable_tag tag && not (is_header_tag tag)) ≡ true → tag ≤ 999
+    → IsShortValue value → IsReportField (field tag value)
 short_report_field tag value own small short = narrow_field (field tag value) small (record { tag = own; value = short })
 
-narrow_fields : (fields : List Tagged) → AllByRecursion (λ tag. tag ≤ 999) (map (λ f. f.tag) fields) → AllByRecursion IsShortField fields → AreReportFields fields
+narrow_fields : (fields : List Tagged) → AllByRecursion (λ tag. tag ≤ 999) (map (λ f. f.tag) fields)
+    → AllByRecursion IsShortField fields → AreReportFields fields
 narrow_fields [] small short = tt
 narrow_fields (first ∷ fields) small short = (narrow_field first small.0 short.0, narrow_fields fields small.1 short.1)
 
@@ -127,7 +131,8 @@ fill_fit Rejected range = record { fit = tt; few = omega arith }
 fill_fit Expired range = record { fit = tt; few = omega arith }
 fill_fit (Bust cancelled_id) range = record { fit = tt; few = omega arith }
 
-event_fit : (s : SpellingParts) (law : IsSpelling s) (report : Report) (view : OrderViewParts) → IsReport report → IsOrderView view → AreReportFields (event_fields s report view)
+event_fit : (s : SpellingParts) (law : IsSpelling s) (report : Report) (view : OrderViewParts) → IsReport report
+    → IsOrderView view → AreReportFields (event_fields s report view)
 event_fit s law report view range view_range =
     let front : List Tagged = field 37 view.order_id ∷ field 17 report.exec ∷ [] in
     let front_fit : AreReportFields front = (
@@ -143,7 +148,8 @@ event_fit s law report view range view_range =
       ),
     )
 
-amounts_fit : (report : Report) (view : OrderViewParts) → IsReport report → IsOrderView view → AreReportFields (amount_fields report view)
+amounts_fit : (report : Report) (view : OrderViewParts) → IsReport report → IsOrderView view
+    → AreReportFields (amount_fields report view)
 amounts_fit report view range view_range =
     let front : List Tagged = field 54 _ ∷ [] in
     let front_fit : AreReportFields front = (short_report_field 54 _ refl (omega arith) (short_side view.leg.terms.side), tt) in
@@ -158,7 +164,8 @@ amounts_fit report view range view_range =
       ),
     )
 
-written_fits : (s : SpellingParts) (law : IsSpelling s) (report : Report) (view : OrderViewParts) → IsReport report → IsOrderView view → FitsMessage (report_fields s report view)
+written_fits : (s : SpellingParts) (law : IsSpelling s) (report : Report) (view : OrderViewParts) → IsReport report
+    → IsOrderView view → FitsMessage (report_fields s report view)
 written_fits s law report view range view_range =
     let symbol = view.leg.terms.symbol in
     let event = event_fields s report view in
@@ -173,6 +180,7 @@ written_fits s law report view range view_range =
     FitsMessage-within 3 64 (report_fields s report view) fit (omega arith)
 
 -- a report can be written into a message, in at most 1,000 bytes
-pub report_short : (s : SpellingParts) (report : Report) (view : OrderViewParts) (fields : List Tagged) → IsSpelling s → IsReportOf s report view fields → FitsMessage fields
+pub report_short : (s : SpellingParts) (report : Report) (view : OrderViewParts) (fields : List Tagged) → IsSpelling s
+    → IsReportOf s report view fields → FitsMessage fields
 report_short s report view fields law is =
     subst FitsMessage (sym is.written) (written_fits s law report view is.in_range is.view_in_range)

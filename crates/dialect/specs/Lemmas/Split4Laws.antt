@@ -57,11 +57,14 @@ short_id id range =
     (All-append IsNotSoh front (45 ∷ back) (no_soh 12 id.sweep) (All-cons IsNotSoh 45 back (λ e. omega arith) (no_soh 2 id.place)))
 
 -- a symbol in two fields
-tags_by : (root suffix : List ℕ) → (map (λ f. f.tag) (split4_symbol_fields (record { root = root; suffix = suffix })) ≡ 55 ∷ []) ⊎ (map (λ f. f.tag) (split4_symbol_fields (record { root = root; suffix = suffix })) ≡ 55 ∷ 65 ∷ [])
+tags_by : (root suffix : List ℕ)
+    → (map (λ f. f.tag) (split4_symbol_fields (record { root = root; suffix = suffix })) ≡ 55 ∷ []) ⊎
+    (map (λ f. f.tag) (split4_symbol_fields (record { root = root; suffix = suffix })) ≡ 55 ∷ 65 ∷ [])
 tags_by root [] = inl refl
 tags_by root (c ∷ cs) = inr refl
 
-short_suffix : (suffix : List ℕ) → All IsLetter suffix → length suffix ≤ 3 → AllByRecursion IsShortField (suffix_fields suffix)
+short_suffix : (suffix : List ℕ) → All IsLetter suffix → length suffix ≤ 3
+    → AllByRecursion IsShortField (suffix_fields suffix)
 short_suffix [] letters few = tt
 short_suffix (c ∷ cs) letters few =
     (short_field 65 _ refl (short_letters (c ∷ cs) letters (omega arith) (omega arith)), tt)
@@ -72,39 +75,50 @@ short_symbol symbol range =
     (short_field 55 _ refl (short_letters symbol.root root.letters root.some root.short), short_suffix symbol.suffix range.suffix.letters range.suffix.short)
 
 -- the root alone is a symbol
-root_back : (symbol : SymbolParts) → IsSymbol symbol → root_of symbol.root ≡ Some (record { root = symbol.root; suffix = [] })
+root_back : (symbol : SymbolParts) → IsSymbol symbol
+    → root_of symbol.root ≡ Some (record { root = symbol.root; suffix = [] })
 root_back symbol range =
     let alone : SymbolParts = record { root = symbol.root; suffix = [] } in
     let in_range : IsSymbol alone = record { root = range.root; suffix = record { short = omega arith; letters = All-nil IsLetter } } in
     ap result_ok (symbol_of-parts alone in_range)
 
-suffix_back : (root suffix : List ℕ) → IsSymbol (record { root = root; suffix = suffix }) → with_suffix (record { root = root; suffix = [] }) (value_of (suffix_fields suffix) 65) ≡ Ok (record { root = root; suffix = suffix })
+suffix_back : (root suffix : List ℕ) → IsSymbol (record { root = root; suffix = suffix })
+    → with_suffix (record { root = root; suffix = [] }) (value_of (suffix_fields suffix) 65) ≡ Ok
+    (record { root = root; suffix = suffix })
 suffix_back root [] range = refl
 suffix_back root (c ∷ cs) range =
     ap (λ r. ok_or (result_ok r) (Bad 65)) (symbol_of-parts (record { root = root; suffix = c ∷ cs }) range)
 
-symbol_back : (symbol : SymbolParts) (fields : List Tagged) → IsSymbol symbol → value_of fields 55 ≡ value_of (split4_symbol_fields symbol) 55 → value_of fields 65 ≡ value_of (split4_symbol_fields symbol) 65 → split4_symbol_in fields ≡ Ok symbol
+symbol_back : (symbol : SymbolParts) (fields : List Tagged) → IsSymbol symbol
+    → value_of fields 55 ≡ value_of (split4_symbol_fields symbol) 55
+    → value_of fields 65 ≡ value_of (split4_symbol_fields symbol) 65 → split4_symbol_in fields ≡ Ok symbol
 unfolding split4_symbol_in
 symbol_back symbol fields range root suffix =
     rw (root, root_back symbol range, suffix) (suffix_back symbol.root symbol.suffix range)
 
 -- fields that hold the root, and the suffix where there is one
-symbol_are : (fields : List Tagged) (symbol : SymbolParts) (suffix : List ℕ) → symbol.suffix ≡ suffix → value_of fields 55 ≡ Some symbol.root → AreIn fields (suffix_fields suffix) → AreIn fields (split4_symbol_fields symbol)
+symbol_are : (fields : List Tagged) (symbol : SymbolParts) (suffix : List ℕ) → symbol.suffix ≡ suffix
+    → value_of fields 55 ≡ Some symbol.root → AreIn fields (suffix_fields suffix)
+    → AreIn fields (split4_symbol_fields symbol)
 symbol_are fields symbol suffix is root are =
     (root, subst (λ xs. AreIn fields (suffix_fields xs)) (sym is) are)
 
-symbol_says_by : (fields : List Tagged) (text : List ℕ) (alone symbol : SymbolParts) (o : Option (List ℕ)) → value_of fields 55 ≡ Some text → symbol_of text [] ≡ Ok alone → value_of fields 65 ≡ o → with_suffix alone o ≡ Ok symbol → AreIn fields (split4_symbol_fields symbol)
+symbol_says_by : (fields : List Tagged) (text : List ℕ) (alone symbol : SymbolParts) (o : Option (List ℕ))
+    → value_of fields 55 ≡ Some text → symbol_of text [] ≡ Ok alone → value_of fields 65 ≡ o
+    → with_suffix alone o ≡ Ok symbol → AreIn fields (split4_symbol_fields symbol)
 symbol_says_by fields text alone symbol None there is sfx e =
     let made = symbol_of-Ok text [] alone is in
     let same = same_ok alone symbol e in
-    subst (λ (s : SymbolParts). AreIn fields (split4_symbol_fields s)) same (symbol_are fields alone [] made.suffix_is (there ∙ ap Some (sym made.root_is)) tt)
+    subst (λ (s : SymbolParts). AreIn fields (split4_symbol_fields s)) same
+    (symbol_are fields alone [] made.suffix_is (there ∙ ap Some (sym made.root_is)) tt)
 symbol_says_by fields text alone symbol (Some []) there is sfx e = cc
 symbol_says_by fields text alone symbol (Some (c ∷ cs)) there is sfx e =
     let root = symbol_of-Ok text [] alone is in
     let made = symbol_of-Ok alone.root (c ∷ cs) symbol (was_ok _ symbol (was_some _ _ symbol e)) in
     symbol_are fields symbol (c ∷ cs) made.suffix_is (there ∙ ap Some (sym (made.root_is ∙ root.root_is))) (sfx, tt)
 
-symbol_says : (symbol : SymbolParts) (fields : List Tagged) → split4_symbol_in fields ≡ Ok symbol → AreIn fields (split4_symbol_fields symbol)
+symbol_says : (symbol : SymbolParts) (fields : List Tagged) → split4_symbol_in fields ≡ Ok symbol
+    → AreIn fields (split4_symbol_fields symbol)
 unfolding split4_symbol_in
 symbol_says symbol fields e =
     step _ (required_as root_of fields 55) symbol e (λ alone first more.

@@ -12,7 +12,8 @@ use Rattle.dialect.specs.Split.{parts_round}
 abbrev pub HasNo : ℕ → List ℕ → Type 0
 HasNo byte text = All (λ c. (c == byte) ≡ false) text
 
-place : (byte : ℕ) (front back : List ℕ) → HasNo byte front → position_or_len (λ c. c == byte) (front ++ byte ∷ back) ≡ length front
+place : (byte : ℕ) (front back : List ℕ) → HasNo byte front
+    → position_or_len (λ c. c == byte) (front ++ byte ∷ back) ≡ length front
 place byte front back none =
     position_or_len_is
     (λ c. c == byte)
@@ -24,7 +25,8 @@ place byte front back none =
     (λ _. eq-eqb _ _ (get_or-append_seam front byte back 0))
 
 -- where the byte joins two parts
-pub parts_round-joined : (byte : ℕ) (front back : List ℕ) → HasNo byte front → parts_round byte (front ++ byte ∷ back) ≡ Some (front, back)
+pub parts_round-joined : (byte : ℕ) (front back : List ℕ) → HasNo byte front
+    → parts_round byte (front ++ byte ∷ back) ≡ Some (front, back)
 parts_round-joined byte front back none =
     let here = place byte front back none in
     let inside = lt-ltb (length front) (length (front ++ byte ∷ back)) (omega (arith, length-append front (byte ∷ back))) in
@@ -37,12 +39,14 @@ parts_round-none byte text none =
     let outside = le-ltb (length text) (length text) (omega arith) in
     rw (here, outside) refl
 
-chosen : (b : Bool) (f : ℕ → List ℕ × List ℕ) (at : ℕ) (parts : List ℕ × List ℕ) → option_map f (cond b (Some at) None) ≡ Some parts → (b ≡ true) × (f at ≡ parts)
+chosen : (b : Bool) (f : ℕ → List ℕ × List ℕ) (at : ℕ) (parts : List ℕ × List ℕ)
+    → option_map f (cond b (Some at) None) ≡ Some parts → (b ≡ true) × (f at ≡ parts)
 chosen true f at parts e = (refl, cc)
 chosen false f at parts e = cc
 
 -- the parts are joined by the byte to the text
-pub parts_round-Some : (byte : ℕ) (text : List ℕ) (parts : List ℕ × List ℕ) → parts_round byte text ≡ Some parts → text ≡ parts.0 ++ byte ∷ parts.1
+pub parts_round-Some : (byte : ℕ) (text : List ℕ) (parts : List ℕ × List ℕ) → parts_round byte text ≡ Some parts
+    → text ≡ parts.0 ++ byte ∷ parts.1
 parts_round-Some byte text parts e =
     let test = chosen _ _ (position_or_len (λ c. c == byte) text) parts e in
     let inside = ltb-true _ _ test.0 in

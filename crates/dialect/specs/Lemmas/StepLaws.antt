@@ -7,11 +7,13 @@ use Rattle.dialect.specs.declared.fault.DialectFault.TheVariants.{Bad}
 use Rattle.dialect.specs.Fields.{◌>>=◌, required, required_as, ReadsAs, unless}
 
 -- the value of a step that met no fault
-pub bind_ok : {A B : Type 0} (r : Result A DialectFault) (f : A → Result B DialectFault) (y : B) → (r >>= f) ≡ Ok y → (x : A) × (r ≡ Ok x) × (f x ≡ Ok y)
+pub bind_ok : {A B : Type 0} (r : Result A DialectFault) (f : A → Result B DialectFault) (y : B) → (r >>= f) ≡ Ok y
+    → (x : A) × (r ≡ Ok x) × (f x ≡ Ok y)
 bind_ok (Ok x) f y e = (x, refl, e)
 bind_ok (Err d) f y e = absurd cc
 
-pub step : {A B P : Type 0} (f : A → Result B DialectFault) (r : Result A DialectFault) (y : B) → (r >>= f) ≡ Ok y → ((x : A) → r ≡ Ok x → f x ≡ Ok y → P) → P
+pub step : {A B P : Type 0} (f : A → Result B DialectFault) (r : Result A DialectFault) (y : B) → (r >>= f) ≡ Ok y
+    → ((x : A) → r ≡ Ok x → f x ≡ Ok y → P) → P
 step f r y e then = let b = bind_ok r f y e in then b.0 b.1 b.2
 
 -- one result
@@ -30,7 +32,8 @@ was_some None fault x e = cc
 was_some (Some y) fault x e = cc
 
 -- a field that was there, and read as this
-pub required_as-Ok : {A : Type 0} (reads : List ℕ → Option A) (fields : List Tagged) (tag : ℕ) (x : A) → required_as reads fields tag ≡ Ok x → ReadsAs reads fields tag x
+pub required_as-Ok : {A : Type 0} (reads : List ℕ → Option A) (fields : List Tagged) (tag : ℕ) (x : A)
+    → required_as reads fields tag ≡ Ok x → ReadsAs reads fields tag x
 required_as-Ok reads fields tag x e =
     let b = bind_ok (required fields tag) (λ text. ok_or (reads text) (Bad tag)) x e in
     record { text = b.0; there = was_some _ _ _ b.1; reads_as = was_some _ _ _ b.2 }

@@ -78,7 +78,8 @@ letter_free separator c free (inl is) = λ e. free (omega arith)
 letter_free separator c free (inr letter) = λ e. omega arith
 
 -- a symbol in one text
-pub short_symbol : (separator : ℕ) (symbol : SymbolParts) → separator ≢ 1 → IsSymbol symbol → IsShortValue (joined_text separator symbol)
+pub short_symbol : (separator : ℕ) (symbol : SymbolParts) → separator ≢ 1 → IsSymbol symbol
+    → IsShortValue (joined_text separator symbol)
 short_symbol separator symbol free range =
     let long = length-joined_text separator symbol range in
     let bytes = symbol_bytes separator symbol range in

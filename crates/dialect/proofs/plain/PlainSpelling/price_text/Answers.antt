@@ -1,0 +1,7 @@
+use Rattle.std.proofs.Common.{length, ap, arith}
+use Rattle.dialect.proofs.PriceLength.{price_short-is_short}
+use Rattle.dialect.proofs.plain.PlainSpelling.price_text.Goals as goal
+
+pub returns-clause-short : goal.returns-clause-short
+returns-clause-short c =
+    omega (arith, ap length c.price_short_text.ensures, price_short-is_short c.args.price c.ranges.price.fits)
