@@ -1,8 +1,8 @@
 //! Why a run failed, and the exit status that tells it.
 
-use dialect::DialectFault;
-use fix_tags::TagFault;
-use fix_text::TextFault;
+use dialect::{DialectFault, SpellFault};
+use fix_tags::{ReadFault, WriteFault};
+use fix_text::ReaderFault;
 use std::alloc::AllocError;
 use std::io::Write;
 use thiserror::Error;
@@ -35,30 +35,39 @@ impl From<AllocError> for BenchFault {
     }
 }
 
-impl From<TextFault> for BenchFault {
-    fn from(fault: TextFault) -> BenchFault {
+impl From<ReaderFault> for BenchFault {
+    fn from(_: ReaderFault) -> BenchFault {
+        BenchFault::OutOfMemory
+    }
+}
+
+impl From<ReadFault> for BenchFault {
+    fn from(fault: ReadFault) -> BenchFault {
         match fault {
-            TextFault::OutOfMemory => BenchFault::OutOfMemory,
-            _ => BenchFault::BadMessage,
+            ReadFault::OutOfMemory => BenchFault::OutOfMemory,
+            ReadFault::Tag(_) => BenchFault::BadMessage,
         }
     }
 }
 
-impl From<TagFault> for BenchFault {
-    fn from(fault: TagFault) -> BenchFault {
+impl From<WriteFault> for BenchFault {
+    fn from(fault: WriteFault) -> BenchFault {
         match fault {
-            TagFault::OutOfMemory => BenchFault::OutOfMemory,
+            WriteFault::OutOfMemory => BenchFault::OutOfMemory,
             _ => BenchFault::BadMessage,
         }
     }
 }
 
 impl From<DialectFault> for BenchFault {
-    fn from(fault: DialectFault) -> BenchFault {
-        match fault {
-            DialectFault::OutOfMemory => BenchFault::OutOfMemory,
-            _ => BenchFault::BadMessage,
-        }
+    fn from(_: DialectFault) -> BenchFault {
+        BenchFault::BadMessage
+    }
+}
+
+impl From<SpellFault> for BenchFault {
+    fn from(_: SpellFault) -> BenchFault {
+        BenchFault::OutOfMemory
     }
 }
 

@@ -13,7 +13,7 @@ use Rattle.fix_text.proofs.Rewritten.{next_begins}
 use Rattle.fix_tags.specs.CompId.{IsCompId}
 use Rattle.fix_tags.specs.Message.{is_reference, is_message_number, is_heart, is_next_number, is_test_id, kind_of, body_fields, kind_fault, body_fault, field_fault, envelope_fields, envelope_refusal}
 use Rattle.fix_tags.specs.Stamp.{StampParts, IsStamp, stamp_text}
-use Rattle.fix_tags.specs.Written.{length-stamp_text}
+use Rattle.fix_tags.proofs.Written.{length-stamp_text}
 use Rattle.fix_tags.specs.declared.body.Body.{Body}
 use Rattle.fix_tags.specs.declared.body.Body.TheVariants as body
 use Rattle.fix_tags.specs.declared.envelope.Envelope.{Envelope}

@@ -1,6 +1,6 @@
 -- How long the parts of a leg's number are in Plain.
 use Rattle.std.proofs.Common.{◌≤◌, length, decimal, arith}
-use Rattle.fix_tags.specs.Written.{length-decimal}
+use Rattle.fix_tags.proofs.Written.{length-decimal}
 use Rattle.leg.specs.LegId.{LegIdParts, IsLegId}
 
 pub sweep_is_short : (id : LegIdParts) → IsLegId id → length (decimal id.sweep) ≤ 12

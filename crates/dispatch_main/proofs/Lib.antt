@@ -1,1 +1,2 @@
 pub mod OrderBack
+pub mod WantedOrders

@@ -1,69 +1,103 @@
--- The frame of an order is read back as its leg, in any dialect.
-use Rattle.std.proofs.Common.{◌≡◌, ℕ, ◌≤◌, true, List, [], ◌++◌, length, Some, None, Result, Ok, codes, refl, ◌∙◌, ap, sym, arith}
-use Rattle.std.specs.Prelude.{IsTrue}
-use Rattle.std.proofs.lemmas.List.{append-nil}
-use Rattle.std.proofs.lemmas.Bool.Decides.{nat_tests}
+-- An order is written as a frame, and the frame is read back as its leg, in any dialect.
+use Rattle.std.proofs.Common.{◌≡◌, ℕ, Bool, true, false, List, [], ◌∷◌, ◌==◌, Some, Option, Result, Ok, Err, codes, refl, sym, ap, subst, ◌∙◌, append-nil, if◌then◌else◌}
+use Rattle.std.specs.Prelude.{IfOk}
 use Rattle.fix_text.specs.Tagged.{Tagged}
-use Rattle.fix_text.specs.Text.{fields_text, has_writable_tags, has_writable_values}
 use Rattle.fix_text.specs.Frame.{frame_text}
 use Rattle.fix_text.specs.Reading.{NextFrame, next_read}
-use Rattle.fix_text.proofs.Rewritten.{next_begins}
+use Rattle.fix_tags.specs.Message.{envelope_fields}
+use Rattle.fix_tags.specs.declared.body.Body.{Body}
+use Rattle.fix_tags.specs.declared.body.Body.TheVariants as body
 use Rattle.fix_tags.specs.CompId.{IsCompId}
-use Rattle.fix_tags.specs.Message.{is_message_number, field_fault, envelope_fields, envelope_refusal}
-use Rattle.fix_tags.specs.Reading.{envelope_read}
-use Rattle.fix_tags.specs.Stamp.{stamp_text}
-use Rattle.fix_tags.specs.Written.{length-stamp_text}
-use Rattle.fix_tags.proofs.AppFits.{header_length, no_app_fault, app_not_refused}
-use Rattle.fix_tags.proofs.MessageBack.{envelope_read-written}
-use Rattle.fix_tags.proofs.WritableFields.{good_message, good_tags, good_values}
+use Rattle.leg.specs.Leg.{IsLeg}
 use Rattle.leg.specs.declared.leg.Leg.{Leg}
-use Rattle.dialect.specs.Dialect.{FitsMessage}
+use Rattle.dialect.specs.Framed.{Writers, IsBody}
+use Rattle.dialect.specs.Message.{Order, OrderReport, Other, Message, Readers, content_of}
+use Rattle.dialect.specs.Writable.{IsWritable}
 use Rattle.dialect.specs.declared.fault.DialectFault.{DialectFault}
+use Rattle.dialect.proofs.FrameBack.{Agrees, frame_back}
 use Rattle.dispatch_main.specs.Header.{HeaderParts, IsHeader}
-use Rattle.dispatch_main.specs.OrderFrame.{order_message, stream_of, IsOrderFrame, order_read_from}
+use Rattle.dispatch_main.specs.OrderFrame.{order_envelope, order_message, stream_of, IsOrderFrame, as_order, order_in, order_of_message, order_of_fields, order_read_from, ReadsOrder, GivesLeg}
+use Rattle.dispatch_main.specs.declared.order.order_fault.OrderFault.{OrderFault}
+use Rattle.dispatch_main.specs.declared.order.order_fault.OrderFault.TheVariants as of
 
-number_is : (n : ℕ) → 1 ≤ n → n ≤ 999999998 → is_message_number n ≡ true
-number_is n low high = grind (arith, nat_tests)
+-- a message of parts in range can be written
+pub order_in_range : (leg : Leg) (header : HeaderParts) → IsCompId header.from → IsCompId header.to → IsHeader header
+    → IsLeg leg → IsWritable (order_message leg header)
+order_in_range leg header from to number content = record {
+  from = from;
+  to = to;
+  number_from = number.number_from;
+  number_to = number.number_to;
+  content = content;
+}
 
--- an order's message has no fault
-faultless : (header : HeaderParts) (order : List Tagged) → IsHeader header → FitsMessage order → field_fault (order_message header order) ≡ None
-faultless header order in_range fits = rw (number_is header.number in_range.number_from in_range.number_to, no_app_fault order fits.app) refl
+-- an order's fields are the body of its message
+pub order_body : (w : Writers) (leg : Leg) (header : HeaderParts) (order : List Tagged) → w.IsOrder leg header.at order
+    → IsBody w header.at (order_message leg header).beside (order_message leg header).message.content
+    (body.App (codes "D") order)
+order_body w leg header order written = record { fields = order; written = written; body_is = refl }
 
--- an order's fields are those of one frame that can be written
-module _ (header : HeaderParts) (order : List Tagged) (in_range : IsHeader header) (fits : FitsMessage order) (sender : IsCompId header.from) (target : IsCompId header.to) where
-  typed_and_writable : IsTrue (has_writable_tags (envelope_fields (order_message header order) header.at))
-  typed_and_writable = good_tags (envelope_fields (order_message header order) header.at) (good_message (order_message header order) header.at sender target (faultless header order in_range fits))
+-- an order's fields under its header are its frame
+pub order_framed : (w : Writers) (leg : Leg) (header : HeaderParts) (order : List Tagged) (bytes : List ℕ)
+    → IsWritable (order_message leg header) → w.IsOrder leg header.at order
+    → bytes ≡ frame_text (envelope_fields (order_envelope header order) header.at) → IsOrderFrame w leg header bytes
+order_framed w leg header order bytes range written is = record {
+  in_range = range;
+  framed = record {
+    says = body.App (codes "D") order;
+    is_body = order_body w leg header order written;
+    written = is;
+  };
+}
 
-  values_writable : IsTrue (has_writable_values (envelope_fields (order_message header order) header.at))
-  values_writable = good_values (envelope_fields (order_message header order) header.at) (good_message (order_message header order) header.at sender target (faultless header order in_range fits))
+-- the leg of a message whose content is an order that was read
+by_kind : (read : Readers) (fields : List Tagged) (leg : Leg) (is_order is_report : Bool)
+    → (if is_order then Order (read.order fields)
+    else (if is_report then OrderReport (read.report fields) else Other)) ≡ Order (Ok leg)
+    → (if is_order then as_order (read.order fields) else Err of.NoOrder) ≡ Ok leg
+by_kind read fields leg true is_report is = let found : read.order fields ≡ Ok leg = cc in ap as_order found
+by_kind read fields leg false true is = cc
+by_kind read fields leg false false is = cc
 
-  short_enough : length (fields_text (envelope_fields (order_message header order) header.at)) ≤ 4096
-  short_enough =
-      let at_most = header_length (order_message header order) (stamp_text header.at) order (omega arith) sender target (number_is header.number in_range.number_from in_range.number_to) (omega (arith, length-stamp_text header.at)) in
-      omega (arith, at_most, fits.short)
-
-  message_back : envelope_read (envelope_fields (order_message header order) header.at) ≡ Ok (order_message header order)
-  message_back = envelope_read-written (order_message header order) header.at sender target (faultless header order in_range fits)
-
-  first_back : (bytes : List ℕ) → bytes ≡ frame_text (envelope_fields (order_message header order) header.at)
-      → (next_read (stream_of bytes)).frame ≡ Some (envelope_fields (order_message header order) header.at)
-  first_back bytes is =
-      let fields : List Tagged = envelope_fields (order_message header order) header.at in
-      let begins : bytes ≡ frame_text fields ++ [] = is ∙ sym (append-nil (frame_text fields)) in
-      ap (λ (r : NextFrame). r.frame)
-      (next_begins (stream_of bytes) fields [] (record { tags = typed_and_writable; values = values_writable; short = short_enough; bytes = begins }))
-
--- nothing keeps an order from being written but want of memory
-pub order_not_refused : (header : HeaderParts) (order : List Tagged) → IsHeader header → FitsMessage order → IsCompId header.from → IsCompId header.to → envelope_refusal (order_message header order) header.at ≡ None
-order_not_refused header order in_range fits sender target =
-    app_not_refused (order_message header order) header.at (codes "D") order refl refl fits.app (omega (arith, fits.short)) sender target (number_is header.number in_range.number_from in_range.number_to)
+order_said : (read : Readers) (b : Body) (leg : Leg) → content_of read b ≡ Order (Ok leg) → order_in read.order b ≡ Ok leg
+order_said read (body.Logon heart reset next) leg is = cc
+order_said read (body.Heartbeat id) leg is = cc
+order_said read (body.TestRequest id) leg is = cc
+order_said read (body.ResendRequest begin last) leg is = cc
+order_said read (body.Reject number) leg is = cc
+order_said read (body.GapFill new_number) leg is = cc
+order_said read (body.Reset new_number) leg is = cc
+order_said read body.Logout leg is = cc
+order_said read (body.BusinessReject number) leg is = cc
+order_said read (body.App [] fields) leg is = cc
+order_said read (body.App (c ∷ []) fields) leg is = by_kind read fields leg (c == 68) (c == 56) is
+order_said read (body.App (c ∷ d ∷ more) fields) leg is = cc
 
 -- the frame of an order is read back as its leg
-pub order_back : (IsOrder : Leg → List Tagged → Type 0) (read : List Tagged → Result Leg DialectFault) (leg : Leg) (header : HeaderParts) (bytes : List ℕ)
-    → IsHeader header
-    → ((l : Leg) (fields : List Tagged) → IsOrder l fields → read fields ≡ Ok l) → ((l : Leg) (fields : List Tagged) → IsOrder l fields → FitsMessage fields)
-    → IsOrderFrame IsOrder leg header bytes → order_read_from read (stream_of bytes) ≡ Ok leg
-unfolding order_read_from
-order_back IsOrder read leg header bytes in_range reads_back order_fits frame =
-    let fits = order_fits leg frame.order frame.related in
-    rw (first_back header frame.order in_range fits frame.sender frame.target bytes frame.text, message_back header frame.order in_range fits frame.sender frame.target, reads_back leg frame.order frame.related) refl
+pub order_back : (w : Writers) (read : Readers) (leg : Leg) (header : HeaderParts) (bytes : List ℕ) → Agrees w read
+    → IsOrderFrame w leg header bytes → order_read_from read.order (stream_of bytes) ≡ Ok leg
+order_back w read leg header bytes agrees frame =
+    let whole = sym (append-nil bytes) in
+    let message = order_message leg header in
+    let back = frame_back w read header.at message bytes [] (stream_of bytes) agrees frame.in_range frame.framed whole in
+    let first : (next_read (stream_of bytes)).frame ≡ Some back.fields = ap (λ (n : NextFrame). n.frame) back.next in
+    let said : content_of read back.envelope.body ≡ Order (Ok leg) = ap (λ (m : Message). m.content) back.is_seen in
+    ap (order_of_fields read.order) first
+    ∙ ap (order_of_message read.order) back.is_read
+    ∙ order_said read back.envelope.body leg said
+
+-- so a call answers that leg
+pub gives_back : (read : List Tagged → Result Leg DialectFault) (frame : Option (List Tagged)) (leg : Leg)
+    (answer : Result Leg OrderFault) → ReadsOrder read frame answer → order_of_fields read frame ≡ Ok leg → GivesLeg leg answer
+gives_back read frame leg (Ok other) reads is = cc
+gives_back read frame leg (Err of.OutOfMemory) reads is = tt
+gives_back read frame leg (Err of.NoFrame) reads is = cc
+gives_back read frame leg (Err (of.NoMessage fault)) reads is = cc
+gives_back read frame leg (Err of.NoOrder) reads is = cc
+gives_back read frame leg (Err (of.BadOrder fault)) reads is = cc
+
+-- what is known of a text is known of what a call gives, where it gives that text
+pub if_ok_of : {A E : Type 0} (items : A → List ℕ) (result : Result A E) (text : List ℕ) (P : List ℕ → Type 0)
+    → IfOk result (λ x. items x ≡ text) → P text → IfOk result (λ x. P (items x))
+if_ok_of items (Ok x) text P is known = subst P (sym is) known
+if_ok_of items (Err fault) text P is known = tt

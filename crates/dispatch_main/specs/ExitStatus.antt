@@ -1,7 +1,15 @@
 -- The exit status of the program.
 use Rattle.std.specs.Prelude.{ℕ, Result, Ok, Err}
 use Rattle.dispatch_main.specs.declared.fault.ProgramFault.{ProgramFault}
-use Rattle.dispatch_main.specs.declared.fault.ProgramFault.TheVariants.{NoCommand, CommandLine, NoValue, BadValue, ReadFailed, WriteFailed, OutOfMemory}
+use Rattle.dispatch_main.specs.declared.fault.ProgramFault.TheVariants.{
+  NoCommand,
+  CommandLine,
+  NoValue,
+  BadValue,
+  ReadFailed,
+  WriteFailed,
+  OutOfMemory,
+}
 
 -- the status that tells a fault: 2 for the command line, 3 for a bad value, 4 for a failed read or write, 5 for memory
 abbrev pub fault_status : ProgramFault → ℕ
@@ -17,3 +25,10 @@ fault_status OutOfMemory = 5
 abbrev pub exit_status : {A : Type 0} → Result A ProgramFault → ℕ
 exit_status (Ok done) = 0
 exit_status (Err fault) = fault_status fault
+
+-- a fault of the command line, or want of memory
+abbrev pub IsOfCommandLine : ProgramFault → Type 0
+IsOfCommandLine (NoCommand help) = Unit {0}
+IsOfCommandLine (CommandLine error) = Unit {0}
+IsOfCommandLine OutOfMemory = Unit {0}
+IsOfCommandLine other = ⊥

@@ -4,7 +4,19 @@ use Rattle.clap.specs.Matches.{found_of, first_value}
 use Rattle.clap.specs.declared.parser.matches.ArgMatches.{ArgMatches}
 use Rattle.dialect.specs.DialectName.{dialect_named}
 use Rattle.dispatch_main.specs.declared.order.option.OrderOption.{OrderOption}
-use Rattle.dispatch_main.specs.declared.order.option.OrderOption.TheVariants.{Dialect, Sweep, Leg, Symbol, Side, Shares, Price, Number, From, To, At}
+use Rattle.dispatch_main.specs.declared.order.option.OrderOption.TheVariants.{
+  Dialect,
+  Sweep,
+  Leg,
+  Symbol,
+  Side,
+  Shares,
+  Price,
+  Number,
+  From,
+  To,
+  At,
+}
 use Rattle.dispatch_main.specs.declared.order.options.Options.{Options}
 use Rattle.dispatch_main.specs.OrderOption.{option_name}
 

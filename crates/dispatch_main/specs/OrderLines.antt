@@ -4,6 +4,7 @@ use Rattle.std.specs.Io.KnownBytes.{Appends}
 use Rattle.fix_text.specs.Tagged.{Tagged}
 use Rattle.leg.specs.Leg.{leg_text}
 use Rattle.leg.specs.declared.leg.Leg.{Leg}
+use Rattle.dialect.specs.Framed.{Writers}
 use Rattle.dialect.specs.declared.fault.DialectFault.{DialectFault}
 use Rattle.dispatch_main.specs.declared.fault.ProgramFault.{ProgramFault}
 use Rattle.dispatch_main.specs.declared.fault.ProgramFault.TheVariants.{WriteFailed, OutOfMemory}
@@ -23,10 +24,11 @@ abbrev pub order_lines : List ℕ → Leg → List ℕ
 order_lines frame leg = shown frame ++ codes "\n" ++ leg_text leg ++ codes "\n"
 
 -- the text shows the frame of what is asked for, and the leg that is read from that frame
-pub record IsOrderText (IsOrder : Leg → List Tagged → Type 0) (read : List Tagged → Result Leg DialectFault) (request : Request) (text : List ℕ) : Type 0 where
+pub record IsOrderText (writers : Writers) (read : List Tagged → Result Leg DialectFault) (request : Request)
+    (text : List ℕ) : Type 0 where
   pub frame : List ℕ
   pub leg : Leg
-  pub written : IsOrderFrame IsOrder request.leg request.header frame
+  pub written : IsOrderFrame writers request.leg request.header frame
   pub back : order_read_from read (stream_of frame) ≡ Ok leg
   pub lines : text ≡ order_lines frame leg
 
@@ -34,8 +36,10 @@ pub record IsOrderText (IsOrder : Leg → List Tagged → Type 0) (read : List T
 abbrev pub PrintsText : (List ℕ → Type 0) → Option (List ℕ) → Option (List ℕ) → Type 0
 PrintsText IsText before after = (text : List ℕ) × IsText text × Appends before after text
 
--- how a run ends that is asked for this: what is asked for is printed, or the first bad value is named; only memory and the output can fail
-abbrev pub EndsOrder : (Request → Type 0) → Result Request ProgramFault → {A : Type 0} → Result A ProgramFault → Type 0
+-- how a run ends that is asked for this: what is asked for is printed, or the first bad value is named; only memory and
+-- the output can fail
+abbrev pub EndsOrder : (Request → Type 0) → Result Request ProgramFault → {A : Type 0} → Result A ProgramFault
+    → Type 0
 EndsOrder Prints (Ok request) (Ok done) = Prints request
 EndsOrder Prints (Ok request) (Err OutOfMemory) = Unit {0}
 EndsOrder Prints (Ok request) (Err WriteFailed) = Unit {0}

@@ -1,7 +1,19 @@
 -- The options of `dispatch order`, as the command line and the program's faults name them.
 use Rattle.std.specs.Prelude.{ℕ, List, codes}
 use Rattle.dispatch_main.specs.declared.order.option.OrderOption.{OrderOption}
-use Rattle.dispatch_main.specs.declared.order.option.OrderOption.TheVariants.{Dialect, Sweep, Leg, Symbol, Side, Shares, Price, Number, From, To, At}
+use Rattle.dispatch_main.specs.declared.order.option.OrderOption.TheVariants.{
+  Dialect,
+  Sweep,
+  Leg,
+  Symbol,
+  Side,
+  Shares,
+  Price,
+  Number,
+  From,
+  To,
+  At,
+}
 
 -- the name, behind two dashes on the command line
 abbrev pub option_name : OrderOption → List ℕ

@@ -1,5 +1,21 @@
 -- What `dispatch order` is asked to write: the request that the texts of its options make.
-use Rattle.std.specs.Prelude.{ℕ, ◌&&◌, List, length, codes, Option, Some, None, Result, Ok, Err, ◌==◌, nat_le, if◌then◌else◌, option_and_then}
+use Rattle.std.specs.Prelude.{
+  ℕ,
+  ◌&&◌,
+  List,
+  length,
+  codes,
+  Option,
+  Some,
+  None,
+  Result,
+  Ok,
+  Err,
+  ◌==◌,
+  nat_le,
+  if◌then◌else◌,
+  option_and_then,
+}
 use Rattle.std.specs.Option.{ok_or}
 use Rattle.std.specs.Str.{bytes_eq}
 use Rattle.fix_tags.specs.CompId.{comp_id_of}
@@ -16,7 +32,8 @@ use Rattle.dispatch_main.specs.declared.order.options.Options.{Options}
 use Rattle.dispatch_main.specs.declared.order.request.Request.{Request}
 
 infixl 10 ◌>>=◌
-abbrev pub ◌>>=◌ : {A B : Type 0} → Result A ProgramFault → (A → Result B ProgramFault) → Result B ProgramFault
+abbrev pub ◌>>=◌ : {A B : Type 0} → Result A ProgramFault → (A → Result B ProgramFault)
+    → Result B ProgramFault
 (Ok x) >>= f = f x
 (Err fault) >>= f = Err fault
 

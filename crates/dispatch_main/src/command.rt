@@ -1,4 +1,5 @@
 //! The commands of the program, as its help lists them.
+ghost use Rattle.dispatch_main.specs.ExitStatus.{IsOfCommandLine};
 
 use crate::fault::ProgramFault;
 use crate::order::order_command;
@@ -21,7 +22,9 @@ fn listed(alloc: Global) -> Result<String, AllocError> {
     program(alloc)?.render_help()
 }
 
-fn unlisted(alloc: Global) -> ProgramFault {
+fn unlisted(alloc: Global) -> ProgramFault
+    ensures { IsOfCommandLine result }
+{
     match listed(alloc) {
         Ok(help) => ProgramFault::NoCommand(help),
         Err(_) => ProgramFault::OutOfMemory,
@@ -29,7 +32,9 @@ fn unlisted(alloc: Global) -> ProgramFault {
 }
 
 /// Why these words, of which the first is the program's own name, run no command: they ask for help, or name none.
-pub fn no_command<S: AsStr>(alloc: Global, words: &[S]) -> ProgramFault {
+pub fn no_command<S: AsStr>(alloc: Global, words: &[S]) -> ProgramFault
+    ensures { IsOfCommandLine result }
+{
     let Ok(program) = program(alloc) else {
         return ProgramFault::OutOfMemory;
     };

@@ -15,7 +15,6 @@ use crate::fault::ProgramFault;
 use crate::order::frame::{read_order_frame, stream_of, write_order_frame};
 use crate::order::lines::order_lines;
 use crate::order::options::{Options, read_options};
-use crate::order::order_fault::OrderFault;
 use crate::order::request::Request;
 use crate::status::finish;
 use dialect::Dialect;
@@ -53,7 +52,8 @@ fn print_order<D: Dialect, W: Write>(
     options: &Options<'_>,
     out: &mut W,
 ) -> Result<(), ProgramFault>
-    ensures { EndsOrder (λ request. PrintsText (IsOrderText (D.IsOrder dialect.now) (D.order_read dialect.now) request)
+    ensures { EndsOrder (λ request. PrintsText (IsOrderText
+        (record { IsOrder = D.IsOrder dialect.now; IsReport = D.IsReport dialect.now }) (D.order_read dialect.now) request)
         (W.contents out.old) (W.contents out.new)) (request_of options.now) result }
 {
     let request = Request::new(options)?;
@@ -71,15 +71,15 @@ fn order_text<D: Dialect>(
     dialect: &D,
     request: Request,
 ) -> Result<Vec<u8>, AllocError>
-    ensures { IfOk result (λ text. IsOrderText (D.IsOrder dialect.now) (D.order_read dialect.now) request text.items) }
+    ensures { IfOk result (λ text. IsOrderText
+        (record { IsOrder = D.IsOrder dialect.now; IsReport = D.IsReport dialect.now }) (D.order_read dialect.now) request text.items) }
 {
     let Request { leg, header } = request;
     let frame = write_order_frame(alloc, dialect, &leg, header)?;
     let read = match read_order_frame(alloc, dialect, stream_of(alloc, &frame)?) {
         Ok(read) => read,
-        Err(OrderFault::OutOfMemory) => return Err(AllocError),
-        // What was written is read back.
-        Err(_) => unreachable!(),
+        // What was written is read back, unless memory runs out.
+        Err(_) => return Err(AllocError),
     };
     order_lines(alloc, &frame, &read)
 }

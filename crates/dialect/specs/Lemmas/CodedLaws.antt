@@ -5,7 +5,7 @@ use Rattle.std.proofs.lemmas.List.{take-append-drop}
 use Rattle.std.proofs.lemmas.List.Elements.{All-append}
 use Rattle.std.proofs.lemmas.Slice.Eq.{bytes_eq-Decides}
 use Rattle.fix_text.specs.Tagged.{Tagged, value_of}
-use Rattle.fix_tags.specs.ReadBack.{price_of-price_four}
+use Rattle.fix_tags.proofs.ReadBack.{price_of-price_four}
 use Rattle.leg.specs.LegId.{LegIdParts, IsLegId}
 use Rattle.dialect.specs.Fields.{has_value, is_text}
 use Rattle.dialect.specs.Lemmas.FieldLaws.{short_field}

@@ -9,7 +9,7 @@ use Rattle.leg.specs.Terms.{IsShares}
 use Rattle.dialect.specs.declared.limit.Limit.{Limit}
 use Rattle.dialect.specs.Limit.{order_shares_of, side_of, side_text, limit_in}
 use Rattle.dialect.specs.Time.{immediate_in}
-use Rattle.fix_tags.specs.ReadBack.{shares_of-decimal}
+use Rattle.fix_tags.proofs.ReadBack.{shares_of-decimal}
 
 -- shares that a leg may be for
 pub order_shares_of-decimal : (shares : ℕ) → IsShares shares → order_shares_of (decimal shares) ≡ Some shares

@@ -5,7 +5,7 @@ use Rattle.std.proofs.lemmas.Bool.{and_parts, and_from, leb-true, le-leb, false_
 use Rattle.std.proofs.lemmas.Option.{cond_some, option_and_then_some}
 use Rattle.std.proofs.lemmas.Slice.Eq.{bytes_eq-Decides}
 use Rattle.fix_tags.specs.Number.{number_of}
-use Rattle.fix_tags.specs.ReadBack.{number_of-decimal}
+use Rattle.fix_tags.proofs.ReadBack.{number_of-decimal}
 use Rattle.dialect.specs.Ordinal.{ordinal_of}
 
 -- a number that counts from 1

@@ -1,6 +1,6 @@
 -- Lemmas: the laws of the dialect Plain.
 use Rattle.std.proofs.Common.{inl, refl, arith}
-use Rattle.fix_tags.specs.ReadBack.{price_of-price_short}
+use Rattle.fix_tags.proofs.ReadBack.{price_of-price_short}
 use Rattle.dialect.specs.Lemmas.FieldLaws.{short_field}
 use Rattle.dialect.specs.Lemmas.MarkLaws.{sweep_mark_read, sweep_mark_there, short_sweep_mark}
 use Rattle.dialect.specs.Lemmas.ValueLaws.{short_id, short_price, short_symbol}

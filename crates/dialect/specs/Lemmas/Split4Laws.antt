@@ -7,7 +7,7 @@ use Rattle.std.proofs.lemmas.Bool.Decides.{nat_tests}
 use Rattle.std.proofs.lemmas.List.Elements.{All-nil, All-cons, All-append}
 use Rattle.std.proofs.lemmas.Option.{option_and_then_some}
 use Rattle.fix_text.specs.Tagged.{Tagged, value_of}
-use Rattle.fix_tags.specs.ReadBack.{price_of-price_four}
+use Rattle.fix_tags.proofs.ReadBack.{price_of-price_four}
 use Rattle.leg.specs.LegId.{LegIdParts, IsLegId}
 use Rattle.leg.specs.Symbol.{SymbolParts, IsLetter, IsSymbol, symbol_of}
 use Rattle.leg.proofs.InRange.{symbol_of-parts, symbol_of-Ok}

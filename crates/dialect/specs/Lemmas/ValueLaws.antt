@@ -16,7 +16,7 @@ use Rattle.leg.proofs.LegIdText.{leg_id_bytes, length-leg_id_text}
 use Rattle.leg.proofs.SymbolText.{IsSymbolByte, symbol_bytes, length-joined_text}
 use Rattle.dialect.specs.ShortFields.{IsShortValue}
 use Rattle.dialect.specs.Limit.{side_text}
-use Rattle.fix_tags.specs.Written.{HasNoDelimiter-decimal, HasNoDelimiter-price_short, HasNoDelimiter-price_four, HasNoDelimiter-stamp_text, nonempty-decimal, nonempty-price_short, nonempty-price_four, length-decimal, length-price_short, length-price_four, length-stamp_text}
+use Rattle.fix_tags.proofs.Written.{HasNoDelimiter-decimal, HasNoDelimiter-price_short, HasNoDelimiter-price_four, HasNoDelimiter-stamp_text, nonempty-decimal, nonempty-price_short, nonempty-price_four, length-decimal, length-price_short, length-price_four, length-stamp_text}
 
 abbrev pub IsNotSoh : ℕ → Type 0
 IsNotSoh c = c ≢ 1

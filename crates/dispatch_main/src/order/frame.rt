@@ -1,26 +1,31 @@
 //! The way of an order: from a leg to the bytes of a frame, and back.
-ghost use Rattle.std.specs.Prelude.{◌≡◌, ℕ, List, Some, None, Ok, IfOk};
+ghost use Rattle.std.specs.Prelude.{◌≡◌, ℕ, List, Some, None, IfOk};
 ghost use Rattle.fix_text.specs.Frame.{frame_text};
 ghost use Rattle.fix_text.specs.FrameFields.{fields_in};
 ghost use Rattle.fix_text.specs.Reading.{next_read};
+ghost use Rattle.fix_text.specs.Tagged.{value_of};
 ghost use Rattle.fix_tags.specs.Message.{envelope_fields, envelope_refusal};
 ghost use Rattle.leg.specs.declared.leg.Leg.{Leg};
-ghost use Rattle.dispatch_main.specs.Header.{HeaderParts, IsHeader};
-ghost use Rattle.dispatch_main.specs.OrderFrame.{order_message, stream_of, IsOrderFrame, order_in, order_of_fields, order_read_from, ReadsOrder};
+ghost use Rattle.dispatch_main.specs.Header.{HeaderParts};
+ghost use Rattle.dispatch_main.specs.OrderFrame.{order_envelope, stream_of, IsOrderFrame, is_order_kind, order_in, ReadsOrder, GivesLeg};
 
 use crate::order::header::Header;
 use crate::order::order_fault::OrderFault;
-use dialect::{Dialect, DialectFault, ORDER_KIND};
+use dialect::{Dialect, ORDER_KIND, SpellFault};
 use fix_tags::{
-    Body, BodyRef, Envelope, EnvelopeRef, Stamp, TagFault, Text, read_envelope, write_envelope,
+    Body, BodyRef, Envelope, EnvelopeRef, ReadFault, Stamp, Text, WriteFault, read_envelope,
+    write_envelope,
 };
 use fix_text::{Field, Fields, Frame, FrameReader};
 use leg::Leg;
 use std::alloc::{AllocError, Global};
 
+/// MsgType.
+const MSG_TYPE: u32 = 35;
+
 /// The message of an order's fields under a header, sent once.
 fn message_of(alloc: Global, header: Header, order: Vec<Field>) -> Result<Envelope, AllocError>
-    ensures { IfOk result (λ e. e ≡ order_message header order.items) }
+    ensures { IfOk result (λ e. e ≡ order_envelope header order.items) }
 {
     let kind = Text::from_slice(alloc, ORDER_KIND)?;
     let fields = Fields::new(order);
@@ -35,7 +40,7 @@ fn frame_of(alloc: Global, message: &Envelope, at: &Stamp) -> Result<Vec<u8>, Al
     let mut frame = Vec::new(alloc);
     match write_envelope(message, at, &mut frame) {
         Ok(()) => Ok(frame),
-        Err(TagFault::OutOfMemory) => Err(AllocError),
+        Err(WriteFault::OutOfMemory) => Err(AllocError),
         Err(_) => unreachable!(),
     }
 }
@@ -47,14 +52,15 @@ pub fn write_order_frame<D: Dialect>(
     leg: &Leg,
     header: Header,
 ) -> Result<Vec<u8>, AllocError>
-    ensures frame { IfOk result (λ frame. IsOrderFrame (D.IsOrder dialect.now) leg.now header frame.items) }
+    ensures { IfOk result (λ frame. IsOrderFrame
+        (record { IsOrder = D.IsOrder dialect.now; IsReport = D.IsReport dialect.now }) leg.now header frame.items) }
 {
+    leg.in_range();
     let at = header.at();
     let mut fields = Vec::new(alloc);
     match dialect.write_order(alloc, leg, &at, &mut fields) {
         Ok(()) => {}
-        Err(DialectFault::OutOfMemory) => return Err(AllocError),
-        Err(_) => unreachable!(),
+        Err(SpellFault::OutOfMemory) => return Err(AllocError),
     }
     let message = message_of(alloc, header, fields)?;
     frame_of(alloc, &message, &at)
@@ -75,17 +81,27 @@ fn order_of_message<D: Dialect>(dialect: &D, message: &EnvelopeRef<'_>) -> Resul
     }
 }
 
+/// Whether a frame's MsgType (35) is that of an order.
+fn is_order(frame: &Frame<'_>) -> bool
+    ensures { result ≡ is_order_kind (value_of (fields_in frame.now) 35) }
+{
+    matches!(frame.get(MSG_TYPE), Some([b'D']))
+}
+
+/// The leg of a frame's message. Where there is no memory for the list of an application message's fields, its kind is
+/// looked at nevertheless.
 fn order_of_frame<D: Dialect>(
     alloc: Global,
     dialect: &D,
     frame: &Frame<'_>,
 ) -> Result<Leg, OrderFault>
-    ensures { ReadsOrder result (order_of_fields (D.order_read dialect.now) (Some (fields_in frame.now))) }
+    ensures { ReadsOrder (D.order_read dialect.now) (Some (fields_in frame.now)) result }
 {
     match read_envelope(alloc, frame) {
         Ok(message) => order_of_message(dialect, &message),
-        Err(TagFault::OutOfMemory) => Err(OrderFault::OutOfMemory),
-        Err(fault) => Err(OrderFault::NoMessage(fault)),
+        Err(ReadFault::Tag(fault)) => Err(OrderFault::NoMessage(fault)),
+        Err(ReadFault::OutOfMemory) if is_order(frame) => Err(OrderFault::OutOfMemory),
+        Err(ReadFault::OutOfMemory) => Err(OrderFault::NoOrder),
     }
 }
 
@@ -105,24 +121,13 @@ fn first_order<D: Dialect>(
     dialect: &D,
     stream: &mut FrameReader,
 ) -> Result<Leg, OrderFault>
-    ensures { ReadsOrder result (order_of_fields (D.order_read dialect.now) (next_read stream.old).frame) }
+    ensures { ReadsOrder (D.order_read dialect.now) (next_read stream.old).frame result }
 {
     match stream.next() {
         Ok(Some(frame)) => order_of_frame(alloc, dialect, &frame),
         Ok(None) => Err(OrderFault::NoFrame),
         Err(_) => Err(OrderFault::OutOfMemory),
     }
-}
-
-#[tactic(auto, unfolding(crate::specs::OrderFrame::order_read_from))]
-fn order_of_stream<D: Dialect>(
-    alloc: Global,
-    dialect: &D,
-    mut stream: FrameReader,
-) -> Result<Leg, OrderFault>
-    ensures { ReadsOrder result (order_read_from (D.order_read dialect.now) stream) }
-{
-    first_order(alloc, dialect, &mut stream)
 }
 
 /// The leg of the first frame of a stream, by the reader, the envelope and the dialect.
@@ -132,14 +137,15 @@ fn order_of_stream<D: Dialect>(
 pub fn read_order_frame<D: Dialect>(
     alloc: Global,
     dialect: &D,
-    stream: FrameReader,
+    mut stream: FrameReader,
 ) -> Result<Leg, OrderFault>
-    ensures read { ReadsOrder result (order_read_from (D.order_read dialect.now) stream) }
+    ensures read { ReadsOrder (D.order_read dialect.now) (next_read stream).frame result }
     // The frame of an order is read back as its leg.
-    ensures order { (leg : Leg) (header : HeaderParts) → IsHeader header → (bytes : List ℕ) → stream ≡ stream_of bytes
-        → IsOrderFrame (D.IsOrder dialect.now) leg header bytes → ReadsOrder result (Ok leg) }
+    ensures order { (leg : Leg) (header : HeaderParts) (bytes : List ℕ) → stream ≡ stream_of bytes
+        → IsOrderFrame (record { IsOrder = D.IsOrder dialect.now; IsReport = D.IsReport dialect.now }) leg header bytes
+        → GivesLeg leg result }
 {
-    order_of_stream(alloc, dialect, stream)
+    first_order(alloc, dialect, &mut stream)
 }
 
 #[cfg(test)]

@@ -1,5 +1,6 @@
 //! The options of `dispatch order`, as text.
 ghost use Rattle.std.specs.Prelude.{◌≡◌, Some, IfOk, IfErr};
+ghost use Rattle.dispatch_main.specs.ExitStatus.{IsOfCommandLine};
 ghost use Rattle.dispatch_main.specs.Options.{matched, AreOptions};
 
 use crate::fault::ProgramFault;
@@ -98,7 +99,9 @@ pub fn order_command<'a>(alloc: Global) -> Result<Command<'a>, AllocError> {
         ))
 }
 
-fn fault_of(error: clap::Error) -> ProgramFault {
+fn fault_of(error: clap::Error) -> ProgramFault
+    ensures { IsOfCommandLine result }
+{
     if error.kind() == ErrorKind::OutOfMemory {
         return ProgramFault::OutOfMemory;
     }

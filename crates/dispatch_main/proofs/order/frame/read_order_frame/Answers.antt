@@ -1,14 +1,23 @@
-use Rattle.std.proofs.Common.{◌≡◌, Result, Ok, ap, ◌∙◌, subst}
-use Rattle.leg.specs.declared.leg.Leg.{Leg}
-use Rattle.dispatch_main.specs.declared.order.order_fault.OrderFault.{OrderFault}
-use Rattle.dispatch_main.specs.OrderFrame.{ReadsOrder, order_read_from}
-use Rattle.dispatch_main.proofs.OrderBack.{order_back}
+use Rattle.std.proofs.Common.{ap, ◌∙◌}
+use Rattle.fix_text.specs.Reading.{next_read}
+use Rattle.dialect.specs.Framed.{Writers}
+use Rattle.dialect.specs.Message.{Readers}
+use Rattle.dialect.proofs.FrameBack.{Agrees}
+use Rattle.dispatch_main.specs.OrderFrame.{order_read_from}
+use Rattle.dispatch_main.proofs.OrderBack.{order_back, gives_back}
 use Rattle.dispatch_main.proofs.order.frame.read_order_frame.Goals as goal
 
 pub returns-clause-order : goal.returns-clause-order
-returns-clause-order g c = λ leg header in_range bytes stream frame.
+returns-clause-order g c = λ leg header bytes stream frame.
     let laws = g.met.D.Dialect in
     let d = c.args.dialect.now in
-    let back = order_back (g.D.Dialect.IsOrder d) (g.D.Dialect.order_read d) leg header bytes in_range (laws.order_reads_back d) (laws.order_fits d) frame in
-    let read : order_read_from (g.D.Dialect.order_read d) c.args.stream ≡ Ok leg = ap (order_read_from (g.D.Dialect.order_read d)) stream ∙ back in
-    subst (λ (r : Result Leg OrderFault). ReadsOrder c.order_of_stream.result r) read c.order_of_stream.ensures
+    let w : Writers = record { IsOrder = g.D.Dialect.IsOrder d; IsReport = g.D.Dialect.IsReport d } in
+    let read : Readers = record { order = g.D.Dialect.order_read d; report = g.D.Dialect.report_read d } in
+    let agrees : Agrees w read = record {
+      order_back = laws.order_reads_back d;
+      order_fits = laws.order_fits d;
+      report_back = laws.report_reads_back d;
+      report_fits = laws.report_fits d;
+    } in
+    let back = ap (order_read_from read.order) stream ∙ order_back w read leg header bytes agrees frame in
+    gives_back read.order (next_read c.args.stream).frame leg c.first_order.result c.first_order.ensures back
