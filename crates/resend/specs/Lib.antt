@@ -1,3 +1,4 @@
 pub mod Log
 pub mod Judging
 pub mod Later
+pub mod Expected

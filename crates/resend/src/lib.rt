@@ -2,11 +2,13 @@
 #![tactic(auto)]
 
 mod gap_fill;
+mod in_seq;
 mod judged;
 mod laws;
 mod log_fault;
 
 pub use gap_fill::GapFill;
+pub use in_seq::{InSeq, MAX_NUMBER};
 pub use judged::Judged;
 pub use laws::{
     a_number_is_due_where_it_is_expected, later_logs_follow_one_another, settling_leaves_no_doubt,
