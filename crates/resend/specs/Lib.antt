@@ -2,3 +2,5 @@ pub mod Log
 pub mod Judging
 pub mod Later
 pub mod Expected
+pub mod Window
+pub mod Kept

@@ -6,6 +6,9 @@ mod in_seq;
 mod judged;
 mod laws;
 mod log_fault;
+mod logged_leg;
+mod out_log;
+mod sent;
 
 pub use gap_fill::GapFill;
 pub use in_seq::{InSeq, MAX_NUMBER};
@@ -16,3 +19,6 @@ pub use laws::{
     what_was_sent_is_filled_and_no_more,
 };
 pub use log_fault::LogFault;
+pub use logged_leg::LoggedLeg;
+pub use out_log::OutLog;
+pub use sent::Sent;
