@@ -106,7 +106,7 @@ no_leg (first ∷ next ∷ legs) e =
     absurd (let e' = rw place at e in some_within (next ∷ legs) (length legs) (omega arith) e')
 
 -- the legs in doubt
-doubts-legs : (legs : List LoggedLeg) → doubts (numbered_legs legs) ≡ doubt_legs legs
+pub doubts-legs : (legs : List LoggedLeg) → doubts (numbered_legs legs) ≡ doubt_legs legs
 doubts-legs [] = refl
 doubts-legs (leg ∷ legs) =
     ap (λ (rest : List Sent). if is_doubt leg.state then record { number = leg.number; ordinal = leg.ordinal; id = leg.id } ∷ rest else rest) (doubts-legs legs)

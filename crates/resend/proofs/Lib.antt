@@ -4,3 +4,7 @@ pub mod Due
 pub mod Settled
 pub mod Filled
 pub mod Kept
+pub mod Leading
+pub mod Looking
+pub mod Settling
+pub mod Fills

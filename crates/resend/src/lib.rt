@@ -5,6 +5,7 @@ mod gap_fill;
 mod in_seq;
 mod judged;
 mod laws;
+mod legs;
 mod log_fault;
 mod logged_leg;
 mod out_log;

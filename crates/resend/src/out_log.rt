@@ -3,7 +3,11 @@
 ghost use Rattle.std.specs.Prelude.{◌≡◌, ◌<◌, ◌≤◌, ◌+◌, [], IfOk, IsOkUnless, length, IsTrue, ◌↔◌};
 ghost use Rattle.std.specs.Option.{option_map};
 
-use crate::{LogFault, LoggedLeg, Sent};
+use crate::legs::{
+    after, doubts_below, drop_first, ids_of, leg_in, number_in, numbers_below, ordinals_below,
+    settle,
+};
+use crate::{GapFill, LogFault, LoggedLeg, Sent};
 use leg::{LegId, LegState};
 use std::alloc::Global;
 use std::marker::Model;
@@ -29,7 +33,7 @@ impl Model for OutLog {
 }
 
 impl OutLog {
-    ghost use Rattle.resend.specs.Log.{next_number, last_ordinal, in_doubt};
+    ghost use Rattle.resend.specs.Log.{next_number, last_ordinal, in_doubt, leg_at, state_of, doubt_from, fill_for, take_below, give_up_from};
     ghost use Rattle.resend.specs.Log.Entry.{Admin, Sent as SentEntry};
     ghost use Rattle.resend.specs.Window.{push, IsPush, window};
 
@@ -116,5 +120,120 @@ impl OutLog {
             Some(leg) => leg.ordinal,
             None => 0,
         }
+    }
+
+    /// The leg that was sent under a number.
+    pub fn leg_at(&self, number: u64) -> Option<LegId>
+        ensures { result ≡ leg_at number self.now.entries }
+    {
+        let legs = self.legs.as_slice();
+        let place = numbers_below(legs, number);
+        match leg_in(legs, place) {
+            Some(leg) => {
+                if leg.number == number {
+                    Some(leg.id)
+                } else {
+                    None
+                }
+            }
+            None => None,
+        }
+    }
+
+    /// How far the leg of an ordinal is settled, if it was sent.
+    pub fn state(&self, ordinal: u64) -> Option<LegState>
+        ensures { result ≡ state_of ordinal self.now.entries }
+    {
+        let legs = self.legs.as_slice();
+        let place = ordinals_below(legs, ordinal);
+        match leg_in(legs, place) {
+            Some(leg) => {
+                if leg.ordinal == ordinal {
+                    Some(leg.state)
+                } else {
+                    None
+                }
+            }
+            None => None,
+        }
+    }
+
+    /// The legs in doubt at or above a number, in the order of their numbers. The only refusal is want of memory.
+    pub fn legs_from(&self, number: u64) -> Result<Vec<LegId>, LogFault>
+        ensures ok { IfOk result (λ ids. ids.items ≡ doubt_from number self.now.entries) }
+        ensures refusal { IsOkUnless result LogFault.OutOfMemory }
+    {
+        let window = self.window.as_slice();
+        let place = doubts_below(window, number);
+        let alloc = *self.window.allocator();
+        match ids_of(alloc, after(window, place)) {
+            Ok(ids) => Ok(ids),
+            Err(_) => Err(LogFault::OutOfMemory),
+        }
+    }
+
+    /// What a resend request for the numbers from `begin` to `last`, or to the last one sent where `last` is 0, is
+    /// answered with: a gap fill that ends at `top`, or `None` where this is no range of numbers sent or begins above `top`.
+    pub fn answer(&self, begin: u64, last: u64, top: u64) -> Option<GapFill>
+        ensures { result ≡ fill_for begin last top self.now.entries }
+    {
+        let sent = self.last;
+        if begin < 1 {
+            return None;
+        }
+        if begin > sent {
+            return None;
+        }
+        if begin > top {
+            return None;
+        }
+        if last == 0 {
+            let end = top.min(sent);
+            return Some(GapFill {
+                first: begin,
+                new_number: end + 1,
+            });
+        }
+        if begin > last {
+            return None;
+        }
+        let asked = sent.min(last);
+        let cut = top.min(asked);
+        Some(GapFill {
+            first: begin,
+            new_number: cut + 1,
+        })
+    }
+
+    /// The venue has the legs in doubt below a number: they are taken.
+    pub fn take_below(&mut self, number: u64)
+        ensures { self.new ≡ record self.old { entries = take_below number self.old.entries } }
+    {
+        let window = self.window.as_slice();
+        let legs = self.legs.as_slice();
+        let count = doubts_below(window, number);
+        if count == 0 {
+            return;
+        }
+        let from = numbers_below(legs, number_in(window, 0));
+        let to = numbers_below(legs, number);
+        settle(&mut self.legs, from, to, LegState::Taken);
+        drop_first(&mut self.window, count);
+    }
+
+    /// The venue never takes the legs in doubt at or above a number: they are withdrawn.
+    pub fn give_up_from(&mut self, number: u64)
+        ensures { self.new ≡ record self.old { entries = give_up_from number self.old.entries } }
+    {
+        let window = self.window.as_slice();
+        let legs = self.legs.as_slice();
+        let count = doubts_below(window, number);
+        if count == window.len() {
+            return;
+        }
+        let from = numbers_below(legs, number_in(window, count));
+        let to = legs.len();
+        settle(&mut self.legs, from, to, LegState::Withdrawn);
+        self.window.truncate(count);
     }
 }
