@@ -20,6 +20,9 @@ pub use laws::{
     what_was_sent_is_filled_and_no_more,
 };
 pub use log_fault::LogFault;
-pub use logged_leg::LoggedLeg;
+use logged_leg::LoggedLeg;
 pub use out_log::OutLog;
 pub use sent::Sent;
+
+#[cfg(test)]
+mod tests;
