@@ -2,3 +2,9 @@ pub mod Later
 pub mod Ranges
 pub mod Due
 pub mod Settled
+pub mod Filled
+pub mod Kept
+pub mod Leading
+pub mod Looking
+pub mod Settling
+pub mod Fills

@@ -1,3 +1,6 @@
 pub mod Log
 pub mod Judging
 pub mod Later
+pub mod Expected
+pub mod Window
+pub mod Kept

@@ -2,11 +2,17 @@
 #![tactic(auto)]
 
 mod gap_fill;
+mod in_seq;
 mod judged;
 mod laws;
+mod legs;
 mod log_fault;
+mod logged_leg;
+mod out_log;
+mod sent;
 
 pub use gap_fill::GapFill;
+pub use in_seq::{InSeq, MAX_NUMBER};
 pub use judged::Judged;
 pub use laws::{
     a_number_is_due_where_it_is_expected, later_logs_follow_one_another, settling_leaves_no_doubt,
@@ -14,3 +20,9 @@ pub use laws::{
     what_was_sent_is_filled_and_no_more,
 };
 pub use log_fault::LogFault;
+use logged_leg::LoggedLeg;
+pub use out_log::OutLog;
+pub use sent::Sent;
+
+#[cfg(test)]
+mod tests;

@@ -1,0 +1,23 @@
+use Rattle.std.proofs.Common.{sym, arith}
+use Rattle.resend.specs.Log.Entry.{Admin}
+use Rattle.resend.specs.Kept.{entries}
+use Rattle.resend.proofs.Kept.{length-entries, push-ok, push-spent, entries-admin, rising-later}
+use Rattle.resend.proofs.out_log.OutLog.push_admin.Goals as goal
+
+pub returns-then-number-self : goal.returns-then-number-self
+returns-then-number-self c =
+    let log = c.self.inside in
+    rw (← c.self.view_is) (sym (push-spent log.max_number Admin (entries log.last log.legs.items) log.last (length-entries log.last log.legs.items) c.if-number-self.true))
+
+pub invariant_of-self : goal.invariant_of-self
+invariant_of-self c = record {
+  fits = omega arith;
+  rising = rising-later 0 0 _ _ _ (omega arith) c.self.invariant.rising;
+  in_doubt = c.self.invariant.in_doubt;
+}
+
+pub returns : goal.returns
+returns c =
+    let log = c.self.inside in
+    rw (← c.self.view_is, entries-admin log.last log.legs.items c.self.invariant.rising)
+    (sym (push-ok log.max_number Admin (entries log.last log.legs.items) log.last (length-entries log.last log.legs.items) c.if-number-self.false))

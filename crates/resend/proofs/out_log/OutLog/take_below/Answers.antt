@@ -1,0 +1,54 @@
+use Rattle.std.proofs.Common.{ℕ, nat_lt, List, length, drop, sym, ap, ◌∙◌, arith}
+use Rattle.resend.specs.declared.logged_leg.LoggedLeg.{LoggedLeg}
+use Rattle.resend.specs.declared.sent.Sent.{Sent}
+use Rattle.resend.specs.Log.{Entry}
+use Rattle.resend.specs.Window.{OutLogParts}
+use Rattle.resend.proofs.Leading.{leading-le}
+use Rattle.resend.proofs.Looking.{numbers_rise}
+use Rattle.resend.proofs.Settling.{window_rises, take_front, taken-none, taken-entries, taken-kept, taken-order}
+use Rattle.resend.proofs.out_log.OutLog.take_below.Goals as goal
+
+abbrev with_entries : ℕ → List Entry → OutLogParts
+with_entries max_number entries = record { max_number = max_number; entries = entries }
+
+pub doubts_below-count-requires : goal.doubts_below-count-requires
+doubts_below-count-requires c = rw c.as_slice-window.ensures.value (window_rises _ _ _ c.self.invariant)
+
+pub numbers_below-from-requires : goal.numbers_below-from-requires
+numbers_below-from-requires c = rw c.as_slice-legs.ensures.value (numbers_rise 0 0 _ _ c.self.invariant.rising)
+
+pub numbers_below-to-requires : goal.numbers_below-to-requires
+numbers_below-to-requires c = rw c.as_slice-legs.ensures.value (numbers_rise 0 0 _ _ c.self.invariant.rising)
+
+pub returns-then-count-eq0 : goal.returns-then-count-eq0
+returns-then-count-eq0 c =
+    let log = c.self.inside in
+    let count_is = rw c.as_slice-window.ensures.value at c.doubts_below-count.ensures in
+    rw (← c.self.view_is) (ap (with_entries log.max_number) (taken-none c.args.number log.last log.legs.items log.window.items c.self.invariant (sym count_is ∙ c.if-count-eq0.true)))
+
+pub settle-requires-clause-order : goal.settle-requires-clause-order
+settle-requires-clause-order c =
+    let log = c.self.inside in
+    taken-order c.args.number log.last log.legs.items log.window.items c.self.invariant _ _ _ _ (rw c.as_slice-window.ensures.value at c.doubts_below-count.ensures) (rw c.as_slice-window.ensures.value at c.number_in.ensures) (rw c.as_slice-legs.ensures.value at c.numbers_below-from.ensures) (rw c.as_slice-legs.ensures.value at c.numbers_below-to.ensures) (omega arith)
+
+pub settle-requires-clause-within : goal.settle-requires-clause-within
+settle-requires-clause-within c =
+    omega (arith, leading-le (λ (leg : LoggedLeg). nat_lt leg.number c.args.number) c.as_slice-legs.result.now, c.numbers_below-to.ensures, c.as_slice-legs.ensures.len, c.deref_mut.ensures.len)
+
+pub drop_first-requires : goal.drop_first-requires
+drop_first-requires c =
+    let log = c.self.inside in
+    let count_is = rw c.as_slice-window.ensures.value at c.doubts_below-count.ensures in
+    omega (arith, leading-le (λ (sent : Sent). nat_lt sent.number c.args.number) log.window.items, count_is)
+
+pub invariant_of-self : goal.invariant_of-self
+invariant_of-self c =
+    let log = c.self.inside in
+    rw (take_front c.settle.new.legs (drop (length c.settle.new.legs) log.legs.items) log.legs.len (omega (arith, c.settle.auto.legs, c.deref_mut.ensures.len)), c.settle.ensures, c.deref_mut.ensures.value, c.drop_first.ensures)
+    (taken-kept c.args.number log.last log.legs.items log.window.items c.self.invariant _ _ _ _ (rw c.as_slice-window.ensures.value at c.doubts_below-count.ensures) (rw c.as_slice-window.ensures.value at c.number_in.ensures) (rw c.as_slice-legs.ensures.value at c.numbers_below-from.ensures) (rw c.as_slice-legs.ensures.value at c.numbers_below-to.ensures))
+
+pub returns : goal.returns
+returns c =
+    let log = c.self.inside in
+    rw (← c.self.view_is, take_front c.settle.new.legs (drop (length c.settle.new.legs) log.legs.items) log.legs.len (omega (arith, c.settle.auto.legs, c.deref_mut.ensures.len)), c.settle.ensures, c.deref_mut.ensures.value)
+    (ap (with_entries log.max_number) (taken-entries c.args.number log.last log.legs.items log.window.items c.self.invariant _ _ _ _ (rw c.as_slice-window.ensures.value at c.doubts_below-count.ensures) (rw c.as_slice-window.ensures.value at c.number_in.ensures) (rw c.as_slice-legs.ensures.value at c.numbers_below-from.ensures) (rw c.as_slice-legs.ensures.value at c.numbers_below-to.ensures)))

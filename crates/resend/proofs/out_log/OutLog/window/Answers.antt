@@ -1,0 +1,9 @@
+use Rattle.std.proofs.Common.{◌∙◌}
+use Rattle.resend.proofs.Kept.{window-entries}
+use Rattle.resend.proofs.out_log.OutLog.window.Goals as goal
+
+pub returns : goal.returns
+returns c =
+    let log = c.self.inside in
+    rw (← c.self.view_is, window-entries log.last log.legs.items c.self.invariant.rising)
+    (c.as_slice.ensures.value ∙ c.self.invariant.in_doubt)

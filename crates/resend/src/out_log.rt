@@ -1,0 +1,239 @@
+//! The numbers sent, and what each was spent on.
+
+ghost use Rattle.std.specs.Prelude.{◌≡◌, ◌<◌, ◌≤◌, ◌+◌, [], IfOk, IsOkUnless, length, IsTrue, ◌↔◌};
+ghost use Rattle.std.specs.Option.{option_map};
+
+use crate::legs::{
+    after, doubts_below, drop_first, ids_of, leg_in, number_in, numbers_below, ordinals_below,
+    settle,
+};
+use crate::{GapFill, LogFault, LoggedLeg, Sent};
+use leg::{LegId, LegState};
+use std::alloc::Global;
+use std::marker::Model;
+
+/// What each number sent was spent on. A leg takes memory as it is sent, and nothing else does.
+#[derive(Drop)]
+pub struct OutLog {
+    max_number: u64,
+    last: u64,
+    legs: Vec<LoggedLeg>,
+    window: Vec<Sent>,
+}
+
+impl Model for OutLog {
+    ghost use Rattle.resend.specs.Window.{OutLogParts};
+    ghost use Rattle.resend.specs.Kept.{entries, IsKept};
+
+    ghost Value = { OutLogParts };
+
+    ghost view = { λ log. record { max_number = log.max_number; entries = entries log.last log.legs.items } };
+
+    ghost invariant = { λ log. IsKept log.last log.legs.items log.window.items };
+}
+
+impl OutLog {
+    ghost use Rattle.resend.specs.Log.{next_number, last_ordinal, in_doubt, leg_at, state_of, doubt_from, fill_for, take_below, give_up_from};
+    ghost use Rattle.resend.specs.Log.Entry.{Admin, Sent as SentEntry};
+    ghost use Rattle.resend.specs.Window.{push, IsPush, window};
+
+    /// Nothing was sent yet. `max_number` is the number that no message may have.
+    pub fn new(alloc: Global, max_number: u64) -> OutLog
+        ensures { result ≡ record { max_number = max_number; entries = [] } }
+    {
+        OutLog {
+            max_number,
+            last: 0,
+            legs: Vec::new(alloc),
+            window: Vec::new(alloc),
+        }
+    }
+
+    /// The number of the next message, from 1.
+    pub fn next_number(&self) -> u64
+        ensures { result ≡ next_number self.now.entries }
+    {
+        self.last + 1
+    }
+
+    /// Spends a number on an administrative message, and gives it. N01 where none is left.
+    pub fn push_admin(&mut self) -> Result<u64, LogFault>
+        ensures { (result, self.new) ≡ push Admin self.old }
+    {
+        let number = self.last + 1;
+        if number >= self.max_number {
+            return Err(LogFault::NumbersSpent);
+        }
+        self.last = number;
+        Ok(number)
+    }
+
+    /// Spends a number on a leg, which is then in doubt, and gives it. N01 where none is left.
+    pub fn push_leg(&mut self, ordinal: u64, id: LegId) -> Result<u64, LogFault>
+        requires { last_ordinal self.old.entries < ordinal }
+        ensures { IsPush (SentEntry (record { ordinal = ordinal; id = id; state = LegState.Doubt })) self.old result self.new }
+    {
+        let number = self.last + 1;
+        if number >= self.max_number {
+            return Err(LogFault::NumbersSpent);
+        }
+        if self.legs.reserve(1).is_err() {
+            return Err(LogFault::OutOfMemory);
+        }
+        if self.window.reserve(1).is_err() {
+            return Err(LogFault::OutOfMemory);
+        }
+        self.legs.push_reserved(LoggedLeg {
+            number,
+            ordinal,
+            id,
+            state: LegState::Doubt,
+        });
+        self.window.push_reserved(Sent {
+            number,
+            ordinal,
+            id,
+        });
+        self.last = number;
+        Ok(number)
+    }
+
+    /// The legs in doubt, in the order of their numbers.
+    pub fn window(&self) -> &[Sent]
+        ensures { result.now ≡ window self.now.entries }
+    {
+        self.window.as_slice()
+    }
+
+    /// Whether some leg is in doubt.
+    pub fn in_doubt(&self) -> bool
+        ensures { result ≡ in_doubt self.now.entries }
+    {
+        !self.window.as_slice().is_empty()
+    }
+
+    /// The ordinal of the last leg sent, 0 at first.
+    pub fn last_ordinal(&self) -> u64
+        ensures { result ≡ last_ordinal self.now.entries }
+    {
+        match self.legs.last() {
+            Some(leg) => leg.ordinal,
+            None => 0,
+        }
+    }
+
+    /// The leg that was sent under a number.
+    pub fn leg_at(&self, number: u64) -> Option<LegId>
+        ensures { result ≡ leg_at number self.now.entries }
+    {
+        let legs = self.legs.as_slice();
+        let place = numbers_below(legs, number);
+        match leg_in(legs, place) {
+            Some(leg) => {
+                if leg.number == number {
+                    Some(leg.id)
+                } else {
+                    None
+                }
+            }
+            None => None,
+        }
+    }
+
+    /// How far the leg of an ordinal is settled, if it was sent.
+    pub fn state(&self, ordinal: u64) -> Option<LegState>
+        ensures { result ≡ state_of ordinal self.now.entries }
+    {
+        let legs = self.legs.as_slice();
+        let place = ordinals_below(legs, ordinal);
+        match leg_in(legs, place) {
+            Some(leg) => {
+                if leg.ordinal == ordinal {
+                    Some(leg.state)
+                } else {
+                    None
+                }
+            }
+            None => None,
+        }
+    }
+
+    /// The legs in doubt at or above a number, in the order of their numbers. The only refusal is want of memory.
+    pub fn legs_from(&self, number: u64) -> Result<Vec<LegId>, LogFault>
+        ensures ok { IfOk result (λ ids. ids.items ≡ doubt_from number self.now.entries) }
+        ensures refusal { IsOkUnless result LogFault.OutOfMemory }
+    {
+        let window = self.window.as_slice();
+        let place = doubts_below(window, number);
+        let alloc = *self.window.allocator();
+        match ids_of(alloc, after(window, place)) {
+            Ok(ids) => Ok(ids),
+            Err(_) => Err(LogFault::OutOfMemory),
+        }
+    }
+
+    /// What a resend request for the numbers from `begin` to `last`, or to the last one sent where `last` is 0, is
+    /// answered with: a gap fill that ends at `top`, or `None` where this is no range of numbers sent or begins above `top`.
+    pub fn answer(&self, begin: u64, last: u64, top: u64) -> Option<GapFill>
+        ensures { result ≡ fill_for begin last top self.now.entries }
+    {
+        let sent = self.last;
+        if begin < 1 {
+            return None;
+        }
+        if begin > sent {
+            return None;
+        }
+        if begin > top {
+            return None;
+        }
+        if last == 0 {
+            let end = top.min(sent);
+            return Some(GapFill {
+                first: begin,
+                new_number: end + 1,
+            });
+        }
+        if begin > last {
+            return None;
+        }
+        let asked = sent.min(last);
+        let cut = top.min(asked);
+        Some(GapFill {
+            first: begin,
+            new_number: cut + 1,
+        })
+    }
+
+    /// The venue has the legs in doubt below a number: they are taken.
+    pub fn take_below(&mut self, number: u64)
+        ensures { self.new ≡ record self.old { entries = take_below number self.old.entries } }
+    {
+        let window = self.window.as_slice();
+        let legs = self.legs.as_slice();
+        let count = doubts_below(window, number);
+        if count == 0 {
+            return;
+        }
+        let from = numbers_below(legs, number_in(window, 0));
+        let to = numbers_below(legs, number);
+        settle(&mut self.legs, from, to, LegState::Taken);
+        drop_first(&mut self.window, count);
+    }
+
+    /// The venue never takes the legs in doubt at or above a number: they are withdrawn.
+    pub fn give_up_from(&mut self, number: u64)
+        ensures { self.new ≡ record self.old { entries = give_up_from number self.old.entries } }
+    {
+        let window = self.window.as_slice();
+        let legs = self.legs.as_slice();
+        let count = doubts_below(window, number);
+        if count == window.len() {
+            return;
+        }
+        let from = numbers_below(legs, number_in(window, count));
+        let to = legs.len();
+        settle(&mut self.legs, from, to, LegState::Withdrawn);
+        self.window.truncate(count);
+    }
+}
