@@ -11,12 +11,10 @@ pub record OutLogParts : Type 0 where
   pub entries : List Entry
 
 -- what a call that spends a number answers, and the log after it: a refused one leaves it as it was
-abbrev pub after_spend : Result (ℕ × List Entry) LogFault → OutLogParts → Result ℕ LogFault × OutLogParts
-after_spend (Ok sent) log = (Ok sent.0, record log { entries = sent.1 })
-after_spend (Err fault) log = (Err fault, log)
-
 abbrev pub push : Entry → OutLogParts → Result ℕ LogFault × OutLogParts
-push entry log = after_spend (spend log.max_number entry log.entries) log
+push entry log =
+    let spent : Result ℕ LogFault × List Entry = spend log.max_number entry log.entries in
+    (spent.0, record log { entries = spent.1 })
 
 -- a number is spent, or memory is wanting where a number was left, and nothing changed
 abbrev pub IsPush : Entry → OutLogParts → Result ℕ LogFault → OutLogParts → Type 0

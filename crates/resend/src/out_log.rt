@@ -33,7 +33,7 @@ impl Model for OutLog {
 }
 
 impl OutLog {
-    ghost use Rattle.resend.specs.Log.{next_number, last_ordinal, in_doubt, leg_at, state_of, doubt_from, fill_for, take_below, give_up_from};
+    ghost use Rattle.resend.specs.Log.{next_to_send, last_ordinal, in_doubt, leg_at, state_of, doubt_from, fill_for, take_below, give_up_from};
     ghost use Rattle.resend.specs.Log.Entry.{Admin, Sent as SentEntry};
     ghost use Rattle.resend.specs.Window.{push, IsPush, window};
 
@@ -51,7 +51,7 @@ impl OutLog {
 
     /// The number of the next message, from 1.
     pub fn next_number(&self) -> u64
-        ensures { result ≡ next_number self.now.entries }
+        ensures { result ≡ next_to_send self.now.entries }
     {
         self.last + 1
     }
