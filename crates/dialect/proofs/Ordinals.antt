@@ -7,7 +7,7 @@ use Rattle.std.proofs.lemmas.Fmt.{first_decimal, decimal_digit, decimal-digits_v
 use Rattle.std.proofs.lemmas.Option.{cond_some}
 use Rattle.fix_tags.specs.Digits.{digits_number, leading_digits, after_digits, all_digits, within}
 use Rattle.fix_tags.specs.Number.{number_of}
-use Rattle.fix_tags.specs.Spelled.{own}
+use Rattle.fix_tags.proofs.Spelled.{own}
 use Rattle.dialect.specs.Ordinal.{ordinal_of, begins_with_zero}
 use Rattle.dialect.specs.Lemmas.OrdinalLaws.{IsOrdinal, passes, passes-true, passes-false}
 
