@@ -16,3 +16,6 @@ pub mod CloseKept
 pub mod LineKept
 pub mod LegStates
 pub mod LineGives
+pub mod Counted
+pub mod GivenKept
+pub mod GivenSteps
