@@ -17,5 +17,7 @@ pub mod LineKept
 pub mod LegStates
 pub mod LineGives
 pub mod Counted
+pub mod GivenLater
 pub mod GivenKept
+pub mod GivenExchanged
 pub mod GivenSteps
