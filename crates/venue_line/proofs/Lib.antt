@@ -16,3 +16,8 @@ pub mod CloseKept
 pub mod LineKept
 pub mod LegStates
 pub mod LineGives
+pub mod Counted
+pub mod GivenLater
+pub mod GivenKept
+pub mod GivenExchanged
+pub mod GivenSteps

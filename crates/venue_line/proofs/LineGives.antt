@@ -1,11 +1,12 @@
--- What the invariant of a line gives: order, gaps, close and settled.
-use Rattle.std.proofs.Common.{◌≡◌, ◌≤◌, ◌<◌, ◌⊎◌, ◌+◌, ℕ, zero, suc, List, [], ◌∷◌, length, map, get_or, Option, Some, None, Ok, refl, sym, ap, subst, ◌∙◌, inl, inr, arith}
+-- What the invariant of a line gives: order, gaps, close, settled and reports.
+use Rattle.std.proofs.Common.{◌≡◌, ◌≤◌, ◌<◌, ◌⊎◌, ◌+◌, ℕ, zero, suc, List, [], ◌∷◌, length, map, take, get_or, Option, Some, None, Ok, refl, sym, ap, subst, ◌∙◌, inl, inr, length-append, arith}
 use Rattle.std.specs.Prelude.{IfSome}
 use Rattle.std.specs.List.{Contains}
 use Rattle.std.specs.List.Sorted.{IsStrictlyIncreasing}
 use Rattle.std.proofs.lemmas.Bool.{cases_lt}
 use Rattle.std.proofs.lemmas.List.{get_or-map, length-map}
 use Rattle.std.proofs.lemmas.List.Elements.{Contains-append_right, Contains-append_left, Contains-push, Contains-get_or, All-weaker}
+use Rattle.std.proofs.Math.Seq.{take-append_seam}
 use Rattle.leg.specs.Numbered.{numbered}
 use Rattle.leg.specs.declared.leg.Leg.{Leg}
 use Rattle.leg.specs.declared.leg_state.LegState.{LegState}
@@ -19,9 +20,20 @@ use Rattle.venue_line.specs.Line.{Line}
 use Rattle.venue_line.specs.Copies.{IsLegAt, order_of}
 use Rattle.venue_line.specs.Fences.{IsTaken}
 use Rattle.venue_line.specs.LineInvariant.{LineInvariant}
-use Rattle.venue_line.specs.LineTheorem.{IsWithdrawnLeg, LineHolds, TheLineTheorem}
+use Rattle.venue_line.specs.Notes.{notes_under}
+use Rattle.venue_line.specs.Given.{Given}
+use Rattle.venue_line.specs.LineTheorem.{IsWithdrawnLeg, AreGiven, LineHolds, TheLineTheorem}
 use Rattle.venue_line.proofs.LegStates.{found, has_state}
-use Rattle.venue_line.proofs.LineKept.{invariant_steps}
+use Rattle.venue_line.proofs.GivenSteps.{Whole, whole_steps}
+
+-- the notes of the own numbers that were counted
+are_given : (w : Line) → Given w → AreGiven w
+are_given w g = record {
+  count = length g.front;
+  used = (let all = ap length g.whole in omega (arith, length-append g.front g.back));
+  counted = g.expected;
+  given = g.given ∙ ap (notes_under w.session.log) (sym (ap (take (length g.front)) g.whole ∙ take-append_seam g.front g.back));
+}
 
 -- the ordinal of the leg that a number was spent on
 abbrev ordinal_in : Option Entry → ℕ
@@ -162,8 +174,8 @@ module _ (w : Line) (i : LineInvariant w) where
         | inr gone ↦ inr (record { from = from; left = left; gone = inr (is ∙ ap Some (sym f.state_is ∙ gone)) })
       ]
 
-  pub line_holds : LineHolds w
-  line_holds = record {
+  pub line_holds : Given w → LineHolds w
+  line_holds g = record {
     ordinals = ordinals;
     released = same_released w.released w.session.log w.exchange.intake.accepted i.taken i.copies.accepted
         (λ m leg there is.
@@ -192,6 +204,7 @@ module _ (w : Line) (i : LineInvariant w) where
         (let f = found w.session.log ordinal Taken is in
         subst (Contains ordinals) f.ordinal_is (is_ordinal f.number f.leg f.there (i.fences.taken_was_accepted f.number f.leg f.there f.state_is)));
     closed_no_doubt = no_doubt w.exchange.intake.closed_at refl;
+    reports = are_given w g;
   }
     where
       closes : (mark : Option ℕ) → w.exchange.intake.closed_at ≡ mark → IfSome mark (λ count. count ≡ length w.exchange.intake.accepted)
@@ -206,4 +219,5 @@ module _ (w : Line) (i : LineInvariant w) where
           (i.close.logout_is_last mark.logout mark.written mark.says).2 f.number f.leg f.there f.state_is)
 
 pub the_line_theorem : TheLineTheorem
-the_line_theorem config lines small steps = All-weaker LineInvariant LineHolds line_holds lines (invariant_steps config lines small steps)
+the_line_theorem config lines small steps =
+    All-weaker Whole LineHolds (λ w h. line_holds w h.0 h.1) lines (whole_steps config lines small steps)

@@ -1,15 +1,14 @@
 -- The invariant holds of a line on which nothing has happened, and every step keeps it.
-use Rattle.std.proofs.Common.{◌≡◌, ◌≤◌, ℕ, zero, suc, List, [], Some, refl, arith}
-use Rattle.std.specs.List.{All}
+use Rattle.std.proofs.Common.{◌≡◌, ◌≤◌, ℕ, zero, suc, [], Some, refl, arith}
 use Rattle.leg.specs.Numbered.{numbered}
 use Rattle.fix_tags.specs.Config.{ConfigParts}
-use Rattle.venue_line.specs.Line.{Line, new_line, LineStep, AreSteps}
+use Rattle.venue_line.specs.Line.{Line, new_line, LineStep}
 use Rattle.venue_line.specs.Copies.{Copies}
 use Rattle.venue_line.specs.Fences.{Fences}
 use Rattle.venue_line.specs.Close.{Close}
 use Rattle.venue_line.specs.LineInvariant.{LineInvariant}
 use Rattle.venue_line.proofs.Parts.{Parts}
-use Rattle.venue_line.proofs.Stepping.{step_keeps, steps_keep}
+use Rattle.venue_line.proofs.Stepping.{step_keeps}
 use Rattle.venue_line.proofs.CopiesKept.{copies_calls}
 use Rattle.venue_line.proofs.CopiesExchanged.{accepts_step, copies_exchanged}
 use Rattle.venue_line.proofs.FencesKept.{fences_calls}
@@ -138,6 +137,3 @@ invariant_new config small = record { taken = []; copies = copies_new config; fe
 
 pub invariant_step : (a b : Line) → LineStep a b → LineInvariant a → LineInvariant b
 invariant_step a b step holds = step_keeps LineInvariant invariant_parts a b step holds
-
-pub invariant_steps : (config : ConfigParts) (lines : List Line) → config.max_number ≤ 999999999 → AreSteps (new_line config) lines → All LineInvariant lines
-invariant_steps config lines small steps = steps_keep LineInvariant invariant_parts (new_line config) lines steps (invariant_new config small)

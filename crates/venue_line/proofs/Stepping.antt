@@ -135,8 +135,9 @@ module _ (I : Line → Type 0) (parts : Parts I) (a : Line) (holds : I a) where
 pub step_keeps : (I : Line → Type 0) → Parts I → (a b : Line) → LineStep a b → I a → I b
 step_keeps I parts a b step holds = step_to I parts a holds b step
 
-pub steps_keep : (I : Line → Type 0) → Parts I → (a : Line) (lines : List Line) → AreSteps a lines → I a → All I lines
-steps_keep I parts a [] steps holds = All-nil I
-steps_keep I parts a (b ∷ lines) steps holds =
-    let next = step_keeps I parts a b steps.0 holds in
-    All-cons I b lines next (steps_keep I parts b lines steps.1 next)
+pub steps_keep : (I : Line → Type 0) → ((a b : Line) → LineStep a b → I a → I b) → (a : Line) (lines : List Line) → AreSteps a lines
+    → I a → All I lines
+steps_keep I keeps a [] steps holds = All-nil I
+steps_keep I keeps a (b ∷ lines) steps holds =
+    let next = keeps a b steps.0 holds in
+    All-cons I b lines next (steps_keep I keeps b lines steps.1 next)
