@@ -5,3 +5,5 @@ pub mod Example
 pub mod SweepTheorem
 pub mod Growing
 pub mod Script
+pub mod LineOf
+pub mod OrderHalf

@@ -4,6 +4,7 @@ ghost use Rattle.std.specs.Prelude.{◌≡◌, ◌≢◌, ℕ, List, Some, None}
 ghost use Rattle.schedule.specs.declared.event.Event.{Event as AnEvent};
 ghost use Rattle.schedule.specs.World.{World, venue_in};
 ghost use Rattle.schedule.specs.Happening.{happens, happen};
+ghost use Rattle.schedule.specs.OrderHalf.{TheVenueTheorem};
 ghost use Rattle.schedule.specs.Growing.{named, IsUntouched, IsWorldLater};
 
 /// An event changes the venue that it names alone, and a release none: the others stay as they were, with their gates
@@ -21,4 +22,11 @@ pub fn an_event_nowhere_changes_nothing()
 pub fn what_was_done_stands()
     ensures happens { (w : World) (event : AnEvent) → IsWorldLater w (happens w event) }
     ensures happen { (events : List AnEvent) (w : World) → IsWorldLater w (happen events w) }
+{}
+
+/// After every list of events, at each venue: the accepted orders are released legs in their order and none twice, those
+/// missing before the last one are exactly the withdrawn ones, nothing is accepted after the session's Logout, what is
+/// taken was accepted, and the notes handed to the book are the exchange's first reports, each once and in order.
+pub fn what_holds_of_each_venue()
+    ensures { TheVenueTheorem }
 {}

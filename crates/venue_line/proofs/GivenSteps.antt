@@ -163,10 +163,10 @@ given_new config = record {
 abbrev pub Whole : Line → Type 0
 Whole w = LineInvariant w × Given w
 
-whole_new : (config : ConfigParts) → config.max_number ≤ 999999999 → Whole (new_line config)
+pub whole_new : (config : ConfigParts) → config.max_number ≤ 999999999 → Whole (new_line config)
 whole_new config small = (invariant_new config small, given_new config)
 
-whole_step : (a b : Line) → LineStep a b → Whole a → Whole b
+pub whole_step : (a b : Line) → LineStep a b → Whole a → Whole b
 whole_step a b step h = (invariant_step a b step h.0, given_to a h.0 h.1 b step)
 
 pub whole_steps : (config : ConfigParts) (lines : List Line) → config.max_number ≤ 999999999
