@@ -6,3 +6,4 @@ pub mod Clean
 pub mod Lines
 pub mod RunsSafely
 pub mod OrderHolds
+pub mod Books

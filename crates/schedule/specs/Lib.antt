@@ -7,3 +7,4 @@ pub mod Growing
 pub mod Script
 pub mod LineOf
 pub mod OrderHalf
+pub mod SweepSums

@@ -5,6 +5,7 @@ ghost use Rattle.schedule.specs.declared.event.Event.{Event as AnEvent};
 ghost use Rattle.schedule.specs.World.{World, venue_in};
 ghost use Rattle.schedule.specs.Happening.{happens, happen};
 ghost use Rattle.schedule.specs.OrderHalf.{TheVenueTheorem};
+ghost use Rattle.schedule.specs.SweepSums.{TheSums};
 ghost use Rattle.schedule.specs.Growing.{named, IsUntouched, IsWorldLater};
 
 /// An event changes the venue that it names alone, and a release none: the others stay as they were, with their gates
@@ -29,4 +30,9 @@ pub fn what_was_done_stands()
 /// taken was accepted, and the notes handed to the book are the exchange's first reports, each once and in order.
 pub fn what_holds_of_each_venue()
     ensures { TheVenueTheorem }
+{}
+
+/// After every list of events the parts of each sweep add up to its legs.
+pub fn sums_hold_whatever_happens()
+    ensures { TheSums }
 {}
