@@ -50,11 +50,15 @@ later-append log more = record {
   last = omega (arith, length-append log more);
   admin = λ number is. numbered-append number log more Admin is;
   sent =
-      λ number leg is. (leg, numbered-append number log more (Sent leg) is, record {
-        ordinal = refl;
-        id = refl;
-        state = inl refl;
-      });
+      λ number leg is. (
+        leg,
+        numbered-append number log more (Sent leg) is,
+        record {
+          ordinal = refl;
+          id = refl;
+          state = inl refl;
+        },
+      );
 }
 
 later-spent : (b : Bool) (number : ℕ) (entry : Entry) (log : List Entry) → has_number number log ≡ b
