@@ -3,7 +3,12 @@ pub mod ExchangeGrows
 pub mod DeskKeeps
 pub mod Happened
 pub mod Clean
+pub mod ReportedLegs
 pub mod Lines
 pub mod RunsSafely
 pub mod OrderHolds
 pub mod Books
+pub mod LegNumbers
+pub mod LegsGone
+pub mod BookWithdraws
+pub mod GoneLegs
