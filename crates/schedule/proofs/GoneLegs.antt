@@ -154,10 +154,10 @@ numbered_there xs (suc k) from low = leg_there xs k (omega arith)
 -- what is withdrawn now was so before, or is among these
 pub gone_before : (w after : World) → IsSafe w → IsSafe after → Advances w after → (ids : List LegIdParts)
     → ((v : ℕ) (old now : VenueParts) (ordinal : ℕ) (leg : Leg) → venue_in w v ≡ Some old → venue_in after v ≡ Some now
-        → numbered ordinal (released v after.desk.sweeps) ≡ Some leg → (venue_at w.desk v).left < ordinal → IsWithdrawnLeg (line_at after.desk v now) ordinal
-        → Contains ids leg.id)
+    → numbered ordinal (released v after.desk.sweeps) ≡ Some leg → (venue_at w.desk v).left < ordinal → IsWithdrawnLeg (line_at after.desk v now) ordinal
+    → Contains ids leg.id)
     → ((v : ℕ) (old now : VenueParts) → venue_in w v ≡ Some old → venue_in after v ≡ Some now → (id : LegIdParts)
-        → IsNowWithdrawn old.session.log now.session.log id → Contains ids id)
+    → IsNowWithdrawn old.session.log now.session.log id → Contains ids id)
     → (id : LegIdParts) → IsGone after id → IsGone w id ⊎ Contains ids id
 gone_before w after safe safe_after advances ids lefts sinces id g =
     let p = passed w after safe advances g.v g.venue g.there in

@@ -12,3 +12,7 @@ pub mod LegNumbers
 pub mod LegsGone
 pub mod BookWithdraws
 pub mod GoneLegs
+pub mod Withdrawals
+pub mod BookFollows
+pub mod SweepParts
+pub mod SweepHolds
