@@ -20,7 +20,8 @@ use Rattle.schedule.proofs.RunsSafely.{IsSafe, safe_after}
 use Rattle.schedule.proofs.LegNumbers.{has_order}
 use Rattle.schedule.proofs.BookWithdraws.{HasWithdrawn, HasMoved, no_notes}
 use Rattle.schedule.proofs.GoneLegs.{IsGone, no_note, gone_after}
-use Rattle.schedule.proofs.Withdrawals.{Asks, event_asks}
+use Rattle.schedule.proofs.Asking.{Asks}
+use Rattle.schedule.proofs.Withdrawals.{event_asks}
 
 pub record BookFollows (w : World) : Type 0 where
   -- the sweeps of the book are the desk's, and its notes are among those given

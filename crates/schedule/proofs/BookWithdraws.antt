@@ -1,7 +1,7 @@
 -- What the book says of withdrawn legs and of notes after a call, and after several withdrawals.
-use Rattle.std.proofs.Common.{◌≡◌, ◌==◌, ◌⊎◌, ◌||◌, ℕ, zero, suc, Bool, true, false, List, [], ◌∷◌, ◌++◌, map, Option, Some, None, Ok, Err, refl, sym, ap, subst, ◌∙◌, inl, inr, if◌then◌else◌, arith}
+use Rattle.std.proofs.Common.{◌≡◌, ◌==◌, ◌⊎◌, ℕ, zero, suc, Bool, true, false, List, [], ◌∷◌, ◌++◌, map, Option, Some, None, Ok, Err, refl, sym, ap, subst, ◌∙◌, inl, inr, if◌then◌else◌, arith}
 use Rattle.std.specs.List.{Contains}
-use Rattle.std.proofs.lemmas.Bool.{eq-eqb}
+use Rattle.std.proofs.lemmas.Bool.{eq-eqb, or_left}
 use Rattle.std.proofs.lemmas.List.Elements.{Contains-append_left, Contains-append_right, Contains-push, Contains-push_cases}
 use Rattle.leg.specs.LegId.{LegIdParts}
 use Rattle.leg.specs.declared.sweep.Routed.{Routed}
@@ -25,10 +25,6 @@ abbrev pub HasMoved : BookParts → ℕ → Note → Type 0
 HasMoved b from note = Contains b.entries (Moved from note)
 
 -- one withdrawal
-or_left : (a b : Bool) → a ≡ true → (a || b) ≡ true
-or_left true b is = refl
-or_left false b is = absurd cc
-
 stays_by : (entry : BookEntry) (b after : BookParts) (id : LegIdParts) → IsWrittenOrSame entry b after → HasWithdrawn b id → HasWithdrawn after id
 stays_by entry b after id (inl writes) is =
     ap (λ (x : BookParts). is_withdrawn id x.entries) writes

@@ -28,7 +28,9 @@ use Rattle.schedule.proofs.Lines.{Advances}
 use Rattle.schedule.proofs.RunsSafely.{IsSafe}
 use Rattle.schedule.proofs.OrderHolds.{holds_by}
 use Rattle.schedule.proofs.LegNumbers.{one_venue, one_ordinal}
-use Rattle.schedule.proofs.LegsGone.{IsPast, IsNowWithdrawn, past-refl, step_past, gone_stays, gone_since}
+use Rattle.schedule.proofs.PastLines.{IsPast, past-refl, step_past}
+use Rattle.schedule.proofs.NamedLegs.{IsNowWithdrawn}
+use Rattle.schedule.proofs.LegsGone.{gone_stays, gone_since}
 
 -- the leg of this number was withdrawn
 pub record IsGone (w : World) (id : LegIdParts) : Type 0 where

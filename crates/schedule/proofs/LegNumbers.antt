@@ -37,13 +37,13 @@ one_more v number place first legs leg c = record {
   venue = c.venue;
 }
 
-mutual_from : (b : Bool) (v number place k : ℕ) (first : Routed) (legs : List Routed) (leg : Leg) → (first.venue == v) ≡ b
+comes_by : (b : Bool) (v number place k : ℕ) (first : Routed) (legs : List Routed) (leg : Leg) → (first.venue == v) ≡ b
     → ((j : ℕ) → slice_get (legs_to v number (suc place) legs) j ≡ Some leg → ComesFrom v number (suc place) legs leg)
     → slice_get (if b then record { id = record { sweep = number; place = place }; terms = first.terms } ∷ legs_to v number (suc place) legs else legs_to v number (suc place) legs) k ≡ Some leg
     → ComesFrom v number place (first ∷ legs) leg
-mutual_from false v number place k first legs leg test more is = one_more v number place first legs leg (more k is)
-mutual_from true v number place (suc k) first legs leg test more is = one_more v number place first legs leg (more k is)
-mutual_from true v number place zero first legs leg test more is =
+comes_by false v number place k first legs leg test more is = one_more v number place first legs leg (more k is)
+comes_by true v number place (suc k) first legs leg test more is = one_more v number place first legs leg (more k is)
+comes_by true v number place zero first legs leg test more is =
     let same : record { id = record { sweep = number; place = place }; terms = first.terms } ≡ leg = same_Some _ leg is in
     record {
       at = 0;
@@ -58,7 +58,7 @@ comes_from : (v number place : ℕ) (legs : List Routed) (k : ℕ) (leg : Leg) �
     → ComesFrom v number place legs leg
 comes_from v number place [] k leg is = absurd cc
 comes_from v number place (first ∷ legs) k leg is =
-    mutual_from (first.venue == v) v number place k first legs leg refl (λ j found. comes_from v number (suc place) legs j leg found) is
+    comes_by (first.venue == v) v number place k first legs leg refl (λ j found. comes_from v number (suc place) legs j leg found) is
 
 -- the order of a released leg, where the sweeps have numbers from this one on
 record IsOrdered (v number : ℕ) (sweeps : List (List Routed)) (leg : Leg) : Type 0 where

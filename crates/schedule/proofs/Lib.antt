@@ -9,9 +9,12 @@ pub mod RunsSafely
 pub mod OrderHolds
 pub mod Books
 pub mod LegNumbers
+pub mod PastLines
+pub mod NamedLegs
 pub mod LegsGone
-pub mod BookWithdraws
 pub mod GoneLegs
+pub mod BookWithdraws
+pub mod Asking
 pub mod Withdrawals
 pub mod BookFollows
 pub mod SweepParts

@@ -1,9 +1,7 @@
 -- What each event asks the book to withdraw is what is withdrawn by it.
-use Rattle.std.proofs.Common.{◌≡◌, ◌==◌, ◌≤◌, ◌<◌, ◌⊎◌, ◌+◌, ◌&&◌, ℕ, zero, suc, List, [], ◌∷◌, ◌++◌, length, Option, Some, None, Ok, Err, refl, sym, ap, subst, ◌∙◌, inl, inr, arith}
-use Rattle.std.specs.Prelude.{slice_get, slice_set}
+use Rattle.std.proofs.Common.{◌≡◌, ◌==◌, ◌≤◌, ◌<◌, ◌+◌, ◌&&◌, ℕ, zero, suc, List, [], ◌∷◌, ◌++◌, length, Option, Some, None, Ok, Err, refl, sym, ap, subst, ◌∙◌, inl, inr, arith}
 use Rattle.std.specs.List.{Contains}
 use Rattle.std.specs.Option.{option_map_or}
-use Rattle.std.proofs.lemmas.Bool.{cases_eq}
 use Rattle.std.proofs.lemmas.List.Elements.{Contains-push}
 use Rattle.std.proofs.lemmas.Option.{same_Some, slice_get_within}
 use Rattle.leg.specs.LegId.{LegIdParts}
@@ -17,11 +15,11 @@ use Rattle.leg.specs.declared.sweep.Routed.{Routed}
 use Rattle.dialect.specs.declared.note.Note.{Note}
 use Rattle.dialect.specs.Message.{Message}
 use Rattle.dialect.specs.Outgoing.{Outgoing}
-use Rattle.resend.specs.Log.{Entry, SentLeg}
+use Rattle.resend.specs.Log.{SentLeg}
 use Rattle.resend.specs.Log.Entry.{Sent}
 use Rattle.resend.specs.Later.{IsLater, withdrawn_since}
 use Rattle.resend.proofs.Later.{later-trans}
-use Rattle.resend.proofs.Settled.{since-append, since-refl}
+use Rattle.resend.proofs.Settled.{since-append}
 use Rattle.session_core.specs.declared.session_fault.SessionFault.TheVariants.{NotDown, Closed, NumbersSpent, OutOfMemory, NotUp, OrdinalNotGreater, NotConnected}
 use Rattle.session_core.specs.Session.{SessionParts, is_connected, leg_state, next_out}
 use Rattle.session_core.specs.Turn.{StepParts}
@@ -33,7 +31,6 @@ use Rattle.session_core.proofs.Received.{receive_is_received}
 use Rattle.exchange_core.specs.Exchange.{ExchangeParts, live_connection, take, drop_connection}
 use Rattle.exchange_core.specs.Acts.{ActAnswer}
 use Rattle.exchange_core.proofs.Entries.{chosen}
-use Rattle.share_ledger.specs.Entries.{order_of, notes_on}
 use Rattle.share_ledger.specs.Book.{BookParts, BookAnswer, withdraw, open_sweep}
 use Rattle.sweep_release.specs.declared.receipt.Receipt.{Receipt}
 use Rattle.sweep_release.specs.declared.release_fault.ReleaseFault.{ReleaseFault}
@@ -47,141 +44,36 @@ use Rattle.schedule.specs.declared.event.Event.TheVariants as event
 use Rattle.schedule.specs.World.{World, VenueParts, Frame, venue_in, given}
 use Rattle.schedule.specs.Happening.{with_venue, session_wrote, exchange_wrote, exchange_did, is_session_up, desk_and_book, released_world, dropped_world, sent_world, taken_world, may_connect, connected_world, to_exchange, session_turn, to_dispatcher, withdrawn_in, noted, act_of, acted_world, called_world, closed_world, connects, takes, goes_up, happens}
 use Rattle.schedule.specs.LineOf.{line_at}
-use Rattle.venue_line.specs.LineTheorem.{IsWithdrawnLeg}
 use Rattle.venue_line.specs.LineInvariant.{LineInvariant}
 use Rattle.venue_line.proofs.LegStates.{found}
-use Rattle.schedule.proofs.Grown.{grew-refl, slice_get-set_other}
-use Rattle.schedule.proofs.DeskKeeps.{Keeps, keeps-refl, gate_up_keeps, gate_down_keeps, shut_keeps, leave_first_keeps}
-use Rattle.schedule.proofs.Lines.{Advances, set_there, set_same, left-gate_up_from, left-gate_down, left-shut, numbered-drop}
+use Rattle.schedule.proofs.Grown.{grew-refl}
+use Rattle.schedule.proofs.DeskKeeps.{keeps-refl, gate_up_keeps, gate_down_keeps, shut_keeps, leave_first_keeps}
+use Rattle.schedule.proofs.Lines.{set_same, left-gate_up_from, left-gate_down, left-shut, numbered-drop}
 use Rattle.schedule.proofs.RunsSafely.{IsSafe}
-use Rattle.schedule.proofs.LegsGone.{IsNowWithdrawn, state_is, named_since, since_named}
+use Rattle.schedule.proofs.NamedLegs.{IsNowWithdrawn, named_since, since_named}
+use Rattle.schedule.proofs.LegsGone.{state_is}
 use Rattle.schedule.proofs.GoneLegs.{IsGone, gone_before}
 use Rattle.schedule.proofs.BookWithdraws.{HasWithdrawn, HasMoved, all_stay, only_those, those_are, gone_booked, gone_opened, moved_opened, moved_booked}
+use Rattle.schedule.proofs.Asking.{Asked, none_in, asks_nothing, asked-refl, grew_none, grew_by, changes_one, gone_at, asked_nothing, asked_at_venue}
 
--- the withdrawals of an event, and the note
-pub record Asks (w after : World) : Type 0 where
-  pub ids : List LegIdParts
-  pub stays : (id : LegIdParts) → HasWithdrawn w.book id → HasWithdrawn after.book id
-  pub only : (id : LegIdParts) → HasWithdrawn after.book id → HasWithdrawn w.book id ⊎ Contains ids id
-  pub are : (id : LegIdParts) (routed : Routed) → Contains ids id → order_of id w.book.entries ≡ Some routed → notes_on id w.book.entries ≡ []
-      → HasWithdrawn after.book id
-  pub moved : (from : ℕ) (note : Note) → HasMoved after.book from note → HasMoved w.book from note ⊎ Contains (given after from) note
-  pub sweeps : (id : LegIdParts) → Contains ids id → after.desk.sweeps ≡ w.desk.sweeps
-  pub named : (id : LegIdParts) → Contains ids id → IsGone after id
-  pub before : (id : LegIdParts) → IsGone after id → IsGone w id ⊎ Contains ids id
-
--- where the world after it is safe too
-abbrev pub Asked : World → World → Type 0
-Asked w after = Advances w after → IsSafe after → Asks w after
-
-none_in : (id : LegIdParts) → Contains [] id → ⊥
-none_in id there = (let h = there.1 in omega arith)
-
-asks_nothing : (w after : World) → after.book ≡ w.book → ((id : LegIdParts) → IsGone after id → IsGone w id) → Asks w after
-asks_nothing w after same before = record {
-  ids = [];
-  stays = λ id is. subst (λ b. HasWithdrawn b id) (sym same) is;
-  only = λ id is. inl (subst (λ b. HasWithdrawn b id) same is);
-  are = λ id routed there order none. absurd (none_in id there);
-  moved = λ from note there. inl (subst (λ b. HasMoved b from note) same there);
-  sweeps = λ id there. absurd (none_in id there);
-  named = λ id there. absurd (none_in id there);
-  before = λ id gone. inl (before id gone);
-}
-
-asked-refl : (w : World) → Asked w w
-asked-refl w advances safe = asks_nothing w w refl (λ id gone. gone)
-
--- a log that grew withdraws none
-grew_none : (old new : List Entry) (id : LegIdParts) → Grew old new → IsNowWithdrawn old new id → ⊥
-grew_none old new id grew now =
-    let same : withdrawn_since old new ≡ [] = ap (withdrawn_since old) grew.1 ∙ (since-append old old grew.0 (omega arith) ∙ since-refl old) in
-    none_in id (subst (λ l. Contains l id) same (named_since old new id now))
-
-grew_by : (old new : List Entry) → new ≡ old → Grew old new
-grew_by old new same = subst (Grew old) (sym same) (grew-refl old)
-
--- what an event at a venue leaves as it was
-record ChangesOne (w after : World) (v : ℕ) (now : VenueParts) : Type 0 where
-  here : venue_in after v ≡ Some now
-  others : (u : ℕ) → (v ≡ u → ⊥) → (venue_in after u ≡ venue_in w u) × ((venue_at after.desk u).left ≡ (venue_at w.desk u).left)
-
-changes_one : (w after : World) (v : ℕ) (old now : VenueParts) → venue_in w v ≡ Some old → Keeps v w.desk after.desk → after.venues ≡ slice_set w.venues v now
-    → ChangesOne w after v now
-changes_one w after v old now there keeps set = record {
-  here = ap (λ (l : List VenueParts). slice_get l v) set ∙ set_there w.venues v old now there;
-  others = λ u other. (
-    ap (λ (l : List VenueParts). slice_get l u) set ∙ slice_get-set_other w.venues v u now other,
-    (let e = keeps.others u other in rw e refl),
-  );
-}
-
--- the withdrawals of an event at a venue
 module _ (w : World) (safe : IsSafe w) (v : ℕ) (venue : VenueParts) (there : venue_in w v ≡ Some venue) where
-  gone_at : (after : World) (now : VenueParts) → Advances w after → IsSafe after → ChangesOne w after v now → (ids : List LegIdParts)
-      → ((ordinal : ℕ) (leg : Leg) → numbered ordinal (released v after.desk.sweeps) ≡ Some leg → (venue_at w.desk v).left < ordinal
-      → IsWithdrawnLeg (line_at after.desk v now) ordinal → Contains ids leg.id)
-      → ((id : LegIdParts) → IsNowWithdrawn venue.session.log now.session.log id → Contains ids id)
-      → (id : LegIdParts) → IsGone after id → IsGone w id ⊎ Contains ids id
-  gone_at after now advances safe_after changes ids lefts sinces =
-      gone_before w after safe safe_after advances ids
-      (λ u old other ordinal leg was is whole above gone.
-      elim (cases_eq v u) [
-        | inl same ↦
-            (let one : now ≡ other = same_Some now other (sym changes.here ∙ (ap (venue_in after) same ∙ is)) in
-            let gone_now : IsWithdrawnLeg (line_at after.desk u now) ordinal = subst (λ x. IsWithdrawnLeg (line_at after.desk u x) ordinal) (sym one) gone in
-            lefts ordinal leg
-            (subst (λ k. numbered ordinal (released k after.desk.sweeps) ≡ Some leg) (sym same) whole)
-            (subst (λ k. (venue_at w.desk k).left < ordinal) (sym same) above)
-            (subst (λ k. IsWithdrawnLeg (line_at after.desk k now) ordinal) (sym same) gone_now))
-        | inr differs ↦ absurd (let left = (changes.others u differs).1 in let l = gone.left in omega arith)
-      ])
-      (λ u old other was is id new.
-      elim (cases_eq v u) [
-        | inl same ↦
-            (let one : now ≡ other = same_Some now other (sym changes.here ∙ (ap (venue_in after) same ∙ is)) in
-            let two : venue ≡ old = same_Some venue old (sym there ∙ (ap (venue_in w) same ∙ was)) in
-            sinces id
-            (subst (λ (x : VenueParts). IsNowWithdrawn x.session.log now.session.log id) (sym two)
-            (subst (λ (x : VenueParts). IsNowWithdrawn old.session.log x.session.log id) (sym one) new)))
-        | inr differs ↦
-            (let one : old ≡ other = same_Some old other (sym was ∙ (sym (changes.others u differs).0 ∙ is)) in
-            absurd (grew_none old.session.log other.session.log id (grew_by old.session.log other.session.log (ap (λ (x : VenueParts). x.session.log) (sym one))) new))
-      ])
-
-  -- an event that withdraws none
-  asked_nothing : (after : World) (now : VenueParts) → Keeps v w.desk after.desk → after.venues ≡ slice_set w.venues v now → after.book ≡ w.book
-      → (venue_at after.desk v).left ≡ (venue_at w.desk v).left → Grew venue.session.log now.session.log → Asked w after
-  asked_nothing after now keeps set book left grew advances safe_after =
-      asks_nothing w after book
-      (λ id gone.
-      elim (gone_at after now advances safe_after (changes_one w after v venue now there keeps set) []
-      (λ ordinal leg whole above is. absurd (let l = is.left in omega arith))
-      (λ other new. absurd (grew_none venue.session.log now.session.log other grew new))
-      id gone) [ inl before ↦ before | inr new ↦ absurd (none_in id new) ])
-
-  asked_at_venue : (after : World) (now : VenueParts) → after.desk ≡ w.desk → after.venues ≡ slice_set w.venues v now → after.book ≡ w.book
-      → Grew venue.session.log now.session.log → Asked w after
-  asked_at_venue after now same set book grew =
-      asked_nothing after now (subst (Keeps v w.desk) (sym same) (keeps-refl v w.desk)) set book (ap (λ d. (venue_at d v).left) same) grew
-
   -- gates
   up_asked : Asked w (goes_up w v venue)
   up_asked =
       chosen (Asked w) (is_session_up venue.session.phase) (record w { desk = (gate_up w.desk v).1 }) w
-      (λ up. asked_nothing (record w { desk = (gate_up w.desk v).1 }) venue (gate_up_keeps v w.desk) (sym (set_same w.venues v venue there)) refl
+      (λ up. asked_nothing w safe v venue there (record w { desk = (gate_up w.desk v).1 }) venue (gate_up_keeps v w.desk) (sym (set_same w.venues v venue there)) refl
       (left-gate_up_from v (gate_of w.desk v) w.desk) (grew-refl venue.session.log))
       (λ not_up. asked-refl w)
 
   down_asked : Asked w (record w { desk = gate_down w.desk v })
   down_asked =
-      asked_nothing (record w { desk = gate_down w.desk v }) venue (gate_down_keeps v w.desk) (sym (set_same w.venues v venue there)) refl (left-gate_down v w.desk)
+      asked_nothing w safe v venue there (record w { desk = gate_down w.desk v }) venue (gate_down_keeps v w.desk) (sym (set_same w.venues v venue there)) refl (left-gate_down v w.desk)
       (grew-refl venue.session.log)
 
   -- the session's calls
   connected_asked : (answer : SessionAnswer Message) → OrUnchanged venue.session (IsConnection venue.session) answer → Asked w (connected_world w v venue answer)
   connected_asked (Err fault, session) is = asked-refl w
-  connected_asked (Ok message, session) is = asked_at_venue _ (session_wrote session (message ∷ []) venue) refl refl refl is.keeps.added
+  connected_asked (Ok message, session) is = asked_at_venue w safe v venue there _ (session_wrote session (message ∷ []) venue) refl refl refl is.keeps.added
 
   connect_asked : Asked w (connects w v venue)
   connect_asked =
@@ -190,29 +82,29 @@ module _ (w : World) (safe : IsSafe w) (v : ℕ) (venue : VenueParts) (there : v
 
   called_asked : (answer : SessionAnswer StepParts) → OrUnchanged venue.session (IsCall venue.session) answer → Asked w (called_world w v venue answer)
   called_asked (Err fault, session) is = asked-refl w
-  called_asked (Ok step, session) is = asked_at_venue _ (session_wrote session step.written venue) refl refl refl is.keeps.added
+  called_asked (Ok step, session) is = asked_at_venue w safe v venue there _ (session_wrote session step.written venue) refl refl refl is.keeps.added
 
   closed_asked : (answer : SessionAnswer StepParts) → OrUnchanged venue.session (IsCall venue.session) answer → Asked w (closed_world w v venue answer)
   closed_asked (Err fault, session) is = asked-refl w
   closed_asked (Ok step, session) is =
-      asked_nothing _ (session_wrote session step.written venue) (shut_keeps v w.desk) refl refl (left-shut v w.desk) is.keeps.added
+      asked_nothing w safe v venue there _ (session_wrote session step.written venue) (shut_keeps v w.desk) refl refl (left-shut v w.desk) is.keeps.added
 
   break_asked : Asked w (with_venue w v (record venue { session = broken venue.session }))
-  break_asked = asked_at_venue _ (record venue { session = broken venue.session }) refl refl refl (broken_keeps venue.session).added
+  break_asked = asked_at_venue w safe v venue there _ (record venue { session = broken venue.session }) refl refl refl (broken_keeps venue.session).added
 
   abandon_asked : Asked w (with_venue (record w { desk = shut w.desk v }) v (record venue { session = abandon venue.session }))
   abandon_asked =
-      asked_nothing _ (record venue { session = abandon venue.session }) (shut_keeps v w.desk) refl refl (left-shut v w.desk) (abandon_keeps venue.session).added
+      asked_nothing w safe v venue there _ (record venue { session = abandon venue.session }) (shut_keeps v w.desk) refl refl (left-shut v w.desk) (abandon_keeps venue.session).added
 
   -- the exchange
   to_exchange_asked : (found : Option Frame) → Asked w (to_exchange w v venue found)
   to_exchange_asked None = asked-refl w
   to_exchange_asked (Some frame) =
       let a = take venue.exchange frame.connection frame.message in
-      asked_at_venue _ (exchange_wrote frame.connection a.0 a.1 venue) refl refl refl (grew-refl venue.session.log)
+      asked_at_venue w safe v venue there _ (exchange_wrote frame.connection a.0 a.1 venue) refl refl refl (grew-refl venue.session.log)
 
   exchange_break_asked : Asked w (with_venue w v (record venue { exchange = drop_connection venue.exchange }))
-  exchange_break_asked = asked_at_venue _ (record venue { exchange = drop_connection venue.exchange }) refl refl refl (grew-refl venue.session.log)
+  exchange_break_asked = asked_at_venue w safe v venue there _ (record venue { exchange = drop_connection venue.exchange }) refl refl refl (grew-refl venue.session.log)
 
   did_grew : (live : Option ℕ) (written : List Outgoing) (x : ExchangeParts) → Grew venue.session.log (exchange_did live written x venue).session.log
   did_grew None written x = grew-refl venue.session.log
@@ -221,7 +113,7 @@ module _ (w : World) (safe : IsSafe w) (v : ℕ) (venue : VenueParts) (there : v
   acted_asked : (answer : ActAnswer) → Asked w (acted_world w v venue answer)
   acted_asked (Err fault, x) = asked-refl w
   acted_asked (Ok written, x) =
-      asked_at_venue _ (exchange_did (live_connection venue.exchange) written x venue) refl refl refl (did_grew (live_connection venue.exchange) written x)
+      asked_at_venue w safe v venue there _ (exchange_did (live_connection venue.exchange) written x venue) refl refl refl (did_grew (live_connection venue.exchange) written x)
 
   -- a leg leaves
   low : v < length w.desk.venues
@@ -271,7 +163,7 @@ module _ (w : World) (safe : IsSafe w) (v : ℕ) (venue : VenueParts) (there : v
                 gone = inl (unsent (leg_state venue.session (suc (venue_at w.desk v).left)) refl);
               };
             };
-        before = gone_at after venue advances safe_after (changes_one w after v venue venue there (leave_first_keeps v (leg ∷ rest) w.desk) (sym (set_same w.venues v venue there)))
+        before = gone_at w safe v venue there after venue advances safe_after (changes_one w after v venue venue there (leave_first_keeps v (leg ∷ rest) w.desk) (sym (set_same w.venues v venue there)))
             (leg.id ∷ [])
             (λ ordinal other whole above is.
             (let one = next_is leg other ordinal 0 next whole above (let l = is.left in let e = one_left_is in omega arith) in
@@ -304,7 +196,7 @@ module _ (w : World) (safe : IsSafe w) (v : ℕ) (venue : VenueParts) (there : v
       let state : leg_state session ((venue_at w.desk v).left + 1) ≡ Some Doubt = state_is (line_at after.desk v now) i (next_out venue.session) (doubted ((venue_at w.desk v).left + 1) leg) is.in_doubt in
       asks_nothing w after refl
       (λ id gone.
-      elim (gone_at after now advances safe_after changes []
+      elim (gone_at w safe v venue there after now advances safe_after changes []
       (λ ordinal other whole above g.
       (let at : (venue_at w.desk v).left + 1 ≡ ordinal = (let l = g.left in let e = one_left_is in omega arith) in
       let doubt : leg_state session ordinal ≡ Some Doubt = subst (λ o. leg_state session o ≡ Some Doubt) at state in
@@ -366,7 +258,7 @@ module _ (w : World) (safe : IsSafe w) (v : ℕ) (venue : VenueParts) (there : v
             ];
         sweeps = λ id there'. refl;
         named = λ id there'. turned after now changes.here i later id (since_named venue.session.log (confirm turn.session).log id (subst (λ l. Contains l id) named there'));
-        before = gone_at after now advances safe_after changes turn.step.withdrawn
+        before = gone_at w safe v venue there after now advances safe_after changes turn.step.withdrawn
             (λ ordinal leg whole above g. absurd (let l = g.left in omega arith))
             (λ id new. subst (λ l. Contains l id) (sym named) (named_since venue.session.log (confirm turn.session).log id new));
       })
