@@ -32,9 +32,11 @@ pub record Asks (w after : World) : Type 0 where
   pub ids : List LegIdParts
   pub stays : (id : LegIdParts) → HasWithdrawn w.book id → HasWithdrawn after.book id
   pub only : (id : LegIdParts) → HasWithdrawn after.book id → HasWithdrawn w.book id ⊎ Contains ids id
-  pub are : (id : LegIdParts) (routed : Routed) → Contains ids id → order_of id w.book.entries ≡ Some routed → notes_on id w.book.entries ≡ []
+  pub are : (id : LegIdParts) (routed : Routed) → Contains ids id → order_of id w.book.entries ≡ Some routed
+      → notes_on id w.book.entries ≡ []
       → HasWithdrawn after.book id
-  pub moved : (from : ℕ) (note : Note) → HasMoved after.book from note → HasMoved w.book from note ⊎ Contains (given after from) note
+  pub moved : (from : ℕ) (note : Note) → HasMoved after.book from note → HasMoved w.book from note
+      ⊎ Contains (given after from) note
   pub sweeps : (id : LegIdParts) → Contains ids id → after.desk.sweeps ≡ w.desk.sweeps
   pub named : (id : LegIdParts) → Contains ids id → IsGone after id
   pub before : (id : LegIdParts) → IsGone after id → IsGone w id ⊎ Contains ids id
@@ -46,7 +48,8 @@ Asked w after = Advances w after → IsSafe after → Asks w after
 pub none_in : (id : LegIdParts) → Contains [] id → ⊥
 none_in id there = (let h = there.1 in omega arith)
 
-pub asks_nothing : (w after : World) → after.book ≡ w.book → ((id : LegIdParts) → IsGone after id → IsGone w id) → Asks w after
+pub asks_nothing : (w after : World) → after.book ≡ w.book → ((id : LegIdParts) → IsGone after id → IsGone w id)
+    → Asks w after
 asks_nothing w after same before = record {
   ids = [];
   stays = λ id is. subst (λ b. HasWithdrawn b id) (sym same) is;
@@ -64,7 +67,8 @@ asked-refl w advances safe = asks_nothing w w refl (λ id gone. gone)
 -- a log that grew withdraws none
 pub grew_none : (old new : List Entry) (id : LegIdParts) → Grew old new → IsNowWithdrawn old new id → ⊥
 grew_none old new id grew now =
-    let same : withdrawn_since old new ≡ [] = ap (withdrawn_since old) grew.1 ∙ (since-append old old grew.0 (omega arith) ∙ since-refl old) in
+    let same : withdrawn_since old new ≡ [] =
+    ap (withdrawn_since old) grew.1 ∙ (since-append old old grew.0 (omega arith) ∙ since-refl old) in
     none_in id (subst (λ l. Contains l id) same (named_since old new id now))
 
 pub grew_by : (old new : List Entry) → new ≡ old → Grew old new
@@ -73,9 +77,11 @@ grew_by old new same = subst (Grew old) (sym same) (grew-refl old)
 -- what an event at a venue leaves as it was
 pub record ChangesOne (w after : World) (v : ℕ) (now : VenueParts) : Type 0 where
   pub here : venue_in after v ≡ Some now
-  pub others : (u : ℕ) → (v ≡ u → ⊥) → (venue_in after u ≡ venue_in w u) × ((venue_at after.desk u).left ≡ (venue_at w.desk u).left)
+  pub others : (u : ℕ) → (v ≡ u → ⊥) → (venue_in after u ≡ venue_in w u)
+      × ((venue_at after.desk u).left ≡ (venue_at w.desk u).left)
 
-pub changes_one : (w after : World) (v : ℕ) (old now : VenueParts) → venue_in w v ≡ Some old → Keeps v w.desk after.desk → after.venues ≡ slice_set w.venues v now
+pub changes_one : (w after : World) (v : ℕ) (old now : VenueParts) → venue_in w v ≡ Some old → Keeps v w.desk after.desk
+    → after.venues ≡ slice_set w.venues v now
     → ChangesOne w after v now
 changes_one w after v old now there keeps set = record {
   here = ap (λ (l : List VenueParts). slice_get l v) set ∙ set_there w.venues v old now there;
@@ -87,8 +93,10 @@ changes_one w after v old now there keeps set = record {
 
 -- the withdrawals of an event at a venue
 module _ (w : World) (safe : IsSafe w) (v : ℕ) (venue : VenueParts) (there : venue_in w v ≡ Some venue) where
-  pub gone_at : (after : World) (now : VenueParts) → Advances w after → IsSafe after → ChangesOne w after v now → (ids : List LegIdParts)
-      → ((ordinal : ℕ) (leg : Leg) → numbered ordinal (released v after.desk.sweeps) ≡ Some leg → (venue_at w.desk v).left < ordinal
+  pub gone_at : (after : World) (now : VenueParts) → Advances w after → IsSafe after → ChangesOne w after v now
+      → (ids : List LegIdParts)
+      → ((ordinal : ℕ) (leg : Leg) → numbered ordinal (released v after.desk.sweeps) ≡ Some leg
+      → (venue_at w.desk v).left < ordinal
       → IsWithdrawnLeg (line_at after.desk v now) ordinal → Contains ids leg.id)
       → ((id : LegIdParts) → IsNowWithdrawn venue.session.log now.session.log id → Contains ids id)
       → (id : LegIdParts) → IsGone after id → IsGone w id ⊎ Contains ids id
@@ -98,7 +106,8 @@ module _ (w : World) (safe : IsSafe w) (v : ℕ) (venue : VenueParts) (there : v
       elim (cases_eq v u) [
         | inl same ↦
             (let one : now ≡ other = same_Some now other (sym changes.here ∙ (ap (venue_in after) same ∙ is)) in
-            let gone_now : IsWithdrawnLeg (line_at after.desk u now) ordinal = subst (λ x. IsWithdrawnLeg (line_at after.desk u x) ordinal) (sym one) gone in
+            let gone_now : IsWithdrawnLeg (line_at after.desk u now) ordinal =
+            subst (λ x. IsWithdrawnLeg (line_at after.desk u x) ordinal) (sym one) gone in
             lefts ordinal leg
             (subst (λ k. numbered ordinal (released k after.desk.sweeps) ≡ Some leg) (sym same) whole)
             (subst (λ k. (venue_at w.desk k).left < ordinal) (sym same) above)
@@ -115,11 +124,13 @@ module _ (w : World) (safe : IsSafe w) (v : ℕ) (venue : VenueParts) (there : v
             (subst (λ (x : VenueParts). IsNowWithdrawn old.session.log x.session.log id) (sym one) new)))
         | inr differs ↦
             (let one : old ≡ other = same_Some old other (sym was ∙ (sym (changes.others u differs).0 ∙ is)) in
-            absurd (grew_none old.session.log other.session.log id (grew_by old.session.log other.session.log (ap (λ (x : VenueParts). x.session.log) (sym one))) new))
+            absurd (grew_none old.session.log other.session.log id
+            (grew_by old.session.log other.session.log (ap (λ (x : VenueParts). x.session.log) (sym one))) new))
       ])
 
   -- an event that withdraws none
-  pub asked_nothing : (after : World) (now : VenueParts) → Keeps v w.desk after.desk → after.venues ≡ slice_set w.venues v now → after.book ≡ w.book
+  pub asked_nothing : (after : World) (now : VenueParts) → Keeps v w.desk after.desk
+      → after.venues ≡ slice_set w.venues v now → after.book ≡ w.book
       → (venue_at after.desk v).left ≡ (venue_at w.desk v).left → Grew venue.session.log now.session.log → Asked w after
   asked_nothing after now keeps set book left grew advances safe_after =
       asks_nothing w after book
@@ -129,7 +140,9 @@ module _ (w : World) (safe : IsSafe w) (v : ℕ) (venue : VenueParts) (there : v
       (λ other new. absurd (grew_none venue.session.log now.session.log other grew new))
       id gone) [ inl before ↦ before | inr new ↦ absurd (none_in id new) ])
 
-  pub asked_at_venue : (after : World) (now : VenueParts) → after.desk ≡ w.desk → after.venues ≡ slice_set w.venues v now → after.book ≡ w.book
+  pub asked_at_venue : (after : World) (now : VenueParts) → after.desk ≡ w.desk
+      → after.venues ≡ slice_set w.venues v now → after.book ≡ w.book
       → Grew venue.session.log now.session.log → Asked w after
   asked_at_venue after now same set book grew =
-      asked_nothing after now (subst (Keeps v w.desk) (sym same) (keeps-refl v w.desk)) set book (ap (λ d. (venue_at d v).left) same) grew
+      asked_nothing after now (subst (Keeps v w.desk) (sym same) (keeps-refl v w.desk)) set book
+      (ap (λ d. (venue_at d v).left) same) grew

@@ -32,19 +32,24 @@ pub record BookFollows (w : World) : Type 0 where
   pub booked : (id : LegIdParts) → IsGone w id → HasWithdrawn w.book id
 
 -- a note that was given stays so
-given_by : (w after : World) → IsWorldLater w after → (v : ℕ) (found : Option VenueParts) → venue_in w v ≡ found → (note : Note) → Contains (given w v) note
+given_by : (w after : World) → IsWorldLater w after → (v : ℕ) (found : Option VenueParts) → venue_in w v ≡ found
+    → (note : Note) → Contains (given w v) note
     → Contains (given after v) note
 given_by w after later v None is note there =
     let none : given w v ≡ [] = ap (λ (o : Option VenueParts). option_map_or (λ (x : VenueParts). x.given) o []) is in
     absurd (let h = (subst (λ l. Contains l note) none there).1 in omega arith)
 given_by w after later v (Some old) is note there =
     let now = later.venue v old is in
-    let before : given w v ≡ old.given = ap (λ (o : Option VenueParts). option_map_or (λ (x : VenueParts). x.given) o []) is in
-    let all : given after v ≡ now.0.given = ap (λ (o : Option VenueParts). option_map_or (λ (x : VenueParts). x.given) o []) now.1 in
+    let before : given w v ≡ old.given =
+    ap (λ (o : Option VenueParts). option_map_or (λ (x : VenueParts). x.given) o []) is in
+    let all : given after v ≡ now.0.given =
+    ap (λ (o : Option VenueParts). option_map_or (λ (x : VenueParts). x.given) o []) now.1 in
     let more = now.2.given in
-    subst (λ l. Contains l note) (sym (all ∙ more.1)) (Contains-append_left old.given more.0 note (subst (λ l. Contains l note) before there))
+    subst (λ l. Contains l note) (sym (all ∙ more.1))
+    (Contains-append_left old.given more.0 note (subst (λ l. Contains l note) before there))
 
-follows_by : (w after : World) → IsSafe w → IsSafe after → IsWorldLater w after → ((id : LegIdParts) → IsGone w id → IsGone after id)
+follows_by : (w after : World) → IsSafe w → IsSafe after → IsWorldLater w after
+    → ((id : LegIdParts) → IsGone w id → IsGone after id)
     → opened after.book.entries ≡ after.desk.sweeps → Asks w after → BookFollows w → BookFollows after
 follows_by w after safe safe_after later stay sweeps asks follows = record {
   sweeps = sweeps;
@@ -60,16 +65,20 @@ follows_by w after safe safe_after later stay sweeps asks follows = record {
         | inr new ↦
             (let order = has_order gone.v after.desk.sweeps gone.ordinal gone.leg gone.whole in
             let there : option_and_then (numbered id.place) (numbered id.sweep after.desk.sweeps) ≡ Some order.routed =
-            subst (λ (x : LegIdParts). option_and_then (numbered x.place) (numbered x.sweep after.desk.sweeps) ≡ Some order.routed) gone.same order.order in
+            subst (λ (x : LegIdParts). option_and_then (numbered x.place)
+            (numbered x.sweep after.desk.sweeps) ≡ Some order.routed) gone.same order.order in
             let in_book : order_of id w.book.entries ≡ Some order.routed =
-            ap (λ s. option_and_then (numbered id.place) (numbered id.sweep s)) (follows.sweeps ∙ sym (asks.sweeps id new)) ∙ there in
+            ap (λ s. option_and_then (numbered id.place) (numbered id.sweep s))
+            (follows.sweeps ∙ sym (asks.sweeps id new)) ∙ there in
             asks.are id order.routed new in_book
             (no_notes id w.book.entries (λ from note held.
-            no_note after safe_after id gone from note (given_by w after later from (venue_in w from) refl note (follows.moved from note held)))))
+            no_note after safe_after id gone from note
+            (given_by w after later from (venue_in w from) refl note (follows.moved from note held)))))
       ];
 }
 
-pub follows_run : (events : List Event) (w : World) → IsSafe w → BookFollows w → IsSafe (happen events w) × BookFollows (happen events w)
+pub follows_run : (events : List Event) (w : World) → IsSafe w → BookFollows w → IsSafe (happen events w)
+    × BookFollows (happen events w)
 follows_run [] w safe follows = (safe, follows)
 follows_run (e ∷ events) w safe follows =
     let after = happens w e in
@@ -77,7 +86,8 @@ follows_run (e ∷ events) w safe follows =
     let later = event_is_later w e in
     let next = safe_after w after advances safe in
     follows_run events after next
-    (follows_by w after safe next later (gone_after w after safe next advances later) (event_books w e follows.sweeps).follows
+    (follows_by w after safe next later (gone_after w after safe next advances later)
+    (event_books w e follows.sweeps).follows
     (event_asks w safe e advances next) follows)
 
 -- in the opening world no leg has left
@@ -86,5 +96,6 @@ follows_opening next max_number = record {
   sweeps = refl;
   moved = λ from note held. absurd (let h = held.1 in omega arith);
   gone = λ id held. absurd cc;
-  booked = λ id gone. absurd (let e = left-new_desk (length next) gone.v in let f = gone.gone.from in let l = gone.gone.left in omega arith);
+  booked = λ id gone. absurd (let e = left-new_desk (length next) gone.v in let f = gone.gone.from in let l =
+      gone.gone.left in omega arith);
 }

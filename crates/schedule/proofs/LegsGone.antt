@@ -1,4 +1,5 @@
--- Which legs of a line are withdrawn after a step: those that were, those that left and weren't sent, and those that were
+-- Which legs of a line are withdrawn after a step: those that were, those that left and weren't sent, and those that
+-- were
 -- in doubt and are named as withdrawn.
 use Rattle.std.proofs.Common.{◌≡◌, ◌<◌, ◌⊎◌, ℕ, Option, Some, None, refl, sym, ap, ◌∙◌, inl, inr, arith}
 use Rattle.std.proofs.lemmas.Bool.{cases_lt}
@@ -19,19 +20,23 @@ use Rattle.schedule.proofs.PastLines.{IsPast}
 use Rattle.schedule.proofs.NamedLegs.{IsNowWithdrawn}
 
 -- a leg's ordinal has one number, and so one state
-pub state_is : (w : Line) → LineInvariant w → (number : ℕ) (leg : SentLeg) → IsLegAt w.session.log number leg → leg_state w.session leg.ordinal ≡ Some leg.state
+pub state_is : (w : Line) → LineInvariant w → (number : ℕ) (leg : SentLeg) → IsLegAt w.session.log number leg
+    → leg_state w.session leg.ordinal ≡ Some leg.state
 state_is w i number leg at = by_state (leg_state w.session leg.ordinal) refl
   where
-    by_state : (state : Option LegState) → leg_state w.session leg.ordinal ≡ state → leg_state w.session leg.ordinal ≡ Some leg.state
+    by_state : (state : Option LegState) → leg_state w.session leg.ordinal ≡ state
+        → leg_state w.session leg.ordinal ≡ Some leg.state
     by_state None is = absurd (has_state w.session.log number leg at is)
     by_state (Some state) is =
         let f = found w.session.log leg.ordinal state is in
         let same : number ≡ f.number =
         elim (cases_lt number f.number) [
-          | inl low ↦ absurd (let rise = i.copies.numbering number f.number leg f.leg at f.there low in let e = f.ordinal_is in omega arith)
+          | inl low ↦ absurd (let rise = i.copies.numbering number f.number leg f.leg at f.there low in let e =
+              f.ordinal_is in omega arith)
           | inr high ↦
               elim (cases_lt f.number number) [
-                | inl below ↦ absurd (let rise = i.copies.numbering f.number number f.leg leg f.there at below in let e = f.ordinal_is in omega arith)
+                | inl below ↦ absurd (let rise = i.copies.numbering f.number number f.leg leg f.there at below in
+                    let e = f.ordinal_is in omega arith)
                 | inr above ↦ omega arith
               ]
         ] in
@@ -44,21 +49,28 @@ withdrawn_later old new (inl same) gone = same ∙ gone
 withdrawn_later old new (inr (doubt, settled)) gone = absurd (let e = sym doubt ∙ gone in cc)
 
 -- a leg that is withdrawn stays so
-pub gone_stays : (a b : Line) → IsPast a b → LineInvariant b → (ordinal : ℕ) → IsWithdrawnLeg a ordinal → IsWithdrawnLeg b ordinal
+pub gone_stays : (a b : Line) → IsPast a b → LineInvariant b → (ordinal : ℕ) → IsWithdrawnLeg a ordinal
+    → IsWithdrawnLeg b ordinal
 gone_stays a b past i ordinal is =
     record {
       from = is.from;
       left = (let h = past.left in let l = is.left in omega arith);
-      gone = elim is.gone [ inl none ↦ inl (unsent none (leg_state b.session ordinal) refl) | inr gone ↦ inr (still gone) ];
+      gone = elim is.gone [
+        | inl none ↦ inl (unsent none (leg_state b.session ordinal) refl)
+        | inr gone ↦
+            inr (still gone)
+      ];
     }
   where
-    unsent : leg_state a.session ordinal ≡ None → (state : Option LegState) → leg_state b.session ordinal ≡ state → leg_state b.session ordinal ≡ None
+    unsent : leg_state a.session ordinal ≡ None → (state : Option LegState) → leg_state b.session ordinal ≡ state
+        → leg_state b.session ordinal ≡ None
     unsent none None now = now
     unsent none (Some state) now =
         let f = found b.session.log ordinal state now in
         elim (past.back f.number f.leg f.there) [
           | inl (was, at, same, id) ↦
-              absurd (has_state a.session.log f.number was at (ap (λ o. state_of o a.session.log) (sym same ∙ f.ordinal_is) ∙ none))
+              absurd (has_state a.session.log f.number was at
+              (ap (λ o. state_of o a.session.log) (sym same ∙ f.ordinal_is) ∙ none))
           | inr above ↦ absurd (let l = is.left in let e = f.ordinal_is in omega arith)
         ]
 
@@ -83,7 +95,12 @@ gone_since a b past i ordinal is =
       | inl above ↦ inr (inl above)
       | inr within ↦
           elim is.gone [
-            | inl none ↦ inl (record { from = is.from; left = omega arith; gone = inl (unsent none (leg_state a.session ordinal) refl) })
+            | inl none ↦ inl (record {
+              from = is.from;
+              left = omega arith;
+              gone =
+                  inl (unsent none (leg_state a.session ordinal) refl);
+            })
             | inr gone ↦
                 (let f = found b.session.log ordinal Withdrawn gone in
                 elim (past.back f.number f.leg f.there) [
@@ -98,12 +115,22 @@ gone_since a b past i ordinal is =
                             inl (record {
                               from = is.from;
                               left = omega arith;
-                              gone = inr (ap (leg_state a.session) (sym f.ordinal_is ∙ same) ∙ (state_is a i f.number was at ∙ ap Some (sym stays ∙ after)));
+                              gone = inr (ap (leg_state a.session) (sym f.ordinal_is ∙ same)
+                                  ∙ (state_is a i f.number was at ∙ ap Some (sym stays ∙ after)));
                             })
                         | inr (doubt, settled) ↦
                             inr (inr (record {
                               id = was.id;
-                              now = record { number = f.number; was = was; now = f.leg; before = at; there = f.there; doubt = doubt; gone = f.state_is; same = refl };
+                              now = record {
+                                number = f.number;
+                                was = was;
+                                now = f.leg;
+                                before = at;
+                                there = f.there;
+                                doubt = doubt;
+                                gone = f.state_is;
+                                same = refl;
+                              };
                               at = f.ordinal_is;
                               named = id;
                             }))
@@ -112,9 +139,11 @@ gone_since a b past i ordinal is =
           ]
     ]
   where
-    unsent : leg_state b.session ordinal ≡ None → (state : Option LegState) → leg_state a.session ordinal ≡ state → leg_state a.session ordinal ≡ None
+    unsent : leg_state b.session ordinal ≡ None → (state : Option LegState) → leg_state a.session ordinal ≡ state
+        → leg_state a.session ordinal ≡ None
     unsent none None now = now
     unsent none (Some state) now =
         let f = found a.session.log ordinal state now in
         let l = past.later.sent f.number f.leg f.there in
-        absurd (has_state b.session.log f.number l.0 l.1 (ap (λ o. state_of o b.session.log) (l.2.ordinal ∙ f.ordinal_is) ∙ none))
+        absurd (has_state b.session.log f.number l.0 l.1
+        (ap (λ o. state_of o b.session.log) (l.2.ordinal ∙ f.ordinal_is) ∙ none))

@@ -31,35 +31,48 @@ named_now : (was now : SentLeg) (ids : List LegIdParts) → was.state ≡ Doubt 
     → Contains (if is_doubt was.state && is_withdrawn now.state then was.id ∷ ids else ids) was.id
 named_now was now ids doubt gone = rw (doubt, gone) (head_in was.id ids)
 
-named_still : (b : Bool) (id other : LegIdParts) (ids : List LegIdParts) → Contains ids other → Contains (if b then id ∷ ids else ids) other
+named_still : (b : Bool) (id other : LegIdParts) (ids : List LegIdParts) → Contains ids other
+    → Contains (if b then id ∷ ids else ids) other
 named_still true id other ids there = Contains-append_right (id ∷ []) ids other there
 named_still false id other ids there = there
 
-since_at : (old new : List Entry) (k : ℕ) (was now : SentLeg) → slice_get old k ≡ Some (Sent was) → slice_get new k ≡ Some (Sent now) → was.state ≡ Doubt
+since_at : (old new : List Entry) (k : ℕ) (was now : SentLeg) → slice_get old k ≡ Some (Sent was)
+    → slice_get new k ≡ Some (Sent now) → was.state ≡ Doubt
     → now.state ≡ Withdrawn → Contains (withdrawn_since old new) was.id
 since_at [] new k was now before there doubt gone = absurd cc
 since_at (entry ∷ old) [] k was now before there doubt gone = absurd cc
-since_at (Admin ∷ old) (later ∷ new) zero was now before there doubt gone = absurd (let e = same_Some Admin (Sent was) before in cc)
-since_at (Admin ∷ old) (later ∷ new) (suc k) was now before there doubt gone = since_at old new k was now before there doubt gone
-since_at (Sent x ∷ old) (Admin ∷ new) zero was now before there doubt gone = absurd (let e = same_Some Admin (Sent now) there in cc)
-since_at (Sent x ∷ old) (Admin ∷ new) (suc k) was now before there doubt gone = since_at old new k was now before there doubt gone
+since_at (Admin ∷ old) (later ∷ new) zero was now before there doubt gone =
+    absurd (let e = same_Some Admin (Sent was) before in cc)
+since_at (Admin ∷ old) (later ∷ new) (suc k) was now before there doubt gone =
+    since_at old new k was now before there doubt gone
+since_at (Sent x ∷ old) (Admin ∷ new) zero was now before there doubt gone =
+    absurd (let e = same_Some Admin (Sent now) there in cc)
+since_at (Sent x ∷ old) (Admin ∷ new) (suc k) was now before there doubt gone =
+    since_at old new k was now before there doubt gone
 since_at (Sent x ∷ old) (Sent y ∷ new) zero was now before there doubt gone =
     let one : x ≡ was = (let e = same_Some (Sent x) (Sent was) before in cc) in
     let two : y ≡ now = (let e = same_Some (Sent y) (Sent now) there in cc) in
     subst (λ (l : SentLeg). Contains (withdrawn_since (Sent x ∷ old) (Sent y ∷ new)) l.id) one
-    (named_now x y (withdrawn_since old new) (ap (λ (l : SentLeg). l.state) one ∙ doubt) (ap (λ (l : SentLeg). l.state) two ∙ gone))
+    (named_now x y (withdrawn_since old new) (ap (λ (l : SentLeg). l.state) one ∙ doubt)
+    (ap (λ (l : SentLeg). l.state) two ∙ gone))
 since_at (Sent x ∷ old) (Sent y ∷ new) (suc k) was now before there doubt gone =
-    named_still (is_doubt x.state && is_withdrawn y.state) x.id was.id (withdrawn_since old new) (since_at old new k was now before there doubt gone)
+    named_still (is_doubt x.state && is_withdrawn y.state) x.id was.id (withdrawn_since old new)
+    (since_at old new k was now before there doubt gone)
 
-pub named_since : (old new : List Entry) (id : LegIdParts) → IsNowWithdrawn old new id → Contains (withdrawn_since old new) id
+pub named_since : (old new : List Entry) (id : LegIdParts) → IsNowWithdrawn old new id
+    → Contains (withdrawn_since old new) id
 named_since old new id is = by_number is.number is.before is.there
   where
-    by_number : (number : ℕ) → IsLegAt old number is.was → IsLegAt new number is.now → Contains (withdrawn_since old new) id
+    by_number : (number : ℕ) → IsLegAt old number is.was → IsLegAt new number is.now
+        → Contains (withdrawn_since old new) id
     by_number zero before there = absurd cc
-    by_number (suc k) before there = subst (Contains (withdrawn_since old new)) is.same (since_at old new k is.was is.now before there is.doubt is.gone)
+    by_number (suc k) before there =
+        subst (Contains (withdrawn_since old new)) is.same
+        (since_at old new k is.was is.now before there is.doubt is.gone)
 
 -- and a turn names no others
-now_more : (x y : Entry) (old new : List Entry) (id : LegIdParts) → IsNowWithdrawn old new id → IsNowWithdrawn (x ∷ old) (y ∷ new) id
+now_more : (x y : Entry) (old new : List Entry) (id : LegIdParts) → IsNowWithdrawn old new id
+    → IsNowWithdrawn (x ∷ old) (y ∷ new) id
 now_more x y old new id is = record {
   number = suc is.number;
   was = is.was;
@@ -71,7 +84,8 @@ now_more x y old new id is = record {
   same = is.same;
 }
   where
-    behind : (z : Entry) (log : List Entry) (number : ℕ) (leg : SentLeg) → IsLegAt log number leg → IsLegAt (z ∷ log) (suc number) leg
+    behind : (z : Entry) (log : List Entry) (number : ℕ) (leg : SentLeg) → IsLegAt log number leg
+        → IsLegAt (z ∷ log) (suc number) leg
     behind z log zero leg at = absurd cc
     behind z log (suc k) leg at = at
 
@@ -87,9 +101,11 @@ is_withdrawn_by Queued is = absurd cc
 is_withdrawn_by Taken is = absurd cc
 is_withdrawn_by Doubt is = absurd cc
 
-now_by : (doubt gone : Bool) (x y : SentLeg) (old new : List Entry) (id : LegIdParts) → is_doubt x.state ≡ doubt → is_withdrawn y.state ≡ gone
+now_by : (doubt gone : Bool) (x y : SentLeg) (old new : List Entry) (id : LegIdParts) → is_doubt x.state ≡ doubt
+    → is_withdrawn y.state ≡ gone
     → (Contains (withdrawn_since old new) id → IsNowWithdrawn old new id)
-    → Contains (if doubt && gone then x.id ∷ withdrawn_since old new else withdrawn_since old new) id → IsNowWithdrawn (Sent x ∷ old) (Sent y ∷ new) id
+    → Contains (if doubt && gone then x.id ∷ withdrawn_since old new else withdrawn_since old new) id
+    → IsNowWithdrawn (Sent x ∷ old) (Sent y ∷ new) id
 now_by true true x y old new id doubt gone more (zero, low, is) = record {
   number = 1;
   was = x;
@@ -100,11 +116,13 @@ now_by true true x y old new id doubt gone more (zero, low, is) = record {
   gone = is_withdrawn_by y.state gone;
   same = is;
 }
-now_by true true x y old new id doubt gone more (suc k, low, is) = now_more (Sent x) (Sent y) old new id (more (k, omega arith, is))
+now_by true true x y old new id doubt gone more (suc k, low, is) =
+    now_more (Sent x) (Sent y) old new id (more (k, omega arith, is))
 now_by true false x y old new id doubt gone more there = now_more (Sent x) (Sent y) old new id (more there)
 now_by false gone' x y old new id doubt gone more there = now_more (Sent x) (Sent y) old new id (more there)
 
-pub since_named : (old new : List Entry) (id : LegIdParts) → Contains (withdrawn_since old new) id → IsNowWithdrawn old new id
+pub since_named : (old new : List Entry) (id : LegIdParts) → Contains (withdrawn_since old new) id
+    → IsNowWithdrawn old new id
 since_named [] new id there = absurd (let h = there.1 in omega arith)
 since_named (Admin ∷ old) [] id there = absurd (let h = there.1 in omega arith)
 since_named (Sent x ∷ old) [] id there = absurd (let h = there.1 in omega arith)

@@ -22,12 +22,19 @@ Was a number now =
 -- no leg that had left is sent
 pub record IsPast (a b : Line) : Type 0 where
   pub left : a.left ≤ b.left
-  pub released : (ordinal : ℕ) (leg : Leg) → numbered ordinal a.released ≡ Some leg → numbered ordinal b.released ≡ Some leg
+  pub released : (ordinal : ℕ) (leg : Leg) → numbered ordinal a.released ≡ Some leg
+      → numbered ordinal b.released ≡ Some leg
   pub later : IsLater a.session.log b.session.log
   pub back : (number : ℕ) (now : SentLeg) → IsLegAt b.session.log number now → Was a number now
 
 pub past-refl : (a : Line) → IsPast a a
-past-refl a = record { left = omega arith; released = λ ordinal leg is. is; later = later-refl a.session.log; back = λ number now is. inl (now, is, refl, refl) }
+past-refl a = record {
+  left = omega arith;
+  released = λ ordinal leg is. is;
+  later = later-refl a.session.log;
+  back =
+      λ number now is. inl (now, is, refl, refl);
+}
 
 -- the desk goes on from one line to the next
 record DeskGoes (b c : Line) : Type 0 where
@@ -40,10 +47,15 @@ stands b c left same = record { left = omega arith; released = λ ordinal leg is
 -- how a log goes on where nothing is sent
 record Goes (old new : List Entry) : Type 0 where
   later : IsLater old new
-  back : (number : ℕ) (now : SentLeg) → IsLegAt new number now → (leg : SentLeg) × IsLegAt old number leg × (now.ordinal ≡ leg.ordinal) × (now.id ≡ leg.id)
+  back : (number : ℕ) (now : SentLeg) → IsLegAt new number now → (leg : SentLeg) × IsLegAt old number leg
+      × (now.ordinal ≡ leg.ordinal) × (now.id ≡ leg.id)
 
 goes : (old new : List Entry) → LogGoes old new → Goes old new
-goes old new g = record { later = g.later; back = λ number now is. (let x = g.back number now is in (x.0, x.1, x.2, x.3)) }
+goes old new g = record {
+  later = g.later;
+  back =
+      λ number now is. (let x = g.back number now is in (x.0, x.1, x.2, x.3));
+}
 
 past_goes : (a b c : Line) → DeskGoes b c → Goes b.session.log c.session.log → IsPast a b → IsPast a c
 past_goes a b c desk g past = record {
@@ -60,17 +72,21 @@ past_goes a b c desk g past = record {
 
 past_same : (a b c : Line) → DeskGoes b c → IsPast a b → c.session.log ≡ b.session.log → IsPast a c
 past_same a b c desk past same =
-    past_goes a b c desk (subst (Goes b.session.log) (sym same) (goes b.session.log b.session.log (goes-refl b.session.log))) past
+    past_goes a b c desk (subst (Goes b.session.log) (sym same)
+    (goes b.session.log b.session.log (goes-refl b.session.log))) past
 
 past_admin : (a b c : Line) → DeskGoes b c → IsPast a b → c.session.log ≡ b.session.log ++ Admin ∷ [] → IsPast a c
 past_admin a b c desk past same =
     past_goes a b c desk (subst (Goes b.session.log) (sym same) (goes b.session.log _ (goes-admin b.session.log))) past
 
-past_taken : (a b c : Line) (fence : ℕ) → DeskGoes b c → IsPast a b → c.session.log ≡ take_below fence b.session.log → IsPast a c
+past_taken : (a b c : Line) (fence : ℕ) → DeskGoes b c → IsPast a b → c.session.log ≡ take_below fence b.session.log
+    → IsPast a c
 past_taken a b c fence desk past same =
-    past_goes a b c desk (subst (Goes b.session.log) (sym same) (goes b.session.log _ (goes-take_below fence b.session.log))) past
+    past_goes a b c desk (subst (Goes b.session.log) (sym same)
+    (goes b.session.log _ (goes-take_below fence b.session.log))) past
 
-past_settled : (a b c : Line) (told : ℕ) → DeskGoes b c → IsPast a b → c.session.log ≡ give_up_from told (take_below told b.session.log) → IsPast a c
+past_settled : (a b c : Line) (told : ℕ) → DeskGoes b c → IsPast a b
+    → c.session.log ≡ give_up_from told (take_below told b.session.log) → IsPast a c
 past_settled a b c told desk past same =
     past_goes a b c desk
     (subst (Goes b.session.log) (sym same)
@@ -79,11 +95,13 @@ past_settled a b c told desk past same =
       back = λ number now is. (let x = give_up_back told b.session.log number now is in (x.0, x.1, x.2, x.3));
     })) past
 
-past_sent : (a b c : Line) (leg : SentLeg) → c.left ≡ suc b.left → c.released ≡ b.released → leg.ordinal ≡ suc b.left → IsPast a b → c.session.log ≡ b.session.log ++ Sent leg ∷ [] → IsPast a c
+past_sent : (a b c : Line) (leg : SentLeg) → c.left ≡ suc b.left → c.released ≡ b.released → leg.ordinal ≡ suc b.left
+    → IsPast a b → c.session.log ≡ b.session.log ++ Sent leg ∷ [] → IsPast a c
 past_sent a b c leg left released ordinal past same = record {
   left = (let h = past.left in omega arith);
   released = λ o l is. ap (numbered o) released ∙ past.released o l is;
-  later = later-trans a.session.log b.session.log c.session.log past.later (subst (IsLater b.session.log) (sym same) (later-append b.session.log (Sent leg ∷ [])));
+  later = later-trans a.session.log b.session.log c.session.log past.later
+      (subst (IsLater b.session.log) (sym same) (later-append b.session.log (Sent leg ∷ [])));
   back = λ number now is.
       (let there = subst (λ l. IsLegAt l number now) same is in
       elim (numbered-push number b.session.log (Sent leg) (Sent now) there) [
@@ -109,14 +127,20 @@ past_parts a = record {
     passes_up = λ b fence is settling j p. past_taken a b _ fence (stands b _ refl refl) p refl;
     passes_out = λ b fence is last j p. past_taken a b _ fence (stands b _ refl refl) p refl;
     passes_out_written = λ b fence is last may j p.
-        past_goes a b _ (stands b _ refl refl) (goes b.session.log _ (goes-trans _ _ _ (goes-take_below fence b.session.log) (goes-admin _))) p;
+        past_goes a b _ (stands b _ refl refl)
+        (goes b.session.log _ (goes-trans _ _ _ (goes-take_below fence b.session.log) (goes-admin _))) p;
     answers_logout = λ b heard on going may j p. past_admin a b _ (stands b _ refl refl) p refl;
     ends = λ b is_over on j p. past_same a b _ (stands b _ refl refl) p refl;
     abandons = λ b j p. past_same a b _ (stands b _ refl refl) p refl;
     connects = λ b down may j p. past_admin a b _ (stands b _ refl refl) p refl;
     closes = λ b up j p. past_same a b _ (stands b _ refl refl) p refl;
     sends = λ b leg there up may j p. past_sent a b _ _ refl refl refl p refl;
-    releases = λ b more j p. past_same a b _ (record { left = omega arith; released = λ ordinal leg is. numbered-append ordinal b.released more leg is }) p refl;
+    releases = λ b more j p. past_same a b _
+        (record {
+          left = omega arith;
+          released =
+              λ ordinal leg is. numbered-append ordinal b.released more leg is;
+        }) p refl;
     drops = λ b below j p. past_same a b _ (record { left = omega arith; released = λ ordinal leg is. is }) p refl;
   };
   exchanges = λ b coming t written there step p. past_same a b _ (stands b _ refl refl) p refl;

@@ -46,7 +46,12 @@ on-append legs (Reported report view ∷ xs) ys on more = (on.0, on-append legs 
 
 -- also once more legs are accepted
 number_more : (legs more : List Leg) (id : LegIdParts) → IsNumberOf legs id → IsNumberOf (legs ++ more) id
-number_more legs more id is = record { leg = is.leg; there = Contains-append_left legs more is.leg is.there; same = is.same }
+number_more legs more id is = record {
+  leg = is.leg;
+  there = Contains-append_left legs more is.leg is.there;
+  same =
+      is.same;
+}
 
 on-more : (legs more : List Leg) (own : List Own) → AreOn legs own → AreOn (legs ++ more) own
 on-more legs more [] on = on
@@ -59,7 +64,8 @@ ReportsOn x = AreOn (accepted_by x) x.own
 
 order_on : (x : ExchangeParts) (leg : Leg) → ReportsOn x → ReportsOn (due_taken x (Order (Ok leg))).1
 order_on x leg on =
-    let all : accepted_by (due_taken x (Order (Ok leg))).1 ≡ accepted_by x ++ leg ∷ [] = map-append (λ (o : OrderParts). o.leg) x.orders (new_order leg ∷ []) in
+    let all : accepted_by (due_taken x (Order (Ok leg))).1 ≡ accepted_by x ++ leg ∷ [] =
+    map-append (λ (o : OrderParts). o.leg) x.orders (new_order leg ∷ []) in
     subst (λ legs. AreOn legs (due_taken x (Order (Ok leg))).1.own) (sym all)
     (on-append (accepted_by x ++ leg ∷ []) x.own _ (on-more (accepted_by x) (leg ∷ []) x.own on)
     (record { leg = leg; there = Contains-push (accepted_by x) leg; same = refl }, tt))
@@ -90,22 +96,27 @@ legs_set : (orders : List OrderParts) (k : ℕ) (old new : OrderParts) → slice
     → map (λ (o : OrderParts). o.leg) (slice_set orders k new) ≡ map (λ (o : OrderParts). o.leg) orders
 legs_set [] k old new is same = absurd cc
 legs_set (o ∷ orders) zero old new is same =
-    ap (λ l. l ∷ map (λ (x : OrderParts). x.leg) orders) (same ∙ ap (λ (x : OrderParts). x.leg) (sym (same_Some o old is)))
+    ap (λ l. l ∷ map (λ (x : OrderParts). x.leg) orders)
+    (same ∙ ap (λ (x : OrderParts). x.leg) (sym (same_Some o old is)))
 legs_set (o ∷ orders) (suc k) old new is same = ap (λ l. o.leg ∷ l) (legs_set orders k old new is same)
 
-legs_same : (orders : List OrderParts) (place : ℕ) (old new : OrderParts) → numbered place orders ≡ Some old → new.leg ≡ old.leg
+legs_same : (orders : List OrderParts) (place : ℕ) (old new : OrderParts) → numbered place orders ≡ Some old
+    → new.leg ≡ old.leg
     → map (λ (o : OrderParts). o.leg) (with_numbered place new orders) ≡ map (λ (o : OrderParts). o.leg) orders
 legs_same orders zero old new is same = absurd cc
 legs_same orders (suc k) old new is same = legs_set orders k old new is same
 
-reported_on : (x : ExchangeParts) (place : ℕ) (old new : OrderParts) (kind : ReportKind) → IsReported AnyPx x place old new kind → ReportsOn x
+reported_on : (x : ExchangeParts) (place : ℕ) (old new : OrderParts) (kind : ReportKind)
+    → IsReported AnyPx x place old new kind → ReportsOn x
     → ReportsOn (reported x place new kind).1
 reported_on x place old new kind is on =
     let leg : new.leg ≡ old.leg = same_leg AnyPx (next_exec x.own) old new kind is.change in
-    let all : accepted_by (reported x place new kind).1 ≡ accepted_by x = legs_same x.orders place old new is.there leg in
+    let all : accepted_by (reported x place new kind).1 ≡ accepted_by x =
+    legs_same x.orders place old new is.there leg in
     let known = contains_map (λ (o : OrderParts). o.leg) x.orders old (numbered_contains place x.orders old is.there) in
     subst (λ legs. AreOn legs (reported x place new kind).1.own) (sym all)
-    (on-append (accepted_by x) x.own _ on (record { leg = old.leg; there = known; same = ap (λ (l : Leg). l.id) (sym leg) }, tt))
+    (on-append (accepted_by x) x.own _ on
+    (record { leg = old.leg; there = known; same = ap (λ (l : Leg). l.id) (sym leg) }, tt))
 
 act_on : (a : Act) (x : ExchangeParts) → ReportsOn x → ReportsOn (act_of a x).1
 act_on (act.Trade order shares px) x on =
@@ -123,16 +134,20 @@ pub record IsOrderly (x : ExchangeParts) : Type 0 where
   pub clean : IsClean x.own
   pub on : AreOn (accepted_by x) x.own
 
-pub take_orderly : (x : ExchangeParts) (connection : ℕ) (m : Message) → IsRead m.content → IsOrderly x → IsOrderly (take x connection m).1
-take_orderly x connection m read o = record { clean = take_clean x connection m read o.clean; on = take_on x connection m o.on }
+pub take_orderly : (x : ExchangeParts) (connection : ℕ) (m : Message) → IsRead m.content → IsOrderly x
+    → IsOrderly (take x connection m).1
+take_orderly x connection m read o =
+    record { clean = take_clean x connection m read o.clean; on = take_on x connection m o.on }
 
 pub act_orderly : (a : Act) (x : ExchangeParts) → IsOrderly x → IsOrderly (act_of a x).1
 act_orderly a x o = record { clean = act_clean a x o.clean; on = act_on a x o.on }
 
 -- the leg of each report that was made
-pub made_on : (legs : List Leg) (own : List Own) (report : Report) → AreOn legs own → Contains (reports_in own) report → IsNumberOf legs report.id
+pub made_on : (legs : List Leg) (own : List Own) (report : Report) → AreOn legs own → Contains (reports_in own) report
+    → IsNumberOf legs report.id
 made_on legs [] report on there = absurd (let h = there.1 in omega arith)
 made_on legs (Admin ∷ own) report on there = made_on legs own report on there
 made_on legs (Refused number ∷ own) report on there = made_on legs own report on there
-made_on legs (Reported first view ∷ own) report on (zero, low, is) = subst (λ (r : Report). IsNumberOf legs r.id) is on.0
+made_on legs (Reported first view ∷ own) report on (zero, low, is) =
+    subst (λ (r : Report). IsNumberOf legs r.id) is on.0
 made_on legs (Reported first view ∷ own) report on (suc k, low, is) = made_on legs own report on.1 (k, omega arith, is)

@@ -61,59 +61,75 @@ module _ (w : World) (safe : IsSafe w) (v : ℕ) (venue : VenueParts) (there : v
   up_asked : Asked w (goes_up w v venue)
   up_asked =
       chosen (Asked w) (is_session_up venue.session.phase) (record w { desk = (gate_up w.desk v).1 }) w
-      (λ up. asked_nothing w safe v venue there (record w { desk = (gate_up w.desk v).1 }) venue (gate_up_keeps v w.desk) (sym (set_same w.venues v venue there)) refl
+      (λ up. asked_nothing w safe v venue there (record w { desk = (gate_up w.desk v).1 }) venue
+      (gate_up_keeps v w.desk) (sym (set_same w.venues v venue there)) refl
       (left-gate_up_from v (gate_of w.desk v) w.desk) (grew-refl venue.session.log))
       (λ not_up. asked-refl w)
 
   down_asked : Asked w (record w { desk = gate_down w.desk v })
   down_asked =
-      asked_nothing w safe v venue there (record w { desk = gate_down w.desk v }) venue (gate_down_keeps v w.desk) (sym (set_same w.venues v venue there)) refl (left-gate_down v w.desk)
+      asked_nothing w safe v venue there (record w { desk = gate_down w.desk v }) venue (gate_down_keeps v w.desk)
+      (sym (set_same w.venues v venue there)) refl (left-gate_down v w.desk)
       (grew-refl venue.session.log)
 
   -- the session's calls
-  connected_asked : (answer : SessionAnswer Message) → OrUnchanged venue.session (IsConnection venue.session) answer → Asked w (connected_world w v venue answer)
+  connected_asked : (answer : SessionAnswer Message) → OrUnchanged venue.session (IsConnection venue.session) answer
+      → Asked w (connected_world w v venue answer)
   connected_asked (Err fault, session) is = asked-refl w
-  connected_asked (Ok message, session) is = asked_at_venue w safe v venue there _ (session_wrote session (message ∷ []) venue) refl refl refl is.keeps.added
+  connected_asked (Ok message, session) is =
+      asked_at_venue w safe v venue there _ (session_wrote session (message ∷ []) venue) refl refl refl is.keeps.added
 
   connect_asked : Asked w (connects w v venue)
   connect_asked =
       chosen (Asked w) (may_connect w.desk v) (connected_world w v venue (connect venue.session)) w
       (λ may. connected_asked (connect venue.session) (connect_keeps venue.session)) (λ may_not. asked-refl w)
 
-  called_asked : (answer : SessionAnswer StepParts) → OrUnchanged venue.session (IsCall venue.session) answer → Asked w (called_world w v venue answer)
+  called_asked : (answer : SessionAnswer StepParts) → OrUnchanged venue.session (IsCall venue.session) answer
+      → Asked w (called_world w v venue answer)
   called_asked (Err fault, session) is = asked-refl w
-  called_asked (Ok step, session) is = asked_at_venue w safe v venue there _ (session_wrote session step.written venue) refl refl refl is.keeps.added
+  called_asked (Ok step, session) is =
+      asked_at_venue w safe v venue there _ (session_wrote session step.written venue) refl refl refl is.keeps.added
 
-  closed_asked : (answer : SessionAnswer StepParts) → OrUnchanged venue.session (IsCall venue.session) answer → Asked w (closed_world w v venue answer)
+  closed_asked : (answer : SessionAnswer StepParts) → OrUnchanged venue.session (IsCall venue.session) answer
+      → Asked w (closed_world w v venue answer)
   closed_asked (Err fault, session) is = asked-refl w
   closed_asked (Ok step, session) is =
-      asked_nothing w safe v venue there _ (session_wrote session step.written venue) (shut_keeps v w.desk) refl refl (left-shut v w.desk) is.keeps.added
+      asked_nothing w safe v venue there _ (session_wrote session step.written venue) (shut_keeps v w.desk) refl refl
+      (left-shut v w.desk) is.keeps.added
 
   break_asked : Asked w (with_venue w v (record venue { session = broken venue.session }))
-  break_asked = asked_at_venue w safe v venue there _ (record venue { session = broken venue.session }) refl refl refl (broken_keeps venue.session).added
+  break_asked = asked_at_venue w safe v venue there _ (record venue { session = broken venue.session }) refl refl refl
+      (broken_keeps venue.session).added
 
-  abandon_asked : Asked w (with_venue (record w { desk = shut w.desk v }) v (record venue { session = abandon venue.session }))
+  abandon_asked : Asked w (with_venue (record w { desk = shut w.desk v }) v
+      (record venue { session = abandon venue.session }))
   abandon_asked =
-      asked_nothing w safe v venue there _ (record venue { session = abandon venue.session }) (shut_keeps v w.desk) refl refl (left-shut v w.desk) (abandon_keeps venue.session).added
+      asked_nothing w safe v venue there _ (record venue { session = abandon venue.session })
+      (shut_keeps v w.desk) refl refl (left-shut v w.desk) (abandon_keeps venue.session).added
 
   -- the exchange
   to_exchange_asked : (found : Option Frame) → Asked w (to_exchange w v venue found)
   to_exchange_asked None = asked-refl w
   to_exchange_asked (Some frame) =
       let a = take venue.exchange frame.connection frame.message in
-      asked_at_venue w safe v venue there _ (exchange_wrote frame.connection a.0 a.1 venue) refl refl refl (grew-refl venue.session.log)
+      asked_at_venue w safe v venue there _ (exchange_wrote frame.connection a.0 a.1 venue) refl refl refl
+      (grew-refl venue.session.log)
 
   exchange_break_asked : Asked w (with_venue w v (record venue { exchange = drop_connection venue.exchange }))
-  exchange_break_asked = asked_at_venue w safe v venue there _ (record venue { exchange = drop_connection venue.exchange }) refl refl refl (grew-refl venue.session.log)
+  exchange_break_asked = asked_at_venue w safe v venue there _
+      (record venue { exchange = drop_connection venue.exchange }) refl refl refl (grew-refl venue.session.log)
 
-  did_grew : (live : Option ℕ) (written : List Outgoing) (x : ExchangeParts) → Grew venue.session.log (exchange_did live written x venue).session.log
+  did_grew : (live : Option ℕ) (written : List Outgoing) (x : ExchangeParts)
+      → Grew venue.session.log (exchange_did live written x venue).session.log
   did_grew None written x = grew-refl venue.session.log
   did_grew (Some connection) written x = grew-refl venue.session.log
 
   acted_asked : (answer : ActAnswer) → Asked w (acted_world w v venue answer)
   acted_asked (Err fault, x) = asked-refl w
   acted_asked (Ok written, x) =
-      asked_at_venue w safe v venue there _ (exchange_did (live_connection venue.exchange) written x venue) refl refl refl (did_grew (live_connection venue.exchange) written x)
+      asked_at_venue w safe v venue there _
+      (exchange_did (live_connection venue.exchange) written x venue) refl refl refl
+      (did_grew (live_connection venue.exchange) written x)
 
   -- a leg leaves
   low : v < length w.desk.venues
@@ -122,15 +138,19 @@ module _ (w : World) (safe : IsSafe w) (v : ℕ) (venue : VenueParts) (there : v
   one_left_is : (venue_at (one_left v w.desk) v).left ≡ suc (venue_at w.desk v).left
   one_left_is = let e = left-one_left v w.desk low in omega arith
 
-  unsent : (state : Option LegState) → leg_state venue.session (suc (venue_at w.desk v).left) ≡ state → leg_state venue.session (suc (venue_at w.desk v).left) ≡ None
+  unsent : (state : Option LegState) → leg_state venue.session (suc (venue_at w.desk v).left) ≡ state
+      → leg_state venue.session (suc (venue_at w.desk v).left) ≡ None
   unsent None is = is
   unsent (Some state) is =
       let f = found venue.session.log (suc (venue_at w.desk v).left) state is in
-      absurd (let l = ((safe.lines v venue there).0.copies.sent_left f.number f.leg f.there).1 in let e = f.ordinal_is in omega arith)
+      absurd (let l = ((safe.lines v venue there).0.copies.sent_left f.number f.leg f.there).1 in let e =
+      f.ordinal_is in omega arith)
 
   -- the next leg's ordinal is the only one that left
-  next_is : (leg other : Leg) (ordinal left : ℕ) → numbered (suc (venue_at w.desk v).left) (released v w.desk.sweeps) ≡ Some leg
-      → numbered ordinal (released v w.desk.sweeps) ≡ Some other → (venue_at w.desk v).left < ordinal → ordinal ≤ suc (venue_at w.desk v).left → leg ≡ other
+  next_is : (leg other : Leg) (ordinal left : ℕ)
+      → numbered (suc (venue_at w.desk v).left) (released v w.desk.sweeps) ≡ Some leg
+      → numbered ordinal (released v w.desk.sweeps) ≡ Some other → (venue_at w.desk v).left < ordinal
+      → ordinal ≤ suc (venue_at w.desk v).left → leg ≡ other
   next_is leg other ordinal left next whole above within =
       let at : suc (venue_at w.desk v).left ≡ ordinal = omega arith in
       same_Some leg other (sym next ∙ (ap (λ o. numbered o (released v w.desk.sweeps)) at ∙ whole))
@@ -146,7 +166,11 @@ module _ (w : World) (safe : IsSafe w) (v : ℕ) (venue : VenueParts) (there : v
         stays = λ id is. all_stay w.book (leg.id ∷ []) id is;
         only = λ id is. only_those w.book (leg.id ∷ []) id is;
         are = λ id routed there' order none. those_are w.book (leg.id ∷ []) id routed there' order none;
-        moved = λ from note is. elim (moved_booked w.book (leg.id ∷ []) v None from note is) [ inl old ↦ inl old | inr new ↦ absurd (let e = new.1 in cc) ];
+        moved = λ from note is. elim (moved_booked w.book (leg.id ∷ []) v None from note is) [
+          | inl old ↦
+              inl old
+          | inr new ↦ absurd (let e = new.1 in cc)
+        ];
         sweeps = λ id there'. refl;
         named = λ id there'.
             record {
@@ -163,10 +187,13 @@ module _ (w : World) (safe : IsSafe w) (v : ℕ) (venue : VenueParts) (there : v
                 gone = inl (unsent (leg_state venue.session (suc (venue_at w.desk v).left)) refl);
               };
             };
-        before = gone_at w safe v venue there after venue advances safe_after (changes_one w after v venue venue there (leave_first_keeps v (leg ∷ rest) w.desk) (sym (set_same w.venues v venue there)))
+        before = gone_at w safe v venue there after venue advances safe_after
+            (changes_one w after v venue venue there (leave_first_keeps v (leg ∷ rest) w.desk)
+            (sym (set_same w.venues v venue there)))
             (leg.id ∷ [])
             (λ ordinal other whole above is.
-            (let one = next_is leg other ordinal 0 next whole above (let l = is.left in let e = one_left_is in omega arith) in
+            (let one = next_is leg other ordinal 0 next whole above
+            (let l = is.left in let e = one_left_is in omega arith) in
             subst (λ (x : Leg). Contains (leg.id ∷ []) x.id) one (Contains-push [] leg.id)))
             (λ id new. absurd (grew_none venue.session.log venue.session.log id (grew-refl venue.session.log) new));
       }
@@ -181,11 +208,13 @@ module _ (w : World) (safe : IsSafe w) (v : ℕ) (venue : VenueParts) (there : v
 
   drop_asked : Asked w (dropped_world w (drop_next w.desk v))
   drop_asked =
-      chosen (λ (r : Option PlacedLeg × DeskParts). Asked w (dropped_world w r)) (is_up (gate_of w.desk v)) (None, w.desk) (leave w.desk v)
+      chosen (λ (r : Option PlacedLeg × DeskParts). Asked w (dropped_world w r)) (is_up (gate_of w.desk v))
+      (None, w.desk) (leave w.desk v)
       (λ up. asked-refl w) (λ not_up. drop_by (placed_legs w.desk v) refl)
 
   -- or is sent, and then is in doubt
-  sent_ok : (leg : Leg) (rest : List Leg) → placed_legs w.desk v ≡ leg ∷ rest → (message : Message) (session : SessionParts)
+  sent_ok : (leg : Leg) (rest : List Leg) → placed_legs w.desk v ≡ leg ∷ rest
+      → (message : Message) (session : SessionParts)
       → SendsLeg venue.session ((venue_at w.desk v).left + 1) leg message session
       → Asked w (with_venue (record w { desk = one_left v w.desk }) v (session_wrote session (message ∷ []) venue))
   sent_ok leg rest first message session is advances safe_after =
@@ -193,14 +222,20 @@ module _ (w : World) (safe : IsSafe w) (v : ℕ) (venue : VenueParts) (there : v
       let after : World = with_venue (record w { desk = one_left v w.desk }) v now in
       let changes = changes_one w after v venue now there (leave_first_keeps v (leg ∷ rest) w.desk) refl in
       let i = (safe_after.lines v now changes.here).0 in
-      let state : leg_state session ((venue_at w.desk v).left + 1) ≡ Some Doubt = state_is (line_at after.desk v now) i (next_out venue.session) (doubted ((venue_at w.desk v).left + 1) leg) is.in_doubt in
+      let state : leg_state session ((venue_at w.desk v).left + 1) ≡ Some Doubt =
+      state_is (line_at after.desk v now) i (next_out venue.session)
+      (doubted ((venue_at w.desk v).left + 1) leg) is.in_doubt in
       asks_nothing w after refl
       (λ id gone.
       elim (gone_at w safe v venue there after now advances safe_after changes []
       (λ ordinal other whole above g.
       (let at : (venue_at w.desk v).left + 1 ≡ ordinal = (let l = g.left in let e = one_left_is in omega arith) in
       let doubt : leg_state session ordinal ≡ Some Doubt = subst (λ o. leg_state session o ≡ Some Doubt) at state in
-      absurd (elim g.gone [ inl none ↦ (let e = sym doubt ∙ none in cc) | inr withdrawn ↦ (let e = same_Some Doubt Withdrawn (sym doubt ∙ withdrawn) in cc) ])))
+      absurd (elim g.gone [
+        | inl none ↦ (let e = sym doubt ∙ none in cc)
+        | inr withdrawn ↦
+            (let e = same_Some Doubt Withdrawn (sym doubt ∙ withdrawn) in cc)
+      ])))
       (λ other new. absurd (grew_none venue.session.log session.log other is.keeps.added new))
       id gone) [ inl before ↦ before | inr new ↦ absurd (none_in id new) ]))
 
@@ -216,16 +251,19 @@ module _ (w : World) (safe : IsSafe w) (v : ℕ) (venue : VenueParts) (there : v
   sent_asked leg rest first (Err OrdinalNotGreater, session) is = asked-refl w
   sent_asked leg rest first (Err NotConnected, session) is = asked-refl w
 
-  take_by : (legs : List Leg) → placed_legs w.desk v ≡ legs → Asked w (taken_world w v venue (leave_first legs w.desk v))
+  take_by : (legs : List Leg) → placed_legs w.desk v ≡ legs
+      → Asked w (taken_world w v venue (leave_first legs w.desk v))
   take_by [] first = asked-refl w
   take_by (leg ∷ rest) first =
-      sent_asked leg rest first (send_leg venue.session ((venue_at w.desk v).left + 1) leg) (send_leg_keeps venue.session ((venue_at w.desk v).left + 1) leg)
+      sent_asked leg rest first (send_leg venue.session ((venue_at w.desk v).left + 1) leg)
+      (send_leg_keeps venue.session ((venue_at w.desk v).left + 1) leg)
 
   take_asked : Asked w (takes w v venue)
   take_asked =
       chosen (Asked w) (is_session_up venue.session.phase) (taken_world w v venue (desk.take w.desk v)) w
       (λ up.
-      chosen (λ (r : Option PlacedLeg × DeskParts). Asked w (taken_world w v venue r)) (is_up (gate_of w.desk v)) (leave w.desk v) (None, w.desk)
+      chosen (λ (r : Option PlacedLeg × DeskParts). Asked w (taken_world w v venue r)) (is_up (gate_of w.desk v))
+      (leave w.desk v) (None, w.desk)
       (λ gate. take_by (placed_legs w.desk v) refl) (λ gate. asked-refl w))
       (λ not_up. asked-refl w)
 
@@ -233,41 +271,57 @@ module _ (w : World) (safe : IsSafe w) (v : ℕ) (venue : VenueParts) (there : v
   turn_asked : (m : Message) → Asked w (session_turn w v venue (receive venue.session m))
   turn_asked m advances safe_after =
       (let turn = receive venue.session m in
-      let now : VenueParts = record (session_wrote turn.session turn.step.written venue) { session = confirm turn.session; given = venue.given ++ noted turn.step.note } in
+      let now : VenueParts = record (session_wrote turn.session turn.step.written venue) {
+        session =
+            confirm turn.session;
+        given = venue.given ++ noted turn.step.note;
+      } in
       let after : World = session_turn w v venue turn in
       let changes = changes_one w after v venue now there (keeps-refl v w.desk) refl in
       let is = receive_is_received venue.session m in
       let more = (confirm_keeps turn.session).added in
       let named : turn.step.withdrawn ≡ withdrawn_since venue.session.log (confirm turn.session).log =
-      is.named ∙ sym (ap (withdrawn_since venue.session.log) more.1 ∙ since-append venue.session.log turn.session.log more.0 is.onward.log.last) in
-      let later = later-trans venue.session.log turn.session.log (confirm turn.session).log is.onward.log (confirm_keeps turn.session).onward.log in
+      is.named ∙ sym (ap (withdrawn_since venue.session.log) more.1
+      ∙ since-append venue.session.log turn.session.log more.0 is.onward.log.last) in
+      let later = later-trans venue.session.log turn.session.log (confirm turn.session).log is.onward.log
+      (confirm_keeps turn.session).onward.log in
       let i = (safe_after.lines v now changes.here).0 in
       record {
         ids = turn.step.withdrawn;
-        stays = λ id held. gone_booked (withdrawn_in w.book turn.step.withdrawn) v turn.step.note id ∙ all_stay w.book turn.step.withdrawn id held;
-        only = λ id held. only_those w.book turn.step.withdrawn id (sym (gone_booked (withdrawn_in w.book turn.step.withdrawn) v turn.step.note id) ∙ held);
+        stays = λ id held. gone_booked (withdrawn_in w.book turn.step.withdrawn) v turn.step.note id
+            ∙ all_stay w.book turn.step.withdrawn id held;
+        only = λ id held. only_those w.book turn.step.withdrawn id
+            (sym (gone_booked (withdrawn_in w.book turn.step.withdrawn) v turn.step.note id) ∙ held);
         are = λ id routed there' order none.
-            gone_booked (withdrawn_in w.book turn.step.withdrawn) v turn.step.note id ∙ those_are w.book turn.step.withdrawn id routed there' order none;
+            gone_booked (withdrawn_in w.book turn.step.withdrawn) v turn.step.note id
+            ∙ those_are w.book turn.step.withdrawn id routed there' order none;
         moved = λ from note held.
             elim (moved_booked w.book turn.step.withdrawn v turn.step.note from note held) [
               | inl old ↦ inl old
               | inr new ↦
-                  (let all : given after v ≡ venue.given ++ noted turn.step.note = ap (λ (o : Option VenueParts). option_map_or (λ (x : VenueParts). x.given) o []) changes.here in
-                  let last : Contains (given after v) note = subst (λ l. Contains l note) (sym all) (ap_noted venue.given turn.step.note note new.1) in
+                  (let all : given after v ≡ venue.given ++ noted turn.step.note =
+                  ap (λ (o : Option VenueParts). option_map_or (λ (x : VenueParts). x.given) o []) changes.here in
+                  let last : Contains (given after v) note =
+                  subst (λ l. Contains l note) (sym all) (ap_noted venue.given turn.step.note note new.1) in
                   inr (subst (λ u. Contains (given after u) note) new.0 last))
             ];
         sweeps = λ id there'. refl;
-        named = λ id there'. turned after now changes.here i later id (since_named venue.session.log (confirm turn.session).log id (subst (λ l. Contains l id) named there'));
+        named = λ id there'. turned after now changes.here i later id
+            (since_named venue.session.log (confirm turn.session).log id (subst (λ l. Contains l id) named there'));
         before = gone_at w safe v venue there after now advances safe_after changes turn.step.withdrawn
             (λ ordinal leg whole above g. absurd (let l = g.left in omega arith))
-            (λ id new. subst (λ l. Contains l id) (sym named) (named_since venue.session.log (confirm turn.session).log id new));
+            (λ id new. subst (λ l. Contains l id) (sym named)
+            (named_since venue.session.log (confirm turn.session).log id new));
       })
     where
-      ap_noted : (notes : List Note) (new : Option Note) (note : Note) → new ≡ Some note → Contains (notes ++ noted new) note
+      ap_noted : (notes : List Note) (new : Option Note) (note : Note) → new ≡ Some note
+          → Contains (notes ++ noted new) note
       ap_noted notes new note is = rw is (Contains-push notes note)
 
-      turned : (after : World) (now : VenueParts) → venue_in after v ≡ Some now → LineInvariant (line_at after.desk v now)
-          → IsLater venue.session.log now.session.log → (id : LegIdParts) → IsNowWithdrawn venue.session.log now.session.log id → IsGone after id
+      turned : (after : World) (now : VenueParts) → venue_in after v ≡ Some now
+          → LineInvariant (line_at after.desk v now)
+          → IsLater venue.session.log now.session.log → (id : LegIdParts)
+          → IsNowWithdrawn venue.session.log now.session.log id → IsGone after id
       turned after now here i later id new =
           let l = later.sent new.number new.was new.before in
           let both : Some (Sent l.0) ≡ Some (Sent new.now) = sym l.1 ∙ new.there in
@@ -285,18 +339,21 @@ module _ (w : World) (safe : IsSafe w) (v : ℕ) (venue : VenueParts) (there : v
             gone = record {
               from = left.0;
               left = left.1;
-              gone = inr (state_is (line_at after.desk v now) i new.number new.now new.there ∙ ap (λ s. Some s) new.gone);
+              gone = inr (state_is (line_at after.desk v now) i new.number new.now new.there
+                  ∙ ap (λ s. Some s) new.gone);
             };
           }
 
   to_dispatcher_asked : (found : Option Frame) → Asked w (to_dispatcher w v venue found)
   to_dispatcher_asked None = asked-refl w
   to_dispatcher_asked (Some frame) =
-      chosen (Asked w) (is_connected venue.session.phase && frame.connection == venue.session.connection) (session_turn w v venue (receive venue.session frame.message)) w
+      chosen (Asked w) (is_connected venue.session.phase && frame.connection == venue.session.connection)
+      (session_turn w v venue (receive venue.session frame.message)) w
       (λ on. turn_asked frame.message) (λ old. asked-refl w)
 
 -- a sweep is placed
-opened_asked : (w : World) → IsSafe w → (legs : List Routed) (number : ℕ) (b : BookParts) → b ≡ (open_sweep w.book number legs).1
+opened_asked : (w : World) → IsSafe w → (legs : List Routed) (number : ℕ) (b : BookParts)
+    → b ≡ (open_sweep w.book number legs).1
     → Asked w (released_world w (record { desk = with_sweep legs w.desk; book = b }))
 opened_asked w safe legs number b is advances safe_after =
     let after : World = released_world w (record { desk = with_sweep legs w.desk; book = b }) in
@@ -305,27 +362,33 @@ opened_asked w safe legs number b is advances safe_after =
       stays = λ id held. subst (λ x. HasWithdrawn x id) (sym is) (gone_opened w.book number legs id ∙ held);
       only = λ id held. inl (sym (gone_opened w.book number legs id) ∙ subst (λ x. HasWithdrawn x id) is held);
       are = λ id routed there order none. absurd (none_in id there);
-      moved = λ from note held. inl (moved_opened w.book number legs from note (subst (λ x. HasMoved x from note) is held));
+      moved = λ from note held. inl (moved_opened w.book number legs from note
+          (subst (λ x. HasMoved x from note) is held));
       sweeps = λ id there. absurd (none_in id there);
       named = λ id there. absurd (none_in id there);
       before = gone_before w after safe safe_after advances []
           (λ v old now ordinal leg was there whole above g. absurd (let l = g.left in omega arith))
           (λ v old now was there id new.
           (let one : old ≡ now = same_Some old now (sym was ∙ there) in
-          absurd (grew_none old.session.log now.session.log id (grew_by old.session.log now.session.log (ap (λ (x : VenueParts). x.session.log) (sym one))) new)));
+          absurd (grew_none old.session.log now.session.log id
+          (grew_by old.session.log now.session.log (ap (λ (x : VenueParts). x.session.log) (sym one))) new)));
     }
 
-placed_asked : (w : World) → IsSafe w → (legs : List Routed) (receipt : Receipt) (number : ℕ) (answer : BookAnswer) → open_sweep w.book number legs ≡ answer
+placed_asked : (w : World) → IsSafe w → (legs : List Routed) (receipt : Receipt) (number : ℕ) (answer : BookAnswer)
+    → open_sweep w.book number legs ≡ answer
     → Asked w (released_world w (place_in_book (desk_and_book w) receipt (with_sweep legs w.desk) answer).1)
 placed_asked w safe legs receipt number (Err fault, b) is = asked-refl w
-placed_asked w safe legs receipt number (Ok done, b) is = opened_asked w safe legs number b (ap (λ (r : BookAnswer). r.1) (sym is))
+placed_asked w safe legs receipt number (Ok done, b) is =
+    opened_asked w safe legs number b (ap (λ (r : BookAnswer). r.1) (sym is))
 
 release_asked : (w : World) → IsSafe w → (legs : List Routed) (refusal : Option ReleaseFault)
     → Asked w (released_world w (place_after (desk_and_book w) legs (release_unless refusal w.desk legs)).1)
 release_asked w safe legs (Some fault) = asked-refl w
-release_asked w safe legs None = placed_asked w safe legs _ (next_number w.desk) (open_sweep w.book (next_number w.desk) legs) refl
+release_asked w safe legs None =
+    placed_asked w safe legs _ (next_number w.desk) (open_sweep w.book (next_number w.desk) legs) refl
 
-at_found : (w : World) (f : VenueParts → World) (found : Option VenueParts) → ((venue : VenueParts) → found ≡ Some venue → Asked w (f venue))
+at_found : (w : World) (f : VenueParts → World) (found : Option VenueParts)
+    → ((venue : VenueParts) → found ≡ Some venue → Asked w (f venue))
     → Asked w (option_map_or f found w)
 at_found w f None step = asked-refl w
 at_found w f (Some venue) step = step venue refl
@@ -337,12 +400,24 @@ event_asks w safe (event.GateDown v) = at_found w _ (venue_in w v) (λ venue the
 event_asks w safe (event.Drop v) = at_found w _ (venue_in w v) (λ venue there. drop_asked w safe v venue there)
 event_asks w safe (event.Take v) = at_found w _ (venue_in w v) (λ venue there. take_asked w safe v venue there)
 event_asks w safe (event.Connect v) = at_found w _ (venue_in w v) (λ venue there. connect_asked w safe v venue there)
-event_asks w safe (event.ToExchange v frame) = at_found w _ (venue_in w v) (λ venue there. to_exchange_asked w safe v venue there (numbered frame venue.to_exchange))
-event_asks w safe (event.ToDispatcher v frame) = at_found w _ (venue_in w v) (λ venue there. to_dispatcher_asked w safe v venue there (numbered frame venue.from_exchange))
+event_asks w safe (event.ToExchange v frame) =
+    at_found w _ (venue_in w v) (λ venue there. to_exchange_asked w safe v venue there
+    (numbered frame venue.to_exchange))
+event_asks w safe (event.ToDispatcher v frame) =
+    at_found w _ (venue_in w v) (λ venue there. to_dispatcher_asked w safe v venue there
+    (numbered frame venue.from_exchange))
 event_asks w safe (event.Break v) = at_found w _ (venue_in w v) (λ venue there. break_asked w safe v venue there)
-event_asks w safe (event.ExchangeBreak v) = at_found w _ (venue_in w v) (λ venue there. exchange_break_asked w safe v venue there)
-event_asks w safe (event.Act v act) = at_found w _ (venue_in w v) (λ venue there. acted_asked w safe v venue there (act_of act venue.exchange))
-event_asks w safe (event.Quiet v) = at_found w _ (venue_in w v) (λ venue there. called_asked w safe v venue there (quiet venue.session) (quiet_keeps venue.session))
-event_asks w safe (event.Silent v) = at_found w _ (venue_in w v) (λ venue there. called_asked w safe v venue there (silent venue.session) (silent_keeps venue.session))
-event_asks w safe (event.Close v) = at_found w _ (venue_in w v) (λ venue there. closed_asked w safe v venue there (close venue.session) (close_keeps venue.session))
+event_asks w safe (event.ExchangeBreak v) =
+    at_found w _ (venue_in w v) (λ venue there. exchange_break_asked w safe v venue there)
+event_asks w safe (event.Act v act) =
+    at_found w _ (venue_in w v) (λ venue there. acted_asked w safe v venue there (act_of act venue.exchange))
+event_asks w safe (event.Quiet v) =
+    at_found w _ (venue_in w v) (λ venue there. called_asked w safe v venue there (quiet venue.session)
+    (quiet_keeps venue.session))
+event_asks w safe (event.Silent v) =
+    at_found w _ (venue_in w v) (λ venue there. called_asked w safe v venue there (silent venue.session)
+    (silent_keeps venue.session))
+event_asks w safe (event.Close v) =
+    at_found w _ (venue_in w v) (λ venue there. closed_asked w safe v venue there (close venue.session)
+    (close_keeps venue.session))
 event_asks w safe (event.Abandon v) = at_found w _ (venue_in w v) (λ venue there. abandon_asked w safe v venue there)
