@@ -60,10 +60,10 @@ outcome_opened : (entry : BookEntry) (b after : BookParts) → opened (b.entries
 outcome_opened entry b after same (inl written) = ap (λ (x : BookParts). opened x.entries) written ∙ same
 outcome_opened entry b after same (inr stays) = ap (λ (x : BookParts). opened x.entries) stays
 
-pub opened_withdraw : (b : BookParts) (id : LegIdParts) → opened (withdraw b id).1.entries ≡ opened b.entries
+opened_withdraw : (b : BookParts) (id : LegIdParts) → opened (withdraw b id).1.entries ≡ opened b.entries
 opened_withdraw b id = outcome_opened (Withdrawn id) b (withdraw b id).1 (opened-withdrawn b.entries id) (withdraw_outcome b id)
 
-pub opened_apply : (b : BookParts) (v : ℕ) (note : Note) → opened (apply b v note).1.entries ≡ opened b.entries
+opened_apply : (b : BookParts) (v : ℕ) (note : Note) → opened (apply b v note).1.entries ≡ opened b.entries
 opened_apply b v note = outcome_opened (Moved v note) b (apply b v note).1 (opened-moved b.entries v note) (apply_outcome b v note)
 
 -- a leg is withdrawn
@@ -82,7 +82,7 @@ withdrawn_replay : (b : BookParts) (ids : List LegIdParts) → withdrawn_in b id
 withdrawn_replay b [] = refl
 withdrawn_replay b (id ∷ ids) = withdrawn_replay (withdraw b id).1 ids
 
-pub withdrawn_opened : (b : BookParts) (ids : List LegIdParts) → opened (withdrawn_in b ids).entries ≡ opened b.entries
+withdrawn_opened : (b : BookParts) (ids : List LegIdParts) → opened (withdrawn_in b ids).entries ≡ opened b.entries
 withdrawn_opened b [] = refl
 withdrawn_opened b (id ∷ ids) = withdrawn_opened (withdraw b id).1 ids ∙ opened_withdraw b id
 
@@ -195,12 +195,12 @@ event_books w (event.Close v) = at_found w _ (venue_in w v) (λ venue. closed_bo
 event_books w (event.Abandon v) = at_found w _ (venue_in w v) (λ venue. books_same w _ refl (shut_keeps v w.desk).sweeps)
 
 -- a world whose book was made by calls, with the desk's sweeps
-pub record HasBook (venues : ℕ) (w : World) : Type 0 where
-  pub calls : List BookEntry
-  pub made : w.book ≡ replay (new_book venues) calls
-  pub follows : opened w.book.entries ≡ w.desk.sweeps
+record HasBook (venues : ℕ) (w : World) : Type 0 where
+  calls : List BookEntry
+  made : w.book ≡ replay (new_book venues) calls
+  follows : opened w.book.entries ≡ w.desk.sweeps
 
-pub book_run : (venues : ℕ) (events : List Event) (w : World) → HasBook venues w → HasBook venues (happen events w)
+book_run : (venues : ℕ) (events : List Event) (w : World) → HasBook venues w → HasBook venues (happen events w)
 book_run venues [] w has = has
 book_run venues (e ∷ events) w has =
     let next = event_books w e has.follows in
@@ -216,7 +216,7 @@ pub totals_are : (w : World) (number : ℕ) (legs : List Routed) → opened w.bo
 totals_are w number legs follows there =
     ap (option_map (λ l. totals_of (booked_from w.book number 1 l))) (ap (numbered number) follows ∙ there)
 
-pub sums : (w : World) (venues number : ℕ) (legs : List Routed) → HasBook venues w → numbered number w.desk.sweeps ≡ Some legs → SumsUp w number legs
+sums : (w : World) (venues number : ℕ) (legs : List Routed) → HasBook venues w → numbered number w.desk.sweeps ≡ Some legs → SumsUp w number legs
 sums w venues number legs has there =
     let open_as : numbered number (opened w.book.entries) ≡ Some legs = subst (λ s. numbered number s ≡ Some legs) (sym has.follows) there in
     let adds = subst (λ b. totals_shares (book.totals b number) ≡ Some (sweep_shares legs)) (sym has.made)

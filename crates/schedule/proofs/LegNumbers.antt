@@ -128,7 +128,8 @@ has_order v sweeps (suc k) leg is =
     record {
       routed = o.from.routed;
       order =
-          order_by sweeps leg.id.sweep leg.id.place o.at o.from.at o.legs o.from.routed sweep_is place_is o.there o.from.there;
+          order_by sweeps leg.id.sweep leg.id.place o.at o.from.at o.legs o.from.routed sweep_is place_is
+          o.there o.from.there;
       venue = o.from.venue;
     }
 

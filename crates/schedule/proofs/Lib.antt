@@ -15,6 +15,7 @@ pub mod LegsGone
 pub mod GoneLegs
 pub mod BookWithdraws
 pub mod Asking
+pub mod Sparing
 pub mod Withdrawals
 pub mod BookFollows
 pub mod SweepParts

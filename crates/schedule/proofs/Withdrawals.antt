@@ -6,7 +6,6 @@ use Rattle.std.proofs.lemmas.List.Elements.{Contains-push}
 use Rattle.std.proofs.lemmas.Option.{same_Some, slice_get_within}
 use Rattle.leg.specs.LegId.{LegIdParts}
 use Rattle.leg.specs.Numbered.{numbered}
-use Rattle.leg.specs.Growing.{Grew}
 use Rattle.leg.specs.declared.leg.Leg.{Leg}
 use Rattle.leg.specs.declared.leg_state.LegState.{LegState}
 use Rattle.leg.specs.declared.leg_state.LegState.TheVariants.{Doubt, Withdrawn}
@@ -14,7 +13,6 @@ use Rattle.leg.specs.declared.placed_leg.PlacedLeg.{PlacedLeg}
 use Rattle.leg.specs.declared.sweep.Routed.{Routed}
 use Rattle.dialect.specs.declared.note.Note.{Note}
 use Rattle.dialect.specs.Message.{Message}
-use Rattle.dialect.specs.Outgoing.{Outgoing}
 use Rattle.resend.specs.Log.{SentLeg}
 use Rattle.resend.specs.Log.Entry.{Sent}
 use Rattle.resend.specs.Later.{IsLater, withdrawn_since}
@@ -22,14 +20,11 @@ use Rattle.resend.proofs.Later.{later-trans}
 use Rattle.resend.proofs.Settled.{since-append}
 use Rattle.session_core.specs.declared.session_fault.SessionFault.TheVariants.{NotDown, Closed, NumbersSpent, OutOfMemory, NotUp, OrdinalNotGreater, NotConnected}
 use Rattle.session_core.specs.Session.{SessionParts, is_connected, leg_state, next_out}
-use Rattle.session_core.specs.Turn.{StepParts}
-use Rattle.session_core.specs.Onward.{OrUnchanged, IsCall, IsConnection, SendsLeg}
+use Rattle.session_core.specs.Onward.{OrUnchanged, SendsLeg}
 use Rattle.session_core.specs.Receiving.{receive, confirm}
-use Rattle.session_core.specs.Calling.{SessionAnswer, connect, send_leg, doubted, quiet, silent, close, broken, abandon}
-use Rattle.session_core.proofs.Called.{connect_keeps, send_leg_keeps, confirm_keeps, quiet_keeps, silent_keeps, close_keeps, broken_keeps, abandon_keeps}
+use Rattle.session_core.specs.Calling.{SessionAnswer, send_leg, doubted, quiet, silent, close}
+use Rattle.session_core.proofs.Called.{send_leg_keeps, confirm_keeps, quiet_keeps, silent_keeps, close_keeps}
 use Rattle.session_core.proofs.Received.{receive_is_received}
-use Rattle.exchange_core.specs.Exchange.{ExchangeParts, live_connection, take, drop_connection}
-use Rattle.exchange_core.specs.Acts.{ActAnswer}
 use Rattle.exchange_core.proofs.Entries.{chosen}
 use Rattle.share_ledger.specs.Book.{BookParts, BookAnswer, withdraw, open_sweep}
 use Rattle.sweep_release.specs.declared.receipt.Receipt.{Receipt}
@@ -42,95 +37,22 @@ use Rattle.sweep_release.proofs.Venues.{left-one_left}
 use Rattle.schedule.specs.declared.event.Event.{Event}
 use Rattle.schedule.specs.declared.event.Event.TheVariants as event
 use Rattle.schedule.specs.World.{World, VenueParts, Frame, venue_in, given}
-use Rattle.schedule.specs.Happening.{with_venue, session_wrote, exchange_wrote, exchange_did, is_session_up, desk_and_book, released_world, dropped_world, sent_world, taken_world, may_connect, connected_world, to_exchange, session_turn, to_dispatcher, withdrawn_in, noted, act_of, acted_world, called_world, closed_world, connects, takes, goes_up, happens}
+use Rattle.schedule.specs.Happening.{with_venue, session_wrote, is_session_up, desk_and_book, released_world, dropped_world, sent_world, taken_world, session_turn, to_dispatcher, withdrawn_in, noted, act_of, takes, happens}
 use Rattle.schedule.specs.LineOf.{line_at}
 use Rattle.venue_line.specs.LineInvariant.{LineInvariant}
 use Rattle.venue_line.proofs.LegStates.{found}
 use Rattle.schedule.proofs.Grown.{grew-refl}
-use Rattle.schedule.proofs.DeskKeeps.{keeps-refl, gate_up_keeps, gate_down_keeps, shut_keeps, leave_first_keeps}
-use Rattle.schedule.proofs.Lines.{set_same, left-gate_up_from, left-gate_down, left-shut, numbered-drop}
+use Rattle.schedule.proofs.DeskKeeps.{keeps-refl, leave_first_keeps}
+use Rattle.schedule.proofs.Lines.{set_same, numbered-drop}
 use Rattle.schedule.proofs.RunsSafely.{IsSafe}
 use Rattle.schedule.proofs.NamedLegs.{IsNowWithdrawn, named_since, since_named}
 use Rattle.schedule.proofs.LegsGone.{state_is}
 use Rattle.schedule.proofs.GoneLegs.{IsGone, gone_before}
 use Rattle.schedule.proofs.BookWithdraws.{HasWithdrawn, HasMoved, all_stay, only_those, those_are, gone_booked, gone_opened, moved_opened, moved_booked}
-use Rattle.schedule.proofs.Asking.{Asked, none_in, asks_nothing, asked-refl, grew_none, grew_by, changes_one, gone_at, asked_nothing, asked_at_venue}
+use Rattle.schedule.proofs.Asking.{Asked, none_in, asks_nothing, asked-refl, grew_none, grew_by, changes_one, gone_at}
+use Rattle.schedule.proofs.Sparing.{up_asked, down_asked, connect_asked, called_asked, closed_asked, break_asked, abandon_asked, to_exchange_asked, exchange_break_asked, acted_asked}
 
 module _ (w : World) (safe : IsSafe w) (v : ℕ) (venue : VenueParts) (there : venue_in w v ≡ Some venue) where
-  -- gates
-  up_asked : Asked w (goes_up w v venue)
-  up_asked =
-      chosen (Asked w) (is_session_up venue.session.phase) (record w { desk = (gate_up w.desk v).1 }) w
-      (λ up. asked_nothing w safe v venue there (record w { desk = (gate_up w.desk v).1 }) venue
-      (gate_up_keeps v w.desk) (sym (set_same w.venues v venue there)) refl
-      (left-gate_up_from v (gate_of w.desk v) w.desk) (grew-refl venue.session.log))
-      (λ not_up. asked-refl w)
-
-  down_asked : Asked w (record w { desk = gate_down w.desk v })
-  down_asked =
-      asked_nothing w safe v venue there (record w { desk = gate_down w.desk v }) venue (gate_down_keeps v w.desk)
-      (sym (set_same w.venues v venue there)) refl (left-gate_down v w.desk)
-      (grew-refl venue.session.log)
-
-  -- the session's calls
-  connected_asked : (answer : SessionAnswer Message) → OrUnchanged venue.session (IsConnection venue.session) answer
-      → Asked w (connected_world w v venue answer)
-  connected_asked (Err fault, session) is = asked-refl w
-  connected_asked (Ok message, session) is =
-      asked_at_venue w safe v venue there _ (session_wrote session (message ∷ []) venue) refl refl refl is.keeps.added
-
-  connect_asked : Asked w (connects w v venue)
-  connect_asked =
-      chosen (Asked w) (may_connect w.desk v) (connected_world w v venue (connect venue.session)) w
-      (λ may. connected_asked (connect venue.session) (connect_keeps venue.session)) (λ may_not. asked-refl w)
-
-  called_asked : (answer : SessionAnswer StepParts) → OrUnchanged venue.session (IsCall venue.session) answer
-      → Asked w (called_world w v venue answer)
-  called_asked (Err fault, session) is = asked-refl w
-  called_asked (Ok step, session) is =
-      asked_at_venue w safe v venue there _ (session_wrote session step.written venue) refl refl refl is.keeps.added
-
-  closed_asked : (answer : SessionAnswer StepParts) → OrUnchanged venue.session (IsCall venue.session) answer
-      → Asked w (closed_world w v venue answer)
-  closed_asked (Err fault, session) is = asked-refl w
-  closed_asked (Ok step, session) is =
-      asked_nothing w safe v venue there _ (session_wrote session step.written venue) (shut_keeps v w.desk) refl refl
-      (left-shut v w.desk) is.keeps.added
-
-  break_asked : Asked w (with_venue w v (record venue { session = broken venue.session }))
-  break_asked = asked_at_venue w safe v venue there _ (record venue { session = broken venue.session }) refl refl refl
-      (broken_keeps venue.session).added
-
-  abandon_asked : Asked w (with_venue (record w { desk = shut w.desk v }) v
-      (record venue { session = abandon venue.session }))
-  abandon_asked =
-      asked_nothing w safe v venue there _ (record venue { session = abandon venue.session })
-      (shut_keeps v w.desk) refl refl (left-shut v w.desk) (abandon_keeps venue.session).added
-
-  -- the exchange
-  to_exchange_asked : (found : Option Frame) → Asked w (to_exchange w v venue found)
-  to_exchange_asked None = asked-refl w
-  to_exchange_asked (Some frame) =
-      let a = take venue.exchange frame.connection frame.message in
-      asked_at_venue w safe v venue there _ (exchange_wrote frame.connection a.0 a.1 venue) refl refl refl
-      (grew-refl venue.session.log)
-
-  exchange_break_asked : Asked w (with_venue w v (record venue { exchange = drop_connection venue.exchange }))
-  exchange_break_asked = asked_at_venue w safe v venue there _
-      (record venue { exchange = drop_connection venue.exchange }) refl refl refl (grew-refl venue.session.log)
-
-  did_grew : (live : Option ℕ) (written : List Outgoing) (x : ExchangeParts)
-      → Grew venue.session.log (exchange_did live written x venue).session.log
-  did_grew None written x = grew-refl venue.session.log
-  did_grew (Some connection) written x = grew-refl venue.session.log
-
-  acted_asked : (answer : ActAnswer) → Asked w (acted_world w v venue answer)
-  acted_asked (Err fault, x) = asked-refl w
-  acted_asked (Ok written, x) =
-      asked_at_venue w safe v venue there _
-      (exchange_did (live_connection venue.exchange) written x venue) refl refl refl
-      (did_grew (live_connection venue.exchange) written x)
-
   -- a leg leaves
   low : v < length w.desk.venues
   low = let h = slice_get_within w.venues v venue there in let same = safe.desks in omega arith
