@@ -42,12 +42,12 @@ replay-append b [] ys = refl
 replay-append b (x ∷ xs) ys = replay-append (again b x) xs ys
 
 -- the calls that an event makes, and the sweeps stay those of the desk
-record Made (w after : World) : Type 0 where
-  calls : List BookEntry
-  replayed : after.book ≡ replay w.book calls
-  follows : opened after.book.entries ≡ after.desk.sweeps
+pub record Made (w after : World) : Type 0 where
+  pub calls : List BookEntry
+  pub replayed : after.book ≡ replay w.book calls
+  pub follows : opened after.book.entries ≡ after.desk.sweeps
 
-abbrev Books : World → World → Type 0
+abbrev pub Books : World → World → Type 0
 Books w after = opened w.book.entries ≡ w.desk.sweeps → Made w after
 
 books_same : (w after : World) → after.book ≡ w.book → after.desk.sweeps ≡ w.desk.sweeps → Books w after
@@ -176,7 +176,7 @@ at_found : (w : World) (f : VenueParts → World) (found : Option VenueParts) �
 at_found w f None step = books_refl w
 at_found w f (Some venue) step = step venue
 
-event_books : (w : World) (e : Event) → Books w (happens w e)
+pub event_books : (w : World) (e : Event) → Books w (happens w e)
 event_books w (event.Release sweep) = release_books w sweep.legs (release_refusal w.desk sweep.legs)
 event_books w (event.GateUp v) = at_found w _ (venue_in w v) (λ venue. chosen (Books w) (is_session_up venue.session.phase) _ w (λ up. books_same w _ refl (gate_up_keeps v w.desk).sweeps) (λ not_up. books_refl w))
 event_books w (event.GateDown v) = at_found w _ (venue_in w v) (λ venue. books_same w _ refl (gate_down_keeps v w.desk).sweeps)
@@ -211,12 +211,17 @@ book_run venues (e ∷ events) w has =
       follows = next.follows;
     })
 
+pub totals_are : (w : World) (number : ℕ) (legs : List Routed) → opened w.book.entries ≡ w.desk.sweeps → numbered number w.desk.sweeps ≡ Some legs
+    → book.totals w.book number ≡ Some (totals_of (booked_from w.book number 1 legs))
+totals_are w number legs follows there =
+    ap (option_map (λ l. totals_of (booked_from w.book number 1 l))) (ap (numbered number) follows ∙ there)
+
 sums : (w : World) (venues number : ℕ) (legs : List Routed) → HasBook venues w → numbered number w.desk.sweeps ≡ Some legs → SumsUp w number legs
 sums w venues number legs has there =
     let open_as : numbered number (opened w.book.entries) ≡ Some legs = subst (λ s. numbered number s ≡ Some legs) (sym has.follows) there in
     let adds = subst (λ b. totals_shares (book.totals b number) ≡ Some (sweep_shares legs)) (sym has.made)
     (totals_add_up venues has.calls number legs (subst (λ (b : BookParts). numbered number (opened b.entries) ≡ Some legs) has.made open_as)) in
-    let total : book.totals w.book number ≡ Some (totals_of (booked_from w.book number 1 legs)) = ap (option_map (λ l. totals_of (booked_from w.book number 1 l))) open_as in
+    let total = totals_are w number legs has.follows there in
     record {
       parts = totals_of (booked_from w.book number 1 legs);
       totals = total;

@@ -32,7 +32,7 @@ clean-append (Reported report view ∷ xs) ys clean more = clean-append xs ys cl
 clean-append (Refused number ∷ xs) ys clean more = absurd clean
 
 -- a message that is no order which can't be read
-abbrev IsRead : Content → Type 0
+abbrev pub IsRead : Content → Type 0
 IsRead content = (fault : DialectFault) → content ≡ Order (Err fault) → ⊥
 
 due_clean : (x : ExchangeParts) (content : Content) → IsRead content → IsClean x.own → IsClean (due_taken x content).1.own

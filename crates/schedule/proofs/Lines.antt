@@ -49,7 +49,7 @@ use Rattle.schedule.specs.Happening.{with_venue, in_connection, messages_of, ses
 use Rattle.venue_line.specs.Line.{Line, LineStep, IsCallOf}
 use Rattle.venue_line.specs.Line as line
 use Rattle.schedule.specs.LineOf.{frame_carried, line_at}
-use Rattle.schedule.proofs.Clean.{IsClean, take_clean, act_clean}
+use Rattle.schedule.proofs.ReportedLegs.{IsOrderly, take_orderly, act_orderly}
 use Rattle.schedule.proofs.Grown.{slice_get-set_other, length-slice_set}
 use Rattle.venue_line.proofs.Kept.{numbered_contains}
 use Rattle.venue_line.proofs.LineGives.{contains_map}
@@ -69,7 +69,7 @@ pub record Comes (w after : World) (v : ℕ) (now : VenueParts) : Type 0 where
   pub old : VenueParts
   pub there : venue_in w v ≡ Some old
   pub steps : IsLastLive old.exchange → v < length w.desk.venues → Steps (line_at w.desk v old) (line_at after.desk v now)
-  pub clean : AreRead old → IsClean old.exchange.own → IsClean now.exchange.own
+  pub orderly : AreRead old → IsOrderly old.exchange → IsOrderly now.exchange
 
 pub record Advances (w after : World) : Type 0 where
   pub desks : length after.desk.venues ≡ length w.desk.venues
@@ -77,14 +77,14 @@ pub record Advances (w after : World) : Type 0 where
   pub comes : (v : ℕ) (now : VenueParts) → venue_in after v ≡ Some now → Comes w after v now
 
 advances-refl : (w : World) → Advances w w
-advances-refl w = record { desks = refl; venues = refl; comes = λ v now there. record { old = now; there = there; steps = λ sound low. inl refl; clean = λ read c. c } }
+advances-refl w = record { desks = refl; venues = refl; comes = λ v now there. record { old = now; there = there; steps = λ sound low. inl refl; orderly = λ read c. c } }
 
-set_there : {A : Type 0} (xs : List A) (v : ℕ) (old now : A) → slice_get xs v ≡ Some old → slice_get (slice_set xs v now) v ≡ Some now
+pub set_there : {A : Type 0} (xs : List A) (v : ℕ) (old now : A) → slice_get xs v ≡ Some old → slice_get (slice_set xs v now) v ≡ Some now
 set_there [] v old now is = absurd cc
 set_there (x ∷ xs) zero old now is = refl
 set_there (x ∷ xs) (suc v) old now is = set_there xs v old now is
 
-set_same : {A : Type 0} (xs : List A) (v : ℕ) (old : A) → slice_get xs v ≡ Some old → slice_set xs v old ≡ xs
+pub set_same : {A : Type 0} (xs : List A) (v : ℕ) (old : A) → slice_get xs v ≡ Some old → slice_set xs v old ≡ xs
 set_same [] v old is = refl
 set_same (x ∷ xs) zero old is = ap (λ y. y ∷ xs) (sym (same_Some x old is))
 set_same (x ∷ xs) (suc v) old is = ap (λ ys. x ∷ ys) (set_same xs v old is)
@@ -99,7 +99,7 @@ line_same before after u venue sweeps same =
 
 -- what happens at a venue
 at_line : (w : World) (v : ℕ) (venue : VenueParts) → venue_in w v ≡ Some venue → (after : World) (now : VenueParts) → Keeps v w.desk after.desk → after.venues ≡ slice_set w.venues v now
-    → (AreRead venue → IsClean venue.exchange.own → IsClean now.exchange.own)
+    → (AreRead venue → IsOrderly venue.exchange → IsOrderly now.exchange)
     → (IsLastLive venue.exchange → v < length w.desk.venues → Steps (line_at w.desk v venue) (line_at after.desk v now)) → Advances w after
 at_line w v venue there after now keeps set clean steps = record {
   desks = keeps.count;
@@ -110,13 +110,13 @@ at_line w v venue there after now keeps set clean steps = record {
         | inl same ↦
             (let same_now : now ≡ other = same_Some now other (sym (set_there w.venues v venue now there) ∙ (ap (λ k. slice_get (slice_set w.venues v now) k) same ∙ got)) in
             subst (λ k. Comes w after k other) same
-            (record { old = venue; there = there; steps = λ sound low. subst (λ x. Steps (line_at w.desk v venue) (line_at after.desk v x)) same_now (steps sound low); clean = λ read c. subst (λ (x : VenueParts). IsClean x.exchange.own) same_now (clean read c) }))
+            (record { old = venue; there = there; steps = λ sound low. subst (λ x. Steps (line_at w.desk v venue) (line_at after.desk v x)) same_now (steps sound low); orderly = λ read c. subst (λ (x : VenueParts). IsOrderly x.exchange) same_now (clean read c) }))
         | inr differs ↦
             record {
               old = other;
               there = sym (slice_get-set_other w.venues v u now differs) ∙ got;
               steps = λ sound low. inl (line_same w.desk after.desk u other keeps.sweeps (keeps.others u differs));
-              clean = λ read c. c;
+              orderly = λ read c. c;
             }
       ]);
 }
@@ -146,24 +146,24 @@ written_more frames connection written =
     carried_more frames connection (messages_of written) ∙ ap (λ l. map frame_carried frames ++ l) (written_all connection written)
 
 -- how many left, where a gate is turned
-left-gate_up_from : (v : ℕ) (gate : Gate) (d : DeskParts) → (venue_at (gate_up_from gate d v).1 v).left ≡ (venue_at d v).left
+pub left-gate_up_from : (v : ℕ) (gate : Gate) (d : DeskParts) → (venue_at (gate_up_from gate d v).1 v).left ≡ (venue_at d v).left
 left-gate_up_from v Up d = refl
 left-gate_up_from v Shut d = refl
 left-gate_up_from v Down d =
     chosen (λ (r : Result (Unit {0}) GateFault × DeskParts). (venue_at r.1 v).left ≡ (venue_at d v).left) (desk.placed d v == 0) (Ok tt, with_gate v Up d) (Err NotDrained, d)
     (λ drained. left-with_gate v v Up d) (λ not_drained. refl)
 
-left-gate_down : (v : ℕ) (d : DeskParts) → (venue_at (gate_down d v) v).left ≡ (venue_at d v).left
+pub left-gate_down : (v : ℕ) (d : DeskParts) → (venue_at (gate_down d v) v).left ≡ (venue_at d v).left
 left-gate_down v d = chosen (λ (x : DeskParts). (venue_at x v).left ≡ (venue_at d v).left) (is_up (gate_of d v)) (with_gate v Down d) d (λ up. left-with_gate v v Down d) (λ not_up. refl)
 
-left-shut : (v : ℕ) (d : DeskParts) → (venue_at (shut d v) v).left ≡ (venue_at d v).left
+pub left-shut : (v : ℕ) (d : DeskParts) → (venue_at (shut d v) v).left ≡ (venue_at d v).left
 left-shut v d = chosen (λ (x : DeskParts). (venue_at x v).left ≡ (venue_at d v).left) (is_shut (gate_of d v)) d (with_gate v Shut d) (λ is. refl) (λ is_not. left-with_gate v v Shut d)
 
 same_left : (before after : DeskParts) (v : ℕ) (venue : VenueParts) → after.sweeps ≡ before.sweeps → (venue_at after v).left ≡ (venue_at before v).left → line_at after v venue ≡ line_at before v venue
 same_left before after v venue sweeps left = rw (sweeps, left) refl
 
 -- the next leg, of those that are placed
-numbered-drop : (n : ℕ) (xs : List Leg) (x : Leg) (rest : List Leg) → drop n xs ≡ x ∷ rest → numbered (suc n) xs ≡ Some x
+pub numbered-drop : (n : ℕ) (xs : List Leg) (x : Leg) (rest : List Leg) → drop n xs ≡ x ∷ rest → numbered (suc n) xs ≡ Some x
 numbered-drop zero [] x rest is = absurd cc
 numbered-drop zero (first ∷ xs) x rest is = (let e : first ≡ x = cc in ap Some e)
 numbered-drop (suc n) [] x rest is = absurd cc
@@ -236,7 +236,7 @@ module _ (w : World) (v : ℕ) (venue : VenueParts) (there : venue_in w v ≡ So
 
   -- a step at the venue alone
   at_venue_step : (after : World) (now : VenueParts) → after.desk ≡ w.desk → after.venues ≡ slice_set w.venues v now
-      → (AreRead venue → IsClean venue.exchange.own → IsClean now.exchange.own) → (IsLastLive venue.exchange → Steps here (line_at w.desk v now)) → Advances w after
+      → (AreRead venue → IsOrderly venue.exchange → IsOrderly now.exchange) → (IsLastLive venue.exchange → Steps here (line_at w.desk v now)) → Advances w after
   at_venue_step after now desk_is set clean steps =
       at_line w v venue there after now (subst (Keeps v w.desk) (sym desk_is) (keeps-refl v w.desk)) set clean
       (λ sound low. subst (λ d. Steps here (line_at d v now)) (sym desk_is) (steps sound))
@@ -259,7 +259,7 @@ module _ (w : World) (v : ℕ) (venue : VenueParts) (there : venue_in w v ≡ So
   to_exchange_step number (Some frame) is_there =
       (let a = take venue.exchange frame.connection frame.message in
       at_venue_step _ (exchange_wrote frame.connection a.0 a.1 venue) refl refl
-      (λ read c. take_clean venue.exchange frame.connection frame.message
+      (λ read c. take_orderly venue.exchange frame.connection frame.message
       (λ fault is. read (frame_carried frame) fault (contains_map frame_carried venue.to_exchange frame (numbered_contains number venue.to_exchange frame is_there)) is) c)
       (λ sound.
       let answer = take_answers venue.exchange frame.connection frame.message sound in
@@ -323,7 +323,7 @@ module _ (w : World) (v : ℕ) (venue : VenueParts) (there : venue_in w v ≡ So
   exchange_break_step : Advances w (with_venue w v (record venue { exchange = drop_connection venue.exchange }))
   exchange_break_step =
       at_venue_step _ (record venue { exchange = drop_connection venue.exchange }) refl refl
-      (λ read c. c)
+      (λ read c. record { clean = c.clean; on = c.on })
       (λ sound.
       inr (line.exchanges None (rule_state (drop_connection venue.exchange)) [] tt (drop_keeps venue.exchange)
       (let e = append-nil (map frame_carried venue.from_exchange) in rw e refl)))
@@ -345,18 +345,18 @@ did_line : (d : DeskParts) (v : ℕ) (venue : VenueParts) (live : Option ℕ) (w
 did_line d v venue None written exchange = let e = append-nil (map frame_carried venue.from_exchange) in rw e refl
 did_line d v venue (Some connection) written exchange = let e = written_more venue.from_exchange connection written in rw e refl
 
-did_clean : (venue : VenueParts) (live : Option ℕ) (written : List Outgoing) (exchange : ExchangeParts) → IsClean exchange.own
-    → IsClean (exchange_did live written exchange venue).exchange.own
-did_clean venue None written exchange clean = clean
-did_clean venue (Some connection) written exchange clean = clean
+did_orderly : (venue : VenueParts) (live : Option ℕ) (written : List Outgoing) (exchange : ExchangeParts) → IsOrderly exchange
+    → IsOrderly (exchange_did live written exchange venue).exchange
+did_orderly venue None written exchange clean = clean
+did_orderly venue (Some connection) written exchange clean = clean
 
 acted_step : (w : World) (v : ℕ) (venue : VenueParts) → venue_in w v ≡ Some venue → (answer : ActAnswer)
-    → (IsLastLive venue.exchange → IsAct venue.exchange answer) → (IsClean venue.exchange.own → IsClean answer.1.own)
+    → (IsLastLive venue.exchange → IsAct venue.exchange answer) → (IsOrderly venue.exchange → IsOrderly answer.1)
     → Advances w (acted_world w v venue answer)
 acted_step w v venue there (Err fault, exchange) keeps clean = advances-refl w
 acted_step w v venue there (Ok written, exchange) keeps clean =
     at_venue_step w v venue there _ (exchange_did (live_connection venue.exchange) written exchange venue) refl refl
-    (λ read c. did_clean venue (live_connection venue.exchange) written exchange (clean c))
+    (λ read c. did_orderly venue (live_connection venue.exchange) written exchange (clean c))
     (λ sound.
     inr (line.exchanges None (rule_state exchange) (into (live_connection venue.exchange) written) tt (keeps sound).allowed
     (did_line w.desk v venue (live_connection venue.exchange) written exchange)))
@@ -373,7 +373,7 @@ released_more w after legs is same = record {
         steps = λ sound low.
             inr (line.releases (legs_to v (length w.desk.sweeps + 1) 1 legs)
             (ap (λ d. line_at d v now) is ∙ (let e = released-push v w.desk.sweeps legs in rw e refl)));
-        clean = λ read c. c;
+        orderly = λ read c. c;
       };
 }
 
@@ -403,7 +403,7 @@ event_advances w (event.ToExchange v frame) = at_found w _ (venue_in w v) (λ ve
 event_advances w (event.ToDispatcher v frame) = at_found w _ (venue_in w v) (λ venue there. to_dispatcher_step w v venue there frame (numbered frame venue.from_exchange) refl)
 event_advances w (event.Break v) = at_found w _ (venue_in w v) (λ venue there. break_step w v venue there)
 event_advances w (event.ExchangeBreak v) = at_found w _ (venue_in w v) (λ venue there. exchange_break_step w v venue there)
-event_advances w (event.Act v act) = at_found w _ (venue_in w v) (λ venue there. acted_step w v venue there (act_of act venue.exchange) (act_keeps act venue.exchange) (act_clean act venue.exchange))
+event_advances w (event.Act v act) = at_found w _ (venue_in w v) (λ venue there. acted_step w v venue there (act_of act venue.exchange) (act_keeps act venue.exchange) (act_orderly act venue.exchange))
 event_advances w (event.Quiet v) = at_found w _ (venue_in w v) (λ venue there. quiet_step w v venue there)
 event_advances w (event.Silent v) = at_found w _ (venue_in w v) (λ venue there. silent_step w v venue there)
 event_advances w (event.Close v) = at_found w _ (venue_in w v) (λ venue there. closed_step w v venue there (close venue.session) refl)

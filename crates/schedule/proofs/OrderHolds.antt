@@ -69,13 +69,13 @@ module _ (w : World) (v : ℕ) (venue : VenueParts) (there : venue_in w v ≡ So
   state_is : (n : ℕ) → state_of w v (suc n) ≡ state_by (length (released_to w v)) (venue_at w.desk v).left n (leg_state venue.session (suc n))
   state_is n = ap (state_by (length (released_to w v)) (venue_at w.desk v).left n) (ask None (λ (x : VenueParts). leg_state x.session (suc n)))
 
-  withdrawn_at : (ordinal : ℕ) → IsWithdrawn w v ordinal → IsWithdrawnLeg line ordinal
+  pub withdrawn_at : (ordinal : ℕ) → IsWithdrawn w v ordinal → IsWithdrawnLeg line ordinal
   withdrawn_at zero is = absurd cc
   withdrawn_at (suc n) is =
       let t = told (length (released_to w v)) (venue_at w.desk v).left n (leg_state venue.session (suc n)) Withdrawn (λ e. cc) (sym (state_is n) ∙ is) in
       record { from = omega arith; left = t.low; gone = gone_is (leg_state venue.session (suc n)) t.is }
 
-  withdrawn_of : (ordinal : ℕ) → IsWithdrawnLeg line ordinal → IsWithdrawn w v ordinal
+  pub withdrawn_of : (ordinal : ℕ) → IsWithdrawnLeg line ordinal → IsWithdrawn w v ordinal
   withdrawn_of zero is = absurd (let h = is.from in omega arith)
   withdrawn_of (suc n) is =
       state_is n ∙ (state_left_by (length (released_to w v)) (venue_at w.desk v).left n (leg_state venue.session (suc n)) is.left i.copies.left_released
@@ -138,7 +138,7 @@ module _ (w : World) (v : ℕ) (gone : venue_in w v ≡ None) (none_left : (venu
   ask_none : {A : Type 0} (default : A) (f : VenueParts → A) → of_venue w v default f ≡ default
   ask_none default f = ap (λ (o : Option VenueParts). option_map_or f o default) gone
 
-  never : (ordinal : ℕ) (state : LegState) → (state ≡ Queued → ⊥) → state_of w v ordinal ≡ Some state → ⊥
+  pub never : (ordinal : ℕ) (state : LegState) → (state ≡ Queued → ⊥) → state_of w v ordinal ≡ Some state → ⊥
   never zero state other is = cc
   never (suc n) state other is =
       let t = told (length (released_to w v)) (venue_at w.desk v).left n (of_venue w v None (λ (x : VenueParts). leg_state x.session (suc n))) state other is in
@@ -161,13 +161,13 @@ module _ (w : World) (v : ℕ) (gone : venue_in w v ≡ None) (none_left : (venu
         reports = record { count = 0; given = ask_none [] _ ∙ sym (ap (map (λ report. note.Report report)) (none_taken (made w v))) };
       })
 
-none_past : (xs : List VenueParts) (k : ℕ) → slice_get xs k ≡ None → length xs ≤ k
+pub none_past : (xs : List VenueParts) (k : ℕ) → slice_get xs k ≡ None → length xs ≤ k
 none_past [] k is = omega arith
 none_past (x ∷ xs) zero is = absurd cc
 none_past (x ∷ xs) (suc k) is = (let rest = none_past xs k is in omega arith)
 
 pub holds_by : (w : World) (v : ℕ) (found : Option VenueParts) → venue_in w v ≡ found → IsSafe w → HoldsAt w v
-holds_by w v (Some venue) is safe = orders_hold w v venue is (safe.lines v venue is).0 (safe.lines v venue is).1 (safe.clean v venue is)
+holds_by w v (Some venue) is safe = orders_hold w v venue is (safe.lines v venue is).0 (safe.lines v venue is).1 (safe.orderly v venue is).clean
 holds_by w v None is safe =
     nothing_holds w v is
     (let past = none_past w.venues v is in

@@ -11,20 +11,20 @@ use Rattle.schedule.specs.Happening.{happens, happen}
 use Rattle.venue_line.specs.Line.{Line}
 use Rattle.schedule.specs.LineOf.{line_at}
 use Rattle.venue_line.proofs.GivenSteps.{Whole, whole_new, whole_step}
-use Rattle.schedule.proofs.Clean.{IsClean}
+use Rattle.schedule.proofs.ReportedLegs.{IsOrderly}
 use Rattle.schedule.proofs.Lines.{Steps, Advances, event_advances}
 
 -- desk and world have the same venues, and each line is as the invariant says
 pub record IsSafe (w : World) : Type 0 where
   pub desks : length w.desk.venues ≡ length w.venues
   pub lines : (v : ℕ) (venue : VenueParts) → venue_in w v ≡ Some venue → Whole (line_at w.desk v venue)
-  pub clean : (v : ℕ) (venue : VenueParts) → venue_in w v ≡ Some venue → IsClean venue.exchange.own
+  pub orderly : (v : ℕ) (venue : VenueParts) → venue_in w v ≡ Some venue → IsOrderly venue.exchange
 
 kept : (a b : Line) → Steps a b → Whole a → Whole b
 kept a b (inl same) holds = subst Whole (sym same) holds
 kept a b (inr step) holds = whole_step a b step holds
 
-safe_after : (w after : World) → Advances w after → IsSafe w → IsSafe after
+pub safe_after : (w after : World) → Advances w after → IsSafe w → IsSafe after
 safe_after w after advances safe = record {
   desks = advances.desks ∙ (safe.desks ∙ sym advances.venues);
   lines = λ v now there.
@@ -32,9 +32,9 @@ safe_after w after advances safe = record {
       let before = safe.lines v from.old from.there in
       let low = slice_get_within w.venues v from.old from.there in
       kept (line_at w.desk v from.old) (line_at after.desk v now) (from.steps before.0.copies.live_is_last (let same = safe.desks in omega arith)) before);
-  clean = λ v now there.
+  orderly = λ v now there.
       (let from = advances.comes v now there in
-      from.clean (safe.lines v from.old from.there).0.copies.orders_read (safe.clean v from.old from.there));
+      from.orderly (safe.lines v from.old from.there).0.copies.orders_read (safe.orderly v from.old from.there));
 }
 
 pub safe_run : (events : List Event) (w : World) → IsSafe w → IsSafe (happen events w)
@@ -49,15 +49,15 @@ new_at next max_number v venue (Some has_next) is made small =
     (let e = left-new_desk (length next) v in rw e (whole_new (session_config max_number has_next) small)) in
     subst (λ x. Whole (line_at (new_desk (length next)) v x)) same start
 
-new_clean : (max_number : ℕ) (venue : VenueParts) (found : Option Bool) → option_map (new_venue max_number) found ≡ Some venue
-    → IsClean venue.exchange.own
-new_clean max_number venue None made = absurd cc
-new_clean max_number venue (Some has_next) made =
-    subst (λ (x : VenueParts). IsClean x.exchange.own) (same_Some _ venue made) tt
+new_orderly : (max_number : ℕ) (venue : VenueParts) (found : Option Bool) → option_map (new_venue max_number) found ≡ Some venue
+    → IsOrderly venue.exchange
+new_orderly max_number venue None made = absurd cc
+new_orderly max_number venue (Some has_next) made =
+    subst (λ (x : VenueParts). IsOrderly x.exchange) (same_Some _ venue made) (record { clean = tt; on = tt })
 
 pub safe_opening : (next : List Bool) (max_number : ℕ) → max_number ≤ 999999999 → IsSafe (opening next max_number)
 safe_opening next max_number small = record {
   desks = length-replicate (length next) _ ∙ sym (length-map next (new_venue max_number));
   lines = λ v venue there. new_at next max_number v venue (slice_get next v) refl (sym (slice_get-map (new_venue max_number) next v) ∙ there) small;
-  clean = λ v venue there. new_clean max_number venue (slice_get next v) (sym (slice_get-map (new_venue max_number) next v) ∙ there);
+  orderly = λ v venue there. new_orderly max_number venue (slice_get next v) (sym (slice_get-map (new_venue max_number) next v) ∙ there);
 }

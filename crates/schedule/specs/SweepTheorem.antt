@@ -1,4 +1,4 @@
--- The sweep theorem, as a statement: what holds of the world after every list of events. It isn't proved yet.
+-- The sweep theorem, as a statement: what holds of the world after every list of events.
 use Rattle.std.specs.Prelude.{◌≡◌, ◌≤◌, ◌<◌, ◌⊎◌, ◌+◌, ℕ, Bool, List, length, map, Some, IfSome, [], ◌∷◌, take, suc, if◌then◌else◌}
 use Rattle.std.specs.List.{Contains, list_any}
 use Rattle.std.specs.List.Sorted.{IsStrictlyIncreasing}

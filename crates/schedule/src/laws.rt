@@ -6,6 +6,7 @@ ghost use Rattle.schedule.specs.World.{World, venue_in};
 ghost use Rattle.schedule.specs.Happening.{happens, happen};
 ghost use Rattle.schedule.specs.OrderHalf.{TheVenueTheorem};
 ghost use Rattle.schedule.specs.SweepSums.{TheSums};
+ghost use Rattle.schedule.specs.SweepTheorem.{TheSweepTheorem};
 ghost use Rattle.schedule.specs.Growing.{named, IsUntouched, IsWorldLater};
 
 /// An event changes the venue that it names alone, and a release none: the others stay as they were, with their gates
@@ -35,4 +36,10 @@ pub fn what_holds_of_each_venue()
 /// After every list of events the parts of each sweep add up to its legs.
 pub fn sums_hold_whatever_happens()
     ensures { TheSums }
+{}
+
+/// The sweep theorem: after every list of events what was said of each venue holds, and the parts of each sweep add up
+/// to its legs, of which those that were withdrawn are the withdrawn part.
+pub fn the_sweep_theorem_holds()
+    ensures { TheSweepTheorem }
 {}

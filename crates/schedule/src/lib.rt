@@ -12,7 +12,7 @@ pub use act::Act;
 pub use event::{Event, FrameNumber};
 pub use laws::{
     an_event_changes_one_venue, an_event_nowhere_changes_nothing, sums_hold_whatever_happens,
-    what_holds_of_each_venue, what_was_done_stands,
+    the_sweep_theorem_holds, what_holds_of_each_venue, what_was_done_stands,
 };
 pub use rows::{
     a_break_with_doubt, a_break_with_none_lost, a_bust, a_close, a_close_answered,
