@@ -26,7 +26,7 @@ use Rattle.dialect.specs.declared.report.Report.{Report}
 use Rattle.dialect.specs.Dialect.{FitsMessage}
 use Rattle.dialect.specs.Framed.{Writers, IsApp, IsBody, envelope_of, IsFramed, IsReadAs}
 use Rattle.dialect.specs.FreeText.{IsFreeText}
-use Rattle.dialect.specs.Message.{Content, Logon, Heartbeat, TestRequest, ResendRequest, Reject, GapFill, Reset, Logout, BusinessReject, Order, OrderReport, Other, Message, Readers, content_of}
+use Rattle.dialect.specs.Message.{Content, Logon, Heartbeat, TestRequest, ResendRequest, Reject, GapFill, Reset, Logout, BusinessReject, Order, ExecutionReport, Other, Message, Readers, content_of}
 use Rattle.dialect.specs.OrderView.{OrderViewParts, IsOrderView}
 use Rattle.dialect.specs.Outgoing.{Outgoing}
 use Rattle.dialect.specs.Report.{IsReport}
@@ -284,13 +284,13 @@ order_good read leg fields fits is = record {
 }
 
 report_good : (read : Readers) (report : Report) (fields : List Tagged) → FitsMessage fields
-    → read.report fields ≡ Ok report → IsGood read (OrderReport (Ok report)) (body.App (codes "8") fields)
+    → read.report fields ≡ Ok report → IsGood read (ExecutionReport (Ok report)) (body.App (codes "8") fields)
 report_good read report fields fits is = record {
   kind = refl;
   body = no_app_fault fields fits.app;
   short_kind = omega arith;
   short = omega (arith, fits.short);
-  says = ap OrderReport is;
+  says = ap ExecutionReport is;
 }
 
 -- ---- in a dialect's terms
@@ -329,11 +329,11 @@ good w read stamp beside (Order (Ok leg)) b agrees range is =
     good_from read _ _ b is.body_is (order_good read leg is.fields (agrees.order_fits leg stamp is.fields is.written)
     (agrees.order_back leg stamp is.fields is.written))
 good w read stamp beside (Order (Err fault)) b agrees range is = absurd range
-good w read stamp (Some view) (OrderReport (Ok report)) b agrees range is =
+good w read stamp (Some view) (ExecutionReport (Ok report)) b agrees range is =
     good_from read _ _ b is.body_is (report_good read report is.fields
     (agrees.report_fits report view is.fields is.written) (agrees.report_back report view is.fields is.written))
-good w read stamp None (OrderReport (Ok report)) b agrees range is = absurd range
-good w read stamp beside (OrderReport (Err fault)) b agrees range is = absurd range
+good w read stamp None (ExecutionReport (Ok report)) b agrees range is = absurd range
+good w read stamp beside (ExecutionReport (Err fault)) b agrees range is = absurd range
 good w read stamp beside Other b agrees range is = absurd range
 
 -- ---- its frame
@@ -411,11 +411,11 @@ body_exists w stamp beside (Order (Ok leg)) exist at range =
     let order = exist.order leg stamp range at in
     (body.App (codes "D") order.0, record { fields = order.0; written = order.1; body_is = refl })
 body_exists w stamp beside (Order (Err fault)) exist at range = absurd range
-body_exists w stamp (Some view) (OrderReport (Ok report)) exist at range =
+body_exists w stamp (Some view) (ExecutionReport (Ok report)) exist at range =
     let written = exist.report report view range.report_in_range range.view_in_range range.own_leg in
     (body.App (codes "8") written.0, record { fields = written.0; written = written.1; body_is = refl })
-body_exists w stamp None (OrderReport (Ok report)) exist at range = absurd range
-body_exists w stamp beside (OrderReport (Err fault)) exist at range = absurd range
+body_exists w stamp None (ExecutionReport (Ok report)) exist at range = absurd range
+body_exists w stamp beside (ExecutionReport (Err fault)) exist at range = absurd range
 body_exists w stamp beside Other exist at range = absurd range
 
 pub frame_exists : (w : Writers) (stamp : StampParts) (out : Outgoing) → Exists w → IsStamp stamp → IsWritable out

@@ -12,7 +12,7 @@ use Rattle.fix_tags.specs.declared.envelope.Envelope.{Envelope}
 use Rattle.leg.specs.declared.leg.Leg.{Leg}
 use Rattle.dialect.specs.declared.fault.DialectFault.{DialectFault}
 use Rattle.dialect.specs.declared.report.Report.{Report}
-use Rattle.dialect.specs.Message.{Content, Logon, Heartbeat, TestRequest, ResendRequest, Reject, GapFill, Reset, Logout, BusinessReject, Order, OrderReport, Other, Message, Readers, seen}
+use Rattle.dialect.specs.Message.{Content, Logon, Heartbeat, TestRequest, ResendRequest, Reject, GapFill, Reset, Logout, BusinessReject, Order, ExecutionReport, Other, Message, Readers, seen}
 use Rattle.dialect.specs.OrderView.{OrderViewParts}
 use Rattle.dialect.specs.Outgoing.{Outgoing}
 
@@ -50,7 +50,7 @@ IsBody w stamp beside (Reset new_number) b = b ≡ body.Reset new_number
 IsBody w stamp beside Logout b = b ≡ body.Logout
 IsBody w stamp beside (BusinessReject number) b = b ≡ body.BusinessReject number
 IsBody w stamp beside (Order read) b = IsOrderBody w stamp read b
-IsBody w stamp beside (OrderReport read) b = IsReportBody w read beside b
+IsBody w stamp beside (ExecutionReport read) b = IsReportBody w read beside b
 IsBody w stamp beside Other b = ⊥
 
 -- the message under its header, never under another number again (no 97)

@@ -22,7 +22,7 @@ pub data Content : Type 0 where
   -- an application message of kind `D`, with the leg that the dialect reads, or its fault
   Order : (read : Result Leg DialectFault) → Content
   -- one of kind `8`, with the report that the dialect reads, or its fault
-  OrderReport : (read : Result Report DialectFault) → Content
+  ExecutionReport : (read : Result Report DialectFault) → Content
   -- one of another kind
   Other : Content
 
@@ -38,7 +38,7 @@ is_logon (Reset new_number) = false
 is_logon Logout = false
 is_logon (BusinessReject number) = false
 is_logon (Order read) = false
-is_logon (OrderReport read) = false
+is_logon (ExecutionReport read) = false
 is_logon Other = false
 
 pub record Message : Type 0 where
@@ -60,7 +60,7 @@ pub record Readers : Type 0 where
 abbrev pub application : Readers → List ℕ → List Tagged → Content
 application read (c ∷ []) fields =
     if c == 68 then Order (read.order fields)
-    else (if c == 56 then OrderReport (read.report fields) else Other)
+    else (if c == 56 then ExecutionReport (read.report fields) else Other)
 application read kind fields = Other
 
 -- what a body says

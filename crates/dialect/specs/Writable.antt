@@ -6,7 +6,7 @@ use Rattle.leg.specs.Leg.{IsLeg}
 use Rattle.dialect.specs.declared.fault.DialectFault.{DialectFault}
 use Rattle.dialect.specs.declared.report.Report.{Report}
 use Rattle.dialect.specs.FreeText.{IsFreeText}
-use Rattle.dialect.specs.Message.{Content, Logon, Heartbeat, TestRequest, ResendRequest, Reject, GapFill, Reset, Logout, BusinessReject, Order, OrderReport, Other}
+use Rattle.dialect.specs.Message.{Content, Logon, Heartbeat, TestRequest, ResendRequest, Reject, GapFill, Reset, Logout, BusinessReject, Order, ExecutionReport, Other}
 use Rattle.dialect.specs.OrderView.{OrderViewParts, IsOrderView}
 use Rattle.dialect.specs.Outgoing.{Outgoing}
 use Rattle.dialect.specs.Report.{IsReport}
@@ -59,7 +59,7 @@ IsWritableContent beside (Reset new_number) = IsReference new_number
 IsWritableContent beside Logout = Unit {0}
 IsWritableContent beside (BusinessReject number) = IsRefused number
 IsWritableContent beside (Order read) = IsWritableOrder read
-IsWritableContent beside (OrderReport read) = IsWritableReport read beside
+IsWritableContent beside (ExecutionReport read) = IsWritableReport read beside
 IsWritableContent beside Other = ⊥
 
 -- a message that is never refused: its names are comp ids, its number (34) is 1 to 999,999,998, and what it says can

@@ -11,7 +11,7 @@ use Rattle.fix_tags.specs.CompId.{IsCompId}
 use Rattle.leg.specs.Leg.{IsLeg}
 use Rattle.leg.specs.declared.leg.Leg.{Leg}
 use Rattle.dialect.specs.Framed.{Writers, IsBody}
-use Rattle.dialect.specs.Message.{Order, OrderReport, Other, Message, Readers, content_of}
+use Rattle.dialect.specs.Message.{Order, ExecutionReport, Other, Message, Readers, content_of}
 use Rattle.dialect.specs.Writable.{IsWritable}
 use Rattle.dialect.specs.declared.fault.DialectFault.{DialectFault}
 use Rattle.dialect.proofs.FrameBack.{Agrees, frame_back}
@@ -53,7 +53,7 @@ order_framed w leg header order bytes range written is = record {
 -- the leg of a message whose content is an order that was read
 by_kind : (read : Readers) (fields : List Tagged) (leg : Leg) (is_order is_report : Bool)
     → (if is_order then Order (read.order fields)
-    else (if is_report then OrderReport (read.report fields) else Other)) ≡ Order (Ok leg)
+    else (if is_report then ExecutionReport (read.report fields) else Other)) ≡ Order (Ok leg)
     → (if is_order then as_order (read.order fields) else Err of.NoOrder) ≡ Ok leg
 by_kind read fields leg true is_report is = let found : read.order fields ≡ Ok leg = cc in ap as_order found
 by_kind read fields leg false true is = cc

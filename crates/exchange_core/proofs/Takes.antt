@@ -7,7 +7,7 @@ use Rattle.std.proofs.lemmas.List.Elements.{All-nil, All-append}
 use Rattle.leg.specs.declared.leg.Leg.{Leg}
 use Rattle.dialect.specs.declared.fault.DialectFault.{DialectFault}
 use Rattle.dialect.specs.declared.report.ReportKind.TheVariants.{New}
-use Rattle.dialect.specs.Message.{Content, Message, Logon, Heartbeat, TestRequest, ResendRequest, Reject, GapFill, Logout, Order, OrderReport}
+use Rattle.dialect.specs.Message.{Content, Message, Logon, Heartbeat, TestRequest, ResendRequest, Reject, GapFill, Logout, Order, ExecutionReport}
 use Rattle.dialect.specs.Outgoing.{Outgoing}
 use Rattle.exchange_core.specs.Acceptance.{Carried, Intake, RuleState, IsDue, IsOther, Takes, MayMove, Took, MayWrite, May, IsLast}
 use Rattle.exchange_core.specs.Acceptance as rules
@@ -78,7 +78,7 @@ module _ (x : ExchangeParts) (connection number : ℕ) (live : live_connection x
       let entry : Own = Reported report (view_of (suc (length x.orders)) (new_order leg)) in
       let legs : accepted_by y ≡ accepted_by x ++ leg ∷ [] = map-append (λ (order : OrderParts). order.leg) x.orders (new_order leg ∷ []) in
       let accepts : intake_of y ≡ record (intake_of x) { expected = suc x.expected; accepted = accepted_by x ++ leg ∷ [] } = ap (λ ls. let i : Intake = record (intake_of x) { expected = suc x.expected; accepted = ls } in i) legs in
-      one x y coming entry connection (OrderReport (Ok report)) (moved content (intake_of y) (rules.order (is_due content) leg refl accepts)) refl
+      one x y coming entry connection (ExecutionReport (Ok report)) (moved content (intake_of y) (rules.order (is_due content) leg refl accepts)) refl
       (record { place = length x.orders; leg = leg; there = numbered-seam (λ (order : OrderParts). order.leg) x.orders (new_order leg) []; same = refl })
       last.from (omega (arith, last.same)) (inl refl)
 

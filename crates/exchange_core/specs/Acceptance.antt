@@ -6,7 +6,7 @@ use Rattle.leg.specs.Growing.{Grew}
 use Rattle.leg.specs.LegId.{LegIdParts}
 use Rattle.leg.specs.Numbered.{numbered}
 use Rattle.dialect.specs.declared.fault.DialectFault.{DialectFault}
-use Rattle.dialect.specs.Message.{Content, Logon, Heartbeat, TestRequest, ResendRequest, Reject, GapFill, Reset, Logout, BusinessReject, Order, OrderReport}
+use Rattle.dialect.specs.Message.{Content, Logon, Heartbeat, TestRequest, ResendRequest, Reject, GapFill, Reset, Logout, BusinessReject, Order, ExecutionReport}
 
 -- a message in its connection, delivered or written
 pub record Carried : Type 0 where
@@ -164,7 +164,7 @@ pub record HasAccepted (accepted : List Leg) (id : LegIdParts) : Type 0 where
 -- what a new own number may be kept for: a report that can be read, of an order that was accepted, or the refusal of
 -- an order by its number
 abbrev pub MayCarry : RuleState → Option Carried → RuleState → Content → Type 0
-MayCarry s coming t (OrderReport (Ok report)) = HasAccepted t.intake.accepted report.id
+MayCarry s coming t (ExecutionReport (Ok report)) = HasAccepted t.intake.accepted report.id
 MayCarry s coming t (Reject number) = MayRefuse s coming t number
 MayCarry s coming t (BusinessReject (Some number)) = MayRefuse s coming t number
 MayCarry s coming t content = ⊥
@@ -206,7 +206,7 @@ MaySay s coming t number (GapFill new_number) = IsGap t.own number new_number
 MaySay s coming t number (Reject refused) = MayRefuseOther s coming refused
 MaySay s coming t number (BusinessReject (Some refused)) = MayRefuseOther s coming refused
 -- a report has a number of its own
-MaySay s coming t number (OrderReport read) = ⊥
+MaySay s coming t number (ExecutionReport read) = ⊥
 -- everything else may be said at any time
 MaySay s coming t number content = Unit {0}
 

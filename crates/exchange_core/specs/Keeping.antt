@@ -1,7 +1,7 @@
 -- The exchange as the rules see it.
 use Rattle.std.specs.Prelude.{◌≡◌, suc, ◌∷◌, ◌⊎◌, ℕ, ◌≤◌, List, [], ◌++◌, length, map, Option, Some, None, Ok, Err}
 use Rattle.leg.specs.Growing.{Grew}
-use Rattle.dialect.specs.Message.{Content, Message, Reject, GapFill, Logout, OrderReport}
+use Rattle.dialect.specs.Message.{Content, Message, Reject, GapFill, Logout, ExecutionReport}
 use Rattle.dialect.specs.Outgoing.{Outgoing}
 use Rattle.exchange_core.specs.Acceptance.{Carried, Intake, RuleState, LiveIsLast, May}
 use Rattle.exchange_core.specs.Own.{Own, Admin, Reported, Refused, next_own_number, exec_id}
@@ -11,7 +11,7 @@ use Rattle.exchange_core.specs.Acts.{ActAnswer}
 -- the report or the refusal that an own number carries, if it carries one
 abbrev pub kept : Own → Option Content
 kept Admin = None
-kept (Reported report view) = Some (OrderReport (Ok report))
+kept (Reported report view) = Some (ExecutionReport (Ok report))
 kept (Refused number) = Some (Reject number)
 
 -- what it has taken

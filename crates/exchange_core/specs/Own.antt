@@ -5,7 +5,7 @@ use Rattle.fix_tags.specs.Config.{ConfigParts}
 use Rattle.fix_tags.specs.Range.{range_end, is_range}
 use Rattle.dialect.specs.declared.report.Report.{Report}
 use Rattle.dialect.specs.Addressed.{message_of}
-use Rattle.dialect.specs.Message.{Content, Reject, GapFill, OrderReport}
+use Rattle.dialect.specs.Message.{Content, Reject, GapFill, ExecutionReport}
 use Rattle.dialect.specs.OrderView.{OrderViewParts}
 use Rattle.dialect.specs.Outgoing.{Outgoing, alone}
 
@@ -41,7 +41,7 @@ exec_id count = codes "E" ++ decimal count
 -- an ExecutionReport, and beside it the order as it was then; marked where the peer may have seen it before (43=Y)
 abbrev pub execution_report : ConfigParts → ℕ → Bool → Report → OrderViewParts → Outgoing
 execution_report config number poss_dup report view =
-    record { message = message_of config number poss_dup (OrderReport (Ok report)); beside = Some view }
+    record { message = message_of config number poss_dup (ExecutionReport (Ok report)); beside = Some view }
 
 -- any other message to the peer under a number that it may have seen before (43=Y)
 abbrev pub again : ConfigParts → ℕ → Content → Outgoing

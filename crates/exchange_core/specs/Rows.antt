@@ -3,7 +3,7 @@ use Rattle.std.specs.Prelude.{ℕ, zero, suc, true, false, List, [], ◌++◌, c
 use Rattle.leg.specs.declared.leg.Leg.{Leg}
 use Rattle.leg.specs.declared.side.Side.TheVariants.{Buy}
 use Rattle.dialect.specs.declared.report.ReportKind.{ReportKind}
-use Rattle.dialect.specs.Message.{Content, Message, Logon, TestRequest, Order, OrderReport}
+use Rattle.dialect.specs.Message.{Content, Message, Logon, TestRequest, Order, ExecutionReport}
 use Rattle.dialect.specs.OrderView.{OrderViewParts}
 use Rattle.dialect.specs.Outgoing.{Outgoing, alone}
 use Rattle.exchange_core.specs.Order.{order_id}
@@ -66,7 +66,7 @@ view cum leaves = record { leg = leg; order_id = order_id 1; cum = cum; leaves =
 -- a report on it under a number, new or again, and beside it the order as it was then
 abbrev pub reports : ℕ → List ℕ → ReportKind → OrderViewParts → Outgoing
 reports number exec kind view =
-    let m : Message = (to_peer number (OrderReport (Ok (record { id = leg.id; exec = exec; kind = kind })))).message in
+    let m : Message = (to_peer number (ExecutionReport (Ok (record { id = leg.id; exec = exec; kind = kind })))).message in
     record { message = m; beside = Some view }
 
 abbrev pub reports_again : ℕ → List ℕ → ReportKind → OrderViewParts → Outgoing

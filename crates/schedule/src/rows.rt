@@ -3,7 +3,7 @@
 ghost use Rattle.std.specs.Prelude.{◌≡◌, ◌∷◌, ◌++◌, [], codes, true, false};
 ghost use Rattle.std.specs.Prelude.{None, Some, Ok};
 ghost use Rattle.dialect.specs.declared.report.ReportKind.TheVariants.{Bust};
-ghost use Rattle.dialect.specs.Message.Content.{Logon, Heartbeat, TestRequest, ResendRequest, GapFill, OrderReport};
+ghost use Rattle.dialect.specs.Message.Content.{Logon, Heartbeat, TestRequest, ResendRequest, GapFill, ExecutionReport};
 ghost use Rattle.leg.specs.declared.sweep.Routed.{Routed};
 ghost use Rattle.schedule.specs.declared.event.Event.TheVariants as event;
 ghost use Rattle.std.specs.Prelude.{Err};
@@ -110,7 +110,7 @@ pub fn frames_of_a_quiet_session()
 
 /// The report of a bust.
 pub fn frame_of_a_bust()
-    ensures { written_by 6 (after (one_leg ∷ take ∷ to 3 ∷ from 3 ∷ trade 1 60 (codes "10.25") ∷ from 4 ∷ cancel 1 ∷ from 5 ∷ bust 1 1 ∷ [])) ≡ (6, OrderReport (Ok (record { id = record { sweep = 1; place = 1 }; exec = codes "E4"; kind = Bust (codes "E2") }))) ∷ [] }
+    ensures { written_by 6 (after (one_leg ∷ take ∷ to 3 ∷ from 3 ∷ trade 1 60 (codes "10.25") ∷ from 4 ∷ cancel 1 ∷ from 5 ∷ bust 1 1 ∷ [])) ≡ (6, ExecutionReport (Ok (record { id = record { sweep = 1; place = 1 }; exec = codes "E4"; kind = Bust (codes "E2") }))) ∷ [] }
 {}
 
 /// A sweep of one leg for each of two venues.

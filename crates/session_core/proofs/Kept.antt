@@ -14,7 +14,7 @@ use Rattle.dialect.specs.declared.note.Note.{Note}
 use Rattle.dialect.specs.Addressed.{message_of, is_for}
 use Rattle.dialect.specs.FreeText.{IsFreeText}
 use Rattle.dialect.specs.Message.{Message, Content, is_logon}
-use Rattle.dialect.specs.Message.Content.{Logon, Heartbeat, TestRequest, ResendRequest, Reject, GapFill, Reset, Logout, BusinessReject, Order, OrderReport, Other}
+use Rattle.dialect.specs.Message.Content.{Logon, Heartbeat, TestRequest, ResendRequest, Reject, GapFill, Reset, Logout, BusinessReject, Order, ExecutionReport, Other}
 use Rattle.dialect.specs.Outgoing.{alone}
 use Rattle.dialect.specs.Writable.{IsNext, IsWritable, IsWritableContent}
 use Rattle.resend.specs.declared.judged.Judged.{Judged}
@@ -482,7 +482,7 @@ module _ (s : SessionParts) (is : IsSound s) (heard : s.current.pending ≡ fals
   kept-row number (BusinessReject refused) says =
       kept-in_turn _ (kept-refused_leg (option_and_then (λ n. leg_at n s.log) refused))
   kept-row number Logout says = kept-logout
-  kept-row number (OrderReport read) says = kept-in_turn _ (kept-notes (report_note read))
+  kept-row number (ExecutionReport read) says = kept-in_turn _ (kept-notes (report_note read))
   kept-row number (Reset new_number) says = kept-in_turn _ counted_low
   kept-row number (Order read) says = kept-in_turn _ counted_low
   kept-row number Other says = kept-in_turn _ counted_low

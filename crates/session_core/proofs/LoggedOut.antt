@@ -6,7 +6,7 @@ use Rattle.leg.specs.LegId.{LegIdParts}
 use Rattle.dialect.specs.declared.note.Note.{Note}
 use Rattle.dialect.specs.Addressed.{is_for}
 use Rattle.dialect.specs.Message.{Message, Content}
-use Rattle.dialect.specs.Message.Content.{Logon, Heartbeat, TestRequest, ResendRequest, Reject, GapFill, Reset, Logout, BusinessReject, Order, OrderReport, Other}
+use Rattle.dialect.specs.Message.Content.{Logon, Heartbeat, TestRequest, ResendRequest, Reject, GapFill, Reset, Logout, BusinessReject, Order, ExecutionReport, Other}
 use Rattle.resend.specs.declared.judged.Judged.{Judged}
 use Rattle.resend.specs.declared.judged.Judged.TheVariants as judged
 use Rattle.resend.specs.Judging.{judged}
@@ -106,7 +106,7 @@ out_row s due number (GapFill new_number) = out_in_turn s due _ (out_gap_fill s 
 out_row s due number (Reject refused) = out_in_turn s due _ (out_refused s (Some refused))
 out_row s due number (BusinessReject refused) = out_in_turn s due _ (out_refused s refused)
 out_row s due number Logout = out_ends s (out s) ended.LogoutDone
-out_row s due number (OrderReport read) = out_in_turn s due _ (out_notes s (out s) (report_note read) refl)
+out_row s due number (ExecutionReport read) = out_in_turn s due _ (out_notes s (out s) (report_note read) refl)
 out_row s due number (Reset new_number) = out_in_turn s due _ (out_counted s)
 out_row s due number (Order read) = out_in_turn s due _ (out_counted s)
 out_row s due number Other = out_in_turn s due _ (out_counted s)

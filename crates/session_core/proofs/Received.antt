@@ -8,7 +8,7 @@ use Rattle.leg.specs.declared.leg_state.LegState.TheVariants.{Taken, Withdrawn}
 use Rattle.dialect.specs.declared.note.Note.{Note}
 use Rattle.dialect.specs.Addressed.{is_for}
 use Rattle.dialect.specs.Message.{Message, Content, is_logon}
-use Rattle.dialect.specs.Message.Content.{Logon, Heartbeat, TestRequest, ResendRequest, Reject, GapFill, Reset, Logout, BusinessReject, Order, OrderReport, Other}
+use Rattle.dialect.specs.Message.Content.{Logon, Heartbeat, TestRequest, ResendRequest, Reject, GapFill, Reset, Logout, BusinessReject, Order, ExecutionReport, Other}
 use Rattle.resend.specs.declared.judged.Judged.{Judged}
 use Rattle.resend.specs.declared.judged.Judged.TheVariants as judged
 use Rattle.resend.specs.Judging.{judged}
@@ -248,7 +248,7 @@ module _ (may : Bool) where
   received_row due s number (BusinessReject refused) is at =
       received_in_turn due s _ (λ now. received_refused s refused)
   received_row due s number Logout is at = received_logout s
-  received_row due s number (OrderReport read) is at =
+  received_row due s number (ExecutionReport read) is at =
       received_in_turn due s _ (λ now. received_notes (report_note read) s)
   received_row due s number (Reset new_number) is at = received_counted due s
   received_row due s number (Order read) is at = received_counted due s

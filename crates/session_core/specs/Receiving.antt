@@ -11,7 +11,7 @@ use Rattle.dialect.specs.declared.note.Note.TheVariants as note
 use Rattle.dialect.specs.declared.report.Report.{Report}
 use Rattle.dialect.specs.Addressed.{is_for}
 use Rattle.dialect.specs.Message.{Message, Content, is_logon}
-use Rattle.dialect.specs.Message.Content.{Logon, Heartbeat, TestRequest, ResendRequest, Reject, GapFill, Reset, Logout, BusinessReject, OrderReport}
+use Rattle.dialect.specs.Message.Content.{Logon, Heartbeat, TestRequest, ResendRequest, Reject, GapFill, Reset, Logout, BusinessReject, ExecutionReport}
 use Rattle.resend.specs.declared.judged.Judged.{Judged}
 use Rattle.resend.specs.declared.judged.Judged.TheVariants as judged
 use Rattle.resend.specs.Judging.{judged}
@@ -154,7 +154,7 @@ row due s number (GapFill new_number) = in_turn due s (gap_fill_row s number new
 row due s number (Reject refused) = in_turn due s (refused_row s (Some refused))
 row due s number (BusinessReject refused) = in_turn due s (refused_row s refused)
 row due s number Logout = logout_row s
-row due s number (OrderReport read) = in_turn due s (notes (report_note read) s)
+row due s number (ExecutionReport read) = in_turn due s (notes (report_note read) s)
 row due s number _ = in_turn due s (counts (quietly s))
 
 -- whether a resend request was written in this connection for the number that is still expected

@@ -3,7 +3,7 @@
 ghost use Rattle.std.specs.Prelude.{◌≡◌, ◌∷◌, [], codes, Some, None, Ok, Err, true, false};
 ghost use Rattle.dialect.specs.declared.fault.DialectFault.TheVariants.{NotMarked};
 ghost use Rattle.dialect.specs.declared.note.Note.TheVariants as note;
-ghost use Rattle.dialect.specs.Message.Content.{Logon, Heartbeat, TestRequest, ResendRequest, Reject, GapFill, Reset, Logout, BusinessReject, Order, OrderReport, Other};
+ghost use Rattle.dialect.specs.Message.Content.{Logon, Heartbeat, TestRequest, ResendRequest, Reject, GapFill, Reset, Logout, BusinessReject, Order, ExecutionReport, Other};
 ghost use Rattle.leg.specs.declared.leg_state.LegState.TheVariants.{Doubt, Taken, Withdrawn};
 ghost use Rattle.session_core.specs.declared.ended.Ended.TheVariants as ended;
 ghost use Rattle.session_core.specs.declared.phase.Phase.TheVariants as phase;
@@ -59,16 +59,16 @@ pub fn withdraws_what_is_asked_for_again()
 
 /// A note is counted when it is confirmed, and given up at the next message.
 pub fn notes_are_confirmed()
-    ensures report { (receive up (from_b 3 (OrderReport (Ok report)))).step.note ≡ Some (note.Report report) }
-    ensures unread { (receive up (from_b 3 (OrderReport (Err NotMarked)))).step.note ≡ Some (note.Unread NotMarked) }
+    ensures report { (receive up (from_b 3 (ExecutionReport (Ok report)))).step.note ≡ Some (note.Report report) }
+    ensures unread { (receive up (from_b 3 (ExecutionReport (Err NotMarked)))).step.note ≡ Some (note.Unread NotMarked) }
     ensures refused { (receive (sent up 1) (from_b 3 (Reject 3))).step.note ≡ Some (note.Refused leg.id) }
     ensures refused_by_business { (receive (sent up 1) (from_b 3 (BusinessReject (Some 3)))).step.note ≡ Some (note.Refused leg.id) }
     ensures refused_when_taken { (receive (heard (silent (sent up 1)).1 (from_b 3 (Heartbeat (Some (codes "F4"))) ∷ [])) (from_b 4 (Reject 3))).step.note ≡ Some (note.Refused leg.id) }
     ensures no_leg_refused { (receive up (from_b 3 (Reject 1))).step.note ≡ None }
     ensures no_number_refused { (receive up (from_b 3 (BusinessReject None))).session.expected ≡ 4 }
-    ensures not_counted { (receive up (from_b 3 (OrderReport (Ok report)))).session.expected ≡ 3 }
-    ensures counted { (confirm (receive up (from_b 3 (OrderReport (Ok report)))).session).expected ≡ 4 }
-    ensures given_up { (confirm (receive (receive up (from_b 3 (OrderReport (Ok report)))).session (again (from_b 2 (Heartbeat None)))).session).expected ≡ 3 }
+    ensures not_counted { (receive up (from_b 3 (ExecutionReport (Ok report)))).session.expected ≡ 3 }
+    ensures counted { (confirm (receive up (from_b 3 (ExecutionReport (Ok report)))).session).expected ≡ 4 }
+    ensures given_up { (confirm (receive (receive up (from_b 3 (ExecutionReport (Ok report)))).session (again (from_b 2 (Heartbeat None)))).session).expected ≡ 3 }
     ensures none_pending { confirm up ≡ up }
 {}
 
@@ -86,7 +86,7 @@ pub fn asks_for_what_is_missing()
     ensures gap_fill { written_of (receive up (from_b 5 (GapFill 9))) ≡ (3, ResendRequest 3 0) ∷ [] }
     ensures reject { written_of (receive (sent up 1) (from_b 5 (Reject 3))) ≡ (4, ResendRequest 3 0) ∷ [] }
     ensures business_reject { (receive (sent up 1) (from_b 5 (BusinessReject (Some 3)))).step.note ≡ None }
-    ensures report { (receive up (from_b 5 (OrderReport (Ok report)))).step.note ≡ None }
+    ensures report { (receive up (from_b 5 (ExecutionReport (Ok report)))).step.note ≡ None }
     ensures order { (receive up (from_b 5 (Order (Ok leg)))).session.expected ≡ 3 }
     ensures other { (receive up (from_b 5 Other)).session.expected ≡ 3 }
     ensures resend { written_of (receive up (from_b 5 (ResendRequest 1 0))) ≡ (1, GapFill 3) ∷ (3, ResendRequest 3 0) ∷ [] }

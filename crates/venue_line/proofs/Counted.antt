@@ -7,7 +7,7 @@ use Rattle.dialect.specs.declared.note.Note.{Note}
 use Rattle.dialect.specs.declared.note.Note.TheVariants as note
 use Rattle.dialect.specs.Addressed.{is_for}
 use Rattle.dialect.specs.Message.{Message, Content, is_logon}
-use Rattle.dialect.specs.Message.Content.{Logon, Heartbeat, TestRequest, ResendRequest, Reject, GapFill, Reset, Logout, BusinessReject, Order, OrderReport, Other}
+use Rattle.dialect.specs.Message.Content.{Logon, Heartbeat, TestRequest, ResendRequest, Reject, GapFill, Reset, Logout, BusinessReject, Order, ExecutionReport, Other}
 use Rattle.resend.specs.declared.judged.Judged.{Judged}
 use Rattle.resend.specs.declared.judged.Judged.TheVariants as judged
 use Rattle.resend.specs.Judging.{judged}
@@ -225,7 +225,7 @@ module _ (s : SessionParts) (still : s.current.pending ≡ false) where
     due_counted (BusinessReject None) = counts_on (BusinessReject None) (quietly s) refl start
     due_counted (BusinessReject (Some refused)) = by_refusal (BusinessReject (Some refused)) (leg_at refused s.log) refl
     due_counted Logout = stays q_logout
-    due_counted (OrderReport read) = gives_note (OrderReport read) (report_note read) refl
+    due_counted (ExecutionReport read) = gives_note (ExecutionReport read) (report_note read) refl
     due_counted (Reset new_number) = counts_on (Reset new_number) (quietly s) refl start
     due_counted (Order read) = counts_on (Order read) (quietly s) refl start
     due_counted Other = counts_on Other (quietly s) refl start
@@ -244,7 +244,7 @@ module _ (s : SessionParts) (still : s.current.pending ≡ false) where
   q_ahead number (GapFill new_number) = start
   q_ahead number (Reject refused) = start
   q_ahead number (BusinessReject refused) = start
-  q_ahead number (OrderReport read) = start
+  q_ahead number (ExecutionReport read) = start
   q_ahead number (Order read) = start
   q_ahead number Other = start
 

@@ -6,7 +6,7 @@ use Rattle.std.proofs.lemmas.List.Elements.{All-contains, Contains-append_cases}
 use Rattle.leg.specs.Numbered.{numbered}
 use Rattle.leg.proofs.Numbered.{numbered-append}
 use Rattle.dialect.specs.Message.{Content}
-use Rattle.dialect.specs.Message.Content.{Reject, GapFill, BusinessReject, Order, OrderReport}
+use Rattle.dialect.specs.Message.Content.{Reject, GapFill, BusinessReject, Order, ExecutionReport}
 use Rattle.resend.specs.Log.{Entry, leg_of}
 use Rattle.resend.specs.Log.Entry.{Admin, Sent}
 use Rattle.session_core.specs.Session.{next_out}
@@ -67,7 +67,7 @@ module _ (w : Line) (coming : Option Carried) (t : RuleState) (written : List Ca
 
   plain_more : (number : ℕ) (content : Content) → IsPlainSaid w.session.log w.exchange.own number content
       → IsPlainSaid w.session.log t.own number content
-  plain_more number (OrderReport read) plain = plain
+  plain_more number (ExecutionReport read) plain = plain
   plain_more number (Reject refused) plain = plain
   plain_more number (BusinessReject (Some refused)) plain = plain
   plain_more number (GapFill new_number) plain = record {
@@ -79,7 +79,7 @@ module _ (w : Line) (coming : Option Carried) (t : RuleState) (written : List Ca
 
   says_plain : (number : ℕ) (content : Content) → MaySay w.exchange coming t number content
       → IsPlainSaid w.session.log t.own number content
-  says_plain number (OrderReport read) says = says
+  says_plain number (ExecutionReport read) says = says
   says_plain number (Reject refused) says = may_refuse_other refused says
   says_plain number (BusinessReject (Some refused)) says = may_refuse_other refused says
   says_plain number (GapFill new_number) gap = gap

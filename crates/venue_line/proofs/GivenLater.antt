@@ -9,7 +9,7 @@ use Rattle.leg.specs.Numbered.{numbered}
 use Rattle.leg.specs.declared.leg.Leg.{Leg}
 use Rattle.dialect.specs.declared.note.Note.{Note}
 use Rattle.dialect.specs.Message.{Content}
-use Rattle.dialect.specs.Message.Content.{Reject, GapFill, BusinessReject, OrderReport}
+use Rattle.dialect.specs.Message.Content.{Reject, GapFill, BusinessReject, ExecutionReport}
 use Rattle.resend.specs.Log.{Entry, next_to_send, leg_of, leg_at}
 use Rattle.resend.specs.Log.Entry.{Admin, Sent}
 use Rattle.resend.specs.Later.{IsLater}
@@ -75,7 +75,7 @@ on_no_leg_later old new number later is = record {
 
 said_later : (old new : List Entry) (own : List (Option Content)) (number : ℕ) (content : Content) → IsLater old new
     → IsPlainSaid old own number content → IsPlainSaid new own number content
-said_later old new own number (OrderReport read) later plain = plain
+said_later old new own number (ExecutionReport read) later plain = plain
 said_later old new own number (Reject refused) later plain = on_no_leg_later old new refused later plain
 said_later old new own number (BusinessReject (Some refused)) later plain = on_no_leg_later old new refused later plain
 said_later old new own number (GapFill new_number) later plain = plain
@@ -188,7 +188,7 @@ no_leg_has_no_note log number note no_leg is =
 
 pub plain_has_no_note : (log : List Entry) (own : List (Option Content)) (number : ℕ) (content : Content) (note : Note)
     → IsPlainSaid log own number content → note_for log content ≡ Some note → ⊥
-plain_has_no_note log own number (OrderReport read) note plain is = plain
+plain_has_no_note log own number (ExecutionReport read) note plain is = plain
 plain_has_no_note log own number (Reject refused) note plain is =
     no_leg_has_no_note log refused note plain is
 plain_has_no_note log own number (BusinessReject (Some refused)) note plain is =

@@ -6,7 +6,7 @@ use Rattle.std.proofs.lemmas.List.Elements.{All-contains}
 use Rattle.std.proofs.lemmas.Option.{same_Some, slice_get_within, get_or_from_slice_get}
 use Rattle.leg.specs.Numbered.{numbered}
 use Rattle.dialect.specs.Message.{Content}
-use Rattle.dialect.specs.Message.Content.{Logon, ResendRequest, Reject, BusinessReject, OrderReport}
+use Rattle.dialect.specs.Message.Content.{Logon, ResendRequest, Reject, BusinessReject, ExecutionReport}
 use Rattle.exchange_core.specs.Acceptance.{Carried, RuleState, MayKeep, MayWrite, MaySay, May, TellsExpected}
 use Rattle.venue_line.specs.Copies.{told_by, IsReportOrRefusal}
 
@@ -29,7 +29,7 @@ numbered_contains (suc n) xs x is = slice_get_contains n xs x is
 
 keeps_report : (s : RuleState) (coming : Option Carried) (t : RuleState) (content : Content)
     → MayKeep s coming t (Some content) → IsReportOrRefusal content
-keeps_report s coming t (OrderReport (Ok report)) may = tt
+keeps_report s coming t (ExecutionReport (Ok report)) may = tt
 keeps_report s coming t (Reject number) may = tt
 keeps_report s coming t (BusinessReject (Some number)) may = tt
 keeps_report s coming t (BusinessReject None) may = tt

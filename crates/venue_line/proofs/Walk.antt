@@ -18,7 +18,7 @@ use Rattle.resend.specs.declared.judged.Judged.{Judged}
 use Rattle.resend.specs.declared.judged.Judged.TheVariants as judged
 use Rattle.resend.specs.Judging.{judged}
 use Rattle.dialect.specs.Message.{Message, Content, is_logon}
-use Rattle.dialect.specs.Message.Content.{Logon, Heartbeat, TestRequest, ResendRequest, Reject, GapFill, Reset, Logout, BusinessReject, Order, OrderReport, Other}
+use Rattle.dialect.specs.Message.Content.{Logon, Heartbeat, TestRequest, ResendRequest, Reject, GapFill, Reset, Logout, BusinessReject, Order, ExecutionReport, Other}
 use Rattle.resend.specs.Log.{GapFillParts, last_number, leg_at, fill_for}
 use Rattle.resend.specs.Later.{IsFillFor}
 use Rattle.resend.proofs.Ranges.{fill_is_for}
@@ -341,7 +341,7 @@ module _ (I : Line → Type 0) (parts : Parts I) (a : Line) where
     row_kept due number (Reject refused) heard = turned due _ (refused_kept (Some refused))
     row_kept due number (BusinessReject refused) heard = turned due _ (refused_kept refused)
     row_kept due number Logout heard = logout_kept heard
-    row_kept due number (OrderReport read) heard = turned due _ (noted_row (report_note read))
+    row_kept due number (ExecutionReport read) heard = turned due _ (noted_row (report_note read))
     row_kept due number (Reset new_number) heard = turned due _ (counted (quietly a.session) start)
     row_kept due number (Order read) heard = turned due _ (counted (quietly a.session) start)
     row_kept due number Other heard = turned due _ (counted (quietly a.session) start)

@@ -6,7 +6,7 @@ use Rattle.leg.specs.declared.leg.Leg.{Leg}
 use Rattle.leg.specs.declared.leg_state.LegState.TheVariants.{Withdrawn}
 use Rattle.dialect.specs.declared.fault.DialectFault.{DialectFault}
 use Rattle.dialect.specs.Message.{Content}
-use Rattle.dialect.specs.Message.Content.{Logon, ResendRequest, Reject, BusinessReject, Order, OrderReport}
+use Rattle.dialect.specs.Message.Content.{Logon, ResendRequest, Reject, BusinessReject, Order, ExecutionReport}
 use Rattle.resend.specs.Log.{Entry, SentLeg}
 use Rattle.resend.specs.Log.Entry.{Sent}
 use Rattle.session_core.specs.declared.phase.Phase.{Phase}
@@ -43,8 +43,8 @@ told_by content = None
 
 -- what an own number of an exchange may carry
 abbrev pub IsReportOrRefusal : Content → Type 0
-IsReportOrRefusal (OrderReport (Ok report)) = Unit {0}
-IsReportOrRefusal (OrderReport (Err fault)) = ⊥
+IsReportOrRefusal (ExecutionReport (Ok report)) = Unit {0}
+IsReportOrRefusal (ExecutionReport (Err fault)) = ⊥
 IsReportOrRefusal (Reject number) = Unit {0}
 IsReportOrRefusal (BusinessReject number) = Unit {0}
 IsReportOrRefusal content = ⊥

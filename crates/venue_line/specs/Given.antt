@@ -3,7 +3,7 @@ use Rattle.std.specs.Prelude.{◌≡◌, ◌<◌, ◌⊎◌, ℕ, suc, false, Li
 use Rattle.std.specs.List.{Contains}
 use Rattle.leg.specs.Numbered.{numbered}
 use Rattle.dialect.specs.Message.{Content}
-use Rattle.dialect.specs.Message.Content.{Reject, GapFill, BusinessReject, OrderReport}
+use Rattle.dialect.specs.Message.Content.{Reject, GapFill, BusinessReject, ExecutionReport}
 use Rattle.resend.specs.Log.{Entry, next_to_send, leg_at}
 use Rattle.exchange_core.specs.Acceptance.{Carried, IsGap}
 use Rattle.venue_line.specs.Line.{Line}
@@ -16,7 +16,7 @@ pub record IsOnNoLeg (log : List Entry) (number : ℕ) : Type 0 where
 
 -- what is said under a number that carries nothing
 abbrev pub IsPlainSaid : List Entry → List (Option Content) → ℕ → Content → Type 0
-IsPlainSaid log own number (OrderReport read) = ⊥
+IsPlainSaid log own number (ExecutionReport read) = ⊥
 IsPlainSaid log own number (Reject refused) = IsOnNoLeg log refused
 IsPlainSaid log own number (BusinessReject (Some refused)) = IsOnNoLeg log refused
 IsPlainSaid log own number (GapFill new_number) = IsGap own number new_number

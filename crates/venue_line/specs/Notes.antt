@@ -4,7 +4,7 @@ use Rattle.leg.specs.LegId.{LegIdParts}
 use Rattle.dialect.specs.declared.note.Note.{Note}
 use Rattle.dialect.specs.declared.note.Note.TheVariants as note
 use Rattle.dialect.specs.Message.{Content}
-use Rattle.dialect.specs.Message.Content.{Reject, BusinessReject, OrderReport}
+use Rattle.dialect.specs.Message.Content.{Reject, BusinessReject, ExecutionReport}
 use Rattle.resend.specs.Log.{Entry, leg_at}
 use Rattle.session_core.specs.Receiving.{report_note}
 use Rattle.venue_line.specs.Line.{noted}
@@ -16,7 +16,7 @@ refusal_note (Some id) = Some (note.Refused id)
 
 -- the note of a message, if it has one: a report's, or that of a refusal of a leg's number
 abbrev pub note_for : List Entry → Content → Option Note
-note_for log (OrderReport read) = Some (report_note read)
+note_for log (ExecutionReport read) = Some (report_note read)
 note_for log (Reject number) = refusal_note (leg_at number log)
 note_for log (BusinessReject (Some number)) = refusal_note (leg_at number log)
 note_for log content = None
