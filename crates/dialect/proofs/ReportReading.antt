@@ -2,6 +2,7 @@
 use Rattle.std.proofs.Common.{◌≡◌, ◌==◌, ℕ, Bool, true, false, cond, List, [], ◌∷◌, Option, Some, Result, Ok, Err, IfOk, refl, sym, ap, subst, ◌∙◌}
 use Rattle.std.proofs.lemmas.Bool.{eqb-true, leb-true, and_parts}
 use Rattle.std.proofs.lemmas.Option.{cond_some, option_and_then_some}
+use Rattle.fix_text.specs.Then.{◌>>=◌}
 use Rattle.fix_text.specs.Tagged.{Tagged, value_of}
 use Rattle.fix_tags.specs.Shares.{shares_of}
 use Rattle.leg.specs.LegId.{LegIdParts}
@@ -10,7 +11,7 @@ use Rattle.dialect.specs.declared.fault.DialectFault.{DialectFault}
 use Rattle.dialect.specs.declared.report.Report.{Report}
 use Rattle.dialect.specs.declared.report.ReportKind.{ReportKind}
 use Rattle.dialect.specs.declared.report.ReportKind.TheVariants.{New, Trade, Canceled, Rejected, Expired, Bust}
-use Rattle.dialect.specs.Fields.{◌>>=◌, required, required_as, ReadsAs}
+use Rattle.dialect.specs.Fields.{required, required_as, ReadsAs}
 use Rattle.dialect.specs.Fill.{FillParts, IsFill}
 use Rattle.dialect.specs.FreeText.{IsFreeText, free_text_of}
 use Rattle.dialect.specs.Limit.{order_shares_of}

@@ -29,17 +29,7 @@ pub data Content : Type 0 where
 -- whether it is a Logon
 abbrev pub is_logon : Content → Bool
 is_logon (Logon heart reset next) = true
-is_logon (Heartbeat id) = false
-is_logon (TestRequest id) = false
-is_logon (ResendRequest begin last) = false
-is_logon (Reject number) = false
-is_logon (GapFill new_number) = false
-is_logon (Reset new_number) = false
-is_logon Logout = false
-is_logon (BusinessReject number) = false
-is_logon (Order read) = false
-is_logon (ExecutionReport read) = false
-is_logon Other = false
+is_logon _ = false
 
 pub record Message : Type 0 where
   -- SenderCompID (49) and TargetCompID (56)
