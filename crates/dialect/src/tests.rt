@@ -3,6 +3,7 @@
 mod any;
 mod faults;
 mod laws;
+mod messages;
 mod orders;
 mod others;
 mod parts;

@@ -30,7 +30,7 @@ const EXPIRED: &[u8] = b"37=O1|17=E3|150=C|39=C|11=S1L1|55=BRK.B|54=1|151=0|14=6
 const BUST: &[u8] = b"37=O1|17=E4|19=E2|150=H|39=4|11=S1L1|55=BRK.B|54=1|151=0|14=0|6=0|";
 
 /// Buys 100 of BRK.B at 10.25 dollars, as leg 1 of sweep 1.
-fn leg() -> Option<Leg>
+pub(super) fn leg() -> Option<Leg>
     ensures { IfSome result (λ leg. leg.id ≡ record { sweep = 1; place = 1 }) }
 {
     let symbol = Symbol::new(b"BRK", b"B").ok()?;
@@ -39,17 +39,17 @@ fn leg() -> Option<Leg>
     Some(Leg { id, terms })
 }
 
-fn trade(shares: u64, px: &[u8]) -> Option<ReportKind> {
+pub(super) fn trade(shares: u64, px: &[u8]) -> Option<ReportKind> {
     let px = LastPx::new(px)?;
     Some(ReportKind::Trade(Fill::new(shares, px)?))
 }
 
-fn bust(cancelled_id: &[u8]) -> Option<ReportKind> {
+pub(super) fn bust(cancelled_id: &[u8]) -> Option<ReportKind> {
     let cancelled_id = ExecId::new(cancelled_id)?;
     Some(ReportKind::Bust { cancelled_id })
 }
 
-fn report(exec: &[u8], kind: ReportKind) -> Option<Report>
+pub(super) fn report(exec: &[u8], kind: ReportKind) -> Option<Report>
     ensures { IfSome result (λ report. report.id ≡ record { sweep = 1; place = 1 }) }
 {
     let exec = ExecId::new(exec)?;
