@@ -11,8 +11,8 @@ number_after n [] = n
 number_after n (digit ∷ digits) = number_after (10 * n + (digit - 48)) digits
 
 -- the number that decimal digits write
-abbrev pub number_of : List ℕ → ℕ
-number_of digits = number_after 0 digits
+abbrev pub digits_number : List ℕ → ℕ
+digits_number digits = number_after 0 digits
 
 -- `8=FIX.4.4|9=`, with `|` for SOH
 abbrev pub opening : List ℕ
@@ -30,7 +30,7 @@ trailer_of check = codes "10=" ++ (check ++ 1 ∷ [])
 pub record IsLength (digits : List ℕ) (n : ℕ) : Type 0 where
   pub few : length digits ≤ 6
   pub each : IsTrue (all_ascii_digits digits)
-  pub value : number_of digits ≡ n
+  pub value : digits_number digits ≡ n
   pub positive : 0 < n
   pub bound : n ≤ 4096
 
@@ -43,7 +43,7 @@ pub record EndsInSoh (bytes : List ℕ) : Type 0 where
 pub record IsCheck (digits : List ℕ) (n : ℕ) : Type 0 where
   pub three : length digits ≡ 3
   pub each : IsTrue (all_ascii_digits digits)
-  pub value : number_of digits ≡ n
+  pub value : digits_number digits ≡ n
 
 -- a frame, valid or not: the header, a body of the length that it says, whose last byte is SOH, and the trailer
 pub record IsFrame (bytes : List ℕ) : Type 0 where

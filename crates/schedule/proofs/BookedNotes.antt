@@ -9,7 +9,7 @@ use Rattle.leg.specs.Numbered.{numbered}
 use Rattle.leg.specs.declared.placed_leg.PlacedLeg.{PlacedLeg}
 use Rattle.leg.specs.declared.sweep.Routed.{Routed}
 use Rattle.dialect.specs.declared.note.Note.{Note}
-use Rattle.dialect.specs.Message.{Message}
+use Rattle.dialect.specs.declared.message.Message.{Message}
 use Rattle.session_core.specs.declared.session_fault.SessionFault.TheVariants.{NotDown, Closed, NumbersSpent, OutOfMemory, NotUp, OrdinalNotGreater, NotConnected}
 use Rattle.session_core.specs.Session.{is_connected}
 use Rattle.session_core.specs.Turn.{StepParts}
@@ -17,7 +17,7 @@ use Rattle.session_core.specs.Receiving.{receive}
 use Rattle.session_core.specs.Calling.{SessionAnswer, connect, send_leg, quiet, silent, close, broken}
 use Rattle.exchange_core.specs.Exchange.{ExchangeParts, live_connection}
 use Rattle.exchange_core.specs.Acts.{ActAnswer}
-use Rattle.dialect.specs.Outgoing.{Outgoing}
+use Rattle.dialect.specs.declared.outgoing.Outgoing.{Outgoing}
 use Rattle.exchange_core.proofs.Entries.{chosen}
 use Rattle.share_ledger.specs.declared.book_entry.BookEntry.{BookEntry}
 use Rattle.share_ledger.specs.declared.book_entry.BookEntry.TheVariants.{Opened, Withdrawn, Moved}

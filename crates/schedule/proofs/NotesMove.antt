@@ -17,7 +17,7 @@ use Rattle.leg.specs.declared.sweep.Routed.{Routed}
 use Rattle.dialect.specs.declared.note.Note.{Note}
 use Rattle.dialect.specs.declared.note.Note.TheVariants as note
 use Rattle.dialect.specs.declared.report.Report.{Report}
-use Rattle.dialect.specs.Message.{Message}
+use Rattle.dialect.specs.declared.message.Message.{Message}
 use Rattle.session_core.specs.Receiving.{receive, confirm}
 use Rattle.exchange_core.specs.Own.{Own, Admin, Reported, Refused, exec_id}
 use Rattle.exchange_core.specs.Exchange.{ExchangeParts, accepted_by}

@@ -10,7 +10,9 @@ use Rattle.leg.specs.declared.leg.Leg.{Leg}
 use Rattle.dialect.specs.declared.report.Report.{Report}
 use Rattle.dialect.specs.declared.report.ReportKind.{ReportKind}
 use Rattle.dialect.specs.declared.report.ReportKind.TheVariants.{New}
-use Rattle.dialect.specs.Message.{Message, Content, TestRequest, GapFill, Logout, Order}
+use Rattle.dialect.specs.declared.content.Content.{Content}
+use Rattle.dialect.specs.declared.content.Content.TheVariants.{TestRequest, GapFill, Logout, Order}
+use Rattle.dialect.specs.declared.message.Message.{Message}
 use Rattle.exchange_core.specs.Order.{OrderParts, new_order, view_of}
 use Rattle.exchange_core.specs.Own.{Own, Admin, Reported, Refused, next_own_number, has_numbers, report_count, next_exec}
 use Rattle.exchange_core.specs.Exchange.{LiveConnection, ExchangeParts, new_exchange, accepted_by, next_report, logon_answer, with_connection, due_taken, asks, take, drop_connection}

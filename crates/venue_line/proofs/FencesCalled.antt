@@ -8,8 +8,8 @@ use Rattle.leg.specs.Numbered.{numbered}
 use Rattle.leg.proofs.Numbered.{numbered-append}
 use Rattle.leg.specs.declared.leg_state.LegState.TheVariants.{Queued, Doubt, Taken, Withdrawn}
 use Rattle.dialect.specs.declared.note.Note.{Note}
-use Rattle.dialect.specs.Message.{Content}
-use Rattle.dialect.specs.Message.Content.{TestRequest, GapFill}
+use Rattle.dialect.specs.declared.content.Content.{Content}
+use Rattle.dialect.specs.declared.content.Content.TheVariants.{TestRequest, GapFill}
 use Rattle.resend.specs.Log.{Entry, SentLeg, take_below, give_up_from}
 use Rattle.resend.specs.Log.Entry.{Admin, Sent}
 use Rattle.resend.proofs.Later.{later-take_below, length-settled_where}

@@ -7,8 +7,8 @@ use Rattle.std.proofs.lemmas.Fmt.{decimal_injective}
 use Rattle.std.proofs.lemmas.List.Elements.{All-contains, Contains-append_cases}
 use Rattle.leg.specs.declared.leg_state.LegState.{LegState}
 use Rattle.leg.specs.declared.leg_state.LegState.TheVariants.{Queued, Doubt, Taken, Withdrawn}
-use Rattle.dialect.specs.Message.{Content}
-use Rattle.dialect.specs.Message.Content.{Heartbeat}
+use Rattle.dialect.specs.declared.content.Content.{Content}
+use Rattle.dialect.specs.declared.content.Content.TheVariants.{Heartbeat}
 use Rattle.resend.specs.Log.{SentLeg}
 use Rattle.session_core.specs.Session.{next_out}
 use Rattle.session_core.specs.Turn.{fence_id}

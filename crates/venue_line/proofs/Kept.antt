@@ -5,8 +5,8 @@ use Rattle.std.specs.List.{Contains}
 use Rattle.std.proofs.lemmas.List.Elements.{All-contains}
 use Rattle.std.proofs.lemmas.Option.{same_Some, slice_get_within, get_or_from_slice_get}
 use Rattle.leg.specs.Numbered.{numbered}
-use Rattle.dialect.specs.Message.{Content}
-use Rattle.dialect.specs.Message.Content.{Logon, ResendRequest, Reject, BusinessReject, ExecutionReport}
+use Rattle.dialect.specs.declared.content.Content.{Content}
+use Rattle.dialect.specs.declared.content.Content.TheVariants.{Logon, ResendRequest, Reject, BusinessReject, ExecutionReport}
 use Rattle.exchange_core.specs.Acceptance.{Carried, RuleState, MayKeep, MayWrite, MaySay, May, TellsExpected}
 use Rattle.venue_line.specs.Copies.{told_by, IsReportOrRefusal}
 

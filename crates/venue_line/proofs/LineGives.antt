@@ -11,7 +11,7 @@ use Rattle.leg.specs.Numbered.{numbered}
 use Rattle.leg.specs.declared.leg.Leg.{Leg}
 use Rattle.leg.specs.declared.leg_state.LegState.{LegState}
 use Rattle.leg.specs.declared.leg_state.LegState.TheVariants.{Doubt, Taken, Withdrawn}
-use Rattle.dialect.specs.Message.Content.{Order, Other}
+use Rattle.dialect.specs.declared.content.Content.TheVariants.{Order, Other}
 use Rattle.resend.specs.Log.{Entry, SentLeg, state_of}
 use Rattle.resend.specs.Log.Entry.{Admin, Sent}
 use Rattle.session_core.specs.Session.{leg_state}

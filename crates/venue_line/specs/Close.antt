@@ -2,7 +2,7 @@
 use Rattle.std.specs.Prelude.{◌≡◌, ◌<◌, ℕ, List, length, Some, None}
 use Rattle.std.specs.List.{Contains}
 use Rattle.leg.specs.declared.leg_state.LegState.TheVariants.{Doubt}
-use Rattle.dialect.specs.Message.Content.{Logout}
+use Rattle.dialect.specs.declared.content.Content.TheVariants.{Logout}
 use Rattle.resend.specs.Log.{Entry, SentLeg}
 use Rattle.session_core.specs.declared.phase.Phase.{Phase}
 use Rattle.session_core.specs.declared.phase.Phase.TheVariants as phase

@@ -5,8 +5,8 @@ use Rattle.leg.specs.Numbered.{numbered}
 use Rattle.leg.specs.declared.leg.Leg.{Leg}
 use Rattle.leg.specs.declared.leg_state.LegState.TheVariants.{Withdrawn}
 use Rattle.dialect.specs.declared.fault.DialectFault.{DialectFault}
-use Rattle.dialect.specs.Message.{Content}
-use Rattle.dialect.specs.Message.Content.{Logon, ResendRequest, Reject, BusinessReject, Order, ExecutionReport}
+use Rattle.dialect.specs.declared.content.Content.{Content}
+use Rattle.dialect.specs.declared.content.Content.TheVariants.{Logon, ResendRequest, Reject, BusinessReject, Order, ExecutionReport}
 use Rattle.resend.specs.Log.{Entry, SentLeg}
 use Rattle.resend.specs.Log.Entry.{Sent}
 use Rattle.session_core.specs.declared.phase.Phase.{Phase}
