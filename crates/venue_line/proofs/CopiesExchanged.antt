@@ -26,7 +26,8 @@ pub record IsNow (w : Line) (m : Carried) : Type 0 where
   pub number : m.number ≡ w.exchange.intake.expected
 
 passed_at-le : (number expected : ℕ) → expected ≤ passed_at number expected
-passed_at-le number expected = chosen (λ e. expected ≤ e) (number == expected) (suc expected) expected (λ due. omega arith) (λ ahead. omega arith)
+passed_at-le number expected = chosen (λ e. expected ≤ e) (number == expected) (suc expected) expected
+    (λ due. omega arith) (λ ahead. omega arith)
 
 logon_passed : (number expected passed : ℕ) → expected ≤ passed → passed < passed_at number expected → number ≡ passed
 logon_passed number expected passed =
@@ -46,8 +47,10 @@ rises a b = a.number < b.number
 -- how a number was passed in this step: its order was accepted, a gap fill stands for it, or its message is neither
 pub data PassedBy (w : Line) (taken : List Carried) (number : ℕ) : Type 0 where
   accepting : IsTaken taken number → PassedBy w taken number
-  filling : (m : Carried) (new_number : ℕ) → Contains w.to_exchange m → m.number ≡ w.exchange.intake.expected → m.content ≡ GapFill new_number → number < new_number → PassedBy w taken number
-  passing : (m : Carried) → Contains w.to_exchange m → m.number ≡ number → (IsLegFrame m.content → ⊥) → PassedBy w taken number
+  filling : (m : Carried) (new_number : ℕ) → Contains w.to_exchange m → m.number ≡ w.exchange.intake.expected
+      → m.content ≡ GapFill new_number → number < new_number → PassedBy w taken number
+  passing : (m : Carried) → Contains w.to_exchange m → m.number ≡ number → (IsLegFrame m.content → ⊥)
+      → PassedBy w taken number
 
 -- what an exchange has accepted after it moved
 pub record Accepts (w : Line) (before : List Carried) (t : Intake) : Type 0 where
@@ -65,8 +68,10 @@ module _ (w : Line) (before : List Carried) (c : Copies before w) where
   by_move t u is accepts = subst (Accepts w before) (sym is) accepts
 
   -- a move that accepts nothing
-  accepts_none : (t : Intake) → t.accepted ≡ w.exchange.intake.accepted → w.exchange.intake.expected ≤ t.expected → t.last ≤ w.session.connection
-      → ((number : ℕ) → w.exchange.intake.expected ≤ number → number < t.expected → PassedBy w before number) → Accepts w before t
+  accepts_none : (t : Intake) → t.accepted ≡ w.exchange.intake.accepted → w.exchange.intake.expected ≤ t.expected
+      → t.last ≤ w.session.connection
+      → ((number : ℕ) → w.exchange.intake.expected ≤ number → number < t.expected → PassedBy w before number)
+      → Accepts w before t
   accepts_none t same forward known numbers = record {
     taken = before;
     accepted = ap (map order_of) same ∙ c.accepted;
@@ -78,8 +83,14 @@ module _ (w : Line) (before : List Carried) (c : Copies before w) where
     numbers = numbers;
   }
 
-  accepts_order : (m : Carried) (leg : Leg) → IsDue w.exchange.intake m → Contains w.to_exchange m → m.content ≡ Order (Ok leg)
-      → Accepts w before (record w.exchange.intake { expected = suc w.exchange.intake.expected; accepted = w.exchange.intake.accepted ++ leg ∷ [] })
+  accepts_order : (m : Carried) (leg : Leg) → IsDue w.exchange.intake m → Contains w.to_exchange m
+      → m.content ≡ Order (Ok leg)
+      → Accepts w before
+      (record w.exchange.intake {
+        expected = suc w.exchange.intake.expected;
+        accepted = w.exchange.intake.accepted
+            ++ leg ∷ [];
+      })
   accepts_order m leg due there is = record {
     taken = before ++ m ∷ [];
     accepted =
@@ -90,9 +101,18 @@ module _ (w : Line) (before : List Carried) (c : Copies before w) where
     from = λ x in'.
         elim (Contains-push_cases before m x in') [
           | inl old ↦ inl old
-          | inr new ↦ inr (subst (IsNow w) new (record { written = there; order = subst IsOrder (sym is) tt; connection = (c.live_is_last m.connection due.live).same; number = due.number }))
+          | inr new ↦
+              inr (subst (IsNow w) new
+              (record {
+                written = there;
+                order = subst IsOrder (sym is) tt;
+                connection =
+                    (c.live_is_last m.connection due.live).same;
+                number = due.number;
+              }))
         ];
-    rise = all_pairs_push rises before m c.taken_rise (λ k d within. (let low = c.taken_passed _ (Contains-get_or before k d within) in omega (arith, due.number)));
+    rise = all_pairs_push rises before m c.taken_rise
+        (λ k d within. (let low = c.taken_passed _ (Contains-get_or before k d within) in omega (arith, due.number)));
     passed = λ x in'.
         elim (Contains-push_cases before m x in') [
           | inl old ↦ (let low = c.taken_passed x old in omega arith)
@@ -100,7 +120,9 @@ module _ (w : Line) (before : List Carried) (c : Copies before w) where
         ];
     on = λ x in'. Contains-append_left before (m ∷ []) x in';
     known = c.last_known;
-    numbers = λ number low high. accepting (record { message = m; there = Contains-push before m; under = (let same = due.number in omega arith) });
+    numbers =
+        λ number low high. accepting
+        (record { message = m; there = Contains-push before m; under = (let same = due.number in omega arith) });
   }
 
   -- that the live connection ends then accepts nothing more
@@ -116,31 +138,48 @@ module _ (w : Line) (before : List Carried) (c : Copies before w) where
     numbers = after.numbers;
   }
 
-  accepts_takes : (m : Carried) (t : Intake) → Contains w.to_exchange m → Takes w.exchange.intake m t → Accepts w before t
+  accepts_takes : (m : Carried) (t : Intake) → Contains w.to_exchange m → Takes w.exchange.intake m t
+      → Accepts w before t
   accepts_takes m t there (rules.new_logon is after) =
-      by_move t _ after (accepts_none _ refl (passed_at-le m.number w.exchange.intake.expected) (c.written_before m there)
-      (λ number low high. passing m there (logon_passed m.number w.exchange.intake.expected number low high) (λ leg. subst IsLegFrame is.says leg)))
+      by_move t _ after
+      (accepts_none _ refl (passed_at-le m.number w.exchange.intake.expected) (c.written_before m there)
+      (λ number low high. passing m there (logon_passed m.number w.exchange.intake.expected number low high)
+      (λ leg. subst IsLegFrame is.says leg)))
   accepts_takes m t there (rules.order due leg is after) = by_move t _ after (accepts_order m leg due there is)
   accepts_takes m t there (rules.fill due new_number is after) =
-      by_move t _ after (accepts_none _ refl (omega arith) c.last_known (λ number low high. filling m new_number there due.number is (omega arith)))
+      by_move t _ after
+      (accepts_none _ refl (omega arith) c.last_known
+      (λ number low high. filling m new_number there due.number is (omega arith)))
   accepts_takes m t there (rules.logout due is after) =
-      by_move t _ after (accepts_none _ refl (omega arith) c.last_known (λ number low high. passing m there (let same = due.number in omega arith) (λ leg. subst IsLegFrame is leg)))
+      by_move t _ after
+      (accepts_none _ refl (omega arith) c.last_known
+      (λ number low high. passing m there (let same = due.number in omega arith) (λ leg. subst IsLegFrame is leg)))
   accepts_takes m t there (rules.other due is after) =
-      by_move t _ after (accepts_none _ refl (omega arith) c.last_known (λ number low high. passing m there (let same = due.number in omega arith) (other_is_no_leg m.content is)))
+      by_move t _ after
+      (accepts_none _ refl (omega arith) c.last_known
+      (λ number low high. passing m there (let same = due.number in omega arith) (other_is_no_leg m.content is)))
 
-  accepts_moves : (coming : Option Carried) (t : Intake) → IfSome coming (Contains w.to_exchange) → MayMove w.exchange.intake coming t → Accepts w before t
-  accepts_moves coming t there (rules.stays after) = by_move t _ after (accepts_none w.exchange.intake refl (omega arith) c.last_known (λ number low high. absurd (omega arith)))
-  accepts_moves coming t there (rules.drops after) = by_move t _ after (accepts_none _ refl (omega arith) c.last_known (λ number low high. absurd (omega arith)))
+  accepts_moves : (coming : Option Carried) (t : Intake) → IfSome coming (Contains w.to_exchange)
+      → MayMove w.exchange.intake coming t → Accepts w before t
+  accepts_moves coming t there (rules.stays after) = by_move t _ after
+      (accepts_none w.exchange.intake refl (omega arith) c.last_known (λ number low high. absurd (omega arith)))
+  accepts_moves coming t there (rules.drops after) = by_move t _ after
+      (accepts_none _ refl (omega arith) c.last_known (λ number low high. absurd (omega arith)))
   accepts_moves coming t there (rules.takes_and_drops m came u is after) =
-      by_move t _ after (accepts_dropped u (accepts_takes m u (subst (λ o. IfSome o (Contains w.to_exchange)) came there) is))
-  accepts_moves coming t there (rules.takes m came is) = accepts_takes m t (subst (λ o. IfSome o (Contains w.to_exchange)) came there) is
+      by_move t _ after
+      (accepts_dropped u (accepts_takes m u (subst (λ o. IfSome o (Contains w.to_exchange)) came there) is))
+  accepts_moves coming t there (rules.takes m came is) =
+      accepts_takes m t (subst (λ o. IfSome o (Contains w.to_exchange)) came there) is
 
-pub accepts_step : (w : Line) (before : List Carried) (coming : Option Carried) (t : RuleState) (written : List Carried) → IfSome coming (Contains w.to_exchange) → May w.exchange coming t written
+pub accepts_step : (w : Line) (before : List Carried) (coming : Option Carried) (t : RuleState) (written : List Carried)
+    → IfSome coming (Contains w.to_exchange) → May w.exchange coming t written
     → Copies before w → Accepts w before t.intake
 accepts_step w before coming t written there step c = accepts_moves w before c coming t.intake there step.moves
 
-pub copies_exchanged : (w : Line) (before : List Carried) (coming : Option Carried) (t : RuleState) (written : List Carried) (there : IfSome coming (Contains w.to_exchange)) (step : May w.exchange coming t written)
-    → Copies before w → (after : Accepts w before t.intake) → Copies after.taken (record w { exchange = t; from_exchange = w.from_exchange ++ written })
+pub copies_exchanged : (w : Line) (before : List Carried) (coming : Option Carried) (t : RuleState)
+    (written : List Carried) (there : IfSome coming (Contains w.to_exchange)) (step : May w.exchange coming t written)
+    → Copies before w → (after : Accepts w before t.intake)
+    → Copies after.taken (record w { exchange = t; from_exchange = w.from_exchange ++ written })
 copies_exchanged w before coming t written there step c after =
     let forward = moves_forward w.exchange.intake coming t.intake step.moves in
     let carries = own_kept w.exchange coming t written step c.own_carries in
@@ -173,7 +212,8 @@ copies_exchanged w before coming t written there step c after =
                   | inr now ↦ (let known = c.answers_known m old in omega (arith, now.connection))
                 ]
             | inr new ↦
-                (let expected = written_tells w.exchange coming t m told carries (All-contains (MayWrite w.exchange coming t) written m step.writes new) says in
+                (let expected = written_tells w.exchange coming t m told carries
+                (All-contains (MayWrite w.exchange coming t) written m step.writes new) says in
                 let passed = after.passed order taken in
                 absurd (omega arith))
           ];
@@ -181,7 +221,11 @@ copies_exchanged w before coming t written there step c after =
       withdrawn_not_taken = λ leg m is gone in'.
           elim (after.from m in') [
             | inl old ↦ c.withdrawn_not_taken leg m is gone old
-            | inr now ↦ (let old = c.withdrawn_is_old leg m is gone now.written now.order in absurd (omega (arith, now.connection)))
+            | inr now ↦
+                (let old = c.withdrawn_is_old leg m is gone now.written now.order in
+                absurd (omega (arith, now.connection)))
           ];
-      withdrawn_is_old = λ leg m is gone in' order. (let old = c.withdrawn_is_old leg m is gone in' order in omega (arith, forward.last));
+      withdrawn_is_old =
+          λ leg m is gone in' order.
+          (let old = c.withdrawn_is_old leg m is gone in' order in omega (arith, forward.last));
     }

@@ -26,11 +26,12 @@ abbrev pub order_message : SessionParts → Leg → Message
 order_message s leg = message_of s.config (next_out s) false (Order (Ok leg))
 
 -- what a leg that is sent is: in phase Up, under the next number
-pub record IsSending (s : SessionParts) (ordinal : ℕ) (leg : Leg) (message : Message) (after : SessionParts) : Type 0 where
-  pub up : s.phase ≡ phase.Up
-  pub message_is : message ≡ order_message s leg
-  pub after_is : after ≡ sending s ordinal leg
-  pub may : may_write s ≡ true
+pub record IsSending (s : SessionParts) (ordinal : ℕ) (leg : Leg) (message : Message) (after : SessionParts) : Type 0
+  where
+    pub up : s.phase ≡ phase.Up
+    pub message_is : message ≡ order_message s leg
+    pub after_is : after ≡ sending s ordinal leg
+    pub may : may_write s ≡ true
 
 abbrev answered : Message → Result Message SessionFault
 answered message = Ok message
@@ -43,7 +44,8 @@ same_Ok : (x y : Message) → answered x ≡ answered y → x ≡ y
 same_Ok x y e = cc
 
 sent_up : (above left : Bool) (s made after : SessionParts) (sent message : Message)
-    → (if not above then refuses fault.OrdinalNotGreater s else (if left then (Ok sent, made) else refuses fault.NumbersSpent s))
+    → (if not above then refuses fault.OrdinalNotGreater s
+    else (if left then (Ok sent, made) else refuses fault.NumbersSpent s))
     ≡ (Ok message, after)
     → (message ≡ sent) × (after ≡ made) × (left ≡ true)
 sent_up true true s made after sent message is = (
@@ -57,7 +59,8 @@ sent_up false left s made after sent message is = absurd (not_sent fault.Ordinal
 sent_in : (now : Phase) (s : SessionParts) (ordinal : ℕ) (leg : Leg) (message : Message) (after : SessionParts)
     → s.phase ≡ now → send_in now s ordinal leg ≡ (Ok message, after) → IsSending s ordinal leg message after
 sent_in phase.Up s ordinal leg message after now is =
-    (let made = sent_up (nat_lt (last_ordinal s.log) ordinal) (may_write s) s (sending s ordinal leg) after (order_message s leg) message is in
+    (let made = sent_up (nat_lt (last_ordinal s.log) ordinal) (may_write s) s (sending s ordinal leg) after
+    (order_message s leg) message is in
     record { up = now; message_is = made.0; after_is = made.1; may = made.2 })
 sent_in phase.Down s ordinal leg message after now is = absurd (not_sent fault.NotUp s message after is)
 sent_in phase.LoggingOn s ordinal leg message after now is = absurd (not_sent fault.NotUp s message after is)
@@ -78,24 +81,33 @@ module _ (a : Line) (leg : Leg) (there : numbered (suc a.left) a.released ≡ So
   sent_frame = record { connection = a.session.connection; number = next_out a.session; content = Order (Ok leg) }
 
   abbrev pub sent_line : Line
-  sent_line = record a { left = suc a.left; session = sending a.session (suc a.left) leg; to_exchange = a.to_exchange ++ sent_frame ∷ [] }
+  sent_line =
+      record a {
+        left = suc a.left;
+        session = sending a.session (suc a.left) leg;
+        to_exchange =
+            a.to_exchange ++ sent_frame ∷ [];
+      }
 
   -- a leg in the new log is an old one, or the one that was sent
   pub new_or_old : (number : ℕ) (x : SentLeg) → IsLegAt (a.session.log ++ Sent sent_leg ∷ []) number x
-      → (IsLegAt a.session.log number x × (number ≤ length a.session.log)) ⊎ ((number ≡ length a.session.log + 1) × (sent_leg ≡ x))
+      → (IsLegAt a.session.log number x × (number ≤ length a.session.log))
+      ⊎ ((number ≡ length a.session.log + 1) × (sent_leg ≡ x))
   new_or_old number x is =
       elim (numbered-push number a.session.log (Sent sent_leg) (Sent x) is) [
         | inl old ↦ inl (old, (numbered_within number a.session.log (Sent x) old).1)
         | inr new ↦ inr (new.0, (let e = new.1 in cc))
       ]
 
-  of_new : (m : Carried) (whole : Leg) → sent_frame ≡ m → m.content ≡ Order (Ok whole) → IsOrderOf a.released (a.session.log ++ Sent sent_leg ∷ []) m.number whole
+  of_new : (m : Carried) (whole : Leg) → sent_frame ≡ m → m.content ≡ Order (Ok whole)
+      → IsOrderOf a.released (a.session.log ++ Sent sent_leg ∷ []) m.number whole
   of_new m whole new is =
       let e : Order (Ok leg) ≡ m.content = ap (λ (f : Carried). f.content) new in
       let same : leg ≡ whole = cc in
       record {
         sent = sent_leg;
-        there = subst (λ k. IsLegAt (a.session.log ++ Sent sent_leg ∷ []) k sent_leg) (ap (λ (f : Carried). f.number) new) (numbered-last a.session.log (Sent sent_leg));
+        there = subst (λ k. IsLegAt (a.session.log ++ Sent sent_leg ∷ []) k sent_leg)
+            (ap (λ (f : Carried). f.number) new) (numbered-last a.session.log (Sent sent_leg));
         whole = subst (λ l. numbered (suc a.left) a.released ≡ Some l) same there;
       }
 
@@ -106,9 +118,12 @@ module _ (a : Line) (leg : Leg) (there : numbered (suc a.left) a.released ≡ So
           | inl old ↦
               elim (new_or_old later y next_is) [
                 | inl next ↦ c.numbering number later x y old.0 next.0 below
-                | inr last ↦ (let left = c.sent_left number x old.0 in let e = ap (λ (l : SentLeg). l.ordinal) last.1 in omega arith)
+                | inr last ↦
+                    (let left = c.sent_left number x old.0 in let e = ap (λ (l : SentLeg). l.ordinal) last.1 in
+                    omega arith)
               ]
-          | inr new ↦ elim (new_or_old later y next_is) [ inl next ↦ absurd (omega (arith, new.0, next.1)) | inr last ↦ absurd (omega (arith, new.0, last.0)) ]
+          | inr new ↦ elim (new_or_old later y next_is)
+              [ inl next ↦ absurd (omega (arith, new.0, next.1)) | inr last ↦ absurd (omega (arith, new.0, last.0)) ]
         ];
     sent_left = λ number x is.
         elim (new_or_old number x is) [
@@ -125,7 +140,12 @@ module _ (a : Line) (leg : Leg) (there : numbered (suc a.left) a.released ≡ So
         elim (Contains-push_cases a.to_exchange sent_frame m in') [
           | inl old ↦
               (let was = c.orders_are_sent m whole old is in
-              record { sent = was.sent; there = numbered-append m.number a.session.log (Sent sent_leg ∷ []) (Sent was.sent) was.there; whole = was.whole })
+              record {
+                sent = was.sent;
+                there = numbered-append m.number a.session.log (Sent sent_leg ∷ [])
+                    (Sent was.sent) was.there;
+                whole = was.whole;
+              })
           | inr new ↦ of_new m whole new is
         ];
     orders_read = λ m fault in' is.

@@ -21,9 +21,11 @@ use Rattle.venue_line.proofs.Kept.{own_kept, written_tells}
 use Rattle.venue_line.proofs.CopiesExchanged.{Accepts, PassedBy, accepting, filling, passing}
 
 pub same_fence : (a b : ℕ) → a ≤ 999999999 → b ≤ 999999999 → fence_id a ≡ fence_id b → a ≡ b
-same_fence a b small few same = let digits : decimal a ≡ decimal b = cc in decimal_injective a b (omega arith) (omega arith) digits
+same_fence a b small few same = let digits : decimal a ≡ decimal b = cc in
+    decimal_injective a b (omega arith) (omega arith) digits
 
-module _ (w : Line) (before : List Carried) (coming : Option Carried) (t : RuleState) (written : List Carried) (there : IfSome coming (Contains w.to_exchange)) (step : May w.exchange coming t written)
+module _ (w : Line) (before : List Carried) (coming : Option Carried) (t : RuleState) (written : List Carried)
+    (there : IfSome coming (Contains w.to_exchange)) (step : May w.exchange coming t written)
     (c : Copies before w) (after : Accepts w before t.intake) (f : Fences before w) where
   forward : w.exchange.intake.expected ≤ t.intake.expected
   forward = (moves_forward w.exchange.intake coming t.intake step.moves).expected
@@ -47,18 +49,23 @@ module _ (w : Line) (before : List Carried) (coming : Option Carried) (t : RuleS
   expected_to =
       let h = f.expected_to in
       elim (cases_lt w.exchange.intake.expected t.intake.expected) [
-        | inl more ↦ (let last = passed_spent (t.intake.expected - 1) (after.numbers (t.intake.expected - 1) (omega arith) (omega arith)) in omega arith)
+        | inl more ↦
+            (let last = passed_spent (t.intake.expected - 1)
+            (after.numbers (t.intake.expected - 1) (omega arith) (omega arith)) in omega arith)
         | inr same ↦ omega arith
       ]
 
-  answer_passed : (id : List ℕ) (fence : ℕ) → MayAnswer w.exchange coming t id → id ≡ fence_id fence → fence ≤ 999999999 → fence < t.intake.expected
+  answer_passed : (id : List ℕ) (fence : ℕ) → MayAnswer w.exchange coming t id → id ≡ fence_id fence → fence ≤ 999999999
+      → fence < t.intake.expected
   answer_passed id fence (inl before_now) is small =
-      (let forth = forward in let h = f.tests_passed fence (subst (λ i. Contains w.exchange.tests i) is before_now) small in omega arith)
+      (let forth = forward in let h = f.tests_passed fence
+      (subst (λ i. Contains w.exchange.tests i) is before_now) small in omega arith)
   answer_passed id fence (inr took) is small =
       (let in' = subst (λ o. IfSome o (Contains w.to_exchange)) took.came there in
       let spent = f.written_spent took.message in' in
       let few = f.next_small in
-      let same = same_fence fence took.message.number small (omega arith) (sym is ∙ f.tests_carry took.message id in' took.says) in
+      let same = same_fence fence took.message.number small (omega arith)
+      (sym is ∙ f.tests_carry took.message id in' took.says) in
       omega (arith, took.due.number, took.passed))
 
   says_passed : (number : ℕ) (content : Content) (fence : ℕ) → MaySay w.exchange coming t number content
@@ -66,17 +73,21 @@ module _ (w : Line) (before : List Carried) (coming : Option Carried) (t : RuleS
   says_passed number (Heartbeat (Some id)) fence may says small = answer_passed id fence may (let e = says in cc) small
   says_passed number content fence may says small = absurd cc
 
-  filled_leg : (number : ℕ) (leg : SentLeg) (state : LegState) → leg.state ≡ state → IsLegAt w.session.log number leg → (leg.state ≡ Doubt → ⊥) → IsTaken after.taken number ⊎ (leg.state ≡ Withdrawn)
+  filled_leg : (number : ℕ) (leg : SentLeg) (state : LegState) → leg.state ≡ state → IsLegAt w.session.log number leg
+      → (leg.state ≡ Doubt → ⊥) → IsTaken after.taken number ⊎ (leg.state ≡ Withdrawn)
   filled_leg number leg Withdrawn state is sure = inr state
   filled_leg number leg Doubt state is sure = absurd (sure state)
   filled_leg number leg Taken state is sure = inl (still_taken number (f.taken_was_accepted number leg is state))
   filled_leg number leg Queued state is sure = absurd (f.never_queued number leg is state)
 
-  passed_leg : (number : ℕ) (leg : SentLeg) → IsLegAt w.session.log number leg → w.exchange.intake.expected ≤ number → PassedBy w after.taken number → IsTaken after.taken number ⊎ (leg.state ≡ Withdrawn)
+  passed_leg : (number : ℕ) (leg : SentLeg) → IsLegAt w.session.log number leg → w.exchange.intake.expected ≤ number
+      → PassedBy w after.taken number → IsTaken after.taken number ⊎ (leg.state ≡ Withdrawn)
   passed_leg number leg is high (accepting took) = inl took
   passed_leg number leg is high (filling m new_number in' at fills low) =
-      filled_leg number leg leg.state refl is (λ doubt. f.fills_spare_doubt m new_number number leg in' fills is (omega arith) low doubt)
-  passed_leg number leg is high (passing m in' at no_leg) = absurd (no_leg (f.written_for_legs m leg in' (subst (λ k. IsLegAt w.session.log k leg) (sym at) is)))
+      filled_leg number leg leg.state refl is
+      (λ doubt. f.fills_spare_doubt m new_number number leg in' fills is (omega arith) low doubt)
+  passed_leg number leg is high (passing m in' at no_leg) =
+      absurd (no_leg (f.written_for_legs m leg in' (subst (λ k. IsLegAt w.session.log k leg) (sym at) is)))
 
   pub fences_exchanged : Fences after.taken (record w { exchange = t; from_exchange = w.from_exchange ++ written })
   fences_exchanged =
@@ -100,7 +111,9 @@ module _ (w : Line) (before : List Carried) (coming : Option Carried) (t : RuleS
         told_passed = λ m told in' says.
             elim (Contains-append_cases w.from_exchange written m in') [
               | inl old ↦ (let h = f.told_passed m told old says in omega arith)
-              | inr new ↦ (let h = written_tells w.exchange coming t m told carries (All-contains (MayWrite w.exchange coming t) written m step.writes new) says in omega arith)
+              | inr new ↦
+                  (let h = written_tells w.exchange coming t m told carries
+                  (All-contains (MayWrite w.exchange coming t) written m step.writes new) says in omega arith)
             ];
         answers_passed = λ m fence in' says small.
             elim (Contains-append_cases w.from_exchange written m in') [
@@ -111,10 +124,12 @@ module _ (w : Line) (before : List Carried) (coming : Option Carried) (t : RuleS
                     | inr may ↦ says_passed m.number m.content fence may.1 says small
                   ]
             ];
-        tests_passed = λ fence in' small. answer_passed (fence_id fence) fence (All-contains (MayAnswer w.exchange coming t) t.tests (fence_id fence) step.tests in') refl small;
+        tests_passed = λ fence in' small. answer_passed (fence_id fence) fence
+            (All-contains (MayAnswer w.exchange coming t) t.tests (fence_id fence) step.tests in') refl small;
         passed_or_withdrawn = λ number leg is below.
             elim (cases_lt number w.exchange.intake.expected) [
-              | inl low ↦ elim (f.passed_or_withdrawn number leg is low) [ inl took ↦ inl (still_taken number took) | inr gone ↦ inr gone ]
+              | inl low ↦ elim (f.passed_or_withdrawn number leg is low)
+                  [ inl took ↦ inl (still_taken number took) | inr gone ↦ inr gone ]
               | inr high ↦ passed_leg number leg is high (after.numbers number high below)
             ];
         taken_was_accepted = λ number leg is took. still_taken number (f.taken_was_accepted number leg is took);

@@ -32,7 +32,8 @@ are_given w g = record {
   count = length g.front;
   used = (let all = ap length g.whole in omega (arith, length-append g.front g.back));
   counted = g.expected;
-  given = g.given ∙ ap (notes_under w.session.log) (sym (ap (take (length g.front)) g.whole ∙ take-append_seam g.front g.back));
+  given = g.given
+      ∙ ap (notes_under w.session.log) (sym (ap (take (length g.front)) g.whole ∙ take-append_seam g.front g.back));
 }
 
 -- the ordinal of the leg that a number was spent on
@@ -44,15 +45,18 @@ ordinal_in (Some (Sent leg)) = leg.ordinal
 abbrev ordinal_of : List Entry → Carried → ℕ
 ordinal_of log m = ordinal_in (numbered m.number log)
 
-ordinal_is : (log : List Entry) (m : Carried) (leg : SentLeg) → IsLegAt log m.number leg → ordinal_of log m ≡ leg.ordinal
+ordinal_is : (log : List Entry) (m : Carried) (leg : SentLeg) → IsLegAt log m.number leg
+    → ordinal_of log m ≡ leg.ordinal
 ordinal_is log m leg is = ap ordinal_in is
 
 contains_first : (x : Carried) (xs : List Carried) → Contains (x ∷ xs) x
 contains_first x xs = Contains-append_left (x ∷ []) xs x (Contains-push [] x)
 
 -- accepted legs are the released ones of these ordinals
-same_released : (released : List Leg) (log : List Entry) (legs : List Leg) (taken : List Carried) → map order_of legs ≡ map (λ m. m.content) taken
-    → ((m : Carried) (leg : Leg) → Contains taken m → m.content ≡ Order (Ok leg) → numbered (ordinal_of log m) released ≡ Some leg)
+same_released : (released : List Leg) (log : List Entry) (legs : List Leg) (taken : List Carried)
+    → map order_of legs ≡ map (λ m. m.content) taken
+    → ((m : Carried) (leg : Leg) → Contains taken m → m.content ≡ Order (Ok leg)
+    → numbered (ordinal_of log m) released ≡ Some leg)
     → map (λ leg. Some leg) legs ≡ map (λ ordinal. numbered ordinal released) (map (ordinal_of log) taken)
 same_released released log [] [] same is = refl
 same_released released log [] (m ∷ taken) same is = absurd cc
@@ -60,19 +64,28 @@ same_released released log (leg ∷ legs) [] same is = absurd cc
 same_released released log (leg ∷ legs) (m ∷ taken) same is =
     let first : m.content ≡ Order (Ok leg) = cc in
     let rest : map order_of legs ≡ map (λ x. x.content) taken = cc in
-    let more = same_released released log legs taken rest (λ x l there. is x l (Contains-append_right (m ∷ []) taken x there)) in
+    let more = same_released released log legs taken rest
+    (λ x l there. is x l (Contains-append_right (m ∷ []) taken x there)) in
     let here = is m leg (contains_first m taken) first in
     cc
 
-order_in : (legs : List Leg) (taken : List Carried) → map order_of legs ≡ map (λ m. m.content) taken → (k : ℕ) (m : Carried) → k < length taken → get_or taken k m ≡ m → (leg : Leg) × (m.content ≡ Order (Ok leg))
+order_in : (legs : List Leg) (taken : List Carried) → map order_of legs ≡ map (λ m. m.content) taken
+    → (k : ℕ) (m : Carried) → k < length taken → get_or taken k m ≡ m → (leg : Leg) × (m.content ≡ Order (Ok leg))
 order_in [] [] same k m low is = absurd (omega arith)
 order_in [] (x ∷ taken) same k m low is = absurd cc
 order_in (leg ∷ legs) [] same k m low is = absurd cc
-order_in (leg ∷ legs) (x ∷ taken) same zero m low is = let e : x ≡ m = is in (leg, (let c = ap (λ (f : Carried). f.content) e in cc))
-order_in (leg ∷ legs) (x ∷ taken) same (suc k) m low is = let rest : map order_of legs ≡ map (λ y. y.content) taken = cc in order_in legs taken rest k m (omega arith) is
+order_in (leg ∷ legs) (x ∷ taken) same zero m low is = let e : x ≡ m = is in
+    (leg, (let c = ap (λ (f : Carried). f.content) e in cc))
+order_in (leg ∷ legs) (x ∷ taken) same (suc k) m low is = let rest : map order_of legs ≡ map (λ y. y.content) taken =
+    cc in order_in legs taken rest k m (omega arith) is
 
 pub contains_map : {A B : Type 0} (f : A → B) (xs : List A) (x : A) → Contains xs x → Contains (map f xs) (f x)
-contains_map f xs x there = (there.0, (let n = length-map xs f in let low = there.1 in omega arith), get_or-map f xs there.0 x (f x) there.1 ∙ ap f there.2)
+contains_map f xs x there = (
+  there.0,
+  (let n = length-map xs f in let low = there.1 in omega arith),
+  get_or-map f xs there.0 x (f x) there.1
+      ∙ ap f there.2,
+)
 
 -- any message, for the lookups
 abbrev no_message : Carried
@@ -103,7 +116,8 @@ module _ (w : Line) (i : LineInvariant w) where
 
   accepted : (ordinal : ℕ) → Contains ordinals ordinal → Accepted ordinal
   accepted ordinal there =
-      let low : there.0 < length i.taken = (let n = length-map i.taken (ordinal_of w.session.log) in let h = there.1 in omega arith) in
+      let low : there.0 < length i.taken =
+      (let n = length-map i.taken (ordinal_of w.session.log) in let h = there.1 in omega arith) in
       let m = get_or i.taken there.0 no_message in
       let taken = Contains-get_or i.taken there.0 no_message low in
       let o = of m taken in
@@ -112,16 +126,20 @@ module _ (w : Line) (i : LineInvariant w) where
         taken = taken;
         leg = o.leg;
         there = o.there;
-        same = sym (ordinal_is w.session.log m o.leg o.there) ∙ (sym (get_or-map (ordinal_of w.session.log) i.taken there.0 no_message ordinal low) ∙ there.2);
+        same = sym (ordinal_is w.session.log m o.leg o.there)
+            ∙ (sym (get_or-map (ordinal_of w.session.log) i.taken there.0 no_message ordinal low) ∙ there.2);
       }
 
-  is_ordinal : (number : ℕ) (leg : SentLeg) → IsLegAt w.session.log number leg → IsTaken i.taken number → Contains ordinals leg.ordinal
+  is_ordinal : (number : ℕ) (leg : SentLeg) → IsLegAt w.session.log number leg → IsTaken i.taken number
+      → Contains ordinals leg.ordinal
   is_ordinal number leg at is =
-      subst (Contains ordinals) (ordinal_is w.session.log is.message leg (subst (λ k. IsLegAt w.session.log k leg) (sym is.under) at))
+      subst (Contains ordinals)
+      (ordinal_is w.session.log is.message leg (subst (λ k. IsLegAt w.session.log k leg) (sym is.under) at))
       (contains_map (ordinal_of w.session.log) i.taken is.message is.there)
 
   -- numbers and ordinals rise together, so each tells the other
-  same_number : (number other : ℕ) (a b : SentLeg) → IsLegAt w.session.log number a → IsLegAt w.session.log other b → a.ordinal ≡ b.ordinal → number ≡ other
+  same_number : (number other : ℕ) (a b : SentLeg) → IsLegAt w.session.log number a → IsLegAt w.session.log other b
+      → a.ordinal ≡ b.ordinal → number ≡ other
   same_number number other a b at there same =
       elim (cases_lt number other) [
         | inl low ↦ absurd (let rise = i.copies.numbering number other a b at there low in omega arith)
@@ -132,7 +150,8 @@ module _ (w : Line) (i : LineInvariant w) where
             ]
       ]
 
-  lower_number : (number other : ℕ) (a b : SentLeg) → IsLegAt w.session.log number a → IsLegAt w.session.log other b → a.ordinal < b.ordinal → number < other
+  lower_number : (number other : ℕ) (a b : SentLeg) → IsLegAt w.session.log number a → IsLegAt w.session.log other b
+      → a.ordinal < b.ordinal → number < other
   lower_number number other a b at there low =
       elim (cases_lt number other) [
         | inl below ↦ below
@@ -158,13 +177,17 @@ module _ (w : Line) (i : LineInvariant w) where
       let b = of m' (Contains-get_or i.taken (k + 1) no_message next) in
       let up = i.copies.taken_rise k (k + 1) no_message (omega arith) next in
       let ordinals_up = i.copies.numbering m.number m'.number a.leg b.leg a.there b.there up in
-      let at_a = get_or-map (ordinal_of w.session.log) i.taken k no_message 0 here ∙ ordinal_is w.session.log m a.leg a.there in
-      let at_b = get_or-map (ordinal_of w.session.log) i.taken (k + 1) no_message 0 next ∙ ordinal_is w.session.log m' b.leg b.there in
+      let at_a = get_or-map (ordinal_of w.session.log) i.taken k no_message 0 here
+      ∙ ordinal_is w.session.log m a.leg a.there in
+      let at_b = get_or-map (ordinal_of w.session.log) i.taken (k + 1) no_message 0 next
+      ∙ ordinal_is w.session.log m' b.leg b.there in
       rw (at_a, at_b) ordinals_up
 
   -- by the state of the leg of an ordinal that left the desk
-  missing : (ordinal : ℕ) (state : Option LegState) → leg_state w.session ordinal ≡ state → 1 ≤ ordinal → ordinal ≤ w.left
-      → ((number : ℕ) (leg : SentLeg) → IsLegAt w.session.log number leg → leg.ordinal ≡ ordinal → number < w.exchange.intake.expected)
+  missing : (ordinal : ℕ) (state : Option LegState) → leg_state w.session ordinal ≡ state → 1 ≤ ordinal
+      → ordinal ≤ w.left
+      → ((number : ℕ) (leg : SentLeg) → IsLegAt w.session.log number leg → leg.ordinal ≡ ordinal
+      → number < w.exchange.intake.expected)
       → Contains ordinals ordinal ⊎ IsWithdrawnLeg w ordinal
   missing ordinal None is from left passed = inr (record { from = from; left = left; gone = inl is })
   missing ordinal (Some state) is from left passed =
@@ -180,7 +203,8 @@ module _ (w : Line) (i : LineInvariant w) where
     released = same_released w.released w.session.log w.exchange.intake.accepted i.taken i.copies.accepted
         (λ m leg there is.
         (let order = i.copies.orders_are_sent m leg (i.copies.taken_written m there) is in
-        subst (λ o. numbered o w.released ≡ Some leg) (sym (ordinal_is w.session.log m order.sent order.there)) order.whole));
+        subst (λ o. numbered o w.released ≡ Some leg) (sym (ordinal_is w.session.log m order.sent order.there))
+        order.whole));
     in_order = rise;
     missing_is_withdrawn = λ ordinal later from low there.
         (let a = accepted later there in
@@ -193,25 +217,31 @@ module _ (w : Line) (i : LineInvariant w) where
     withdrawn_is_missing = λ ordinal is there.
         (let a = accepted ordinal there in
         elim is.gone [
-          | inl none ↦ has_state w.session.log a.message.number a.leg a.there (ap (λ o. state_of o w.session.log) a.same ∙ none)
+          | inl none ↦ has_state w.session.log a.message.number a.leg a.there
+              (ap (λ o. state_of o w.session.log) a.same ∙ none)
           | inr gone ↦
               (let f = found w.session.log ordinal Withdrawn gone in
-              let same = same_number f.number a.message.number f.leg a.leg f.there a.there (f.ordinal_is ∙ sym a.same) in
-              i.copies.withdrawn_not_taken f.leg a.message (subst (λ k. IsLegAt w.session.log k f.leg) same f.there) f.state_is a.taken)
+              let same = same_number f.number a.message.number f.leg a.leg f.there a.there
+              (f.ordinal_is ∙ sym a.same) in
+              i.copies.withdrawn_not_taken f.leg a.message
+              (subst (λ k. IsLegAt w.session.log k f.leg) same f.there) f.state_is a.taken)
         ]);
     close = closes w.exchange.intake.closed_at refl;
     taken_was_accepted = λ ordinal is.
         (let f = found w.session.log ordinal Taken is in
-        subst (Contains ordinals) f.ordinal_is (is_ordinal f.number f.leg f.there (i.fences.taken_was_accepted f.number f.leg f.there f.state_is)));
+        subst (Contains ordinals) f.ordinal_is
+        (is_ordinal f.number f.leg f.there (i.fences.taken_was_accepted f.number f.leg f.there f.state_is)));
     closed_no_doubt = no_doubt w.exchange.intake.closed_at refl;
     reports = are_given w g;
   }
     where
-      closes : (mark : Option ℕ) → w.exchange.intake.closed_at ≡ mark → IfSome mark (λ count. count ≡ length w.exchange.intake.accepted)
+      closes : (mark : Option ℕ) → w.exchange.intake.closed_at ≡ mark
+          → IfSome mark (λ count. count ≡ length w.exchange.intake.accepted)
       closes None is = tt
       closes (Some count) is = (i.close.marked count is).all
 
-      no_doubt : (mark : Option ℕ) → w.exchange.intake.closed_at ≡ mark → IfSome mark (λ count. (ordinal : ℕ) → leg_state w.session ordinal ≡ Some Doubt → ⊥)
+      no_doubt : (mark : Option ℕ) → w.exchange.intake.closed_at ≡ mark
+          → IfSome mark (λ count. (ordinal : ℕ) → leg_state w.session ordinal ≡ Some Doubt → ⊥)
       no_doubt None is = tt
       no_doubt (Some count) is = λ ordinal state.
           (let mark = i.close.marked count is in

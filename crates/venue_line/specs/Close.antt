@@ -1,4 +1,5 @@
--- Close: the third part of the invariant behind the sweep theorem. Nothing is accepted after the exchange took the session's Logout.
+-- Close: the third part of the invariant behind the sweep theorem. Nothing is accepted after the exchange took the
+-- session's Logout.
 use Rattle.std.specs.Prelude.{◌≡◌, ◌<◌, ℕ, List, length, Some, None}
 use Rattle.std.specs.List.{Contains}
 use Rattle.leg.specs.declared.leg_state.LegState.TheVariants.{Doubt}
@@ -29,10 +30,13 @@ pub record IsMark (w : Line) (count : ℕ) : Type 0 where
   pub says : logout.content ≡ Logout
 
 pub record Close (w : Line) : Type 0 where
-  pub fence_above : (number fence : ℕ) (leg : SentLeg) → IsBeforeUp w.session.phase → IsLegAt w.session.log number leg → Contains w.session.current.fences fence → number < fence
+  pub fence_above : (number fence : ℕ) (leg : SentLeg) → IsBeforeUp w.session.phase → IsLegAt w.session.log number leg
+      → Contains w.session.current.fences fence → number < fence
   pub closing_above : (number closing : ℕ) (leg : SentLeg) → w.session.phase ≡ phase.Closing
       → IsLegAt w.session.log number leg → w.session.current.closing_fence ≡ Some closing → number < closing
-  pub logout_is_last : (m : Carried) → Contains w.to_exchange m → m.content ≡ Logout → IsOver w.session.phase × (m.connection ≡ w.session.connection) × HasNoDoubt w.session.log
+  pub logout_is_last : (m : Carried) → Contains w.to_exchange m → m.content ≡ Logout
+      → IsOver w.session.phase × (m.connection ≡ w.session.connection) × HasNoDoubt w.session.log
   pub marked : (count : ℕ) → w.exchange.intake.closed_at ≡ Some count → IsMark w count
-  pub logout_heard : (m : Carried) → Contains w.from_exchange m → m.content ≡ Logout → (count : ℕ) × (w.exchange.intake.closed_at ≡ Some count)
+  pub logout_heard : (m : Carried) → Contains w.from_exchange m → m.content ≡ Logout
+      → (count : ℕ) × (w.exchange.intake.closed_at ≡ Some count)
   pub out_no_doubt : w.session.phase ≡ phase.LoggedOut → HasNoDoubt w.session.log

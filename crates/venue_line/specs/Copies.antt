@@ -61,12 +61,15 @@ order_of leg = Order (Ok leg)
 -- `taken` are the messages whose orders were accepted, in order
 pub record Copies (taken : List Carried) (w : Line) : Type 0 where
   -- numbers and ordinals of legs rise together, and each leg that was sent is one that left the desk
-  pub numbering : (number later : ℕ) (leg next : SentLeg) → IsLegAt w.session.log number leg → IsLegAt w.session.log later next → number < later → leg.ordinal < next.ordinal
-  pub sent_left : (number : ℕ) (leg : SentLeg) → IsLegAt w.session.log number leg → (1 ≤ leg.ordinal) × (leg.ordinal ≤ w.left)
+  pub numbering : (number later : ℕ) (leg next : SentLeg) → IsLegAt w.session.log number leg
+      → IsLegAt w.session.log later next → number < later → leg.ordinal < next.ordinal
+  pub sent_left : (number : ℕ) (leg : SentLeg) → IsLegAt w.session.log number leg
+      → (1 ≤ leg.ordinal) × (leg.ordinal ≤ w.left)
   pub sent_released : (number : ℕ) (leg : SentLeg) → IsLegAt w.session.log number leg → IsReleased w.released leg
   pub left_released : w.left ≤ length w.released
   -- an order has a number that was spent on its leg
-  pub orders_are_sent : (m : Carried) (leg : Leg) → Contains w.to_exchange m → m.content ≡ Order (Ok leg) → IsOrderOf w.released w.session.log m.number leg
+  pub orders_are_sent : (m : Carried) (leg : Leg) → Contains w.to_exchange m → m.content ≡ Order (Ok leg)
+      → IsOrderOf w.released w.session.log m.number leg
   pub orders_read : (m : Carried) (fault : DialectFault) → Contains w.to_exchange m → m.content ≡ Order (Err fault) → ⊥
   -- the accepted legs are those of messages that were written, their numbers rise, and the exchange has passed them
   pub accepted : map order_of w.exchange.intake.accepted ≡ map (λ m. m.content) taken
@@ -76,15 +79,21 @@ pub record Copies (taken : List Carried) (w : Line) : Type 0 where
   pub taken_passed : (m : Carried) → Contains taken m → m.number < w.exchange.intake.expected
   -- no message is of a later connection, and before the session is up no order is of the present one
   pub written_before : (m : Carried) → Contains w.to_exchange m → m.connection ≤ w.session.connection
-  pub orders_before : (m : Carried) → IsBeforeUp w.session.phase → Contains w.to_exchange m → IsOrder m.content → m.connection < w.session.connection
+  pub orders_before : (m : Carried) → IsBeforeUp w.session.phase → Contains w.to_exchange m → IsOrder m.content
+      → m.connection < w.session.connection
   pub live_is_last : LiveIsLast w.exchange.intake
   pub last_known : w.exchange.intake.last ≤ w.session.connection
   pub answers_known : (m : Carried) → Contains w.from_exchange m → m.connection ≤ w.exchange.intake.last
-  -- an order that is accepted, though the exchange once told a number at or below it, came in that connection or a later one
-  pub tells : (m : Carried) (told : ℕ) (order : Carried) → Contains w.from_exchange m → told_by m.content ≡ Some told → Contains taken order → told ≤ order.number
+  -- an order that is accepted, though the exchange once told a number at or below it, came in that connection or a
+  -- later one
+  pub tells : (m : Carried) (told : ℕ) (order : Carried) → Contains w.from_exchange m → told_by m.content ≡ Some told
+      → Contains taken order → told ≤ order.number
       → m.connection ≤ order.connection
-  pub own_carries : (number : ℕ) (content : Content) → numbered number w.exchange.own ≡ Some (Some content) → IsReportOrRefusal content
+  pub own_carries : (number : ℕ) (content : Content) → numbered number w.exchange.own ≡ Some (Some content)
+      → IsReportOrRefusal content
   -- a withdrawn leg isn't accepted, and the connections of its orders are over
-  pub withdrawn_not_taken : (leg : SentLeg) (m : Carried) → IsLegAt w.session.log m.number leg → leg.state ≡ Withdrawn → Contains taken m → ⊥
-  pub withdrawn_is_old : (leg : SentLeg) (m : Carried) → IsLegAt w.session.log m.number leg → leg.state ≡ Withdrawn → Contains w.to_exchange m → IsOrder m.content
+  pub withdrawn_not_taken : (leg : SentLeg) (m : Carried) → IsLegAt w.session.log m.number leg → leg.state ≡ Withdrawn
+      → Contains taken m → ⊥
+  pub withdrawn_is_old : (leg : SentLeg) (m : Carried) → IsLegAt w.session.log m.number leg → leg.state ≡ Withdrawn
+      → Contains w.to_exchange m → IsOrder m.content
       → m.connection < w.exchange.intake.last

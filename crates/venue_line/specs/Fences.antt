@@ -1,4 +1,5 @@
--- Fences: the second part of the invariant behind the sweep theorem. What the exchange has passed is accepted or withdrawn.
+-- Fences: the second part of the invariant behind the sweep theorem. What the exchange has passed is accepted or
+-- withdrawn.
 use Rattle.std.specs.Prelude.{◌≡◌, ◌≤◌, ◌<◌, ◌⊎◌, ℕ, List, Some, Ok, Err}
 use Rattle.std.specs.List.{Contains}
 use Rattle.leg.specs.Numbered.{numbered}
@@ -34,21 +35,32 @@ pub record Fences (taken : List Carried) (w : Line) : Type 0 where
   pub expected_to : w.exchange.intake.expected ≤ next_out w.session
   -- each message has a number that was spent, and under a leg's number there are orders and gap fills alone
   pub written_spent : (m : Carried) → Contains w.to_exchange m → m.number < next_out w.session
-  pub written_for_legs : (m : Carried) (leg : SentLeg) → Contains w.to_exchange m → IsLegAt w.session.log m.number leg → IsLegFrame m.content
-  pub tests_carry : (m : Carried) (id : List ℕ) → Contains w.to_exchange m → m.content ≡ TestRequest id → id ≡ fence_id m.number
-  pub fences_are_admin : (fence : ℕ) → Contains w.session.current.fences fence → numbered fence w.session.log ≡ Some Admin
+  pub written_for_legs : (m : Carried) (leg : SentLeg) → Contains w.to_exchange m → IsLegAt w.session.log m.number leg
+      → IsLegFrame m.content
+  pub tests_carry : (m : Carried) (id : List ℕ) → Contains w.to_exchange m → m.content ≡ TestRequest id
+      → id ≡ fence_id m.number
+  pub fences_are_admin : (fence : ℕ) → Contains w.session.current.fences fence
+      → numbered fence w.session.log ≡ Some Admin
   pub never_queued : (number : ℕ) (leg : SentLeg) → IsLegAt w.session.log number leg → leg.state ≡ Queued → ⊥
-  pub settled_no_doubt : (number : ℕ) (leg : SentLeg) → IsLegAt w.session.log number leg → number ≤ w.session.settled → leg.state ≡ Doubt → ⊥
+  pub settled_no_doubt : (number : ℕ) (leg : SentLeg) → IsLegAt w.session.log number leg → number ≤ w.session.settled
+      → leg.state ≡ Doubt → ⊥
   pub settled_below : w.session.settled < next_out w.session
   pub logon_below : w.session.current.logon_number < next_out w.session
   -- gap fills stand for no leg in doubt
-  pub fills_below : (m : Carried) (new_number : ℕ) → Contains w.to_exchange m → m.content ≡ GapFill new_number → new_number ≤ next_out w.session
-  pub fills_spare_doubt : (m : Carried) (new_number number : ℕ) (leg : SentLeg) → Contains w.to_exchange m → m.content ≡ GapFill new_number → IsLegAt w.session.log number leg
+  pub fills_below : (m : Carried) (new_number : ℕ) → Contains w.to_exchange m → m.content ≡ GapFill new_number
+      → new_number ≤ next_out w.session
+  pub fills_spare_doubt : (m : Carried) (new_number number : ℕ) (leg : SentLeg) → Contains w.to_exchange m
+      → m.content ≡ GapFill new_number → IsLegAt w.session.log number leg
       → m.number ≤ number → number < new_number → leg.state ≡ Doubt → ⊥
   -- what the exchange said of a number, it has passed
-  pub told_passed : (m : Carried) (told : ℕ) → Contains w.from_exchange m → told_by m.content ≡ Some told → told ≤ w.exchange.intake.expected
-  pub answers_passed : (m : Carried) (fence : ℕ) → Contains w.from_exchange m → m.content ≡ Heartbeat (Some (fence_id fence)) → fence ≤ 999999999 → fence < w.exchange.intake.expected
-  pub tests_passed : (fence : ℕ) → Contains w.exchange.tests (fence_id fence) → fence ≤ 999999999 → fence < w.exchange.intake.expected
+  pub told_passed : (m : Carried) (told : ℕ) → Contains w.from_exchange m → told_by m.content ≡ Some told
+      → told ≤ w.exchange.intake.expected
+  pub answers_passed : (m : Carried) (fence : ℕ) → Contains w.from_exchange m
+      → m.content ≡ Heartbeat (Some (fence_id fence)) → fence ≤ 999999999 → fence < w.exchange.intake.expected
+  pub tests_passed : (fence : ℕ) → Contains w.exchange.tests (fence_id fence) → fence ≤ 999999999
+      → fence < w.exchange.intake.expected
   -- and what it has passed is accepted or withdrawn
-  pub passed_or_withdrawn : (number : ℕ) (leg : SentLeg) → IsLegAt w.session.log number leg → number < w.exchange.intake.expected → IsTaken taken number ⊎ (leg.state ≡ Withdrawn)
-  pub taken_was_accepted : (number : ℕ) (leg : SentLeg) → IsLegAt w.session.log number leg → leg.state ≡ Taken → IsTaken taken number
+  pub passed_or_withdrawn : (number : ℕ) (leg : SentLeg) → IsLegAt w.session.log number leg
+      → number < w.exchange.intake.expected → IsTaken taken number ⊎ (leg.state ≡ Withdrawn)
+  pub taken_was_accepted : (number : ℕ) (leg : SentLeg) → IsLegAt w.session.log number leg → leg.state ≡ Taken
+      → IsTaken taken number
