@@ -37,7 +37,8 @@ clean-append (Refused number ∷ xs) ys clean more = absurd clean
 abbrev pub IsRead : Content → Type 0
 IsRead content = (fault : DialectFault) → content ≡ Order (Err fault) → ⊥
 
-due_clean : (x : ExchangeParts) (content : Content) → IsRead content → IsClean x.own → IsClean (due_taken x content).1.own
+due_clean : (x : ExchangeParts) (content : Content) → IsRead content → IsClean x.own
+    → IsClean (due_taken x content).1.own
 due_clean x (Order (Ok leg)) read clean = clean-append x.own _ clean tt
 due_clean x (Order (Err fault)) read clean = absurd (read fault refl)
 due_clean x (GapFill new_number) read clean = clean
@@ -61,13 +62,17 @@ take_clean x connection m read clean =
 
 pub act_clean : (a : Act) (x : ExchangeParts) → IsClean x.own → IsClean (act_of a x).1.own
 act_clean (act.Trade order shares px) x clean =
-    trade_is AnyPx x (λ (y : ExchangeParts). IsClean y.own) clean (λ place old new kind is. clean-append x.own _ clean tt) order shares px tt
+    trade_is AnyPx x (λ (y : ExchangeParts). IsClean y.own) clean
+    (λ place old new kind is. clean-append x.own _ clean tt) order shares px tt
 act_clean (act.CancelRest order) x clean =
-    cancel_rest_is AnyPx x (λ (y : ExchangeParts). IsClean y.own) clean (λ place old new kind is. clean-append x.own _ clean tt) order
+    cancel_rest_is AnyPx x (λ (y : ExchangeParts). IsClean y.own) clean
+    (λ place old new kind is. clean-append x.own _ clean tt) order
 act_clean (act.Reject order) x clean =
-    reject_is AnyPx x (λ (y : ExchangeParts). IsClean y.own) clean (λ place old new kind is. clean-append x.own _ clean tt) order
+    reject_is AnyPx x (λ (y : ExchangeParts). IsClean y.own) clean
+    (λ place old new kind is. clean-append x.own _ clean tt) order
 act_clean (act.Bust order which) x clean =
-    bust_is AnyPx x (λ (y : ExchangeParts). IsClean y.own) clean (λ place old new kind is. clean-append x.own _ clean tt) order which
+    bust_is AnyPx x (λ (y : ExchangeParts). IsClean y.own) clean
+    (λ place old new kind is. clean-append x.own _ clean tt) order which
 act_clean act.Test x clean =
     test_is x (λ (y : ExchangeParts). IsClean y.own) clean (λ left. clean-append x.own (Admin ∷ []) clean tt)
 

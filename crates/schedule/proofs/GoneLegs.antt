@@ -46,7 +46,7 @@ pub record IsGone (w : World) (id : LegIdParts) : Type 0 where
   pub gone : IsWithdrawnLeg (line_at w.desk v venue) ordinal
 
 -- the report that a note is
-pub given_report : (count : ℕ) (reports : List Report) (n : Note)
+given_report : (count : ℕ) (reports : List Report) (n : Note)
     → Contains (map (λ report. note.Report report) (take count reports)) n
     → (report : Report) × Contains reports report × (n ≡ note.Report report)
 given_report zero [] n there = absurd (let h = there.1 in omega arith)
@@ -71,6 +71,36 @@ ordinal_of (x ∷ legs) (o ∷ ordinals) f leg same (suc k, low, is) =
     let more : map (λ y. Some y) legs ≡ map f ordinals = cc in
     let rest = ordinal_of legs ordinals f leg more (k, omega arith, is) in
     (rest.0, Contains-append_right (o ∷ []) ordinals rest.0 rest.1, rest.2)
+
+-- a note that was given is a report on an accepted leg
+pub record IsReportGiven (w : World) (v : ℕ) (n : Note) : Type 0 where
+  pub venue : VenueParts
+  pub there : venue_in w v ≡ Some venue
+  pub report : Report
+  pub is : n ≡ note.Report report
+  pub on : IsNumberOf (accepted_by venue.exchange) report.id
+
+given_by : (w : World) → IsSafe w → (v : ℕ) (found : Option VenueParts) → venue_in w v ≡ found → (n : Note)
+    → Contains (given w v) n → IsReportGiven w v n
+given_by w safe v None is n among =
+    let none : given w v ≡ [] = ap (λ (o : Option VenueParts). option_map_or (λ (x : VenueParts). x.given) o []) is in
+    absurd (let h = (subst (λ l. Contains l n) none among).1 in omega arith)
+given_by w safe v (Some venue) is n among =
+    let h = holds_by w v (Some venue) is safe in
+    let r = given_report h.reports.count (made w v) n (subst (λ l. Contains l n) h.reports.given among) in
+    let made_is : made w v ≡ reports_in venue.exchange.own =
+    ap (λ (o : Option VenueParts). option_map_or (λ (x : VenueParts). reports_in x.exchange.own) o []) is in
+    record {
+      venue = venue;
+      there = is;
+      report = r.0;
+      is = r.2;
+      on = made_on (accepted_by venue.exchange) venue.exchange.own r.0 (safe.orderly v venue is).on
+          (subst (λ l. Contains l r.0) made_is r.1);
+    }
+
+pub report_given : (w : World) → IsSafe w → (v : ℕ) (n : Note) → Contains (given w v) n → IsReportGiven w v n
+report_given w safe v n among = given_by w safe v (venue_in w v) refl n among
 
 module _ (w : World) (safe : IsSafe w) (id : LegIdParts) (g : IsGone w id) where
   -- a leg of this number isn't accepted
@@ -102,22 +132,10 @@ module _ (w : World) (safe : IsSafe w) (id : LegIdParts) (g : IsGone w id) where
       (record { leg = on.leg; there = on.there; same = on.same ∙ is_same_leg-true report.id id is }))
 
   -- no note given is on a withdrawn leg
-  no_note_by : (v : ℕ) (found : Option VenueParts) → venue_in w v ≡ found → (n : Note) → Contains (given w v) n
-      → is_about id n ≡ false
-  no_note_by v None is n there =
-      let none : given w v ≡ [] = ap (λ (o : Option VenueParts). option_map_or (λ (x : VenueParts). x.given) o []) is in
-      absurd (let h = (subst (λ l. Contains l n) none there).1 in omega arith)
-  no_note_by v (Some venue) is n there =
-      let h = holds_by w v (Some venue) is safe in
-      let r = given_report h.reports.count (made w v) n (subst (λ l. Contains l n) h.reports.given there) in
-      let made_is : made w v ≡ reports_in venue.exchange.own =
-      ap (λ (o : Option VenueParts). option_map_or (λ (x : VenueParts). reports_in x.exchange.own) o []) is in
-      let on = made_on (accepted_by venue.exchange) venue.exchange.own r.0 (safe.orderly v venue is).on
-      (subst (λ l. Contains l r.0) made_is r.1) in
-      ap (is_about id) r.2 ∙ about_by v venue is r.0 on (is_same_leg r.0.id id) refl
-
   pub no_note : (v : ℕ) (n : Note) → Contains (given w v) n → is_about id n ≡ false
-  no_note v n there = no_note_by v (venue_in w v) refl n there
+  no_note v n among =
+      let r = report_given w safe v n among in
+      ap (is_about id) r.is ∙ about_by v r.venue r.there r.report r.on (is_same_leg r.report.id id) refl
 
 -- a venue after an event, and what it was
 pub record Passed (w after : World) (v : ℕ) (now : VenueParts) : Type 0 where

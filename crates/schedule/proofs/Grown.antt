@@ -19,7 +19,8 @@ pub grew-refl : {A : Type 0} (xs : List A) → Grew xs xs
 grew-refl xs = grew-same xs xs refl
 
 pub grew-trans : {A : Type 0} (xs ys zs : List A) → Grew xs ys → Grew ys zs → Grew xs zs
-grew-trans xs ys zs first next = (first.0 ++ next.0, next.1 ∙ (ap (λ l. l ++ next.0) first.1 ∙ append_assoc xs first.0 next.0))
+grew-trans xs ys zs first next =
+    (first.0 ++ next.0, next.1 ∙ (ap (λ l. l ++ next.0) first.1 ∙ append_assoc xs first.0 next.0))
 
 pub reports_in-append : (xs ys : List Own) → reports_in (xs ++ ys) ≡ reports_in xs ++ reports_in ys
 reports_in-append [] ys = refl
@@ -40,7 +41,8 @@ grown-refl x = grown x x (grew-refl (accepted_by x)) (grew-refl x.own)
 
 pub grown-trans : (x y z : ExchangeParts) → HasGrown x y → HasGrown y z → HasGrown x z
 grown-trans x y z first next =
-    grown x z (grew-trans (accepted_by x) (accepted_by y) (accepted_by z) first.accepted next.accepted) (grew-trans x.own y.own z.own first.own next.own)
+    grown x z (grew-trans (accepted_by x) (accepted_by y) (accepted_by z) first.accepted next.accepted)
+    (grew-trans x.own y.own z.own first.own next.own)
 
 pub venue_later-refl : (a : VenueParts) → IsVenueLater a a
 venue_later-refl a = record {
@@ -78,7 +80,8 @@ world_later-trans a b c first next = record {
 }
 
 -- an entry that is put in a place is there, and the others stay
-pub slice_get-set_other : {A : Type 0} (xs : List A) (v u : ℕ) (x : A) → (v ≡ u → ⊥) → slice_get (slice_set xs v x) u ≡ slice_get xs u
+pub slice_get-set_other : {A : Type 0} (xs : List A) (v u : ℕ) (x : A) → (v ≡ u → ⊥)
+    → slice_get (slice_set xs v x) u ≡ slice_get xs u
 slice_get-set_other [] v u x apart = refl
 slice_get-set_other (y ∷ ys) zero zero x apart = absurd (apart refl)
 slice_get-set_other (y ∷ ys) zero (suc u) x apart = refl
@@ -90,7 +93,8 @@ length-slice_set [] v x = refl
 length-slice_set (y ∷ ys) zero x = refl
 length-slice_set (y ∷ ys) (suc v) x = ap suc (length-slice_set ys v x)
 
-pub venue_set : (venues : List VenueParts) (v u : ℕ) (old now x : VenueParts) → slice_get venues v ≡ Some old → slice_get venues u ≡ Some x → IsVenueLater old now
+pub venue_set : (venues : List VenueParts) (v u : ℕ) (old now x : VenueParts) → slice_get venues v ≡ Some old
+    → slice_get venues u ≡ Some x → IsVenueLater old now
     → (new : VenueParts) × (slice_get (slice_set venues v now) u ≡ Some new) × IsVenueLater x new
 venue_set [] v u old now x there at later = absurd cc
 venue_set (y ∷ ys) zero zero old now x there at later =

@@ -34,7 +34,8 @@ use Rattle.share_ledger.proofs.Outcomes.{apply_outcome}
 use Rattle.sweep_release.specs.Released.{released}
 use Rattle.schedule.specs.declared.event.Event.{Event}
 use Rattle.schedule.specs.World.{World, VenueParts, venue_in, given, made, reports_in, opening}
-use Rattle.schedule.specs.Happening.{withdrawn_in, booked, noted, session_turn, session_wrote, happens}
+use Rattle.venue_line.specs.Line.{noted}
+use Rattle.schedule.specs.Happening.{withdrawn_in, booked, session_turn, session_wrote, happens}
 use Rattle.schedule.specs.Growing.{IsWorldLater}
 use Rattle.schedule.specs.LineOf.{line_at}
 use Rattle.venue_line.proofs.LineGives.{line_holds}
@@ -46,9 +47,8 @@ use Rattle.schedule.proofs.OrderHolds.{holds_by}
 use Rattle.schedule.proofs.OrderMatches.{other_exec}
 use Rattle.schedule.proofs.ReportsFit.{AreApart, moves_in, fit_at}
 use Rattle.schedule.proofs.Orderly.{reports_within}
-use Rattle.schedule.proofs.ReportedLegs.{made_on}
 use Rattle.schedule.proofs.LegNumbers.{has_order, one_ordinal}
-use Rattle.schedule.proofs.GoneLegs.{given_report, ordinal_of, no_note}
+use Rattle.schedule.proofs.GoneLegs.{report_given, ordinal_of, no_note}
 use Rattle.schedule.proofs.Books.{withdrawn_opened}
 use Rattle.schedule.proofs.BookWithdraws.{HasWithdrawn, gone_booked}
 use Rattle.schedule.proofs.BookFollows.{BookFollows}
@@ -111,31 +111,20 @@ module _ (w : World) (safe : IsSafe w) (v : ℕ) (venue : VenueParts) (there : v
       (o.0, o.2)
 
 -- a note that was given is of the venue of the leg that it is about
-module _ (w : World) (safe : IsSafe w) (id : LegIdParts) (routed : Routed) (order : option_and_then (numbered id.place) (numbered id.sweep w.desk.sweeps) ≡ Some routed) where
-  note_venue_by : (v : ℕ) (found : Option VenueParts) → venue_in w v ≡ found → (n : Note) → Contains (given w v) n
-      → is_about id n ≡ true → v ≡ routed.venue
-  note_venue_by v None is n among about =
-      let none : given w v ≡ [] = ap given_at is in
-      absurd (let h = (subst (λ l. Contains l n) none among).1 in omega arith)
-  note_venue_by v (Some venue) is n among about =
-      let h = holds_by w v (Some venue) is safe in
-      let r = given_report h.reports.count (made w v) n (subst (λ l. Contains l n) h.reports.given among) in
-      let made_is : made w v ≡ reports_in venue.exchange.own =
-      ap (λ (o : Option VenueParts). option_map_or (λ (x : VenueParts). reports_in x.exchange.own) o []) is in
-      let on = made_on (accepted_by venue.exchange) venue.exchange.own r.0 (safe.orderly v venue is).on
-      (subst (λ l. Contains l r.0) made_is r.1) in
-      let o = accepted_released w safe v venue is on.leg on.there in
-      let has = has_order v w.desk.sweeps o.0 on.leg o.1 in
-      let this : is_same_leg r.0.id id ≡ true = sym (ap (is_about id) r.2) ∙ about in
-      let same : on.leg.id ≡ id = on.same ∙ is_same_leg-true r.0.id id this in
+module _ (w : World) (safe : IsSafe w) (id : LegIdParts) (routed : Routed)
+    (order : option_and_then (numbered id.place) (numbered id.sweep w.desk.sweeps) ≡ Some routed) where
+  pub note_venue : (v : ℕ) (n : Note) → Contains (given w v) n → is_about id n ≡ true → v ≡ routed.venue
+  note_venue v n among about =
+      let r = report_given w safe v n among in
+      let o = accepted_released w safe v r.venue r.there r.on.leg r.on.there in
+      let has = has_order v w.desk.sweeps o.0 r.on.leg o.1 in
+      let this : is_same_leg r.report.id id ≡ true = sym (ap (is_about id) r.is) ∙ about in
+      let same : r.on.leg.id ≡ id = r.on.same ∙ is_same_leg-true r.report.id id this in
       let found : option_and_then (numbered id.place) (numbered id.sweep w.desk.sweeps) ≡ Some has.routed =
-      subst (λ (x : LegIdParts). option_and_then (numbered x.place) (numbered x.sweep w.desk.sweeps) ≡ Some has.routed)
-      same has.order in
+      subst (λ (x : LegIdParts). option_and_then (numbered x.place)
+      (numbered x.sweep w.desk.sweeps) ≡ Some has.routed) same has.order in
       let one : has.routed ≡ routed = same_Some has.routed routed (sym found ∙ order) in
       sym has.venue ∙ ap (λ (x : Routed). x.venue) one
-
-  pub note_venue : (v : ℕ) (n : Note) → Contains (given w v) n → is_about id n ≡ true → v ≡ routed.venue
-  note_venue v n among about = note_venue_by v (venue_in w v) refl n among about
 
 -- the notes of one venue on a leg are all that the book has on it, where each note on it is of that venue
 notes_by : (about from_it : Bool) (id : LegIdParts) (note : Note) (xs ys : List Note) → is_about id note ≡ about
@@ -160,7 +149,8 @@ notes_from v id (Withdrawn leg ∷ entries) of =
     notes_from v id entries
     (λ from note there. of from note (Contains-append_right (Withdrawn leg ∷ []) entries (Moved from note) there))
 notes_from v id (Moved from note ∷ entries) of =
-    let first = Contains-append_left (Moved from note ∷ []) entries (Moved from note) (Contains-push [] (Moved from note)) in
+    let first = Contains-append_left (Moved from note ∷ []) entries (Moved from note)
+    (Contains-push [] (Moved from note)) in
     notes_by (is_about id note) (from == v) id note (notes_on id entries) (moved_from v entries) refl
     (λ about. eq-eqb from v (of from note first about))
     (notes_from v id entries
@@ -290,7 +280,8 @@ answer_is b v duplicate move id routed found is venue fresh there moved =
     (eq-eqb routed.venue v venue) fresh there moved
 
 -- a message comes to a session
-module _ (w : World) (safe : IsSafe w) (follows : BookFollows w) (before : IsBooked w) (v : ℕ) (venue : VenueParts) (m : Message) (there : venue_in w v ≡ Some venue) where
+module _ (w : World) (safe : IsSafe w) (follows : BookFollows w) (before : IsBooked w) (v : ℕ) (venue : VenueParts)
+    (m : Message) (there : venue_in w v ≡ Some venue) where
   abbrev after : World
   after = session_turn w v venue (receive venue.session m)
 
@@ -420,4 +411,5 @@ booked_after w next safe safe_after follows follows_after (still book notes) bef
     λ u. book u ∙ (before u ∙ sym (notes u))
 booked_after w next safe safe_after follows follows_after (turned v venue m there is) before =
     subst IsBooked (sym is)
-    (turn_booked w safe follows before v venue m there (subst IsSafe is safe_after) (subst BookFollows is follows_after))
+    (turn_booked w safe follows before v venue m there (subst IsSafe is safe_after)
+    (subst BookFollows is follows_after))

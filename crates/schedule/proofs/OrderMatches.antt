@@ -3,6 +3,7 @@
 use Rattle.std.proofs.Common.{◌≡◌, ◌≤◌, ◌<◌, ◌+◌, ◌-◌, ◌⊎◌, ◌||◌, not, ℕ, zero, suc, Bool, true, false, List, [], ◌∷◌, ◌++◌, map, decimal, Option, Some, refl, sym, ap, subst, ◌∙◌, inl, inr, sum_by, if◌then◌else◌, arith}
 use Rattle.std.specs.Prelude.{slice_get, slice_set, bytes_eq, nat_le}
 use Rattle.std.specs.List.{list_any, AllByRecursion}
+use Rattle.std.proofs.Math.Bool.{or-false}
 use Rattle.std.proofs.lemmas.Bool.{cases_Bool, or_left, or_right, and_from, not_from_false, le-leb}
 use Rattle.std.proofs.lemmas.Fmt.{decimal_injective}
 use Rattle.std.proofs.lemmas.List.{append-nil, map-append}
@@ -98,25 +99,17 @@ flag_at ids zero (x ∷ ts) t there flags =
     subst (λ (y : TradeParts). has_id (exec_id y.exec) ids ≡ y.is_busted) (same_Some x t there) flags.0
 flag_at ids (suc k) (x ∷ ts) t there flags = flag_at ids k ts t there flags.1
 
-or_false : (b : Bool) → (b || false) ≡ b
-or_false true = refl
-or_false false = refl
-
-or_true : (b : Bool) → (b || true) ≡ true
-or_true true = refl
-or_true false = refl
-
 id_more : (ids : List (List ℕ)) (a n : ℕ) → a ≤ 999999999 → n ≤ 999999999 → (a ≡ n → ⊥)
     → has_id (exec_id a) (ids ++ exec_id n ∷ []) ≡ has_id (exec_id a) ids
 id_more ids a n small few differs =
     list_any-append (bytes_eq (exec_id a)) ids (exec_id n ∷ [])
     ∙ (ap (λ b. has_id (exec_id a) ids || (b || false)) (other_exec a n small few differs)
-    ∙ or_false (has_id (exec_id a) ids))
+    ∙ or-false (has_id (exec_id a) ids))
 
 id_last : (ids : List (List ℕ)) (a : ℕ) → has_id (exec_id a) (ids ++ exec_id a ∷ []) ≡ true
 id_last ids a =
     list_any-append (bytes_eq (exec_id a)) ids (exec_id a ∷ [])
-    ∙ (ap (λ b. has_id (exec_id a) ids || (b || false)) (same_bytes (exec_id a)) ∙ or_true (has_id (exec_id a) ids))
+    ∙ (ap (λ b. has_id (exec_id a) ids || (b || false)) (same_bytes (exec_id a)) ∙ or_right (has_id (exec_id a) ids) true refl)
 
 -- one more bust flags its own trade alone
 flags_other : (ids : List (List ℕ)) (n low top : ℕ) (ts : List TradeParts) → top ≤ 999999999 → RiseTo low top ts
@@ -303,7 +296,8 @@ module _ (top : ℕ) (moves : List Move) (order : OrderParts) (m : Matches top m
         rise = rise_more 0 top (slice_set order.trades k undone)
             (rise_set 0 top k order.trades trade undone there refl m.rise);
         flags = subst (λ l. AreFlagged l (slice_set order.trades k undone)) (sym ids)
-            (flags_bust (busted_ids moves) 0 top k order.trades trade undone (omega arith) there refl refl m.rise m.flags);
+            (flags_bust (busted_ids moves) 0 top k order.trades trade undone
+            (omega arith) there refl refl m.rise m.flags);
         old = subst (AllByRecursion (IsOld (suc top))) (sym ids)
             (all_more (IsOld (suc top)) (busted_ids moves) (exec_id trade.exec)
             (old_more top (busted_ids moves) m.old) (trade.exec, refl, omega arith));

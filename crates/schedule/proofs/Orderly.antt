@@ -26,6 +26,7 @@ use Rattle.schedule.specs.declared.act.Act.{Act}
 use Rattle.schedule.specs.declared.act.Act.TheVariants as act
 use Rattle.schedule.specs.World.{reports_in}
 use Rattle.schedule.specs.Happening.{act_of}
+use Rattle.venue_line.proofs.Kept.{numbered_none}
 use Rattle.schedule.proofs.Clean.{IsClean, IsRead, take_clean, act_clean}
 use Rattle.schedule.proofs.ReportedLegs.{IsNumberOf, AreOn, made_on, take_on, act_on}
 use Rattle.schedule.proofs.ReportsFit.{AreApart, AreMatched, legs_of, report_on, reported_match, accepted_match}
@@ -58,7 +59,8 @@ small_after : (x y : ExchangeParts) (more : List Own) → y.config ≡ x.config 
     → next_own_number x.own + length more ≤ x.config.max_number → HasSmallNumbers x → HasSmallNumbers y
 small_after x y more config own left small =
     let same : y.config.max_number ≡ x.config.max_number = ap (λ (c : ConfigParts). c.max_number) config in
-    let all : length y.own ≡ length x.own + length more = ap (λ (l : List Own). length l) own ∙ length-append x.own more in
+    let all : length y.own ≡ length x.own + length more = ap (λ (l : List Own). length l) own
+    ∙ length-append x.own more in
     let limit = small.limit in
     record { limit = omega (arith, limit, same); used = omega (arith, all, same, left) }
 
@@ -175,7 +177,8 @@ module _ (x : ExchangeParts) (o : IsOrderly x) where
 
   -- numbers
   due_small : (content : Content) → HasRoom x → HasSmallNumbers (due_taken x content).1
-  due_small (Order (Ok leg)) room = small_after x (due_taken x (Order (Ok leg))).1 (Reported (next_report x (new_order leg) New)
+  due_small (Order (Ok leg)) room = small_after x (due_taken x (Order (Ok leg))).1
+      (Reported (next_report x (new_order leg) New)
       (view_of (suc (length x.orders)) (new_order leg)) ∷ []) refl refl (omega arith) o.small
   due_small (Order (Err fault)) room =
       small_after x (due_taken x (Order (Err fault))).1 (Refused x.expected ∷ []) refl refl (omega arith) o.small
@@ -258,10 +261,6 @@ drop_orderly x o = record {
 }
 
 -- a new exchange has no orders
-none_numbered : (place : ℕ) (order : OrderParts) → numbered place [] ≡ Some order → ⊥
-none_numbered zero order is = cc
-none_numbered (suc k) order is = cc
-
 pub new_orderly : (config : ConfigParts) → 1 ≤ config.max_number → config.max_number ≤ 999999999
     → IsOrderly (new_exchange config)
 new_orderly config least most = record {
@@ -270,5 +269,5 @@ new_orderly config least most = record {
   counted = tt;
   small = record { limit = most; used = least };
   matched = λ apart.
-      record { match = λ place order is. absurd (none_numbered place order is); fit = tt };
+      record { match = λ place order is. absurd (numbered_none place is); fit = tt };
 }

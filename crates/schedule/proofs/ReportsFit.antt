@@ -182,7 +182,9 @@ module _ (orders : List OrderParts) (reports : List Report) (m : AreMatched orde
       (matches_more (length reports) (moves_in order.leg.id reports) order before))
 
   -- an order changes, and its change is reported
-  module _ (place : ℕ) (old new : OrderParts) (kind : ReportKind) (there : numbered place orders ≡ Some old) (change : IsChange AnyPx (suc (length reports)) old new kind) (small : suc (length reports) ≤ 999999999) (apart : AreApart (legs_of orders)) where
+  module _ (place : ℕ) (old new : OrderParts) (kind : ReportKind) (there : numbered place orders ≡ Some old)
+      (change : IsChange AnyPx (suc (length reports)) old new kind) (small : suc (length reports) ≤ 999999999)
+      (apart : AreApart (legs_of orders)) where
     abbrev report : Report
     report = report_on new.leg.id (suc (length reports)) kind
 
@@ -217,7 +219,8 @@ module _ (orders : List OrderParts) (reports : List Report) (m : AreMatched orde
       match = λ at order is.
           elim (with_cases at place orders new order is) [
             | inl here ↦
-                subst (λ (o : OrderParts). Matches (length after) (moves_in o.leg.id after) o) (sym here.1) changed_match
+                subst (λ (o : OrderParts). Matches (length after) (moves_in o.leg.id after) o)
+                (sym here.1) changed_match
             | inr other ↦ others_match at order other.0 other.1
           ];
       fit = subst (λ legs. AllFit legs [] after) (sym (legs_kept orders place old new there leg_is))
@@ -232,7 +235,8 @@ module _ (orders : List OrderParts) (reports : List Report) (m : AreMatched orde
     }
 
   -- an order is accepted, and reported as new
-  module _ (leg : Leg) (on : (report : Report) → Contains reports report → IsNumberOf (legs_of orders) report.id) (apart : AreApart (legs_of (orders ++ new_order leg ∷ []))) where
+  module _ (leg : Leg) (on : (report : Report) → Contains reports report → IsNumberOf (legs_of orders) report.id)
+      (apart : AreApart (legs_of (orders ++ new_order leg ∷ []))) where
     abbrev first : Report
     first = report_on leg.id (suc (length reports)) New
 
@@ -287,9 +291,11 @@ module _ (orders : List OrderParts) (reports : List Report) (m : AreMatched orde
           elim (numbered-push at orders (new_order leg) order is) [
             | inl old ↦
                 not_on order first (m.match at order old)
-                (other_by leg.id order.leg.id (λ same. is_new at order.leg (leg_numbered at orders order old) (sym same)))
+                (other_by leg.id order.leg.id
+                (λ same. is_new at order.leg (leg_numbered at orders order old) (sym same)))
             | inr new ↦
-                subst (λ (o : OrderParts). Matches (length (reports ++ first ∷ [])) (moves_in o.leg.id (reports ++ first ∷ [])) o)
+                subst (λ (o : OrderParts). Matches (length (reports ++ first ∷ []))
+                (moves_in o.leg.id (reports ++ first ∷ [])) o)
                 new.1 new_match
           ];
       fit = subst (λ legs. AllFit legs [] (reports ++ first ∷ [])) (sym all_legs)

@@ -31,7 +31,8 @@ safe_after w after advances safe = record {
       (let from = advances.comes v now there in
       let before = safe.lines v from.old from.there in
       let low = slice_get_within w.venues v from.old from.there in
-      kept (line_at w.desk v from.old) (line_at after.desk v now) (from.steps before.0.copies.live_is_last (let same = safe.desks in omega arith)) before);
+      kept (line_at w.desk v from.old) (line_at after.desk v now)
+      (from.steps before.0.copies.live_is_last (let same = safe.desks in omega arith)) before);
   orderly = λ v now there.
       (let from = advances.comes v now there in
       from.orderly (safe.lines v from.old from.there).0.copies.orders_read (safe.orderly v from.old from.there));
@@ -41,7 +42,9 @@ pub safe_run : (events : List Event) (w : World) → IsSafe w → IsSafe (happen
 safe_run [] w safe = safe
 safe_run (e ∷ events) w safe = safe_run events (happens w e) (safe_after w (happens w e) (event_advances w e) safe)
 
-new_at : (next : List Bool) (max_number v : ℕ) (venue : VenueParts) (b : Option Bool) → slice_get next v ≡ b → option_map (new_venue max_number) b ≡ Some venue → max_number ≤ 999999999 → Whole (line_at (new_desk (length next)) v venue)
+new_at : (next : List Bool) (max_number v : ℕ) (venue : VenueParts) (b : Option Bool) → slice_get next v ≡ b
+    → option_map (new_venue max_number) b ≡ Some venue → max_number ≤ 999999999
+    → Whole (line_at (new_desk (length next)) v venue)
 new_at next max_number v venue None is made small = absurd cc
 new_at next max_number v venue (Some has_next) is made small =
     let same : new_venue max_number has_next ≡ venue = same_Some _ venue made in
@@ -49,7 +52,8 @@ new_at next max_number v venue (Some has_next) is made small =
     (let e = left-new_desk (length next) v in rw e (whole_new (session_config max_number has_next) small)) in
     subst (λ x. Whole (line_at (new_desk (length next)) v x)) same start
 
-orderly_at : (max_number : ℕ) (venue : VenueParts) (found : Option Bool) → option_map (new_venue max_number) found ≡ Some venue
+orderly_at : (max_number : ℕ) (venue : VenueParts) (found : Option Bool)
+    → option_map (new_venue max_number) found ≡ Some venue
     → IsOrderly venue.exchange
 orderly_at max_number venue None made = absurd cc
 orderly_at max_number venue (Some has_next) made =
@@ -59,6 +63,8 @@ orderly_at max_number venue (Some has_next) made =
 pub safe_opening : (next : List Bool) (max_number : ℕ) → max_number ≤ 999999999 → IsSafe (opening next max_number)
 safe_opening next max_number small = record {
   desks = length-replicate (length next) _ ∙ sym (length-map next (new_venue max_number));
-  lines = λ v venue there. new_at next max_number v venue (slice_get next v) refl (sym (slice_get-map (new_venue max_number) next v) ∙ there) small;
-  orderly = λ v venue there. orderly_at max_number venue (slice_get next v) (sym (slice_get-map (new_venue max_number) next v) ∙ there);
+  lines = λ v venue there. new_at next max_number v venue (slice_get next v) refl
+      (sym (slice_get-map (new_venue max_number) next v) ∙ there) small;
+  orderly = λ v venue there. orderly_at max_number venue (slice_get next v)
+      (sym (slice_get-map (new_venue max_number) next v) ∙ there);
 }

@@ -71,7 +71,8 @@ keeps_run (e ∷ more) w safe =
     keeps-trans w after (happen more after) (keeps_event w e safe next) (keeps_run more after next)
 
 -- by the states of a world
-module _ (w later : World) (safe : IsSafe w) (safe_later : IsSafe later) (v : ℕ) (venue : VenueParts) (there : venue_in w v ≡ Some venue) (kept : KeepsVenue w later v venue) where
+module _ (w later : World) (safe : IsSafe w) (safe_later : IsSafe later) (v : ℕ) (venue : VenueParts)
+    (there : venue_in w v ≡ Some venue) (kept : KeepsVenue w later v venue) where
   withdrawn_stays : (ordinal : ℕ) → IsWithdrawn w v ordinal → IsWithdrawn later v ordinal
   withdrawn_stays ordinal is =
       let old = safe.lines v venue there in

@@ -34,7 +34,8 @@ module _ (w : World) (safe : IsSafe w) (follows : BookFollows w) (booked : IsBoo
       ∙ ap (filter (is_about id)) (booked routed.venue) in
       ap (λ gone. parts_of routed.terms.shares gone (map move_of (notes_on id w.book.entries)))
       (booked_is w safe follows number place legs routed sweep there)
-      ∙ ap (λ l. parts_of routed.terms.shares (list_any (is_same_leg id) (withdrawn_ids w routed.venue)) (map move_of l))
+      ∙ ap (λ l. parts_of routed.terms.shares (list_any (is_same_leg id) (withdrawn_ids w routed.venue))
+      (map move_of l))
       notes
 
   -- and so from leg to leg of a sweep

@@ -2,7 +2,7 @@
 use Rattle.std.proofs.Common.{◌≡◌, ◌⊎◌, ◌+◌, ◌||◌, ℕ, zero, suc, Bool, true, false, List, [], ◌∷◌, Option, Some, None, refl, sym, ap, subst, ◌∙◌, inl, inr, if◌then◌else◌, arith}
 use Rattle.std.specs.Prelude.{slice_get, option_and_then}
 use Rattle.std.specs.List.{list_any}
-use Rattle.std.proofs.lemmas.Bool.{or_left, or_right}
+use Rattle.std.proofs.lemmas.Bool.{or_cases, or_left, or_right}
 use Rattle.std.proofs.lemmas.List.Sums.{sum_by-cons}
 use Rattle.std.proofs.lemmas.Option.{same_Some, slice_get_past}
 use Rattle.leg.specs.LegId.{LegIdParts}
@@ -36,10 +36,6 @@ withdrawn_by (Some Taken) is = absurd cc
 withdrawn_by None is = absurd cc
 
 -- the leg of a number is among those whose state passes a test
-or_cases : (a b : Bool) → (a || b) ≡ true → (a ≡ true) ⊎ (b ≡ true)
-or_cases true b is = inl refl
-or_cases false b is = inr is
-
 any_first : (b : Bool) (id first : LegIdParts) (ids : List LegIdParts) → b ≡ true → is_same_leg id first ≡ true
     → list_any (is_same_leg id) (if b then first ∷ ids else ids) ≡ true
 any_first true id first ids is same = or_left (is_same_leg id first) (list_any (is_same_leg id) ids) same

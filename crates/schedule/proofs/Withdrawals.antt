@@ -37,7 +37,8 @@ use Rattle.sweep_release.proofs.Venues.{left-one_left}
 use Rattle.schedule.specs.declared.event.Event.{Event}
 use Rattle.schedule.specs.declared.event.Event.TheVariants as event
 use Rattle.schedule.specs.World.{World, VenueParts, Frame, venue_in, given}
-use Rattle.schedule.specs.Happening.{with_venue, session_wrote, is_session_up, desk_and_book, released_world, dropped_world, sent_world, taken_world, session_turn, to_dispatcher, withdrawn_in, noted, act_of, takes, happens}
+use Rattle.venue_line.specs.Line.{noted}
+use Rattle.schedule.specs.Happening.{with_venue, session_wrote, is_session_up, desk_and_book, released_world, dropped_world, sent_world, taken_world, session_turn, to_dispatcher, withdrawn_in, act_of, takes, happens}
 use Rattle.schedule.specs.LineOf.{line_at}
 use Rattle.venue_line.specs.LineInvariant.{LineInvariant}
 use Rattle.venue_line.proofs.ForGood.{state_is}

@@ -17,7 +17,8 @@ abbrev pub ibm : SymbolParts
 ibm = record { root = codes "IBM"; suffix = [] }
 
 abbrev pub buy : ℕ → SymbolParts → ℕ → ℕ → Routed
-buy venue symbol shares price = record { venue = venue; terms = record { symbol = symbol; side = Buy; shares = shares; price = price } }
+buy venue symbol shares price =
+    record { venue = venue; terms = record { symbol = symbol; side = Buy; shares = shares; price = price } }
 
 abbrev pub release : List Routed → Event
 release legs = event.Release (record { legs = legs })
@@ -129,7 +130,14 @@ written_by place w = of_venue w 0 [] (λ venue. map told (list_drop (place - 1) 
 
 -- the first connection of another venue, up to its open gate
 abbrev pub head_of : ℕ → List Event
-head_of v = event.Connect v ∷ event.ToExchange v 1 ∷ event.ToDispatcher v 1 ∷ event.ToExchange v 2 ∷ event.ToDispatcher v 2 ∷ event.GateUp v ∷ []
+head_of v =
+    event.Connect v
+    ∷ event.ToExchange v 1
+    ∷ event.ToDispatcher v 1
+    ∷ event.ToExchange v 2
+    ∷ event.ToDispatcher v 2
+    ∷ event.GateUp v
+    ∷ []
 
 -- two venues, the gates of both open
 abbrev pub after_two : List Event → World

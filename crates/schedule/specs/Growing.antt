@@ -43,7 +43,8 @@ pub record IsVenueLater (before after : VenueParts) : Type 0 where
 pub record IsWorldLater (before after : World) : Type 0 where
   pub sweeps : Grew before.desk.sweeps after.desk.sweeps
   pub venues : length after.venues ≡ length before.venues
-  pub venue : (v : ℕ) (old : VenueParts) → venue_in before v ≡ Some old → (new : VenueParts) × (venue_in after v ≡ Some new) × IsVenueLater old new
+  pub venue : (v : ℕ) (old : VenueParts) → venue_in before v ≡ Some old
+      → (new : VenueParts) × (venue_in after v ≡ Some new) × IsVenueLater old new
 
 -- nothing is changed of a venue, neither at the desk nor in the world
 pub record IsUntouched (u : ℕ) (before after : World) : Type 0 where

@@ -1,4 +1,5 @@
--- What happens in the world: one case an event. An event that isn't possible, or that a call refuses, changes nothing, but for a leg that was taken and then finds no number.
+-- What happens in the world: one case an event. An event that isn't possible, or that a call refuses, changes nothing,
+-- but for a leg that was taken and then finds no number.
 use Rattle.std.specs.Prelude.{ℕ, Bool, true, false, ◌&&◌, not, List, [], ◌∷◌, ◌++◌, map, Option, Some, None, Ok, Err, ◌==◌, slice_set, if◌then◌else◌}
 use Rattle.std.specs.Option.{option_map_or}
 use Rattle.leg.specs.LegId.{LegIdParts}
@@ -20,6 +21,7 @@ use Rattle.share_ledger.specs.Book.{BookParts, apply, withdraw}
 use Rattle.sweep_release.specs.Desk.{DeskParts, gate_of, is_up, placed, gate_up, gate_down, shut, drop_next}
 use Rattle.sweep_release.specs.Desk as desk
 use Rattle.sweep_release.specs.Place.{DeskAndBook, place}
+use Rattle.venue_line.specs.Line.{noted}
 use Rattle.schedule.specs.declared.act.Act.{Act}
 use Rattle.schedule.specs.declared.act.Act.TheVariants as act
 use Rattle.schedule.specs.declared.event.Event.{Event}
@@ -106,14 +108,11 @@ to_exchange w v venue (Some frame) =
     let answer = take venue.exchange frame.connection frame.message in
     with_venue w v (exchange_wrote frame.connection answer.0 answer.1 venue)
 
--- a frame comes to the session, if it was written in the present connection: the book withdraws what the step names and takes the note, which is then confirmed
+-- a frame comes to the session, if it was written in the present connection: the book withdraws what the step names and
+-- takes the note, which is then confirmed
 abbrev pub booked : ℕ → Option Note → BookParts → BookParts
 booked v None book = book
 booked v (Some note) book = (apply book v note).1
-
-abbrev pub noted : Option Note → List Note
-noted None = []
-noted (Some note) = note ∷ []
 
 abbrev pub session_turn : World → ℕ → VenueParts → Turn → World
 session_turn w v venue turn =
@@ -170,14 +169,18 @@ happens w (event.Drop v) = at_venue w v (λ venue. dropped_world w (drop_next w.
 happens w (event.Take v) = at_venue w v (takes w v)
 happens w (event.Connect v) = at_venue w v (connects w v)
 happens w (event.ToExchange v frame) = at_venue w v (λ venue. to_exchange w v venue (numbered frame venue.to_exchange))
-happens w (event.ToDispatcher v frame) = at_venue w v (λ venue. to_dispatcher w v venue (numbered frame venue.from_exchange))
+happens w (event.ToDispatcher v frame) =
+    at_venue w v (λ venue. to_dispatcher w v venue (numbered frame venue.from_exchange))
 happens w (event.Break v) = at_venue w v (λ venue. with_venue w v (record venue { session = broken venue.session }))
-happens w (event.ExchangeBreak v) = at_venue w v (λ venue. with_venue w v (record venue { exchange = drop_connection venue.exchange }))
+happens w (event.ExchangeBreak v) =
+    at_venue w v (λ venue. with_venue w v (record venue { exchange = drop_connection venue.exchange }))
 happens w (event.Act v act) = at_venue w v (λ venue. acted_world w v venue (act_of act venue.exchange))
 happens w (event.Quiet v) = at_venue w v (λ venue. called_world w v venue (quiet venue.session))
 happens w (event.Silent v) = at_venue w v (λ venue. called_world w v venue (silent venue.session))
 happens w (event.Close v) = at_venue w v (λ venue. closed_world w v venue (close venue.session))
-happens w (event.Abandon v) = at_venue w v (λ venue. with_venue (record w { desk = shut w.desk v }) v (record venue { session = abandon venue.session }))
+happens w (event.Abandon v) =
+    at_venue w v
+    (λ venue. with_venue (record w { desk = shut w.desk v }) v (record venue { session = abandon venue.session }))
 
 -- the world after a list of events
 abbrev pub happen : List Event → World → World

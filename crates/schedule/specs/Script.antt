@@ -69,7 +69,8 @@ shares_word word = number_within 1 1000000 word
 
 -- the price of a trade: 1 to 20 printable bytes
 abbrev pub px_word : List ℕ → Option (List ℕ)
-px_word word = if nat_le 1 (length word) && nat_le (length word) 20 && list_all is_ascii_graphic word then Some word else None
+px_word word =
+    if nat_le 1 (length word) && nat_le (length word) 20 && list_all is_ascii_graphic word then Some word else None
 
 abbrev pub side_word : List ℕ → Option Side
 side_word word =
@@ -82,7 +83,8 @@ leg_of_words v symbol side shares price =
     option_and_then (λ parts.
     option_and_then (λ which.
     option_and_then (λ n.
-    option_map (λ limit. record { venue = venue; terms = record { symbol = parts; side = which; shares = n; price = limit } })
+    option_map (λ limit.
+    record { venue = venue; terms = record { symbol = parts; side = which; shares = n; price = limit } })
     (number_within 1 9999999999 price))
     (shares_word shares))
     (side_word side))
@@ -102,7 +104,8 @@ legs_of_words _ = None
 -- a release with no words is one of no legs
 abbrev pub release_of_words : List (List ℕ) → Option Event
 release_of_words [] = Some (event.Release (record { legs = [] }))
-release_of_words (word ∷ words) = option_map (λ legs. event.Release (record { legs = legs })) (legs_of_words (word ∷ words))
+release_of_words (word ∷ words) =
+    option_map (λ legs. event.Release (record { legs = legs })) (legs_of_words (word ∷ words))
 
 -- the events of a venue alone
 abbrev pub venue_event : List ℕ → ℕ → Option Event
@@ -137,11 +140,23 @@ event_of venues name (v ∷ k ∷ []) =
     option_and_then (λ venue. option_and_then (count_event name venue) (count_word k)) (venue_word venues v)
 event_of venues name (v ∷ i ∷ j ∷ []) =
     if bytes_eq name (codes "bust")
-    then option_and_then (λ venue. option_and_then (λ order. option_map (λ which. event.Act venue (act.Bust order which)) (count_word j)) (count_word i)) (venue_word venues v)
+    then option_and_then (λ venue.
+    option_and_then (λ order.
+    option_map (λ which. event.Act venue (act.Bust order which))
+    (count_word j))
+    (count_word i))
+    (venue_word venues v)
     else None
 event_of venues name (v ∷ i ∷ n ∷ px ∷ []) =
     if bytes_eq name (codes "trade")
-    then option_and_then (λ venue. option_and_then (λ order. option_and_then (λ shares. option_map (λ price. event.Act venue (act.Trade order shares price)) (px_word px)) (shares_word n)) (count_word i)) (venue_word venues v)
+    then option_and_then (λ venue.
+    option_and_then (λ order.
+    option_and_then (λ shares.
+    option_map (λ price. event.Act venue (act.Trade order shares price))
+    (px_word px))
+    (shares_word n))
+    (count_word i))
+    (venue_word venues v)
     else None
 event_of venues name _ = None
 
@@ -158,13 +173,18 @@ pub record ScriptVenue : Type 0 where
 abbrev pub venue_of_parts : List (List ℕ) → Option ScriptVenue
 venue_of_parts (name ∷ []) = option_map (λ dialect. record { dialect = dialect; next = false }) (dialect_named name)
 venue_of_parts (name ∷ tag ∷ []) =
-    if bytes_eq tag (codes "789") then option_map (λ dialect. record { dialect = dialect; next = true }) (dialect_named name) else None
+    if bytes_eq tag (codes "789")
+    then option_map (λ dialect. record { dialect = dialect; next = true }) (dialect_named name)
+    else None
 venue_of_parts _ = None
 
 abbrev pub venues_of_words : List (List ℕ) → Option (List ScriptVenue)
 venues_of_words [] = Some []
 venues_of_words (word ∷ words) =
-    option_and_then (λ first. option_map (λ rest. first ∷ rest) (venues_of_words words)) (venue_of_parts (pieces 43 word))
+    option_and_then (λ first.
+    option_map (λ rest. first ∷ rest)
+    (venues_of_words words))
+    (venue_of_parts (pieces 43 word))
 
 -- the first line: `venues`, the number that no message has, and 1 to 16 venues
 pub record ScriptHead : Type 0 where
@@ -177,7 +197,10 @@ is_venue_count n = nat_le 1 n && nat_le n 16
 abbrev pub head_of_words : List (List ℕ) → Option ScriptHead
 head_of_words (name ∷ number ∷ words) =
     if bytes_eq name (codes "venues") && is_venue_count (length words)
-    then option_and_then (λ max_number. option_map (λ venues. record { max_number = max_number; venues = venues }) (venues_of_words words)) (number_within 16 999999999 number)
+    then option_and_then (λ max_number.
+    option_map (λ venues. record { max_number = max_number; venues = venues })
+    (venues_of_words words))
+    (number_within 16 999999999 number)
     else None
 head_of_words _ = None
 

@@ -18,4 +18,5 @@ pub record SumsUp (w : World) (number : ℕ) (legs : List Routed) : Type 0 where
 abbrev pub TheSums : Type 0
 TheSums =
     (next : List Bool) (max_number : ℕ) (events : List Event) (number : ℕ) (legs : List Routed)
-    → numbered number (run next max_number events).desk.sweeps ≡ Some legs → SumsUp (run next max_number events) number legs
+    → numbered number (run next max_number events).desk.sweeps ≡ Some legs
+    → SumsUp (run next max_number events) number legs

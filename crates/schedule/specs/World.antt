@@ -39,7 +39,8 @@ pub record World : Type 0 where
 
 -- the session's end, and the exchange's, whose numbers go as far as may be
 abbrev pub session_config : ℕ → Bool → ConfigParts
-session_config max_number has_next = record { me = codes "A"; peer = codes "B"; heart = 30; max_number = max_number; has_next = has_next }
+session_config max_number has_next =
+    record { me = codes "A"; peer = codes "B"; heart = 30; max_number = max_number; has_next = has_next }
 
 abbrev pub exchange_config : ConfigParts
 exchange_config = record { me = codes "B"; peer = codes "A"; heart = 30; max_number = 999999999; has_next = false }
@@ -53,7 +54,8 @@ new_venue max_number has_next = record {
   given = [];
 }
 
--- the opening world: for each venue, whether it chose to be told the next expected number (789); and the number that no message of a session has
+-- the opening world: for each venue, whether it chose to be told the next expected number (789); and the number that no
+-- message of a session has
 abbrev pub opening : List Bool → ℕ → World
 opening next max_number = record {
   desk = new_desk (length next);

@@ -37,14 +37,17 @@ IsBelowClosing s log =
 
 -- no Logout is written, and a session that is over stays so
 pub record Goes (b : Line) (s : SessionParts) (to : List Carried) : Type 0 where
-  pub over : IsOver b.session.phase → IsOver s.phase × (s.connection ≡ b.session.connection) × (HasNoDoubt b.session.log → HasNoDoubt s.log)
+  pub over : IsOver b.session.phase
+      → IsOver s.phase × (s.connection ≡ b.session.connection) × (HasNoDoubt b.session.log → HasNoDoubt s.log)
   pub frames : (m : Carried) → Contains to m → m.content ≡ Logout → Contains b.to_exchange m
   pub on : (m : Carried) → Contains b.to_exchange m → Contains to m
-  pub above : (number fence : ℕ) (leg : SentLeg) → IsBeforeUp s.phase → IsLegAt s.log number leg → Contains s.current.fences fence → number < fence
+  pub above : (number fence : ℕ) (leg : SentLeg) → IsBeforeUp s.phase → IsLegAt s.log number leg
+      → Contains s.current.fences fence → number < fence
   pub closing : IsBelowClosing s s.log
   pub out : s.phase ≡ phase.LoggedOut → HasNoDoubt s.log
 
-pub close_goes : (b : Line) (released : List Leg) (left : ℕ) (s : SessionParts) (to : List Carried) (given : List Note) → Goes b s to → Close b
+pub close_goes : (b : Line) (released : List Leg) (left : ℕ) (s : SessionParts) (to : List Carried) (given : List Note)
+    → Goes b s to → Close b
     → Close (record b { released = released; left = left; session = s; to_exchange = to; given = given })
 close_goes b released left s to given goes c = record {
   fence_above = goes.above;
@@ -56,28 +59,51 @@ close_goes b released left s to given goes c = record {
   marked = λ count is.
       (let mark = c.marked count is in
       let now = goes.over (c.logout_is_last mark.logout mark.written mark.says).0 in
-      record { all = mark.all; down = mark.down; last = mark.last ∙ sym now.1; logout = mark.logout; written = goes.on mark.logout mark.written; says = mark.says });
+      record {
+        all = mark.all;
+        down = mark.down;
+        last = mark.last ∙ sym now.1;
+        logout = mark.logout;
+        written =
+            goes.on mark.logout mark.written;
+        says = mark.says;
+      });
   logout_heard = c.logout_heard;
   out_no_doubt = goes.out;
 }
 
 -- where nothing is written
-unwritten : (b : Line) (s : SessionParts) → (IsOver b.session.phase → IsOver s.phase × (s.connection ≡ b.session.connection) × (HasNoDoubt b.session.log → HasNoDoubt s.log))
-    → ((number fence : ℕ) (leg : SentLeg) → IsBeforeUp s.phase → IsLegAt s.log number leg → Contains s.current.fences fence → number < fence)
+unwritten : (b : Line) (s : SessionParts)
+    → (IsOver b.session.phase
+    → IsOver s.phase × (s.connection ≡ b.session.connection) × (HasNoDoubt b.session.log → HasNoDoubt s.log))
+    → ((number fence : ℕ) (leg : SentLeg) → IsBeforeUp s.phase → IsLegAt s.log number leg
+    → Contains s.current.fences fence → number < fence)
     → IsBelowClosing s s.log → (s.phase ≡ phase.LoggedOut → HasNoDoubt s.log) → Goes b s b.to_exchange
-unwritten b s over above closing out = record { over = over; frames = λ m there is. there; on = λ m there. there; above = above; closing = closing; out = out }
+unwritten b s over above closing out =
+    record {
+      over = over;
+      frames = λ m there is. there;
+      on = λ m there. there;
+      above = above;
+      closing = closing;
+      out =
+          out;
+    }
 
 -- where a message is written that is no Logout
 one_written : (b : Line) (s : SessionParts) (number : ℕ) (content : Content) → (content ≡ Logout → ⊥)
-    → (IsOver b.session.phase → IsOver s.phase × (s.connection ≡ b.session.connection) × (HasNoDoubt b.session.log → HasNoDoubt s.log))
-    → ((number fence : ℕ) (leg : SentLeg) → IsBeforeUp s.phase → IsLegAt s.log number leg → Contains s.current.fences fence → number < fence)
+    → (IsOver b.session.phase
+    → IsOver s.phase × (s.connection ≡ b.session.connection) × (HasNoDoubt b.session.log → HasNoDoubt s.log))
+    → ((number fence : ℕ) (leg : SentLeg) → IsBeforeUp s.phase → IsLegAt s.log number leg
+    → Contains s.current.fences fence → number < fence)
     → IsBelowClosing s s.log → (s.phase ≡ phase.LoggedOut → HasNoDoubt s.log)
     → Goes b s (b.to_exchange ++ record { connection = s.connection; number = number; content = content } ∷ [])
 one_written b s number content other over above closing out =
     let frame : Carried = record { connection = s.connection; number = number; content = content } in
     record {
       over = over;
-      frames = λ m there is. elim (Contains-push_cases b.to_exchange frame m there) [ inl old ↦ old | inr new ↦ absurd (other (ap (λ (x : Carried). x.content) new ∙ is)) ];
+      frames = λ m there is. elim (Contains-push_cases b.to_exchange frame m there)
+          [ inl old ↦ old | inr new ↦ absurd (other (ap (λ (x : Carried). x.content) new ∙ is)) ];
       on = λ m there. Contains-append_left b.to_exchange (frame ∷ []) m there;
       above = above;
       closing = closing;
@@ -91,65 +117,101 @@ spent_no_doubt log none number leg is doubt = none number leg (goes_push log num
 took_no_doubt : (least : ℕ) (log : List Entry) → HasNoDoubt log → HasNoDoubt (take_below least log)
 took_no_doubt least log none number leg is doubt =
     (let was = was_settled (λ n. nat_lt n least) Taken number log leg is in
-    elim was.settled [ inl same ↦ none number was.leg was.there (sym same ∙ doubt) | inr settled ↦ (let e = sym settled.1 ∙ doubt in cc) ])
+    elim was.settled [
+      | inl same ↦ none number was.leg was.there (sym same ∙ doubt)
+      | inr settled ↦
+          (let e = sym settled.1 ∙ doubt in cc)
+    ])
 
-took_back : (least : ℕ) (log : List Entry) (number : ℕ) (leg : SentLeg) → IsLegAt (take_below least log) number leg → (was : SentLeg) × IsLegAt log number was
-took_back least log number leg is = let was = was_settled (λ n. nat_lt n least) Taken number log leg is in (was.leg, was.there)
+took_back : (least : ℕ) (log : List Entry) (number : ℕ) (leg : SentLeg) → IsLegAt (take_below least log) number leg
+    → (was : SentLeg) × IsLegAt log number was
+took_back least log number leg is = let was = was_settled (λ n. nat_lt n least) Taken number log leg is in
+    (was.leg, was.there)
 
-spends : (b : Line) (s : SessionParts) (content : Content) → (content ≡ Logout → ⊥) → s.log ≡ b.session.log ++ Admin ∷ [] → s.phase ≡ b.session.phase → s.connection ≡ b.session.connection → s.current.closing_fence ≡ b.session.current.closing_fence
-    → ((fence : ℕ) → Contains s.current.fences fence → Contains b.session.current.fences fence ⊎ (fence ≡ next_out b.session)) → Close b → Close (framed (next_out b.session) content s b)
+spends : (b : Line) (s : SessionParts) (content : Content) → (content ≡ Logout → ⊥)
+    → s.log ≡ b.session.log ++ Admin ∷ [] → s.phase ≡ b.session.phase → s.connection ≡ b.session.connection
+    → s.current.closing_fence ≡ b.session.current.closing_fence
+    → ((fence : ℕ) → Contains s.current.fences fence
+    → Contains b.session.current.fences fence ⊎ (fence ≡ next_out b.session)) → Close b
+    → Close (framed (next_out b.session) content s b)
 spends b s content other log same connection closing fences c =
-    let back : (number : ℕ) (leg : SentLeg) → IsLegAt s.log number leg → IsLegAt b.session.log number leg = λ number leg is. goes_push b.session.log number leg (subst (λ l. IsLegAt l number leg) log is) in
+    let back : (number : ℕ) (leg : SentLeg) → IsLegAt s.log number leg → IsLegAt b.session.log number leg =
+    λ number leg is. goes_push b.session.log number leg (subst (λ l. IsLegAt l number leg) log is) in
     close_goes b b.released b.left s _ b.given
     (one_written b s (next_out b.session) content other
-    (λ over. (subst IsOver (sym same) over, connection, λ none number leg is doubt. none number leg (back number leg is) doubt))
+    (λ over. (
+      subst IsOver (sym same) over,
+      connection,
+      λ none number leg is doubt. none number leg
+          (back number leg is) doubt,
+    ))
     (λ number fence leg early is there.
     elim (fences fence there) [
       | inl old ↦ c.fence_above number fence leg (subst IsBeforeUp same early) (back number leg is) old
       | inr new ↦ (let within = numbered_within number b.session.log (Sent leg) (back number leg is) in omega arith)
     ])
-    (λ number wanted leg now is mark. c.closing_above number wanted leg (sym same ∙ now) (back number leg is) (sym closing ∙ mark))
+    (λ number wanted leg now is mark. c.closing_above number wanted leg (sym same ∙ now) (back number leg is)
+    (sym closing ∙ mark))
     (λ now number leg is doubt. c.out_no_doubt (sym same ∙ now) number leg (back number leg is) doubt)) c
 
 fills : (b : Line) (first new_number : ℕ) → Close b → Close (framed first (GapFill new_number) b.session b)
 fills b first new_number c =
     close_goes b b.released b.left b.session _ b.given
-    (one_written b b.session first (GapFill new_number) (λ is. cc) (λ over. (over, refl, λ none. none)) c.fence_above c.closing_above c.out_no_doubt) c
+    (one_written b b.session first (GapFill new_number) (λ is. cc)
+    (λ over. (over, refl, λ none. none)) c.fence_above c.closing_above c.out_no_doubt) c
 
 -- the phase alone, or the mark of the close's fence with it
-turns : (b : Line) (s : SessionParts) → s.log ≡ b.session.log → s.connection ≡ b.session.connection → ((fence : ℕ) → Contains s.current.fences fence → Contains b.session.current.fences fence) → (IsOver b.session.phase → IsOver s.phase)
+turns : (b : Line) (s : SessionParts) → s.log ≡ b.session.log → s.connection ≡ b.session.connection
+    → ((fence : ℕ) → Contains s.current.fences fence → Contains b.session.current.fences fence)
+    → (IsOver b.session.phase → IsOver s.phase)
     → (IsBeforeUp s.phase → IsBeforeUp b.session.phase) → IsBelowClosing s b.session.log
     → (s.phase ≡ phase.LoggedOut → HasNoDoubt b.session.log) → Close b → Close (record b { session = s })
 turns b s log connection fences over early closing out c =
-    let at : (number : ℕ) (leg : SentLeg) → IsLegAt s.log number leg → IsLegAt b.session.log number leg = λ number leg is. subst (λ l. IsLegAt l number leg) log is in
+    let at : (number : ℕ) (leg : SentLeg) → IsLegAt s.log number leg → IsLegAt b.session.log number leg =
+    λ number leg is. subst (λ l. IsLegAt l number leg) log is in
     close_goes b b.released b.left s b.to_exchange b.given
     (unwritten b s
     (λ is. (over is, connection, λ none number leg there doubt. none number leg (at number leg there) doubt))
-    (λ number fence leg now is there. c.fence_above number fence leg (early now) (at number leg is) (fences fence there))
+    (λ number fence leg now is there. c.fence_above number fence leg (early now) (at number leg is)
+    (fences fence there))
     (λ number wanted leg now is mark. closing number wanted leg now (at number leg is) mark)
     (λ now number leg is doubt. out now number leg (at number leg is) doubt)) c
 
 -- a fence was answered
-passes : (b : Line) (s : SessionParts) (fence : ℕ) → s.log ≡ take_below fence b.session.log → s.connection ≡ b.session.connection → ((fence : ℕ) → Contains s.current.fences fence → Contains b.session.current.fences fence) → s.current.closing_fence ≡ b.session.current.closing_fence
-    → (IsOver b.session.phase → IsOver s.phase) → (IsBeforeUp s.phase → IsBeforeUp b.session.phase) → (s.phase ≡ phase.Closing → b.session.phase ≡ phase.Closing)
-    → (s.phase ≡ phase.LoggedOut → HasNoDoubt (take_below fence b.session.log)) → Close b → Close (record b { session = s })
+passes : (b : Line) (s : SessionParts) (fence : ℕ) → s.log ≡ take_below fence b.session.log
+    → s.connection ≡ b.session.connection
+    → ((fence : ℕ) → Contains s.current.fences fence → Contains b.session.current.fences fence)
+    → s.current.closing_fence ≡ b.session.current.closing_fence
+    → (IsOver b.session.phase → IsOver s.phase) → (IsBeforeUp s.phase → IsBeforeUp b.session.phase)
+    → (s.phase ≡ phase.Closing → b.session.phase ≡ phase.Closing)
+    → (s.phase ≡ phase.LoggedOut → HasNoDoubt (take_below fence b.session.log)) → Close b
+    → Close (record b { session = s })
 passes b s fence log connection fences closing_fence over early closing out c =
-    let at : (number : ℕ) (leg : SentLeg) → IsLegAt s.log number leg → IsLegAt (take_below fence b.session.log) number leg = λ number leg is. subst (λ l. IsLegAt l number leg) log is in
+    let at : (number : ℕ) (leg : SentLeg) → IsLegAt s.log number leg → IsLegAt
+    (take_below fence b.session.log) number leg = λ number leg is. subst (λ l. IsLegAt l number leg) log is in
     close_goes b b.released b.left s b.to_exchange b.given
     (unwritten b s
-    (λ is. (over is, connection, λ none number leg there doubt. took_no_doubt fence b.session.log none number leg (at number leg there) doubt))
+    (λ is. (
+      over is,
+      connection,
+      λ none number leg there doubt. took_no_doubt fence b.session.log none number leg
+          (at number leg there) doubt,
+    ))
     (λ number other leg now is there.
-    (let was = took_back fence b.session.log number leg (at number leg is) in c.fence_above number other was.0 (early now) was.1 (fences other there)))
+    (let was = took_back fence b.session.log number leg (at number leg is) in
+    c.fence_above number other was.0 (early now) was.1 (fences other there)))
     (λ number wanted leg now is mark.
     (let was = took_back fence b.session.log number leg (at number leg is) in
     c.closing_above number wanted was.0 (closing now) was.1 (sym closing_fence ∙ mark)))
     (λ now number leg is doubt. out now number leg (at number leg is) doubt)) c
 
 -- every leg is below the fence that is answered last
-last_sure : (b : Line) (fence : ℕ) → IsAnswered b fence → IsLastFence b fence → Close b → HasNoDoubt (take_below fence b.session.log)
+last_sure : (b : Line) (fence : ℕ) → IsAnswered b fence → IsLastFence b fence → Close b
+    → HasNoDoubt (take_below fence b.session.log)
 last_sure b fence is (inl settling) c number leg there doubt =
     (let was = took_back fence b.session.log number leg there in
-    take_below_sure fence b.session.log number leg there (c.fence_above number fence was.0 (subst IsBeforeUp (sym settling) tt) was.1 is.written) doubt)
+    take_below_sure fence b.session.log number leg there
+    (c.fence_above number fence was.0 (subst IsBeforeUp (sym settling) tt) was.1 is.written) doubt)
 last_sure b fence is (inr closing) c number leg there doubt =
     (let was = took_back fence b.session.log number leg there in
     let mark = closing_low b.session.current.closing_fence fence closing.1 in
@@ -157,10 +219,12 @@ last_sure b fence is (inr closing) c number leg there doubt =
     take_below_sure fence b.session.log number leg there (omega (arith, mark.2)) doubt)
 
 -- the session's Logout
-logs_out : (b : Line) (s : SessionParts) → s.log ≡ b.session.log ++ Admin ∷ [] → s.connection ≡ b.session.connection → s.phase ≡ phase.LoggedOut → b.session.phase ≡ phase.LoggedOut → Close b
+logs_out : (b : Line) (s : SessionParts) → s.log ≡ b.session.log ++ Admin ∷ [] → s.connection ≡ b.session.connection
+    → s.phase ≡ phase.LoggedOut → b.session.phase ≡ phase.LoggedOut → Close b
     → Close (framed (next_out b.session) Logout s b)
 logs_out b s log connection now was c =
-    let none : HasNoDoubt s.log = λ number leg is doubt. c.out_no_doubt was number leg (goes_push b.session.log number leg (subst (λ l. IsLegAt l number leg) log is)) doubt in
+    let none : HasNoDoubt s.log = λ number leg is doubt. c.out_no_doubt was number leg
+    (goes_push b.session.log number leg (subst (λ l. IsLegAt l number leg) log is)) doubt in
     let over : IsOver s.phase = subst IsOver (sym now) tt in
     let frame : Carried = record { connection = s.connection; number = next_out b.session; content = Logout } in
     record {
@@ -173,13 +237,22 @@ logs_out b s log connection now was c =
           ];
       marked = λ count is.
           (let mark = c.marked count is in
-          record { all = mark.all; down = mark.down; last = mark.last ∙ sym connection; logout = mark.logout; written = Contains-append_left b.to_exchange (frame ∷ []) mark.logout mark.written; says = mark.says });
+          record {
+            all = mark.all;
+            down = mark.down;
+            last = mark.last ∙ sym connection;
+            logout = mark.logout;
+            written =
+                Contains-append_left b.to_exchange (frame ∷ []) mark.logout mark.written;
+            says = mark.says;
+          });
       logout_heard = c.logout_heard;
       out_no_doubt = λ out. none;
     }
 
 over_after : (is_over : Bool) (now : Phase) → is_connected now ≡ true → IsOver now → IsOver (phase_after is_over now)
-over_after is_over phase.LoggedOut on over = chosen IsOver (is_over || true) phase.Closed phase.Down (λ shut. tt) (λ open_still. absurd (or_true is_over open_still))
+over_after is_over phase.LoggedOut on over = chosen IsOver (is_over || true) phase.Closed phase.Down (λ shut. tt)
+    (λ open_still. absurd (or_true is_over open_still))
   where
     or_true : (b : Bool) → (b || true) ≡ false → ⊥
     or_true true e = cc
@@ -192,8 +265,10 @@ over_after is_over phase.Up on over = absurd over
 over_after is_over phase.Closing on over = absurd over
 
 -- a connection that ended is in one of two phases
-after_is : (P : Phase → Type 0) → (is_over : Bool) (now : Phase) → P phase.Closed → P phase.Down → P (phase_after is_over now)
-after_is P is_over now closed down = chosen P (is_over || is_logged_out now) phase.Closed phase.Down (λ over. closed) (λ not_over. down)
+after_is : (P : Phase → Type 0) → (is_over : Bool) (now : Phase) → P phase.Closed → P phase.Down
+    → P (phase_after is_over now)
+after_is P is_over now closed down = chosen P (is_over || is_logged_out now) phase.Closed phase.Down (λ over. closed)
+    (λ not_over. down)
 
 not_over : (now : Phase) → is_connected now ≡ true → (now ≡ phase.LoggedOut → ⊥) → IsOver now → ⊥
 not_over phase.LoggedOut on going over = going refl
@@ -209,7 +284,8 @@ plain_no_logout content plain is = subst IsPlainAdmin is plain
 
 -- where no message is the session's Logout yet, since its phase isn't over
 sends_kept : (b : Line) (leg : Leg) → b.session.phase ≡ phase.Up → Close b
-    → Close (record (framed (next_out b.session) (Order (Ok leg)) (sending b.session (suc b.left) leg) b) { left = suc b.left })
+    → Close (record
+    (framed (next_out b.session) (Order (Ok leg)) (sending b.session (suc b.left) leg) b) { left = suc b.left })
 sends_kept b leg up c =
     close_goes b b.released (suc b.left) (sending b.session (suc b.left) leg) _ b.given
     (one_written b (sending b.session (suc b.left) leg) (next_out b.session) (Order (Ok leg)) (λ is. cc)
@@ -218,7 +294,8 @@ sends_kept b leg up c =
     (λ number wanted x closing is mark. absurd (let e = sym up ∙ closing in cc))
     (λ out. absurd (let e = sym up ∙ out in cc))) c
 
-connects_kept : (b : Line) (content : Content) → (content ≡ Logout → ⊥) → b.session.phase ≡ phase.Down → Close b → Close (framed (next_out b.session) content (connecting b.session) b)
+connects_kept : (b : Line) (content : Content) → (content ≡ Logout → ⊥) → b.session.phase ≡ phase.Down → Close b
+    → Close (framed (next_out b.session) content (connecting b.session) b)
 connects_kept b content other down c =
     close_goes b b.released b.left (connecting b.session) _ b.given
     (one_written b (connecting b.session) (next_out b.session) content other
@@ -232,7 +309,8 @@ settles_kept b told c =
     close_goes b b.released b.left (settling_at told b.session) b.to_exchange b.given
     (unwritten b (settling_at told b.session)
     (λ over. (over, refl, λ none. give_up_sure told b.session.log))
-    (λ number fence leg early is there. (let was = give_up_back told b.session.log number leg is in c.fence_above number fence was.0 early was.1 there))
+    (λ number fence leg early is there.
+    (let was = give_up_back told b.session.log number leg is in c.fence_above number fence was.0 early was.1 there))
     (λ number wanted leg closing is mark.
     (let was = give_up_back told b.session.log number leg is in c.closing_above number wanted was.0 closing was.1 mark))
     (λ out. give_up_sure told b.session.log)) c
@@ -240,39 +318,59 @@ settles_kept b told c =
 pub close_calls : Calls (λ b. Unit {0}) Close
 close_calls = record {
   marks = λ b expected requested pending silent close_asked given j c.
-      close_goes b b.released b.left (with_marks expected requested pending silent close_asked b.session) b.to_exchange given
+      close_goes b b.released b.left (with_marks expected requested pending silent close_asked b.session) b.to_exchange
+      given
       (unwritten b _ (λ over. (over, refl, λ none. none)) c.fence_above c.closing_above c.out_no_doubt) c;
-  admin = λ b content plain may j c. spends b (spending b.session) content (plain_no_logout content plain) refl refl refl refl (λ fence there. inl there) c;
+  admin = λ b content plain may j c. spends b (spending b.session) content
+      (plain_no_logout content plain) refl refl refl refl (λ fence there. inl there) c;
   fence = λ b may j c.
-      spends b (spending (fenced b.session)) (TestRequest (fence_id (next_out b.session))) (λ is. cc) refl refl refl refl
-      (λ fence there. elim (Contains-push_cases b.session.current.fences (next_out b.session) fence there) [ inl old ↦ inl old | inr new ↦ inr (sym new) ]) c;
+      spends b (spending (fenced b.session)) (TestRequest (fence_id (next_out b.session)))
+      (λ is. cc) refl refl refl refl
+      (λ fence there. elim (Contains-push_cases b.session.current.fences (next_out b.session) fence there)
+      [ inl old ↦ inl old | inr new ↦ inr (sym new) ]) c;
   fill_settled = λ b first new_number from forward below j c. fills b first new_number c;
   fill_sure = λ b first new_number sure forward below j c. fills b first new_number c;
   settles = λ b content told early heard says j c. settles_kept b told c;
   settling = λ b early j c.
-      turns b _ refl refl (λ fence there. there) (λ over. absurd (subst IsOver early over)) (λ settling. subst IsBeforeUp (sym early) tt) (λ number wanted leg closing is mark. absurd cc) (λ out. absurd cc) c;
-  passes = λ b fence is j c. passes b (passing fence b.session) fence refl refl (fewer_fences fence b) refl (λ over. over) (λ early. early) (λ closing. closing) (λ out. took_no_doubt fence b.session.log (c.out_no_doubt out)) c;
+      turns b _ refl refl (λ fence there. there) (λ over. absurd (subst IsOver early over))
+      (λ settling. subst IsBeforeUp (sym early) tt) (λ number wanted leg closing is mark. absurd cc)
+      (λ out. absurd cc) c;
+  passes = λ b fence is j c. passes b (passing fence b.session) fence refl refl (fewer_fences fence b) refl
+      (λ over. over) (λ early. early) (λ closing. closing)
+      (λ out. took_no_doubt fence b.session.log (c.out_no_doubt out)) c;
   passes_up = λ b fence is settling j c.
-      passes b (passed_into fence phase.Up b.session) fence refl refl (fewer_fences fence b) refl (λ over. absurd (subst IsOver settling over)) (λ early. absurd early) (λ closing. absurd cc) (λ out. absurd cc) c;
+      passes b (passed_into fence phase.Up b.session) fence refl refl (fewer_fences fence b) refl
+      (λ over. absurd (subst IsOver settling over)) (λ early. absurd early) (λ closing. absurd cc) (λ out. absurd cc) c;
   passes_out = λ b fence is last j c.
-      passes b (passed_into fence phase.LoggedOut b.session) fence refl refl (fewer_fences fence b) refl (λ over. tt) (λ early. absurd early) (λ closing. absurd cc) (λ out. last_sure b fence is last c) c;
+      passes b (passed_into fence phase.LoggedOut b.session) fence refl refl (fewer_fences fence b) refl (λ over. tt)
+      (λ early. absurd early) (λ closing. absurd cc) (λ out. last_sure b fence is last c) c;
   passes_out_written = λ b fence is last may j c.
-      logs_out (with_session (passed_into fence phase.LoggedOut b.session) b) (record (spending (passing fence b.session)) { phase = phase.LoggedOut }) refl refl refl refl
-      (passes b (passed_into fence phase.LoggedOut b.session) fence refl refl (fewer_fences fence b) refl (λ over. tt) (λ early. absurd early) (λ closing. absurd cc) (λ out. last_sure b fence is last c) c);
+      logs_out (with_session (passed_into fence phase.LoggedOut b.session) b)
+      (record (spending (passing fence b.session)) { phase = phase.LoggedOut }) refl refl refl refl
+      (passes b (passed_into fence phase.LoggedOut b.session) fence refl refl (fewer_fences fence b) refl (λ over. tt)
+      (λ early. absurd early) (λ closing. absurd cc) (λ out. last_sure b fence is last c) c);
   answers_logout = λ b heard on going may j c.
-      (let mark = c.logout_heard (record { connection = b.session.connection; number = heard.0; content = Logout }) heard.1 refl in
+      (let mark = c.logout_heard (record { connection = b.session.connection; number = heard.0; content = Logout })
+      heard.1 refl in
       let logout = c.marked mark.0 mark.1 in
       absurd (not_over b.session.phase on going (c.logout_is_last logout.logout logout.written logout.says).0));
   ends = λ b is_over on j c.
       turns b (record b.session { phase = phase_after is_over b.session.phase }) refl refl (λ fence there. there)
       (over_after is_over b.session.phase on)
       (λ early. absurd (after_is (λ p. IsBeforeUp p → ⊥) is_over b.session.phase (λ e. e) (λ e. e) early))
-      (λ number wanted leg closing is mark. absurd (after_is (λ p. p ≡ phase.Closing → ⊥) is_over b.session.phase (λ e. cc) (λ e. cc) closing))
+      (λ number wanted leg closing is mark.
+      absurd (after_is (λ p. p ≡ phase.Closing → ⊥) is_over b.session.phase (λ e. cc) (λ e. cc) closing))
       (λ out. absurd (after_is (λ p. p ≡ phase.LoggedOut → ⊥) is_over b.session.phase (λ e. cc) (λ e. cc) out)) c;
-  abandons = λ b j c. turns b (record b.session { phase = phase.Closed }) refl refl (λ fence there. there) (λ over. tt) (λ early. absurd early) (λ number wanted leg closing is mark. absurd cc) (λ out. absurd cc) c;
+  abandons = λ b j c. turns b (record b.session { phase = phase.Closed }) refl refl (λ fence there. there) (λ over. tt)
+      (λ early. absurd early) (λ number wanted leg closing is mark. absurd cc) (λ out. absurd cc) c;
   connects = λ b down may j c. connects_kept b _ (λ is. cc) down c;
   closes = λ b up j c.
-      turns b (record b.session { phase = phase.Closing; current = record b.session.current { closing_fence = Some (next_out b.session) } })
+      turns b (record
+      b.session {
+        phase = phase.Closing;
+        current =
+            record b.session.current { closing_fence = Some (next_out b.session) };
+      })
       refl refl (λ fence there. there) (λ over. absurd (subst IsOver up over)) (λ early. absurd early)
       (λ number wanted leg closing is mark.
       (let within = numbered_within number b.session.log (Sent leg) is in
@@ -281,32 +379,42 @@ close_calls = record {
       (λ out. absurd cc) c;
   sends = λ b leg there up may j c. sends_kept b leg up c;
   releases = λ b more j c.
-      close_goes b (b.released ++ more) b.left b.session b.to_exchange b.given (unwritten b b.session (λ over. (over, refl, λ none. none)) c.fence_above c.closing_above c.out_no_doubt) c;
+      close_goes b (b.released ++ more) b.left b.session b.to_exchange b.given
+      (unwritten b b.session (λ over. (over, refl, λ none. none)) c.fence_above c.closing_above c.out_no_doubt) c;
   drops = λ b below j c.
-      close_goes b b.released (suc b.left) b.session b.to_exchange b.given (unwritten b b.session (λ over. (over, refl, λ none. none)) c.fence_above c.closing_above c.out_no_doubt) c;
+      close_goes b b.released (suc b.left) b.session b.to_exchange b.given
+      (unwritten b b.session (λ over. (over, refl, λ none. none)) c.fence_above c.closing_above c.out_no_doubt) c;
 }
 
 -- the exchange's steps
 module _ {taken : List Carried} (w : Line) (copies : Copies taken w) (c : Close w) where
   abbrev Marks : Intake → Type 0
-  Marks t = ((count : ℕ) → t.closed_at ≡ Some count → (count ≡ length t.accepted) × (t.live ≡ None) × (t.last ≡ w.session.connection) × ((logout : Carried) × Contains w.to_exchange logout × (logout.content ≡ Logout)))
+  Marks t =
+      ((count : ℕ) → t.closed_at ≡ Some count → (count ≡ length t.accepted) × (t.live ≡ None)
+      × (t.last ≡ w.session.connection)
+      × ((logout : Carried) × Contains w.to_exchange logout × (logout.content ≡ Logout)))
       × ((count : ℕ) → w.exchange.intake.closed_at ≡ Some count → (now : ℕ) × (t.closed_at ≡ Some now))
 
   by_move : (t u : Intake) → t ≡ u → Marks u → Marks t
   by_move t u is marks = subst Marks (sym is) marks
 
   -- while a connection is live nothing is marked
-  no_mark : (connection count : ℕ) → w.exchange.intake.live ≡ Some connection → w.exchange.intake.closed_at ≡ Some count → ⊥
+  no_mark : (connection count : ℕ) → w.exchange.intake.live ≡ Some connection → w.exchange.intake.closed_at ≡ Some count
+      → ⊥
   no_mark connection count live is = let mark = c.marked count is in let e = sym live ∙ mark.down in cc
 
   marks_takes : (m : Carried) (t : Intake) → Contains w.to_exchange m → Takes w.exchange.intake m t → Marks t
   marks_takes m t there (rules.new_logon is after) =
       by_move t _ after (
-        (λ count at. (let mark = c.marked count at in let newer = is.newer in let known = copies.written_before m there in absurd (omega (arith, mark.last)))),
+        (λ count at.
+            (let mark = c.marked count at in let newer = is.newer in let known = copies.written_before m there in
+            absurd (omega (arith, mark.last)))),
         (λ count at. (count, at)),
       )
-  marks_takes m t there (rules.order due leg is after) = by_move t _ after ((λ count at. absurd (no_mark m.connection count due.live at)), (λ count at. (count, at)))
-  marks_takes m t there (rules.fill due new_number is after) = by_move t _ after ((λ count at. absurd (no_mark m.connection count due.live at)), (λ count at. (count, at)))
+  marks_takes m t there (rules.order due leg is after) =
+      by_move t _ after ((λ count at. absurd (no_mark m.connection count due.live at)), (λ count at. (count, at)))
+  marks_takes m t there (rules.fill due new_number is after) =
+      by_move t _ after ((λ count at. absurd (no_mark m.connection count due.live at)), (λ count at. (count, at)))
   marks_takes m t there (rules.logout due is after) =
       by_move t _ after (
         (λ count at.
@@ -315,27 +423,40 @@ module _ {taken : List Carried} (w : Line) (copies : Copies taken w) (c : Close 
             (sym (same_Some _ count at), refl, sym live ∙ last.1, (m, there, is)))),
         (λ count at. (length w.exchange.intake.accepted, refl)),
       )
-  marks_takes m t there (rules.other due is after) = by_move t _ after ((λ count at. absurd (no_mark m.connection count due.live at)), (λ count at. (count, at)))
+  marks_takes m t there (rules.other due is after) = by_move t _ after
+      ((λ count at. absurd (no_mark m.connection count due.live at)), (λ count at. (count, at)))
 
   -- that the live connection ends then leaves the mark
   marks_dropped : (u : Intake) → Marks u → Marks (record u { live = None })
   marks_dropped u marks = ((λ count at. (let mark = marks.0 count at in (mark.0, refl, mark.2, mark.3))), marks.1)
 
-  marks_moves : (coming : Option Carried) (t : Intake) → IfSome coming (Contains w.to_exchange) → MayMove w.exchange.intake coming t → Marks t
+  marks_moves : (coming : Option Carried) (t : Intake) → IfSome coming (Contains w.to_exchange)
+      → MayMove w.exchange.intake coming t → Marks t
   marks_moves coming t there (rules.stays after) =
-      by_move t w.exchange.intake after ((λ count at. (let mark = c.marked count at in (mark.all, mark.down, mark.last, (mark.logout, mark.written, mark.says)))), (λ count at. (count, at)))
+      by_move t w.exchange.intake after (
+        (λ count at.
+            (let mark = c.marked count at in (mark.all, mark.down, mark.last, (mark.logout, mark.written, mark.says)))),
+        (λ count at. (count, at)),
+      )
   marks_moves coming t there (rules.drops after) =
-      by_move t _ after ((λ count at. (let mark = c.marked count at in (mark.all, refl, mark.last, (mark.logout, mark.written, mark.says)))), (λ count at. (count, at)))
+      by_move t _ after (
+        (λ count at.
+            (let mark = c.marked count at in (mark.all, refl, mark.last, (mark.logout, mark.written, mark.says)))),
+        (λ count at. (count, at)),
+      )
   marks_moves coming t there (rules.takes_and_drops m came u is after) =
-      by_move t _ after (marks_dropped u (marks_takes m u (subst (λ o. IfSome o (Contains w.to_exchange)) came there) is))
-  marks_moves coming t there (rules.takes m came is) = marks_takes m t (subst (λ o. IfSome o (Contains w.to_exchange)) came there) is
+      by_move t _ after
+      (marks_dropped u (marks_takes m u (subst (λ o. IfSome o (Contains w.to_exchange)) came there) is))
+  marks_moves coming t there (rules.takes m came is) = marks_takes m t
+      (subst (λ o. IfSome o (Contains w.to_exchange)) came there) is
 
   says_logout : (coming : Option Carried) (t : RuleState) (number : ℕ) (content : Content)
       → MaySay w.exchange coming t number content → content ≡ Logout → (count : ℕ) × (t.intake.closed_at ≡ Some count)
   says_logout coming t number Logout closed says = closed
   says_logout coming t number content closed says = absurd cc
 
-  pub close_exchanged : (coming : Option Carried) (t : RuleState) (written : List Carried) → IfSome coming (Contains w.to_exchange) → May w.exchange coming t written
+  pub close_exchanged : (coming : Option Carried) (t : RuleState) (written : List Carried)
+      → IfSome coming (Contains w.to_exchange) → May w.exchange coming t written
       → Close (record w { exchange = t; from_exchange = w.from_exchange ++ written })
   close_exchanged coming t written there step =
       let marks = marks_moves coming t.intake there step.moves in
@@ -346,7 +467,15 @@ module _ {taken : List Carried} (w : Line) (copies : Copies taken w) (c : Close 
         logout_is_last = c.logout_is_last;
         marked = λ count at.
             (let mark = marks.0 count at in
-            record { all = mark.0; down = mark.1; last = mark.2; logout = mark.3.0; written = mark.3.1; says = mark.3.2 });
+            record {
+              all = mark.0;
+              down = mark.1;
+              last = mark.2;
+              logout = mark.3.0;
+              written = mark.3.1;
+              says =
+                  mark.3.2;
+            });
         logout_heard = λ m in' says.
             elim (Contains-append_cases w.from_exchange written m in') [
               | inl old ↦ (let before = c.logout_heard m old says in marks.1 before.0 before.1)

@@ -24,7 +24,8 @@ use Rattle.venue_line.proofs.Parts.{Calls, with_marks, framed, with_session, IsA
 use Rattle.venue_line.proofs.CopiesSent.{sent_leg, sent_frame, sent_line, new_or_old}
 use Rattle.venue_line.proofs.FencesCalled.{fences_goes, goes_stays, goes_spends, goes_fills, goes_passes, goes_settles}
 
-module _ (taken : List Carried) (a : Line) (leg : Leg) (there : numbered (suc a.left) a.released ≡ Some leg) (may : may_write a.session ≡ true) (f : Fences taken a) where
+module _ (taken : List Carried) (a : Line) (leg : Leg) (there : numbered (suc a.left) a.released ≡ Some leg)
+    (may : may_write a.session ≡ true) (f : Fences taken a) where
   abbrev frame : Carried
   frame = sent_frame a leg there
 
@@ -47,17 +48,24 @@ module _ (taken : List Carried) (a : Line) (leg : Leg) (there : numbered (suc a.
         expected_from = f.expected_from;
         expected_to = (let h = f.expected_to in omega arith);
         written_spent = λ m in'.
-            elim (Contains-push_cases a.to_exchange frame m in') [ inl old ↦ (let h = f.written_spent m old in omega arith) | inr new ↦ (let e = number_new m new in omega arith) ];
+            elim (Contains-push_cases a.to_exchange frame m in') [
+              | inl old ↦ (let h = f.written_spent m old in omega arith)
+              | inr new ↦
+                  (let e = number_new m new in omega arith)
+            ];
         written_for_legs = λ m x in' is.
             elim (Contains-push_cases a.to_exchange frame m in') [
               | inl old ↦
                   (let spent = f.written_spent m old in
-                  elim (new_or_old a leg there m.number x is) [ inl was ↦ f.written_for_legs m x old was.0 | inr now ↦ absurd (omega (arith, now.0)) ])
+                  elim (new_or_old a leg there m.number x is)
+                  [ inl was ↦ f.written_for_legs m x old was.0 | inr now ↦ absurd (omega (arith, now.0)) ])
               | inr new ↦ subst IsLegFrame (content_new m new) tt
             ];
         tests_carry = λ m id in' is.
-            elim (Contains-push_cases a.to_exchange frame m in') [ inl old ↦ f.tests_carry m id old is | inr new ↦ absurd (let e = content_new m new ∙ is in cc) ];
-        fences_are_admin = λ fence in'. numbered-append fence a.session.log (Sent (sent_leg a leg there) ∷ []) Admin (f.fences_are_admin fence in');
+            elim (Contains-push_cases a.to_exchange frame m in')
+            [ inl old ↦ f.tests_carry m id old is | inr new ↦ absurd (let e = content_new m new ∙ is in cc) ];
+        fences_are_admin = λ fence in'. numbered-append fence a.session.log (Sent (sent_leg a leg there) ∷ []) Admin
+            (f.fences_are_admin fence in');
         never_queued = λ number x is queued.
             elim (new_or_old a leg there number x is) [
               | inl was ↦ f.never_queued number x was.0 queued
@@ -79,16 +87,28 @@ module _ (taken : List Carried) (a : Line) (leg : Leg) (there : numbered (suc a.
             elim (Contains-push_cases a.to_exchange frame m in') [
               | inl old ↦
                   (let below = f.fills_below m new_number old is in
-                  elim (new_or_old a leg there number x at) [ inl was ↦ f.fills_spare_doubt m new_number number x old is was.0 low high doubt | inr now ↦ omega (arith, now.0) ])
+                  elim (new_or_old a leg there number x at) [
+                    | inl was ↦ f.fills_spare_doubt m new_number number x old is was.0 low high doubt
+                    | inr now ↦
+                        omega (arith, now.0)
+                  ])
               | inr new ↦ (let e = content_new m new ∙ is in cc)
             ];
         told_passed = f.told_passed;
         answers_passed = f.answers_passed;
         tests_passed = f.tests_passed;
         passed_or_withdrawn = λ number x is below.
-            elim (new_or_old a leg there number x is) [ inl was ↦ f.passed_or_withdrawn number x was.0 below | inr now ↦ absurd (let h = f.expected_to in omega (arith, now.0)) ];
+            elim (new_or_old a leg there number x is) [
+              | inl was ↦ f.passed_or_withdrawn number x was.0 below
+              | inr now ↦
+                  absurd (let h = f.expected_to in omega (arith, now.0))
+            ];
         taken_was_accepted = λ number x is took.
-            elim (new_or_old a leg there number x is) [ inl was ↦ f.taken_was_accepted number x was.0 took | inr now ↦ absurd (let e = ap (λ (l : SentLeg). l.state) now.1 ∙ took in cc) ];
+            elim (new_or_old a leg there number x is) [
+              | inl was ↦ f.taken_was_accepted number x was.0 took
+              | inr now ↦
+                  absurd (let e = ap (λ (l : SentLeg). l.state) now.1 ∙ took in cc)
+            ];
       }
 
 plain_no_test : (content : Content) (id id' : List ℕ) → IsPlainAdmin content → content ≡ TestRequest id → id ≡ id'
@@ -103,58 +123,92 @@ pub fewer_fences : (answered : ℕ) (b : Line) (fence : ℕ) → Contains (above
 fewer_fences answered b fence there = above_is answered b.session.current.fences fence there
 
 module _ (taken : List Carried) where
-  stays : (b : Line) (s : SessionParts) → s.config ≡ b.session.config → s.log ≡ b.session.log → s.settled ≡ b.session.settled → ((fence : ℕ) → Contains s.current.fences fence → Contains b.session.current.fences fence)
-      → s.current.logon_number ≡ b.session.current.logon_number → Fences taken b → Fences taken (record b { session = s })
-  stays b s config log settled fences logon f = fences_goes b s b.to_exchange b.given (goes_stays taken b s config log settled fences logon f) f
+  stays : (b : Line) (s : SessionParts) → s.config ≡ b.session.config → s.log ≡ b.session.log
+      → s.settled ≡ b.session.settled
+      → ((fence : ℕ) → Contains s.current.fences fence → Contains b.session.current.fences fence)
+      → s.current.logon_number ≡ b.session.current.logon_number → Fences taken b
+      → Fences taken (record b { session = s })
+  stays b s config log settled fences logon f = fences_goes b s b.to_exchange b.given
+      (goes_stays taken b s config log settled fences logon f) f
 
-  passes_kept : (b : Line) (s : SessionParts) (fence : ℕ) → s.config ≡ b.session.config → s.log ≡ take_below fence b.session.log → s.settled ≡ fence → ((fence : ℕ) → Contains s.current.fences fence → Contains b.session.current.fences fence)
-      → s.current.logon_number ≡ b.session.current.logon_number → IsAnswered b fence → Fences taken b → Fences taken (record b { session = s })
+  passes_kept : (b : Line) (s : SessionParts) (fence : ℕ) → s.config ≡ b.session.config
+      → s.log ≡ take_below fence b.session.log → s.settled ≡ fence
+      → ((fence : ℕ) → Contains s.current.fences fence → Contains b.session.current.fences fence)
+      → s.current.logon_number ≡ b.session.current.logon_number → IsAnswered b fence → Fences taken b
+      → Fences taken (record b { session = s })
   passes_kept b s fence config log settled fences logon is f =
       let within = numbered_within fence b.session.log Admin (f.fences_are_admin fence is.written) in
       let small = f.next_small in
-      let passed = f.answers_passed (record { connection = b.session.connection; number = is.heard.0; content = Heartbeat (Some (fence_id fence)) }) fence is.heard.1 refl (omega arith) in
-      fences_goes b s b.to_exchange b.given (goes_passes taken b s fence config log settled fences logon is.written passed f) f
+      let passed =
+      f.answers_passed
+      (record { connection = b.session.connection; number = is.heard.0; content = Heartbeat (Some (fence_id fence)) })
+      fence is.heard.1 refl (omega arith) in
+      fences_goes b s b.to_exchange b.given
+      (goes_passes taken b s fence config log settled fences logon is.written passed f) f
 
   -- a message under the next number that is no fence
-  spends : (b : Line) (s : SessionParts) (content : Content) → s.config ≡ b.session.config → s.log ≡ b.session.log ++ Admin ∷ [] → s.settled ≡ b.session.settled
-      → ((fence : ℕ) → Contains s.current.fences fence → Contains b.session.current.fences fence) → s.current.logon_number ≡ b.session.current.logon_number → may_write b.session ≡ true
-      → ((id : List ℕ) → content ≡ TestRequest id → id ≡ fence_id (next_out b.session)) → ((new_number : ℕ) → content ≡ GapFill new_number → ⊥) → Fences taken b
+  spends : (b : Line) (s : SessionParts) (content : Content) → s.config ≡ b.session.config
+      → s.log ≡ b.session.log ++ Admin ∷ [] → s.settled ≡ b.session.settled
+      → ((fence : ℕ) → Contains s.current.fences fence → Contains b.session.current.fences fence)
+      → s.current.logon_number ≡ b.session.current.logon_number → may_write b.session ≡ true
+      → ((id : List ℕ) → content ≡ TestRequest id → id ≡ fence_id (next_out b.session))
+      → ((new_number : ℕ) → content ≡ GapFill new_number → ⊥) → Fences taken b
       → Fences taken (framed (next_out b.session) content s b)
   spends b s content config log settled fences logon may test no_fill f =
-      fences_goes b s _ b.given (goes_spends taken b s content config log settled (λ fence there. inl (fences fence there)) (let h = f.logon_below in omega arith) may test no_fill f) f
+      fences_goes b s _ b.given
+      (goes_spends taken b s content config log settled (λ fence there. inl (fences fence there))
+      (let h = f.logon_below in omega arith) may test no_fill f) f
 
   pub fences_calls : Calls (λ b. Unit {0}) (Fences taken)
   fences_calls = record {
     marks = λ b expected requested pending silent close_asked given j f.
-        fences_goes b (with_marks expected requested pending silent close_asked b.session) b.to_exchange given (goes_stays taken b _ refl refl refl (λ fence there. there) refl f) f;
-    admin = λ b content plain may j f. spends b (spending b.session) content refl refl refl (λ fence there. there) refl may (λ id is. plain_no_test content id _ plain is) (λ n is. plain_no_fill content n plain is) f;
+        fences_goes b (with_marks expected requested pending silent close_asked b.session) b.to_exchange given
+        (goes_stays taken b _ refl refl refl (λ fence there. there) refl f) f;
+    admin = λ b content plain may j f. spends b (spending b.session) content refl refl refl
+        (λ fence there. there) refl may (λ id is. plain_no_test content id _ plain is)
+        (λ n is. plain_no_fill content n plain is) f;
     fence = λ b may j f.
         fences_goes b (spending (fenced b.session)) _ b.given
         (goes_spends taken b (spending (fenced b.session)) (TestRequest (fence_id (next_out b.session))) refl refl refl
-        (λ fence there. elim (Contains-push_cases b.session.current.fences (next_out b.session) fence there) [ inl old ↦ inl old | inr new ↦ inr (sym new) ])
+        (λ fence there. elim (Contains-push_cases b.session.current.fences (next_out b.session) fence there)
+        [ inl old ↦ inl old | inr new ↦ inr (sym new) ])
         (let h = f.logon_below in omega arith) may (λ id is. cc) (λ n is. cc) f) f;
     fill_settled = λ b first new_number from forward below j f.
         fences_goes b b.session _ b.given
-        (goes_fills taken b first new_number forward (let h = f.settled_below in omega arith) (λ number leg is low doubt. f.settled_no_doubt number leg is (omega arith) doubt) f) f;
+        (goes_fills taken b first new_number forward (let h = f.settled_below in omega arith)
+        (λ number leg is low doubt. f.settled_no_doubt number leg is (omega arith) doubt) f) f;
     fill_sure = λ b first new_number sure forward below j f.
         fences_goes b b.session _ b.given
-        (goes_fills taken b first new_number forward (elim below [ inl next ↦ next | inr logon ↦ (let h = f.logon_below in omega arith) ]) (λ number leg is low doubt. sure number leg is doubt) f) f;
+        (goes_fills taken b first new_number forward
+        (elim below [ inl next ↦ next | inr logon ↦ (let h = f.logon_below in omega arith) ])
+        (λ number leg is low doubt. sure number leg is doubt) f) f;
     settles = λ b content told early heard says j f.
         fences_goes b _ b.to_exchange b.given
-        (goes_settles taken b told (f.told_passed (record { connection = b.session.connection; number = heard.0; content = content }) told heard.1 says) f) f;
+        (goes_settles taken b told
+        (f.told_passed (record { connection = b.session.connection; number = heard.0; content = content }) told heard.1
+        says) f) f;
     settling = λ b early j f. stays b _ refl refl refl (λ fence there. there) refl f;
-    passes = λ b fence is j f. passes_kept b (passing fence b.session) fence refl refl refl (fewer_fences fence b) refl is f;
-    passes_up = λ b fence is settling j f. passes_kept b (passed_into fence phase.Up b.session) fence refl refl refl (fewer_fences fence b) refl is f;
-    passes_out = λ b fence is last j f. passes_kept b (passed_into fence phase.LoggedOut b.session) fence refl refl refl (fewer_fences fence b) refl is f;
+    passes = λ b fence is j f. passes_kept b (passing fence b.session) fence refl refl refl
+        (fewer_fences fence b) refl is f;
+    passes_up = λ b fence is settling j f. passes_kept b (passed_into fence phase.Up b.session) fence refl refl refl
+        (fewer_fences fence b) refl is f;
+    passes_out = λ b fence is last j f. passes_kept b (passed_into fence phase.LoggedOut b.session) fence refl refl refl
+        (fewer_fences fence b) refl is f;
     passes_out_written = λ b fence is last may j f.
-        spends (with_session (passed_into fence phase.LoggedOut b.session) b) (record (spending (passing fence b.session)) { phase = phase.LoggedOut }) Logout refl refl refl (λ fence there. there) refl may (λ id is. absurd cc) (λ n is. cc)
-        (passes_kept b (passed_into fence phase.LoggedOut b.session) fence refl refl refl (fewer_fences fence b) refl is f);
-    answers_logout = λ b heard on going may j f. spends b (spending b.session) Logout refl refl refl (λ fence there. there) refl may (λ id is. absurd cc) (λ n is. cc) f;
+        spends (with_session (passed_into fence phase.LoggedOut b.session) b)
+        (record (spending (passing fence b.session)) { phase = phase.LoggedOut }) Logout refl refl refl
+        (λ fence there. there) refl may (λ id is. absurd cc) (λ n is. cc)
+        (passes_kept b (passed_into fence phase.LoggedOut b.session) fence refl refl refl
+        (fewer_fences fence b) refl is f);
+    answers_logout = λ b heard on going may j f. spends b (spending b.session) Logout refl refl refl
+        (λ fence there. there) refl may (λ id is. absurd cc) (λ n is. cc) f;
     ends = λ b is_over on j f. stays b _ refl refl refl (λ fence there. there) refl f;
     abandons = λ b j f. stays b _ refl refl refl (λ fence there. there) refl f;
     connects = λ b down may j f.
         fences_goes b (connecting b.session) _ b.given
-        (goes_spends taken b (connecting b.session) _ refl refl refl (λ fence there. absurd (let h = there.1 in omega arith)) (omega arith) may (λ id is. absurd cc) (λ n is. cc) f) f;
+        (goes_spends taken b (connecting b.session) _ refl refl refl
+        (λ fence there. absurd (let h = there.1 in omega arith)) (omega arith) may (λ id is. absurd cc) (λ n is. cc) f)
+        f;
     closes = λ b up j f. stays b _ refl refl refl (λ fence there. there) refl f;
     sends = λ b leg there up may j f. fences_sends taken b leg there may f;
     releases = λ b more j f. record {

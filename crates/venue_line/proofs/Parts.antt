@@ -18,6 +18,7 @@ use Rattle.session_core.specs.Calling.{connecting, own_next, sending}
 use Rattle.exchange_core.specs.Acceptance.{Carried, RuleState, May}
 use Rattle.venue_line.specs.Line.{Line}
 use Rattle.venue_line.specs.Copies.{IsLegAt, IsBeforeUp, told_by}
+use Rattle.venue_line.specs.Close.{HasNoDoubt}
 
 -- the session, with other marks that the invariant doesn't speak of
 abbrev pub with_marks : ℕ → Option ℕ → Bool → Bool → Bool → SessionParts → SessionParts
@@ -30,7 +31,11 @@ with_marks expected requested pending silent close_asked s = record s {
 -- one more message to the exchange, in the session's connection
 abbrev pub framed : ℕ → Content → SessionParts → Line → Line
 framed number content s b =
-    record b { session = s; to_exchange = b.to_exchange ++ record { connection = s.connection; number = number; content = content } ∷ [] }
+    record b {
+      session = s;
+      to_exchange = b.to_exchange
+          ++ record { connection = s.connection; number = number; content = content } ∷ [];
+    }
 
 -- under the next number, which is spent on it
 abbrev pub spent : Content → Line → Line
@@ -47,12 +52,10 @@ filled first new_number b = framed first (GapFill new_number) b.session b
 abbrev pub with_session : SessionParts → Line → Line
 with_session s b = record b { session = s }
 
-abbrev pub HasNoDoubt : List Entry → Type 0
-HasNoDoubt log = (number : ℕ) (leg : SentLeg) → IsLegAt log number leg → leg.state ≡ Doubt → ⊥
-
 -- the exchange wrote it in the present connection
 abbrev pub Hears : Line → Content → Type 0
-Hears b content = (number : ℕ) × Contains b.from_exchange (record { connection = b.session.connection; number = number; content = content })
+Hears b content = (number : ℕ) × Contains b.from_exchange
+    (record { connection = b.session.connection; number = number; content = content })
 
 -- messages of the session that neither ask for an answer that counts nor end it
 abbrev pub IsPlainAdmin : Content → Type 0
@@ -76,33 +79,56 @@ IsLastFence b fence =
 
 -- I is kept by each part of a step, the exchange's apart, where J holds before it
 pub record Calls (J I : Line → Type 0) : Type 0 where
-  pub marks : (b : Line) (expected : ℕ) (requested : Option ℕ) (pending silent close_asked : Bool) (given : List Note) → J b → I b
+  pub marks : (b : Line) (expected : ℕ) (requested : Option ℕ) (pending silent close_asked : Bool) (given : List Note)
+      → J b → I b
       → I (record b { session = with_marks expected requested pending silent close_asked b.session; given = given })
   -- messages of the session
-  pub admin : (b : Line) (content : Content) → IsPlainAdmin content → may_write b.session ≡ true → J b → I b → I (spent content b)
+  pub admin : (b : Line) (content : Content) → IsPlainAdmin content → may_write b.session ≡ true → J b → I b
+      → I (spent content b)
   pub fence : (b : Line) → may_write b.session ≡ true → J b → I b → I (with_fence b)
-  pub fill_settled : (b : Line) (first new_number : ℕ) → 1 ≤ first → first < new_number → new_number ≤ b.session.settled + 1 → J b → I b → I (filled first new_number b)
-  pub fill_sure : (b : Line) (first new_number : ℕ) → HasNoDoubt b.session.log → first < new_number → (new_number ≤ next_out b.session) ⊎ (new_number ≤ b.session.current.logon_number + 1) → J b → I b → I (filled first new_number b)
+  pub fill_settled : (b : Line) (first new_number : ℕ) → 1 ≤ first → first < new_number
+      → new_number ≤ b.session.settled + 1 → J b → I b → I (filled first new_number b)
+  pub fill_sure : (b : Line) (first new_number : ℕ) → HasNoDoubt b.session.log → first < new_number
+      → (new_number ≤ next_out b.session) ⊎ (new_number ≤ b.session.current.logon_number + 1) → J b → I b
+      → I (filled first new_number b)
   -- the exchange said what it expects
-  pub settles : (b : Line) (content : Content) (told : ℕ) → IsBeforeUp b.session.phase → Hears b content → told_by content ≡ Some told → J b → I b
+  pub settles : (b : Line) (content : Content) (told : ℕ) → IsBeforeUp b.session.phase → Hears b content
+      → told_by content ≡ Some told → J b → I b
       → I (with_session (settling_at told b.session) b)
-  pub settling : (b : Line) → b.session.phase ≡ phase.LoggingOn → J b → I b → I (with_session (record b.session { phase = phase.Settling }) b)
+  pub settling : (b : Line) → b.session.phase ≡ phase.LoggingOn → J b → I b
+      → I (with_session (record b.session { phase = phase.Settling }) b)
   -- a fence was answered
   pub passes : (b : Line) (fence : ℕ) → IsAnswered b fence → J b → I b → I (with_session (passing fence b.session) b)
-  pub passes_up : (b : Line) (fence : ℕ) → IsAnswered b fence → b.session.phase ≡ phase.Settling → J b → I b → I (with_session (passed_into fence phase.Up b.session) b)
-  pub passes_out : (b : Line) (fence : ℕ) → IsAnswered b fence → IsLastFence b fence → J b → I b → I (with_session (passed_into fence phase.LoggedOut b.session) b)
-  pub passes_out_written : (b : Line) (fence : ℕ) → IsAnswered b fence → IsLastFence b fence → may_write (passing fence b.session) ≡ true → J b → I b
-      → I (framed (next_out (passing fence b.session)) Logout (record (spending (passing fence b.session)) { phase = phase.LoggedOut }) b)
+  pub passes_up : (b : Line) (fence : ℕ) → IsAnswered b fence → b.session.phase ≡ phase.Settling → J b → I b
+      → I (with_session (passed_into fence phase.Up b.session) b)
+  pub passes_out : (b : Line) (fence : ℕ) → IsAnswered b fence → IsLastFence b fence → J b → I b
+      → I (with_session (passed_into fence phase.LoggedOut b.session) b)
+  pub passes_out_written : (b : Line) (fence : ℕ) → IsAnswered b fence → IsLastFence b fence
+      → may_write (passing fence b.session) ≡ true → J b → I b
+      → I (framed (next_out (passing fence b.session)) Logout
+      (record (spending (passing fence b.session)) { phase = phase.LoggedOut }) b)
   -- the exchange logged out first
-  pub answers_logout : (b : Line) → Hears b Logout → is_connected b.session.phase ≡ true → (b.session.phase ≡ phase.LoggedOut → ⊥) → may_write b.session ≡ true → J b → I b → I (spent Logout b)
+  pub answers_logout : (b : Line) → Hears b Logout → is_connected b.session.phase ≡ true
+      → (b.session.phase ≡ phase.LoggedOut → ⊥) → may_write b.session ≡ true → J b → I b → I (spent Logout b)
   -- the connection ends
-  pub ends : (b : Line) (is_over : Bool) → is_connected b.session.phase ≡ true → J b → I b → I (with_session (record b.session { phase = phase_after is_over b.session.phase }) b)
+  pub ends : (b : Line) (is_over : Bool) → is_connected b.session.phase ≡ true → J b → I b
+      → I (with_session (record b.session { phase = phase_after is_over b.session.phase }) b)
   pub abandons : (b : Line) → J b → I b → I (with_session (record b.session { phase = phase.Closed }) b)
   -- calls
-  pub connects : (b : Line) → b.session.phase ≡ phase.Down → may_write b.session ≡ true → J b → I b → I (framed (next_out b.session) (Logon b.session.config.heart false (own_next b.session)) (connecting b.session) b)
-  pub closes : (b : Line) → b.session.phase ≡ phase.Up → J b → I b → I (with_session (record b.session { phase = phase.Closing; current = record b.session.current { closing_fence = Some (next_out b.session) } }) b)
-  pub sends : (b : Line) (leg : Leg) → numbered (suc b.left) b.released ≡ Some leg → b.session.phase ≡ phase.Up → may_write b.session ≡ true → J b → I b
-      → I (record (framed (next_out b.session) (Order (Ok leg)) (sending b.session (suc b.left) leg) b) { left = suc b.left })
+  pub connects : (b : Line) → b.session.phase ≡ phase.Down → may_write b.session ≡ true → J b → I b
+      → I (framed (next_out b.session) (Logon b.session.config.heart false (own_next b.session)) (connecting b.session)
+      b)
+  pub closes : (b : Line) → b.session.phase ≡ phase.Up → J b → I b
+      → I (with_session
+      (record b.session {
+        phase = phase.Closing;
+        current =
+            record b.session.current { closing_fence = Some (next_out b.session) };
+      }) b)
+  pub sends : (b : Line) (leg : Leg) → numbered (suc b.left) b.released ≡ Some leg → b.session.phase ≡ phase.Up
+      → may_write b.session ≡ true → J b → I b
+      → I (record
+      (framed (next_out b.session) (Order (Ok leg)) (sending b.session (suc b.left) leg) b) { left = suc b.left })
   -- the desk
   pub releases : (b : Line) (more : List Leg) → J b → I b → I (record b { released = b.released ++ more })
   pub drops : (b : Line) → suc b.left ≤ length b.released → J b → I b → I (record b { left = suc b.left })
@@ -110,5 +136,6 @@ pub record Calls (J I : Line → Type 0) : Type 0 where
 -- I is kept by each part of a step
 pub record Parts (I : Line → Type 0) : Type 0 where
   pub calls : Calls (λ b. Unit {0}) I
-  pub exchanges : (b : Line) (coming : Option Carried) (t : RuleState) (written : List Carried) → IfSome coming (Contains b.to_exchange) → May b.exchange coming t written → I b
+  pub exchanges : (b : Line) (coming : Option Carried) (t : RuleState) (written : List Carried)
+      → IfSome coming (Contains b.to_exchange) → May b.exchange coming t written → I b
       → I (record b { exchange = t; from_exchange = b.from_exchange ++ written })

@@ -45,7 +45,8 @@ module _ (I : Line → Type 0) (parts : Parts I) (a : Line) (holds : I a) where
   quiet_kept =
       chosen Calls (not (is_connected a.session.phase)) (refuses fault.NotConnected a.session) _ (λ off. tt)
       (λ on. chosen Calls (is_still a.session.phase) (answers (quietly a.session)) _ (λ still. start)
-      (λ going. chosen Calls (may_write a.session) (answers (puts (Heartbeat None) (quietly a.session))) (refuses fault.NumbersSpent a.session)
+      (λ going. chosen Calls (may_write a.session) (answers (puts (Heartbeat None) (quietly a.session)))
+      (refuses fault.NumbersSpent a.session)
       (λ may. put I parts a (Heartbeat None) tt (quietly a.session) may start)
       (λ spent. tt)))
 
@@ -55,7 +56,8 @@ module _ (I : Line → Type 0) (parts : Parts I) (a : Line) (holds : I a) where
       (λ on. chosen Calls a.session.current.silent (answers (ends ended.Silent a.session)) _
       (λ again. ended_turn I parts a ended.Silent (quietly a.session) (not_off (is_connected a.session.phase) on) start)
       (λ first. chosen Calls (is_still a.session.phase) (answers (quietly (hushed a.session))) _ (λ still. hushed_start)
-      (λ going. chosen Calls (may_write a.session) (answers (puts_fence (quietly (hushed a.session)))) (refuses fault.NumbersSpent a.session)
+      (λ going. chosen Calls (may_write a.session) (answers (puts_fence (quietly (hushed a.session))))
+      (refuses fault.NumbersSpent a.session)
       (λ may. put_fence I parts a (quietly (hushed a.session)) may hushed_start)
       (λ spent. tt))))
 
@@ -70,7 +72,8 @@ module _ (I : Line → Type 0) (parts : Parts I) (a : Line) (holds : I a) where
   close_kept phase.LoggingOn is = asked_start
   close_kept phase.Settling is = asked_start
   close_kept phase.Up is =
-      chosen Calls (may_write a.session) (answers (puts_fence (quietly (closing_up a.session)))) (refuses fault.NumbersSpent a.session)
+      chosen Calls (may_write a.session) (answers (puts_fence (quietly (closing_up a.session))))
+      (refuses fault.NumbersSpent a.session)
       (λ may. put_fence I parts a (quietly (closing_up a.session)) may
       (parts.calls.closes (after_turn a (quietly (asked_to_close a.session))) is tt asked_start))
       (λ spent. tt)
@@ -98,25 +101,31 @@ module _ (I : Line → Type 0) (parts : Parts I) (a : Line) (holds : I a) where
   connect_kept phase.Closing is = tt
   connect_kept phase.LoggedOut is = tt
 
-  connected_kept : (message : Message) (s : SessionParts) → connect a.session ≡ (Ok message, s) → I (after_message a message s)
+  connected_kept : (message : Message) (s : SessionParts) → connect a.session ≡ (Ok message, s)
+      → I (after_message a message s)
   connected_kept message s is = subst Sends is (connect_kept a.session.phase refl)
 
   send_kept : (leg : Leg) (message : Message) (s : SessionParts) → numbered (suc a.left) a.released ≡ Some leg
-      → send_leg a.session (suc a.left) leg ≡ (Ok message, s) → I (record (after_message a message s) { left = suc a.left })
+      → send_leg a.session (suc a.left) leg ≡ (Ok message, s)
+      → I (record (after_message a message s) { left = suc a.left })
   send_kept leg message s there is =
       (let sent = sent_is a.session (suc a.left) leg message s is in
       subst (λ (t : SessionParts). I (record (after_message a message t) { left = suc a.left })) (sym sent.after_is)
-      (subst (λ (m : Message). I (record (after_message a m (sending a.session (suc a.left) leg)) { left = suc a.left })) (sym sent.message_is)
+      (subst (λ (m : Message). I
+      (record (after_message a m (sending a.session (suc a.left) leg)) { left = suc a.left })) (sym sent.message_is)
       (parts.calls.sends a leg there sent.up sent.may tt holds)))
 
   broken_kept : I (with_session (broken a.session) a)
   broken_kept =
-      chosen (λ (s : SessionParts). I (with_session s a)) (is_connected a.session.phase) (disconnected false a.session) a.session
-      (λ on. parts.calls.marks _ a.session.expected a.session.current.requested false a.session.current.silent a.session.close_asked a.given tt (parts.calls.ends a false on tt holds))
+      chosen (λ (s : SessionParts). I (with_session s a)) (is_connected a.session.phase)
+      (disconnected false a.session) a.session
+      (λ on. parts.calls.marks _ a.session.expected a.session.current.requested false a.session.current.silent
+      a.session.close_asked a.given tt (parts.calls.ends a false on tt holds))
       (λ off. holds)
 
   abandon_kept : I (with_session (abandon a.session) a)
-  abandon_kept = parts.calls.marks _ a.session.expected a.session.current.requested false a.session.current.silent a.session.close_asked a.given tt (parts.calls.abandons a tt holds)
+  abandon_kept = parts.calls.marks _ a.session.expected a.session.current.requested false a.session.current.silent
+      a.session.close_asked a.given tt (parts.calls.abandons a tt holds)
 
   step_to : (b : Line) → LineStep a b → I b
   step_to b (line.releases more is) = subst I (sym is) (parts.calls.releases a more tt holds)
@@ -126,16 +135,20 @@ module _ (I : Line → Type 0) (parts : Parts I) (a : Line) (holds : I a) where
   step_to b (line.receives m there is) = subst I (sym is) (receives_kept I parts a m there holds)
   step_to b (line.calls turn call is) =
       subst I (sym is)
-      (parts.calls.marks (after_turn a turn) turn.session.expected turn.session.current.requested turn.session.current.pending turn.session.current.silent turn.session.close_asked a.given tt (call_kept turn call))
+      (parts.calls.marks (after_turn a turn) turn.session.expected turn.session.current.requested
+      turn.session.current.pending turn.session.current.silent turn.session.close_asked a.given tt
+      (call_kept turn call))
   step_to b (line.breaks is) = subst I (sym is) broken_kept
   step_to b (line.abandons is) = subst I (sym is) abandon_kept
-  step_to b (line.exchanges coming t written there may is) = subst I (sym is) (parts.exchanges a coming t written there may holds)
+  step_to b (line.exchanges coming t written there may is) =
+      subst I (sym is) (parts.exchanges a coming t written there may holds)
 
 -- what each part keeps is kept over all steps
 pub step_keeps : (I : Line → Type 0) → Parts I → (a b : Line) → LineStep a b → I a → I b
 step_keeps I parts a b step holds = step_to I parts a holds b step
 
-pub steps_keep : (I : Line → Type 0) → ((a b : Line) → LineStep a b → I a → I b) → (a : Line) (lines : List Line) → AreSteps a lines
+pub steps_keep : (I : Line → Type 0) → ((a b : Line) → LineStep a b → I a → I b) → (a : Line) (lines : List Line)
+    → AreSteps a lines
     → I a → All I lines
 steps_keep I keeps a [] steps holds = All-nil I
 steps_keep I keeps a (b ∷ lines) steps holds =

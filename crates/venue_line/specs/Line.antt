@@ -81,14 +81,17 @@ pub data LineStep (a b : Line) : Type 0 where
       → b ≡ record (after_message a message session) { left = suc a.left } → LineStep a b
   connects : (message : Message) (session : SessionParts) → connect a.session ≡ (Ok message, session)
       → b ≡ after_message a message session → LineStep a b
-  -- a message that the exchange wrote in the present connection comes, now or again, and what its note is about is booked
+  -- a message that the exchange wrote in the present connection comes, now or again, and what its note is about is
+  -- booked
   receives : (m : Message) → Contains a.from_exchange (carried a.session.connection m)
-      → b ≡ record (after_turn a (receive a.session m)) { session = confirm (receive a.session m).session } → LineStep a b
+      → b ≡ record (after_turn a (receive a.session m)) { session = confirm (receive a.session m).session }
+      → LineStep a b
   calls : (turn : Turn) → IsCallOf a.session turn → b ≡ after_call a turn → LineStep a b
   breaks : b ≡ record a { session = broken a.session } → LineStep a b
   abandons : b ≡ record a { session = abandon a.session } → LineStep a b
   -- the exchange takes a step that the rules allow: by itself, or at a message that was written to it, now or again
-  exchanges : (coming : Option Carried) (t : RuleState) (written : List Carried) → IfSome coming (Contains a.to_exchange)
+  exchanges : (coming : Option Carried) (t : RuleState) (written : List Carried)
+      → IfSome coming (Contains a.to_exchange)
       → May a.exchange coming t written
       → b ≡ record a { exchange = t; from_exchange = a.from_exchange ++ written } → LineStep a b
 
