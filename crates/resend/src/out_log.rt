@@ -35,7 +35,8 @@ impl Model for OutLog {
 impl OutLog {
     ghost use Rattle.resend.specs.Log.{next_to_send, last_ordinal, in_doubt, leg_at, state_of, doubt_from, fill_for, take_below, give_up_from};
     ghost use Rattle.resend.specs.Log.Entry.{Admin, Sent as SentEntry};
-    ghost use Rattle.resend.specs.Window.{push, IsPush, window};
+    ghost use Rattle.resend.specs.Window.{push, window};
+    ghost use Rattle.leg.specs.Answering.{Answers};
 
     /// Nothing was sent yet. `max_number` is the number that no message may have.
     pub fn new(alloc: Global, max_number: u64) -> OutLog
@@ -71,7 +72,7 @@ impl OutLog {
     /// Spends a number on a leg, which is then in doubt, and gives it. N01 where none is left.
     pub fn push_leg(&mut self, ordinal: u64, id: LegId) -> Result<u64, LogFault>
         requires { last_ordinal self.old.entries < ordinal }
-        ensures { IsPush (SentEntry (record { ordinal = ordinal; id = id; state = LegState.Doubt })) self.old result self.new }
+        ensures { Answers LogFault.OutOfMemory self.old (push (SentEntry (record { ordinal = ordinal; id = id; state = LegState.Doubt })) self.old) result self.new }
     {
         let number = self.last + 1;
         if number >= self.max_number {
@@ -127,16 +128,9 @@ impl OutLog {
         ensures { result ≡ leg_at number self.now.entries }
     {
         let legs = self.legs.as_slice();
-        let place = numbers_below(legs, number);
-        match leg_in(legs, place) {
-            Some(leg) => {
-                if leg.number == number {
-                    Some(leg.id)
-                } else {
-                    None
-                }
-            }
-            None => None,
+        match leg_in(legs, numbers_below(legs, number)) {
+            Some(leg) if leg.number == number => Some(leg.id),
+            _ => None,
         }
     }
 
@@ -145,16 +139,9 @@ impl OutLog {
         ensures { result ≡ state_of ordinal self.now.entries }
     {
         let legs = self.legs.as_slice();
-        let place = ordinals_below(legs, ordinal);
-        match leg_in(legs, place) {
-            Some(leg) => {
-                if leg.ordinal == ordinal {
-                    Some(leg.state)
-                } else {
-                    None
-                }
-            }
-            None => None,
+        match leg_in(legs, ordinals_below(legs, ordinal)) {
+            Some(leg) if leg.ordinal == ordinal => Some(leg.state),
+            _ => None,
         }
     }
 
@@ -178,30 +165,13 @@ impl OutLog {
         ensures { result ≡ fill_for begin last top self.now.entries }
     {
         let sent = self.last;
-        if begin < 1 {
+        let asked = if last == 0 { sent } else { sent.min(last) };
+        if begin == 0 || begin > asked || begin > top {
             return None;
         }
-        if begin > sent {
-            return None;
-        }
-        if begin > top {
-            return None;
-        }
-        if last == 0 {
-            let end = top.min(sent);
-            return Some(GapFill {
-                first: begin,
-                new_number: end + 1,
-            });
-        }
-        if begin > last {
-            return None;
-        }
-        let asked = sent.min(last);
-        let cut = top.min(asked);
         Some(GapFill {
             first: begin,
-            new_number: cut + 1,
+            new_number: top.min(asked) + 1,
         })
     }
 

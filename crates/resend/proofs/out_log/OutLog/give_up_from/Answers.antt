@@ -1,15 +1,11 @@
-use Rattle.std.proofs.Common.{◌<◌, ℕ, nat_lt, List, length, drop, sym, ap, ◌∙◌, arith}
+use Rattle.std.proofs.Common.{◌<◌, nat_lt, length, drop, sym, ap, ◌∙◌, arith}
 use Rattle.resend.specs.declared.logged_leg.LoggedLeg.{LoggedLeg}
 use Rattle.resend.specs.declared.sent.Sent.{Sent}
-use Rattle.resend.specs.Log.{Entry}
-use Rattle.resend.specs.Window.{OutLogParts}
+use Rattle.resend.proofs.Kept.{with_entries}
 use Rattle.resend.proofs.Leading.{leading-le}
 use Rattle.resend.proofs.Looking.{numbers_rise}
 use Rattle.resend.proofs.Settling.{window_rises, take_front, given-none, given-entries, given-kept}
 use Rattle.resend.proofs.out_log.OutLog.give_up_from.Goals as goal
-
-abbrev with_entries : ℕ → List Entry → OutLogParts
-with_entries max_number entries = record { max_number = max_number; entries = entries }
 
 pub doubts_below-count-requires : goal.doubts_below-count-requires
 doubts_below-count-requires c = rw c.as_slice-window.ensures.value (window_rises _ _ _ c.self.invariant)

@@ -1,34 +1,27 @@
+use Rattle.std.proofs.Common.{List, refl, ap, arith}
 use Rattle.resend.specs.declared.logged_leg.LoggedLeg.{LoggedLeg}
-use Rattle.resend.specs.Window.{OutLogParts}
-use Rattle.resend.proofs.Kept.{doubt_legs-push}
-use Rattle.std.proofs.Common.{ℕ, List, refl, sym, ap, arith}
 use Rattle.resend.specs.Kept.{entries}
-use Rattle.resend.proofs.Kept.{length-entries, push-ok, push-spent, has_number-left, last_ordinal-entries, rising-push, entries-leg}
+use Rattle.resend.proofs.Kept.{length-entries, answers-ok, answers-spent, answers-wanting, last_ordinal-entries, rising-push, entries-leg, doubt_legs-push}
 use Rattle.resend.proofs.out_log.OutLog.push_leg.Goals as goal
-
-abbrev with_legs : (max_number last : ℕ) → List LoggedLeg → OutLogParts
-with_legs max_number last legs = record { max_number = max_number; entries = entries last legs }
 
 pub returns-then-number-self : goal.returns-then-number-self
 returns-then-number-self c =
     let log = c.self.inside in
-    rw (← c.self.view_is) (sym (push-spent log.max_number _ (entries log.last log.legs.items) log.last (length-entries log.last log.legs.items) c.if-number-self.true))
+    rw (← c.self.view_is) (answers-spent log.max_number _ (entries log.last log.legs.items) log.last (length-entries log.last log.legs.items) c.if-number-self.true)
 
 pub returns-then-is_err : goal.returns-then-is_err
 returns-then-is_err c =
     let log = c.self.inside in
-    rw (← c.self.view_is) (
-      has_number-left log.max_number (entries log.last log.legs.items) log.last (length-entries log.last log.legs.items) c.if-number-self.false,
-      ap (with_legs log.max_number log.last) c.reserve.ensures.items,
-    )
+    rw (← c.self.view_is)
+    (answers-wanting log.max_number _ (entries log.last log.legs.items) log.last (length-entries log.last log.legs.items) _ c.if-number-self.false
+    (ap (λ (legs : List LoggedLeg). entries log.last legs) c.reserve.ensures.items))
 
 pub returns-then-is_err-2 : goal.returns-then-is_err-2
 returns-then-is_err-2 c =
     let log = c.self.inside in
-    rw (← c.self.view_is) (
-      has_number-left log.max_number (entries log.last log.legs.items) log.last (length-entries log.last log.legs.items) c.if-number-self.false,
-      ap (with_legs log.max_number log.last) c.reserve.ensures.items,
-    )
+    rw (← c.self.view_is)
+    (answers-wanting log.max_number _ (entries log.last log.legs.items) log.last (length-entries log.last log.legs.items) _ c.if-number-self.false
+    (ap (λ (legs : List LoggedLeg). entries log.last legs) c.reserve.ensures.items))
 
 pub invariant_of-self-2 : goal.invariant_of-self-2
 invariant_of-self-2 c =
@@ -47,4 +40,4 @@ returns c =
     let above = rw (← c.self.view_is, last_ordinal-entries log.last log.legs.items c.self.invariant.rising) at c.requires in
     let more = entries-leg log.last log.legs.items c.args.ordinal c.args.id c.self.invariant.rising (omega (arith, above)) in
     rw (← c.self.view_is, c.push_reserved.ensures.items, c.reserve.ensures.items, more)
-    (sym (push-ok log.max_number _ (entries log.last log.legs.items) log.last (length-entries log.last log.legs.items) c.if-number-self.false))
+    (answers-ok log.max_number _ (entries log.last log.legs.items) log.last (length-entries log.last log.legs.items) c.if-number-self.false)
