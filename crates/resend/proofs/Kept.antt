@@ -1,16 +1,17 @@
 -- What the kept legs are to the definitions of the log.
-use Rattle.std.proofs.Common.{◌≡◌, ◌<◌, ◌≤◌, ◌+◌, ◌-◌, ◌==◌, ℕ, zero, suc, Bool, true, false, not, nat_lt, nat_le, List, [], ◌∷◌, ◌++◌, length, Some, None, Ok, Err, refl, sym, ap, ◌∙◌, ◌&&◌, if◌then◌else◌, arith, add-one, IsTrue}
+use Rattle.std.proofs.Common.{◌≡◌, ◌<◌, ◌≤◌, ◌+◌, ◌-◌, ◌==◌, ℕ, zero, suc, Bool, true, false, not, nat_lt, nat_le, List, [], ◌∷◌, ◌++◌, length, Some, None, Ok, Err, refl, sym, ap, ◌∙◌, ◌&&◌, if◌then◌else◌, arith, add-one}
 use Rattle.std.specs.Prelude.{slice_get}
 use Rattle.std.proofs.lemmas.Bool.{eq-eqb}
 use Rattle.std.proofs.lemmas.Bool.Decides.{nat_tests}
 use Rattle.leg.specs.LegId.{LegIdParts}
 use Rattle.leg.specs.declared.leg_state.LegState.TheVariants.{Doubt}
-use Rattle.resend.specs.declared.log_fault.LogFault.TheVariants.{NumbersSpent}
+use Rattle.resend.specs.declared.log_fault.LogFault.TheVariants.{NumbersSpent, OutOfMemory}
 use Rattle.resend.specs.declared.logged_leg.LoggedLeg.{LoggedLeg}
 use Rattle.resend.specs.declared.sent.Sent.{Sent}
-use Rattle.resend.specs.Log.{SentLeg, Entry, has_number, sent_legs, last_ordinal, is_doubt, doubt_in, doubt_from, is_nonempty, in_doubt}
+use Rattle.resend.specs.Log.{SentLeg, Entry, sent_legs, last_ordinal, is_doubt, doubt_in, doubt_from, is_nonempty, in_doubt}
 use Rattle.resend.specs.Log.Entry.{Admin, Sent as SentEntry}
-use Rattle.resend.specs.Window.{push, doubts, window}
+use Rattle.resend.specs.Window.{OutLogParts, push, doubts, window}
+use Rattle.leg.specs.Answering.{Answers}
 use Rattle.resend.specs.Kept.{numbered_leg, numbered_legs, filled, entries, IsRising, doubt_legs}
 use Rattle.resend.proofs.Filled.{length-filled, sent_from-filled, filled-more, last_in, last_ordinal-sent}
 
@@ -32,6 +33,24 @@ pub push-spent : (max_number : ℕ) (entry : Entry) (log : List Entry) (last : �
     → push entry (record { max_number = max_number; entries = log }) ≡ (Err NumbersSpent, record { max_number = max_number; entries = log })
 push-spent max_number entry log last long le =
     let is : nat_lt (length log + 1) max_number ≡ false = (let above : max_number ≤ length log + 1 = omega arith in grind (arith, nat_tests)) in rw is refl
+
+-- the log as a value
+abbrev pub with_entries : ℕ → List Entry → OutLogParts
+with_entries max_number entries = record { max_number = max_number; entries = entries }
+
+-- what a push answers
+module _ (max_number : ℕ) (entry : Entry) (log : List Entry) (last : ℕ) (long : length log ≡ last) where
+  pub answers-ok : last + 1 < max_number
+      → Answers OutOfMemory (with_entries max_number log) (push entry (with_entries max_number log)) (Ok (last + 1)) (with_entries max_number (log ++ entry ∷ []))
+  answers-ok lt = rw (push-ok max_number entry log last long lt) (refl, refl)
+
+  pub answers-spent : max_number ≤ last + 1
+      → Answers OutOfMemory (with_entries max_number log) (push entry (with_entries max_number log)) (Err NumbersSpent) (with_entries max_number log)
+  answers-spent le = rw (push-spent max_number entry log last long le) (refl, refl)
+
+  pub answers-wanting : (now : List Entry) → last + 1 < max_number → now ≡ log
+      → Answers OutOfMemory (with_entries max_number log) (push entry (with_entries max_number log)) (Err OutOfMemory) (with_entries max_number now)
+  answers-wanting now lt same = rw (push-ok max_number entry log last long lt) (refl, ap (with_entries max_number) same)
 
 append_none : {A : Type 0} → (xs : List A) → xs ++ [] ≡ xs
 append_none [] = refl
@@ -141,11 +160,6 @@ some_doubt (sent ∷ sents) =
 
 pub in_doubt-entries : (last : ℕ) (legs : List LoggedLeg) → IsRising 0 0 last (numbered_legs legs) → in_doubt (entries last legs) ≡ not (length (doubt_legs legs) == 0)
 in_doubt-entries last legs r = ap is_nonempty (doubt_from-entries 0 last legs r) ∙ sym (some_doubt (doubt_legs legs))
-
-pub has_number-left : (max_number : ℕ) (log : List Entry) (last : ℕ) → length log ≡ last → last + 1 < max_number → IsTrue (has_number max_number log)
-has_number-left max_number log last long lt =
-    let below : length log + 1 < max_number = omega arith in
-    let is : nat_lt (length log + 1) max_number ≡ true = grind (arith, nat_tests) in is
 
 append_turn : (b : Bool) (sent : Sent) (xs ys more : List Sent) → ys ≡ xs ++ more → (if b then sent ∷ ys else ys) ≡ (if b then sent ∷ xs else xs) ++ more
 append_turn true sent xs ys more e = ap (λ (sents : List Sent). sent ∷ sents) e

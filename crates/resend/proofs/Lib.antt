@@ -8,3 +8,6 @@ pub mod Leading
 pub mod Looking
 pub mod Settling
 pub mod Fills
+pub mod Joining
+pub mod SettledRuns
+pub mod RunsKept

@@ -264,6 +264,9 @@ module _ (number last : ℕ) (legs : List LoggedLeg) (sents : List Sent) (kept :
       behind = λ k d lt is above. below_no _ number (leading-above (λ (leg : LoggedLeg). leg.number) number legs k d legs_rise (omega (arith, to_is)) lt);
     }
 
+    pub taken-legs : numbered_legs (settled_part Taken from to legs) ≡ settled_legs (λ n. nat_lt n number) Taken (numbered_legs legs)
+    taken-legs = part_settled (λ n. nat_lt n number) Taken from to legs take_part
+
     pub taken-entries : entries last (settled_part Taken from to legs) ≡ take_below number (entries last legs)
     taken-entries = entries_settled (λ n. nat_lt n number) Taken from to take_part
 
@@ -310,6 +313,9 @@ module _ (number last : ℕ) (legs : List LoggedLeg) (sents : List Sent) (kept :
           from_no _ number (given_before k d at.0 at.1 at.2 less));
       behind = λ k d lt is above. absurd (omega arith);
     }
+
+    pub given-legs : numbered_legs (settled_part Withdrawn from (length legs) legs) ≡ settled_legs (λ n. nat_le number n) Withdrawn (numbered_legs legs)
+    given-legs = part_settled (λ n. nat_le number n) Withdrawn from (length legs) legs give_part
 
     pub given-entries : entries last (settled_part Withdrawn from (length legs) legs) ≡ give_up_from number (entries last legs)
     given-entries = entries_settled (λ n. nat_le number n) Withdrawn from (length legs) give_part

@@ -37,7 +37,8 @@ IsRising number ordinal last ((next, leg) ∷ legs) =
 abbrev pub doubt_legs : List LoggedLeg → List Sent
 doubt_legs [] = []
 doubt_legs (leg ∷ legs) =
-    if is_doubt leg.state then record { number = leg.number; ordinal = leg.ordinal; id = leg.id } ∷ doubt_legs legs else doubt_legs legs
+    if is_doubt leg.state then record { number = leg.number; ordinal = leg.ordinal; id = leg.id } ∷ doubt_legs legs
+    else doubt_legs legs
 
 -- the legs are in order, and the window has those in doubt
 pub record IsKept (last : ℕ) (legs : List LoggedLeg) (window : List Sent) : Type 0 where

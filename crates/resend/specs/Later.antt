@@ -1,5 +1,6 @@
 -- How the numbers sent go on from one log to a later one.
-use Rattle.std.specs.Prelude.{◌≡◌, ◌≢◌, ◌≤◌, ◌<◌, ◌⊎◌, ◌+◌, ℕ, Bool, true, false, ◌&&◌, List, [], ◌∷◌, Some, if◌then◌else◌}
+use Rattle.std.specs.Prelude.{◌≡◌, ◌≢◌, ◌≤◌, ◌<◌, ◌⊎◌, ◌+◌, ℕ, Bool, true, false, ◌&&◌, if◌then◌else◌}
+use Rattle.std.specs.Prelude.{List, [], ◌∷◌, Some}
 use Rattle.leg.specs.LegId.{LegIdParts}
 use Rattle.leg.specs.Numbered.{numbered}
 use Rattle.leg.specs.declared.leg_state.LegState.{LegState}

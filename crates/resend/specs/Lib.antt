@@ -4,3 +4,5 @@ pub mod Later
 pub mod Expected
 pub mod Window
 pub mod Kept
+pub mod Runs
+pub mod KeptRuns

@@ -1,6 +1,6 @@
 //! The kept legs: where a number or an ordinal stands among them, and how a part of them is settled.
 
-ghost use Rattle.std.specs.Prelude.{◌≡◌, ◌≤◌, ◌<◌, length, slice_index_or, nat_lt, drop, map, slice_get, IfOk};
+ghost use Rattle.std.specs.Prelude.{◌≡◌, ◌≤◌, ◌<◌, length, slice_index_or, nat_lt, take, drop, map, slice_get, IfOk};
 ghost use Rattle.std.specs.List.Sorted.{IsNonDecreasingBy};
 ghost use Rattle.resend.specs.declared.logged_leg.LoggedLeg.{LoggedLeg as Logged};
 ghost use Rattle.resend.specs.declared.sent.Sent.{Sent as InDoubt};
@@ -39,6 +39,14 @@ pub(crate) fn leg_in(legs: &[LoggedLeg], place: usize) -> Option<LoggedLeg>
     ensures { result ≡ slice_get legs.now place }
 {
     legs.get(place).copied()
+}
+
+/// The legs in doubt before a place.
+pub(crate) fn up_to(window: &[Sent], place: usize) -> &[Sent]
+    requires { place ≤ length window.now }
+    ensures { result.now ≡ take place window.now }
+{
+    &window[..place]
 }
 
 /// The legs in doubt from a place on.

@@ -9,6 +9,8 @@ mod legs;
 mod log_fault;
 mod logged_leg;
 mod out_log;
+mod run;
+mod runs;
 mod sent;
 
 pub use gap_fill::GapFill;
@@ -22,6 +24,7 @@ pub use laws::{
 pub use log_fault::LogFault;
 use logged_leg::LoggedLeg;
 pub use out_log::OutLog;
+pub use run::Run;
 pub use sent::Sent;
 
 #[cfg(test)]

@@ -5,37 +5,44 @@ ghost use Rattle.std.specs.Option.{option_map};
 
 use crate::legs::{
     after, doubts_below, drop_first, ids_of, leg_in, number_in, numbers_below, ordinals_below,
-    settle,
+    settle, up_to,
 };
-use crate::{GapFill, LogFault, LoggedLeg, Sent};
+use crate::runs::add_all;
+use crate::{GapFill, LogFault, LoggedLeg, Run, Sent};
 use leg::{LegId, LegState};
 use std::alloc::Global;
 use std::marker::Model;
 
-/// What each number sent was spent on. A leg takes memory as it is sent, and nothing else does.
+/// What each number sent was spent on. A leg takes memory as it is sent, also what its run will take, and nothing else
+/// does.
 #[derive(Drop)]
 pub struct OutLog {
     max_number: u64,
     last: u64,
     legs: Vec<LoggedLeg>,
     window: Vec<Sent>,
+    runs: Vec<Run>,
 }
 
 impl Model for OutLog {
     ghost use Rattle.resend.specs.Window.{OutLogParts};
     ghost use Rattle.resend.specs.Kept.{entries, IsKept};
+    ghost use Rattle.resend.specs.KeptRuns.{HaveRuns};
+    ghost use Rattle.std.specs.Prelude.{vec_len, vec_capacity};
 
     ghost Value = { OutLogParts };
 
     ghost view = { λ log. record { max_number = log.max_number; entries = entries log.last log.legs.items } };
 
-    ghost invariant = { λ log. IsKept log.last log.legs.items log.window.items };
+    ghost invariant = { λ log. IsKept log.last log.legs.items log.window.items × HaveRuns log.legs.items log.window.items log.runs.items (vec_len log.runs) (vec_capacity log.runs) };
 }
 
 impl OutLog {
     ghost use Rattle.resend.specs.Log.{next_to_send, last_ordinal, in_doubt, leg_at, state_of, doubt_from, fill_for, take_below, give_up_from};
     ghost use Rattle.resend.specs.Log.Entry.{Admin, Sent as SentEntry};
-    ghost use Rattle.resend.specs.Window.{push, IsPush, window};
+    ghost use Rattle.resend.specs.Window.{push, window};
+    ghost use Rattle.resend.specs.Runs.{runs};
+    ghost use Rattle.leg.specs.Answering.{Answers};
 
     /// Nothing was sent yet. `max_number` is the number that no message may have.
     pub fn new(alloc: Global, max_number: u64) -> OutLog
@@ -46,6 +53,7 @@ impl OutLog {
             last: 0,
             legs: Vec::new(alloc),
             window: Vec::new(alloc),
+            runs: Vec::new(alloc),
         }
     }
 
@@ -71,7 +79,7 @@ impl OutLog {
     /// Spends a number on a leg, which is then in doubt, and gives it. N01 where none is left.
     pub fn push_leg(&mut self, ordinal: u64, id: LegId) -> Result<u64, LogFault>
         requires { last_ordinal self.old.entries < ordinal }
-        ensures { IsPush (SentEntry (record { ordinal = ordinal; id = id; state = LegState.Doubt })) self.old result self.new }
+        ensures { Answers LogFault.OutOfMemory self.old (push (SentEntry (record { ordinal = ordinal; id = id; state = LegState.Doubt })) self.old) result self.new }
     {
         let number = self.last + 1;
         if number >= self.max_number {
@@ -81,6 +89,9 @@ impl OutLog {
             return Err(LogFault::OutOfMemory);
         }
         if self.window.reserve(1).is_err() {
+            return Err(LogFault::OutOfMemory);
+        }
+        if self.runs.reserve(self.window.len() + 1).is_err() {
             return Err(LogFault::OutOfMemory);
         }
         self.legs.push_reserved(LoggedLeg {
@@ -105,6 +116,13 @@ impl OutLog {
         self.window.as_slice()
     }
 
+    /// The settled legs in runs, in the order of their numbers, each run as long as it can be.
+    pub fn runs(&self) -> &[Run]
+        ensures { result.now ≡ runs self.now.entries }
+    {
+        self.runs.as_slice()
+    }
+
     /// Whether some leg is in doubt.
     pub fn in_doubt(&self) -> bool
         ensures { result ≡ in_doubt self.now.entries }
@@ -127,16 +145,9 @@ impl OutLog {
         ensures { result ≡ leg_at number self.now.entries }
     {
         let legs = self.legs.as_slice();
-        let place = numbers_below(legs, number);
-        match leg_in(legs, place) {
-            Some(leg) => {
-                if leg.number == number {
-                    Some(leg.id)
-                } else {
-                    None
-                }
-            }
-            None => None,
+        match leg_in(legs, numbers_below(legs, number)) {
+            Some(leg) if leg.number == number => Some(leg.id),
+            _ => None,
         }
     }
 
@@ -145,16 +156,9 @@ impl OutLog {
         ensures { result ≡ state_of ordinal self.now.entries }
     {
         let legs = self.legs.as_slice();
-        let place = ordinals_below(legs, ordinal);
-        match leg_in(legs, place) {
-            Some(leg) => {
-                if leg.ordinal == ordinal {
-                    Some(leg.state)
-                } else {
-                    None
-                }
-            }
-            None => None,
+        match leg_in(legs, ordinals_below(legs, ordinal)) {
+            Some(leg) if leg.ordinal == ordinal => Some(leg.state),
+            _ => None,
         }
     }
 
@@ -178,30 +182,13 @@ impl OutLog {
         ensures { result ≡ fill_for begin last top self.now.entries }
     {
         let sent = self.last;
-        if begin < 1 {
+        let asked = if last == 0 { sent } else { sent.min(last) };
+        if begin == 0 || begin > asked || begin > top {
             return None;
         }
-        if begin > sent {
-            return None;
-        }
-        if begin > top {
-            return None;
-        }
-        if last == 0 {
-            let end = top.min(sent);
-            return Some(GapFill {
-                first: begin,
-                new_number: end + 1,
-            });
-        }
-        if begin > last {
-            return None;
-        }
-        let asked = sent.min(last);
-        let cut = top.min(asked);
         Some(GapFill {
             first: begin,
-            new_number: cut + 1,
+            new_number: top.min(asked) + 1,
         })
     }
 
@@ -218,6 +205,11 @@ impl OutLog {
         let from = numbers_below(legs, number_in(window, 0));
         let to = numbers_below(legs, number);
         settle(&mut self.legs, from, to, LegState::Taken);
+        add_all(
+            &mut self.runs,
+            up_to(self.window.as_slice(), count),
+            LegState::Taken,
+        );
         drop_first(&mut self.window, count);
     }
 
@@ -234,6 +226,11 @@ impl OutLog {
         let from = numbers_below(legs, number_in(window, count));
         let to = legs.len();
         settle(&mut self.legs, from, to, LegState::Withdrawn);
+        add_all(
+            &mut self.runs,
+            after(self.window.as_slice(), count),
+            LegState::Withdrawn,
+        );
         self.window.truncate(count);
     }
 }

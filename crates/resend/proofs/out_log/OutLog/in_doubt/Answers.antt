@@ -5,5 +5,5 @@ use Rattle.resend.proofs.out_log.OutLog.in_doubt.Goals as goal
 pub returns : goal.returns
 returns c =
     let log = c.self.inside in
-    rw (← c.self.view_is, in_doubt-entries log.last log.legs.items c.self.invariant.rising, ← c.self.invariant.in_doubt, ← c.as_slice.ensures.value)
+    rw (← c.self.view_is, in_doubt-entries log.last log.legs.items c.self.invariant.0.rising, ← c.self.invariant.0.in_doubt, ← c.as_slice.ensures.value)
     (ap not c.is_empty.ensures)

@@ -3,25 +3,24 @@ use Rattle.std.proofs.lemmas.Bool.{eq-eqb}
 use Rattle.std.proofs.lemmas.Bool.Decides.{nat_tests}
 use Rattle.resend.proofs.Looking.{leg_at-found, numbers_rise}
 use Rattle.resend.proofs.out_log.OutLog.leg_at.Goals as goal
+use Rattle.resend.proofs.out_log.OutLog.leg_at.Goals.{in_default-via-in-Some+else-leg-number, in_default-via-in_default}
 
-pub numbers_below-place-requires : goal.numbers_below-place-requires
-numbers_below-place-requires c = rw c.as_slice-legs.ensures.value (numbers_rise 0 0 _ _ c.self.invariant.rising)
+pub numbers_below-requires : goal.numbers_below-requires
+numbers_below-requires c = rw c.as_slice-legs.ensures.value (numbers_rise 0 0 _ _ c.self.invariant.0.rising)
 
-pub returns-then-leg-number : goal.returns-then-leg-number
-returns-then-leg-number c =
+pub returns-in-Some : goal.returns-in-Some
+returns-in-Some c =
     let log = c.self.inside in
-    rw (← c.self.view_is, leg_at-found c.args.number log.last log.legs.items _ _ (Some c.in-Some.leg) c.self.invariant.rising c.as_slice-legs.ensures.value c.numbers_below-place.ensures c.in-Some.ensures, eq-eqb _ _ c.if-leg-number.true)
+    rw (← c.self.view_is, leg_at-found c.args.number log.last log.legs.items _ _ (Some c.in-Some.leg) c.self.invariant.0.rising c.as_slice-legs.ensures.value c.numbers_below.ensures c.in-Some.ensures, eq-eqb _ _ c.if-leg-number.true)
     refl
 
-pub returns-else-leg-number : goal.returns-else-leg-number
-returns-else-leg-number c =
+pub returns-in_default : goal.returns-in_default
+returns-in_default c =
     let log = c.self.inside in
-    let other : (c.in-Some.leg.number == c.args.number) ≡ false = grind (arith, nat_tests, c.if-leg-number.false) in
-    rw (← c.self.view_is, leg_at-found c.args.number log.last log.legs.items _ _ (Some c.in-Some.leg) c.self.invariant.rising c.as_slice-legs.ensures.value c.numbers_below-place.ensures c.in-Some.ensures, other)
-    refl
-
-pub returns-in-None : goal.returns-in-None
-returns-in-None c =
-    let log = c.self.inside in
-    rw (← c.self.view_is, leg_at-found c.args.number log.last log.legs.items _ _ None c.self.invariant.rising c.as_slice-legs.ensures.value c.numbers_below-place.ensures c.in-None.ensures)
-    refl
+    rw (← c.self.view_is) (elim c.in_default.branch [
+      | in_default-via-in-Some+else-leg-number w ↦
+          (let other : (w.in-Some.leg.number == c.args.number) ≡ false = grind (arith, nat_tests, w.if-leg-number.false) in
+          rw (leg_at-found c.args.number log.last log.legs.items _ _ (Some w.in-Some.leg) c.self.invariant.0.rising c.as_slice-legs.ensures.value c.numbers_below.ensures w.in-Some.ensures, other) refl)
+      | in_default-via-in_default w ↦
+          rw (leg_at-found c.args.number log.last log.legs.items _ _ None c.self.invariant.0.rising c.as_slice-legs.ensures.value c.numbers_below.ensures w.in_default.ensures) refl
+    ])

@@ -5,7 +5,7 @@ use Rattle.resend.proofs.Looking.{doubts_rise, doubt_from-found}
 use Rattle.resend.proofs.out_log.OutLog.legs_from.Goals as goal
 
 pub doubts_below-place-requires : goal.doubts_below-place-requires
-doubts_below-place-requires c = rw (c.as_slice-window.ensures.value, c.self.invariant.in_doubt) (doubts_rise 0 0 _ _ c.self.invariant.rising)
+doubts_below-place-requires c = rw (c.as_slice-window.ensures.value, c.self.invariant.0.in_doubt) (doubts_rise 0 0 _ _ c.self.invariant.0.rising)
 
 pub after-requires : goal.after-requires
 after-requires c = omega (arith, leading-le (λ (sent : Sent). nat_lt sent.number c.args.number) c.as_slice-window.result.now, c.doubts_below-place.ensures)
@@ -13,5 +13,5 @@ after-requires c = omega (arith, leading-le (λ (sent : Sent). nat_lt sent.numbe
 pub returns-in-Ok-clause-ok : goal.returns-in-Ok-clause-ok
 returns-in-Ok-clause-ok c =
     let log = c.self.inside in
-    rw (← c.self.view_is, doubt_from-found c.args.number log.last log.legs.items _ _ c.self.invariant.rising (c.as_slice-window.ensures.value ∙ c.self.invariant.in_doubt) c.doubts_below-place.ensures)
+    rw (← c.self.view_is, doubt_from-found c.args.number log.last log.legs.items _ _ c.self.invariant.0.rising (c.as_slice-window.ensures.value ∙ c.self.invariant.0.in_doubt) c.doubts_below-place.ensures)
     (rw c.after.ensures at c.in-Ok.ensures)

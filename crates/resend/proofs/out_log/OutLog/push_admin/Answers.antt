@@ -10,14 +10,17 @@ returns-then-number-self c =
     rw (← c.self.view_is) (sym (push-spent log.max_number Admin (entries log.last log.legs.items) log.last (length-entries log.last log.legs.items) c.if-number-self.true))
 
 pub invariant_of-self : goal.invariant_of-self
-invariant_of-self c = record {
-  fits = omega arith;
-  rising = rising-later 0 0 _ _ _ (omega arith) c.self.invariant.rising;
-  in_doubt = c.self.invariant.in_doubt;
-}
+invariant_of-self c = (
+  record {
+    fits = omega arith;
+    rising = rising-later 0 0 _ _ _ (omega arith) c.self.invariant.0.rising;
+    in_doubt = c.self.invariant.0.in_doubt;
+  },
+  c.self.invariant.1,
+)
 
 pub returns : goal.returns
 returns c =
     let log = c.self.inside in
-    rw (← c.self.view_is, entries-admin log.last log.legs.items c.self.invariant.rising)
+    rw (← c.self.view_is, entries-admin log.last log.legs.items c.self.invariant.0.rising)
     (sym (push-ok log.max_number Admin (entries log.last log.legs.items) log.last (length-entries log.last log.legs.items) c.if-number-self.false))

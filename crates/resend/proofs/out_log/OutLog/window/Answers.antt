@@ -5,5 +5,5 @@ use Rattle.resend.proofs.out_log.OutLog.window.Goals as goal
 pub returns : goal.returns
 returns c =
     let log = c.self.inside in
-    rw (← c.self.view_is, window-entries log.last log.legs.items c.self.invariant.rising)
-    (c.as_slice.ensures.value ∙ c.self.invariant.in_doubt)
+    rw (← c.self.view_is, window-entries log.last log.legs.items c.self.invariant.0.rising)
+    (c.as_slice.ensures.value ∙ c.self.invariant.0.in_doubt)

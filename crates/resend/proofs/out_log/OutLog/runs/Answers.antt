@@ -1,0 +1,10 @@
+use Rattle.std.proofs.Common.{sym, ap, ◌∙◌}
+use Rattle.resend.specs.Runs.{singles, joined}
+use Rattle.resend.proofs.Kept.{sent_legs-entries}
+use Rattle.resend.proofs.out_log.OutLog.runs.Goals as goal
+
+pub returns : goal.returns
+returns c =
+    let log = c.self.inside in
+    rw (← c.self.view_is, sent_legs-entries log.last log.legs.items c.self.invariant.0.rising)
+    (c.as_slice.ensures.value ∙ c.self.invariant.1.settled)
