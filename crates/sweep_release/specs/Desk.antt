@@ -155,6 +155,10 @@ leave_first (leg ∷ legs) desk venue =
 abbrev pub leave : DeskParts → ℕ → Option PlacedLeg × DeskParts
 leave desk venue = leave_first (placed_legs desk venue) desk venue
 
+-- the next leg of a venue, whatever its gate: that which leaves next
+abbrev pub next_leg : DeskParts → ℕ → Option PlacedLeg
+next_leg desk venue = (leave desk venue).0
+
 -- the next leg is taken, while the gate is up
 abbrev pub take : DeskParts → ℕ → Option PlacedLeg × DeskParts
 take desk venue = if is_up (gate_of desk venue) then leave desk venue else (None, desk)

@@ -1,5 +1,5 @@
 -- What the desk keeps beside its history, so that no call walks it.
-use Rattle.std.specs.Prelude.{◌≡◌, ℕ, ◌+◌, ◌*◌, ◌<◌, ◌≤◌, List, [], ◌∷◌, ◌++◌, length, map, drop, sum_by, get_or, vec_len, vec_capacity}
+use Rattle.std.specs.Prelude.{◌≡◌, ℕ, ◌+◌, ◌-◌, ◌*◌, ◌<◌, ◌≤◌, List, [], ◌∷◌, ◌++◌, length, map, drop, sum_by, get_or, vec_len, vec_capacity}
 use Rattle.std.specs.VecDeque.{deque_capacity}
 use Rattle.leg.specs.declared.leg.Leg.{Leg}
 use Rattle.leg.specs.declared.sweep.Routed.{Routed}
@@ -11,7 +11,7 @@ use Rattle.sweep_release.specs.declared.venue.Venue.{Venue}
 use Rattle.sweep_release.specs.Gates.{gate_due}
 use Rattle.sweep_release.specs.Released.{legs_to, released}
 use Rattle.sweep_release.specs.Desk.{DeskVenue, count_to}
-use Rattle.sweep_release.specs.History.{DeskWithHistory}
+use Rattle.sweep_release.specs.History.{KeptDesk}
 
 -- the sweeps that were released, in the order of their numbers
 abbrev pub released_sweeps : List DeskEntry → List (List Routed)
@@ -24,11 +24,12 @@ abbrev pub venue_seen : Venue → DeskVenue
 venue_seen venue = record { gate = venue.gate; left = venue.left }
 
 -- the desk as a caller sees it
-abbrev pub desk_seen : Inside → DeskWithHistory
+abbrev pub desk_seen : Inside → KeptDesk
 desk_seen desk =
     record {
       desk = record { sweeps = released_sweeps desk.history.items; venues = map venue_seen desk.venues.items };
       history = desk.history.items;
+      room = vec_capacity desk.history - (vec_len desk.history + desk.due);
     }
 
 -- how many entries the calls at a venue that take no memory may write: one for each placed leg, and those of its gate
