@@ -13,7 +13,7 @@ use Rattle.sweep_release.specs.declared.release_fault.ReleaseFault.{ReleaseFault
 use Rattle.sweep_release.specs.declared.release_fault.ReleaseFault.TheVariants.{OutOfMemory, WrongBook}
 use Rattle.sweep_release.specs.Desk.{DeskParts, ready_unless, release_unless, next_number, with_sweep}
 use Rattle.sweep_release.specs.History.{DeskWithHistory, with_entries, release_entries}
-use Rattle.sweep_release.specs.Place.{DeskAndBook, KeptDeskAndBook, place_in_book, place_after, with_release, may_want, PlaceAnswers}
+use Rattle.sweep_release.specs.Place.{DeskAndBook, KeptDeskAndBook, place_in_book, place_after, with_release, book_refusal, PlaceAnswers, may_want}
 
 -- without the history
 abbrev pub seen : KeptDeskAndBook → DeskAndBook
@@ -65,6 +65,12 @@ pub book_wants : (before : KeptDeskAndBook) (legs : List Routed) (desk : DeskWit
 book_wants before legs desk now true true d h = inr (refl, refl, (λ k. record { desk = d k; book = h.1 k }))
 book_wants before legs desk now true false d h = let never = h.0 in absurd cc
 book_wants before legs desk now false fits d h = let never = h.0 in absurd cc
+
+pub book_fails : (before : KeptDeskAndBook) (legs : List Routed) (desk : DeskWithHistory) (now : BookParts) (fault : BookFault) (next fits : Bool) → desk ≡ before.desk → Answers book_fault.OutOfMemory before.book (opened before.book legs next fits) (Err fault) now → PlaceAnswers before (from_book before legs (opened before.book legs next fits)) (Err (book_refusal fault)) (record { desk = desk; book = now })
+book_fails before legs desk now book_fault.OutOfMemory next fits d h = book_wants before legs desk now next fits d h
+book_fails before legs desk now book_fault.NotNext next fits d h = book_refuses before legs desk now book_fault.NotNext next fits (λ e. cc) d h
+book_fails before legs desk now book_fault.Unfit next fits d h = book_refuses before legs desk now book_fault.Unfit next fits (λ e. cc) d h
+book_fails before legs desk now book_fault.AlreadyMoved next fits d h = book_refuses before legs desk now book_fault.AlreadyMoved next fits (λ e. cc) d h
 
 -- both took it
 pub both_take : (before : KeptDeskAndBook) (legs : List Routed) (desk : DeskWithHistory) (now : BookParts) (answer : Result Receipt ReleaseFault) (done : Unit {0}) (next fits : Bool) → Answers book_fault.OutOfMemory before.book (opened before.book legs next fits) (Ok done) now → answer ≡ Ok (receipt_of before.desk.desk legs) → Answers OutOfMemory before.desk (with_entries before.desk (release_entries legs (Ok (receipt_of before.desk.desk legs))) (Ok (receipt_of before.desk.desk legs), with_sweep legs before.desk.desk)) answer desk → PlaceAnswers before (from_book before legs (opened before.book legs next fits)) answer (record { desk = desk; book = now })

@@ -46,7 +46,9 @@ pub record IsKeptVenue (sweeps : List (List Routed)) (number : ℕ) (venue : Ven
 
 -- the counts are those of the history, and the history has room for what is due
 pub record IsKept (desk : Inside) : Type 0 where
-  pub venues : (k : ℕ) (other : Venue) → k < length desk.venues.items → IsKeptVenue (released_sweeps desk.history.items) k (get_or desk.venues.items k other)
+  pub venues : (k : ℕ) (other : Venue) →
+      k < length desk.venues.items →
+      IsKeptVenue (released_sweeps desk.history.items) k (get_or desk.venues.items k other)
   pub count : desk.sweeps ≡ length (released_sweeps desk.history.items)
   pub shares : desk.shares ≡ sum_by sweep_shares (released_sweeps desk.history.items)
   pub few : desk.sweeps ≤ 999999999999
@@ -56,7 +58,9 @@ pub record IsKept (desk : Inside) : Type 0 where
 
 -- each venue's queue has room for the legs that join it
 pub record HaveRoom (legs : List Routed) (venues : List Venue) : Type 0 where
-  pub fits : (k : ℕ) (other : Venue) → k < length venues → length (get_or venues k other).placed.items + count_to k legs ≤ deque_capacity (get_or venues k other).placed
+  pub fits : (k : ℕ) (other : Venue) →
+      k < length venues →
+      length (get_or venues k other).placed.items + count_to k legs ≤ deque_capacity (get_or venues k other).placed
 
 -- a venue after these legs joined its queue
 pub record IsJoined (legs : List Leg) (before after : Venue) : Type 0 where
@@ -67,6 +71,8 @@ pub record IsJoined (legs : List Leg) (before after : Venue) : Type 0 where
 -- the venues after the legs of a sweep joined their queues, each in the order of the places
 pub record IsEnqueued (number : ℕ) (legs : List Routed) (before after : List Venue) : Type 0 where
   pub many : length after ≡ length before
-  pub joined : (k : ℕ) (other : Venue) → k < length before → IsJoined (legs_to k number 1 legs) (get_or before k other) (get_or after k other)
+  pub joined : (k : ℕ) (other : Venue) →
+      k < length before →
+      IsJoined (legs_to k number 1 legs) (get_or before k other) (get_or after k other)
   pub seen : map venue_seen after ≡ map venue_seen before
   pub due : sum_by entries_due after ≡ sum_by entries_due before + length legs

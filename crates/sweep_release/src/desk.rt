@@ -59,7 +59,7 @@ impl Desk {
     {
         let count = usize::from(venues);
         let mut list = Vec::with_capacity(alloc, count)?;
-        'each: for _ in 0..count {
+        for _ in 0..count {
             list.push(Venue {
                 gate: Gate::Down,
                 left: 0,
