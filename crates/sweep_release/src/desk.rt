@@ -9,21 +9,18 @@ ghost use Rattle.sweep_release.specs.History.{without_room, with_entries, releas
 ghost use Rattle.sweep_release.specs.Gates.{gate_due};
 ghost use Rattle.sweep_release.specs.Kept.{released_sweeps, HaveRoom, IsEnqueued};
 
+use crate::enqueue::enqueue;
+use crate::refusing::refusal;
+use crate::shares::shares_of;
 use crate::venue::Venue;
 use crate::{DeskEntry, Gate, GateFault, Receipt, ReleaseFault};
-use leg::{Leg, LegId, MAX_SWEEP, PlacedLeg, Routed, Sweep, VenueId};
+use leg::{PlacedLeg, Sweep, VenueId};
 use std::alloc::Global;
 use std::collections::VecDeque;
 use std::marker::Model;
 
 /// The most legs that are placed at a venue, neither taken nor dropped.
-const MAX_PLACED: usize = 256;
-
-/// The most legs of a sweep.
-const MAX_LEGS: usize = 32;
-
-/// The most shares that are released in all.
-const MAX_PLACED_SHARES: u64 = 1_000_000_000_000_000_000;
+pub const MAX_PLACED: usize = 256;
 
 /// The desk: sweeps are released into its venues' queues together or not at all, and leave leg by leg. A call for a
 /// venue that the desk hasn't got is a broken condition, except at a release.
@@ -116,7 +113,8 @@ impl Desk {
 
     /// The shares of all sweeps released, at most 10^18.
     pub fn placed_shares(&self) -> u64
-        ensures { result ≡ placed_shares self.now.desk }
+        ensures value { result ≡ placed_shares self.now.desk }
+        ensures few { result ≤ 1000000000000000000 }
     {
         self.shares
     }
@@ -251,7 +249,7 @@ impl Desk {
         ensures room { OnErr result (self.new.room ≡ self.old.room) }
     {
         let legs = sweep.legs.as_slice();
-        if let Some(fault) = self.refusal(legs) {
+        if let Some(fault) = refusal(self, legs) {
             return Err(fault);
         }
         self.history.reserve(self.due + 1 + legs.len())?;
@@ -265,7 +263,7 @@ impl Desk {
         ensures room { OnErr result (self.new.room ≡ self.old.room) }
     {
         let legs = sweep.legs.as_slice();
-        if let Some(fault) = self.refusal(legs) {
+        if let Some(fault) = refusal(self, legs) {
             return Err(fault);
         }
         // Its own entry, and one for each leg that will leave.
@@ -286,125 +284,8 @@ impl Desk {
     pub(crate) fn next_number(&self) -> u64
         ensures value { result ≡ next_number self.now.desk }
         ensures low { 1 ≤ result }
+        ensures high { result ≤ 1000000000000 }
     {
         self.sweeps + 1
-    }
-
-    /// The first refusal of a sweep, want of memory aside.
-    fn refusal(&self, legs: &[Routed]) -> Option<ReleaseFault>
-        ensures value { result ≡ release_refusal self.now.desk legs.now }
-        ensures short { IfNone result (length legs.now ≤ 32) }
-        ensures known { IfNone result (All (λ routed. routed.venue < length self.now.desk.venues) legs.now) }
-    {
-        if legs.is_empty() {
-            return Some(ReleaseFault::Empty);
-        }
-        if legs.len() > MAX_LEGS {
-            return Some(ReleaseFault::TooManyLegs);
-        }
-        if let Some(fault) = first_unknown(self.venues.len(), legs) {
-            return Some(fault);
-        }
-        if let Some(fault) = self.first_closed(legs) {
-            return Some(fault);
-        }
-        if let Some(fault) = self.first_full(legs) {
-            return Some(fault);
-        }
-        if self.sweeps >= MAX_SWEEP || self.shares + shares_of(legs) > MAX_PLACED_SHARES {
-            return Some(ReleaseFault::SweepsSpent);
-        }
-        None
-    }
-
-    /// The refusal of the first leg whose gate isn't up.
-    fn first_closed(&self, legs: &[Routed]) -> Option<ReleaseFault>
-        requires { All (λ routed. routed.venue < length self.now.desk.venues) legs.now }
-        ensures { result ≡ refused_at ReleaseFault.GateShut (λ venue. not (is_up (gate_of self.now.desk venue))) legs.now }
-    {
-        for routed in legs {
-            match self.gate(routed.venue) {
-                Gate::Up => {}
-                Gate::Down => return Some(ReleaseFault::GateShut(routed.venue)),
-                Gate::Shut => return Some(ReleaseFault::GateShut(routed.venue)),
-            }
-        }
-        None
-    }
-
-    /// The refusal of the first leg that finds its venue's queue full, the sweep's legs before it counted.
-    fn first_full(&self, legs: &[Routed]) -> Option<ReleaseFault>
-        requires known { All (λ routed. routed.venue < length self.now.desk.venues) legs.now }
-        requires short { length legs.now ≤ 32 }
-        ensures { result ≡ backlog_refusal self.now.desk [] legs.now }
-    {
-        for at in 0..legs.len() {
-            let venue = legs[at].venue;
-            if self.placed(venue) + legs_for(venue, &legs[..at]) + 1 > MAX_PLACED {
-                return Some(ReleaseFault::BacklogFull(venue));
-            }
-        }
-        None
-    }
-}
-
-/// The refusal of the first leg for a venue that isn't one of so many.
-fn first_unknown(venues: usize, legs: &[Routed]) -> Option<ReleaseFault>
-    ensures value { result ≡ refused_at ReleaseFault.UnknownVenue (λ venue. nat_le venues venue) legs.now }
-    ensures known { IfNone result (All (λ routed. routed.venue < venues) legs.now) }
-{
-    for routed in legs {
-        if usize::from(routed.venue.number()) >= venues {
-            return Some(ReleaseFault::UnknownVenue(routed.venue));
-        }
-    }
-    None
-}
-
-/// How many of these orders are for a venue.
-fn legs_for(venue: VenueId, legs: &[Routed]) -> usize
-    ensures value { result ≡ count_to venue legs.now }
-    ensures few { result ≤ length legs.now }
-{
-    let mut count = 0;
-    for routed in legs {
-        if routed.venue.number() == venue.number() {
-            count += 1;
-        }
-    }
-    count
-}
-
-/// The shares of a sweep's legs.
-fn shares_of(legs: &[Routed]) -> u64
-    requires { length legs.now ≤ 32 }
-    ensures value { result ≡ sweep_shares legs.now }
-    ensures few { result ≤ 32000000 }
-{
-    let mut shares = 0;
-    for routed in legs {
-        shares += routed.terms.shares();
-    }
-    shares
-}
-
-/// The legs of a sweep join the queues of their venues, which have room for them.
-fn enqueue(venues: &mut Vec<Venue>, number: u64, legs: &[Routed])
-    requires low { 1 ≤ number }
-    requires high { number ≤ MAX_SWEEP }
-    requires short { length legs.now ≤ 32 }
-    requires known { All (λ routed. routed.venue < length venues.old.items) legs.now }
-    requires room { HaveRoom legs.now venues.old.items }
-    ensures { IsEnqueued number legs.now venues.old.items venues.new.items }
-{
-    let mut place = 0u8;
-    for routed in legs {
-        place += 1;
-        let leg = Leg {
-            id: LegId::new(number, place),
-            terms: routed.terms.clone().unwrap(),
-        };
-        let at = &mut venues[usize::from(routed.venue.number())];
-        at.placed.push_back_reserved(leg);
     }
 }
