@@ -1,5 +1,5 @@
 -- What is answered where a sweep is placed, by what desk and book answered.
-use Rattle.std.proofs.Common.{◌≡◌, ◌≢◌, ◌⊎◌, inl, inr, ◌+◌, ◌≤◌, Bool, true, false, List, [], ◌∷◌, ◌++◌, length, Option, Some, None, Result, Ok, Err, refl, ap, sym, ◌∙◌, subst, arith, if◌then◌else◌}
+use Rattle.std.proofs.Common.{◌≡◌, ◌≢◌, inl, inr, ℕ, ◌==◌, Bool, true, false, List, [], ◌++◌, Option, Some, None, Result, Ok, Err, refl, ap, sym, ◌∙◌, subst, if◌then◌else◌}
 use Rattle.std.proofs.lemmas.List.{append-nil}
 use Rattle.leg.specs.Answering.{Answers}
 use Rattle.leg.specs.declared.sweep.Routed.{Routed}
@@ -7,13 +7,13 @@ use Rattle.share_ledger.specs.declared.book_entry.BookEntry.TheVariants.{Opened}
 use Rattle.share_ledger.specs.declared.book_fault.BookFault.{BookFault}
 use Rattle.share_ledger.specs.declared.book_fault.BookFault.TheVariants as book_fault
 use Rattle.share_ledger.specs.Entries.{sweep_shares}
-use Rattle.share_ledger.specs.Book.{BookParts, BookAnswer, written}
+use Rattle.share_ledger.specs.Book.{BookParts, BookAnswer, written, next_sweep, is_fit, open_sweep}
 use Rattle.sweep_release.specs.declared.receipt.Receipt.{Receipt}
 use Rattle.sweep_release.specs.declared.release_fault.ReleaseFault.{ReleaseFault}
 use Rattle.sweep_release.specs.declared.release_fault.ReleaseFault.TheVariants.{OutOfMemory, WrongBook}
-use Rattle.sweep_release.specs.Desk.{DeskParts, ready_unless, release_unless, next_number, with_sweep}
+use Rattle.sweep_release.specs.Desk.{DeskParts, ready_unless, ready, release_refusal, release_unless, release, next_number, with_sweep}
 use Rattle.sweep_release.specs.History.{DeskWithHistory, with_entries, release_entries}
-use Rattle.sweep_release.specs.Place.{DeskAndBook, KeptDeskAndBook, place_in_book, place_after, with_release, book_refusal, PlaceAnswers, may_want}
+use Rattle.sweep_release.specs.Place.{DeskAndBook, KeptDeskAndBook, place_in_book, place_after, with_release, place_kept, book_refusal, PlaceAnswers, may_want}
 
 -- without the history
 abbrev pub seen : KeptDeskAndBook → DeskAndBook
@@ -78,3 +78,44 @@ both_take before legs desk now (Ok receipt) done true true b is d = inl (is, (λ
 both_take before legs desk now (Err fault) done true true b is d = absurd cc
 both_take before legs desk now answer done true false b is d = let never = b.0 in absurd cc
 both_take before legs desk now answer done false fits b is d = let never = b.0 in absurd cc
+
+-- the same, of what the calls answered
+
+pub desk_answers : (before : KeptDeskAndBook) (legs : List Routed) (fault : ReleaseFault) (now : DeskWithHistory) →
+    Answers OutOfMemory before.desk (with_entries before.desk [] (ready before.desk.desk legs)) (Err fault) now →
+    PlaceAnswers before (place_kept before legs) (Err fault) (record { desk = now; book = before.book })
+desk_answers before legs fault now h = desk_refuses before legs (release_refusal before.desk.desk legs) fault now h
+
+pub book_answers : (before : KeptDeskAndBook) (legs : List Routed) (mid : DeskWithHistory) (number : ℕ)
+    (fault : BookFault) (now : BookParts) (done : Unit {0}) →
+    Answers OutOfMemory before.desk (with_entries before.desk [] (ready before.desk.desk legs)) (Ok done) mid →
+    number ≡ next_number mid.desk →
+    Answers book_fault.OutOfMemory before.book (open_sweep before.book number legs) (Err fault) now →
+    PlaceAnswers before (place_kept before legs) (Err (book_refusal fault)) (record { desk = mid; book = now })
+book_answers before legs mid number fault now done d n b =
+    let parts = is_ready before.desk mid (release_refusal before.desk.desk legs) done d in
+    let next : number ≡ next_number before.desk.desk = n ∙ ap (λ x. next_number x.desk) parts.1 in
+    subst (λ r. PlaceAnswers before (from_desk before legs r) (Err (book_refusal fault)) (record { desk = mid; book = now })) (sym parts.0)
+    (book_fails before legs mid now fault (next_number before.desk.desk == next_sweep before.book) (is_fit before.book legs) parts.1
+    (subst (λ m. Answers book_fault.OutOfMemory before.book (open_sweep before.book m legs) (Err fault) now) next b))
+
+pub both_answer : (before : KeptDeskAndBook) (legs : List Routed) (mid after : DeskWithHistory) (number : ℕ)
+    (answer : Result Receipt ReleaseFault) (now : BookParts) (done opened_too : Unit {0}) →
+    Answers OutOfMemory before.desk (with_entries before.desk [] (ready before.desk.desk legs)) (Ok done) mid →
+    number ≡ next_number mid.desk →
+    Answers book_fault.OutOfMemory before.book (open_sweep before.book number legs) (Ok opened_too) now →
+    Answers OutOfMemory mid (with_entries mid (release_entries legs (release mid.desk legs).0) (release mid.desk legs)) answer after →
+    answer ≡ (release mid.desk legs).0 →
+    PlaceAnswers before (place_kept before legs) answer (record { desk = after; book = now })
+both_answer before legs mid after number answer now done opened_too d n b r is =
+    let parts = is_ready before.desk mid (release_refusal before.desk.desk legs) done d in
+    let next : number ≡ next_number before.desk.desk = n ∙ ap (λ x. next_number x.desk) parts.1 in
+    let fine = parts.0 in
+    let is_ok : answer ≡ Ok (receipt_of before.desk.desk legs) =
+    is ∙ (ap (λ x. (release x.desk legs).0) parts.1 ∙ ap (λ q. (release_unless q before.desk.desk legs).0) fine) in
+    let at_desk = subst (λ x. Answers OutOfMemory x (with_entries x (release_entries legs (release x.desk legs).0) (release x.desk legs)) answer after) parts.1 r in
+    let released = subst (λ q. Answers OutOfMemory before.desk (with_entries before.desk (release_entries legs (release_unless q before.desk.desk legs).0) (release_unless q before.desk.desk legs)) answer after) fine at_desk in
+    subst (λ q. PlaceAnswers before (from_desk before legs q) answer (record { desk = after; book = now })) (sym fine)
+    (both_take before legs after now answer opened_too (next_number before.desk.desk == next_sweep before.book) (is_fit before.book legs)
+    (subst (λ m. Answers book_fault.OutOfMemory before.book (open_sweep before.book m legs) (Ok opened_too) now) next b)
+    is_ok released)
