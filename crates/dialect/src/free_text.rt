@@ -24,7 +24,7 @@ pub type OrderId = FreeText<MAX_ID>;
 pub type LastPx = FreeText<MAX_LAST_PX>;
 
 /// A text of 1 to N bytes without SOH, in the place of N, kept as a venue spelled it.
-#[derive(Clone, Debug, PartialEq, Eq, Drop)]
+#[derive(Clone, Debug, PartialEq, Eq, Hash, Drop)]
 pub struct FreeText<const N: usize> {
     bytes: ArrayVec<u8, N>,
 }

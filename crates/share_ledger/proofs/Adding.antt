@@ -13,7 +13,7 @@ use Rattle.share_ledger.specs.Book.{BookParts, BookedLeg, new_book, moves_on, le
 use Rattle.share_ledger.proofs.ShareSums.{leg_shares-parts_of}
 use Rattle.share_ledger.proofs.Sound.{IsSound, sound-new, sound-replay}
 
-leg_adds_up : (book : BookParts) (id : LegIdParts) (routed : Routed) → IsSound book → order_of id book.entries ≡ Some routed → leg_shares (leg_parts id routed.terms.shares book) ≡ routed.terms.shares
+pub leg_adds_up : (book : BookParts) (id : LegIdParts) (routed : Routed) → IsSound book → order_of id book.entries ≡ Some routed → leg_shares (leg_parts id routed.terms.shares book) ≡ routed.terms.shares
 leg_adds_up book id routed sound found =
     leg_shares-parts_of routed.terms.shares (is_withdrawn id book.entries) (moves_on id book) (sound.within id routed found)
 

@@ -101,7 +101,7 @@ withdraw_step : (b : Bool) (book : BookParts) (id : LegIdParts) → (let r : Boo
 withdraw_step true book id = λ h. (refl, refl)
 withdraw_step false book id = λ h. cc
 
-withdraw_found : (book : BookParts) (id : LegIdParts) (routed : Routed) → IsSound book → order_of id book.entries ≡ Some routed → IsOk (withdraw_order book id (Some routed)).0 → split_withdraw (leg_parts id routed.terms.shares book) ≡ (Ok tt, leg_parts id routed.terms.shares (withdraw_order book id (Some routed)).1)
+pub withdraw_found : (book : BookParts) (id : LegIdParts) (routed : Routed) → IsSound book → order_of id book.entries ≡ Some routed → IsOk (withdraw_order book id (Some routed)).0 → split_withdraw (leg_parts id routed.terms.shares book) ≡ (Ok tt, leg_parts id routed.terms.shares (withdraw_order book id (Some routed)).1)
 withdraw_found book id routed sound found ok =
     let shares = routed.terms.shares in
     let done = withdraw_step ((leg_parts id shares book).still_open == shares) book id ok in

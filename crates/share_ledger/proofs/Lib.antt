@@ -9,3 +9,8 @@ pub mod Told
 pub mod LegSteps
 pub mod VenueSums
 pub mod Resolved
+pub mod KeptLegs
+pub mod KeptChanged
+pub mod KeptRead
+pub mod KeptWithdrawn
+pub mod KeptOpened

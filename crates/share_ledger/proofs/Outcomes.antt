@@ -53,14 +53,14 @@ again_outcome book (Moved venue note) = apply_outcome book venue note
 
 -- the history of a book leads to it
 
-replay-append : (book : BookParts) (xs ys : List BookEntry) → replay book (xs ++ ys) ≡ replay (replay book xs) ys
+pub replay-append : (book : BookParts) (xs ys : List BookEntry) → replay book (xs ++ ys) ≡ replay (replay book xs) ys
 replay-append book [] ys = refl
 replay-append book (entry ∷ xs) ys = replay-append (again book entry) xs ys
 
-abbrev IsReplayed : ℕ → BookParts → Type 0
+abbrev pub IsReplayed : ℕ → BookParts → Type 0
 IsReplayed venues book = replay (new_book venues) book.entries ≡ book
 
-replayed-again : (venues : ℕ) (book : BookParts) (entry : BookEntry) → IsReplayed venues book → IsReplayed venues (again book entry)
+pub replayed-again : (venues : ℕ) (book : BookParts) (entry : BookEntry) → IsReplayed venues book → IsReplayed venues (again book entry)
 replayed-again venues book entry replayed =
     elim (again_outcome book entry) [
       | inl writes ↦

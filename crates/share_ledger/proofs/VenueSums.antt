@@ -13,12 +13,12 @@ use Rattle.share_ledger.specs.Book.{BookParts, BookedLeg, leg_parts, booked_from
 abbrev pub at_venue : ℕ → List BookedLeg → ℕ
 at_venue venue legs = sum_by resolved_shares (filter (λ leg. leg.venue == venue) legs)
 
-at_venue-append : (venue : ℕ) (xs ys : List BookedLeg) → at_venue venue (xs ++ ys) ≡ at_venue venue xs + at_venue venue ys
+pub at_venue-append : (venue : ℕ) (xs ys : List BookedLeg) → at_venue venue (xs ++ ys) ≡ at_venue venue xs + at_venue venue ys
 at_venue-append venue xs ys =
     ap (sum_by resolved_shares) (filter-append (λ leg. leg.venue == venue) xs ys)
     ∙ sum_by-append resolved_shares (filter (λ leg. leg.venue == venue) xs) (filter (λ leg. leg.venue == venue) ys)
 
-at_venue-this : (venue : ℕ) (leg : BookedLeg) (legs : List BookedLeg) → (leg.venue == venue) ≡ true → at_venue venue (leg ∷ legs) ≡ resolved_shares leg + at_venue venue legs
+pub at_venue-this : (venue : ℕ) (leg : BookedLeg) (legs : List BookedLeg) → (leg.venue == venue) ≡ true → at_venue venue (leg ∷ legs) ≡ resolved_shares leg + at_venue venue legs
 at_venue-this venue leg legs this = rw this (sum_by-cons resolved_shares leg (filter (λ l. l.venue == venue) legs))
 
 at_venue-same : (venue : ℕ) (leg : BookedLeg) (xs ys : List BookedLeg) (n m : ℕ) → at_venue venue xs + n ≡ at_venue venue ys + m → at_venue venue (leg ∷ xs) + n ≡ at_venue venue (leg ∷ ys) + m

@@ -10,6 +10,7 @@ use Rattle.dialect.specs.declared.note.Note.{Note}
 use Rattle.dialect.specs.declared.note.Note.TheVariants as note
 use Rattle.share_ledger.specs.declared.applied.Applied.{Applied}
 use Rattle.share_ledger.specs.declared.applied.Applied.TheVariants as applied
+pub use Rattle.share_ledger.specs.declared.booked_leg.BookedLeg.{BookedLeg}
 use Rattle.share_ledger.specs.declared.book_entry.BookEntry.{BookEntry}
 use Rattle.share_ledger.specs.declared.book_entry.BookEntry.TheVariants.{Opened, Withdrawn, Moved}
 use Rattle.share_ledger.specs.declared.book_fault.BookFault.{BookFault}
@@ -37,11 +38,6 @@ moves_on id book = map move_of (notes_on id book.entries)
 -- the five parts of a leg of so many shares
 abbrev pub leg_parts : LegIdParts → ℕ → BookParts → SplitParts
 leg_parts id shares book = parts_of shares (is_withdrawn id book.entries) (moves_on id book)
-
--- a leg that was opened: its venue, and the parts of its shares
-pub record BookedLeg : Type 0 where
-  pub venue : ℕ
-  pub parts : SplitParts
 
 -- the legs of a sweep, in order, the first of them having this place
 abbrev pub booked_from : BookParts → ℕ → ℕ → List Routed → List BookedLeg

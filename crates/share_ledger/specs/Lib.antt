@@ -1,5 +1,6 @@
 pub mod Entries
 pub mod Shares
 pub mod Book
+pub mod Kept
 pub mod Steps
 pub mod Rows

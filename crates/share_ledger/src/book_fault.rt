@@ -1,5 +1,8 @@
 //! Why the book refuses a call.
 
+ghost use Rattle.std.specs.Prelude.{◌≡◌};
+
+use std::alloc::AllocError;
 use thiserror::Error;
 
 /// Why the book refuses a call. It is as it was.
@@ -17,4 +20,14 @@ pub enum BookFault {
     /// all would be more than 10^18.
     #[error("B04 unfit")]
     Unfit,
+}
+
+impl From<AllocError> for BookFault {
+    ghost use Rattle.share_ledger.specs.declared.book_fault.BookFault.TheVariants.{OutOfMemory};
+
+    ghost from_gives = { λ _ e. e ≡ OutOfMemory };
+
+    fn from(_e: AllocError) -> BookFault {
+        BookFault::OutOfMemory
+    }
 }

@@ -2,11 +2,15 @@
 #![tactic(auto)]
 
 mod applied;
+mod book;
 mod book_entry;
 mod book_fault;
+mod booked_leg;
 pub mod laws;
+mod ledger;
 pub mod rows;
 
 pub use applied::Applied;
+pub use book::Book;
 pub use book_entry::BookEntry;
 pub use book_fault::BookFault;

@@ -1,0 +1,63 @@
+-- What the book keeps beside its history, so that no call walks it.
+use Rattle.std.specs.Prelude.{◌≡◌, ℕ, ◌+◌, ◌<◌, ◌≤◌, ◌==◌, false, List, [], ◌∷◌, length, Option, Some, option_and_then, option_map, sum_by, get_or, vec_len, vec_capacity, if◌then◌else◌}
+use Rattle.std.specs.Global.{Vec}
+use Rattle.leg.specs.LegId.{LegIdParts}
+use Rattle.leg.specs.Numbered.{numbered}
+use Rattle.leg.specs.Split.{all_open, leg_shares}
+use Rattle.leg.specs.declared.sweep.Routed.{Routed}
+use Rattle.share_ledger.specs.declared.book_entry.BookEntry.{BookEntry}
+use Rattle.share_ledger.specs.declared.booked_leg.BookedLeg.{BookedLeg}
+use Rattle.share_ledger.specs.declared.ledger.Ledger.{Ledger}
+use Rattle.share_ledger.specs.Entries.{opened, order_of, is_same_leg}
+use Rattle.share_ledger.specs.Book.{BookParts, new_book, written, leg_parts, resolved_shares, opened_shares, again, replay}
+
+-- the book as a caller sees it
+abbrev pub ledger_seen : Ledger → BookParts
+ledger_seen ledger = record { venues = length ledger.resolved.items; entries = ledger.history.items }
+
+-- a kept leg, by its number
+abbrev pub kept_leg : LegIdParts → List (Vec BookedLeg) → Option BookedLeg
+kept_leg id sweeps = option_and_then (λ legs. numbered id.place legs.items) (numbered id.sweep sweeps)
+
+-- what is kept of a leg: its venue, and the parts of its shares
+abbrev pub booked_leg : BookParts → LegIdParts → Routed → BookedLeg
+booked_leg book id routed = record { venue = routed.venue; parts = leg_parts id routed.terms.shares book }
+
+-- a leg whose sweep is opened now
+abbrev pub opened_leg : Routed → BookedLeg
+opened_leg routed = record { venue = routed.venue; parts = all_open routed.terms.shares }
+
+-- a sum over the kept legs of all sweeps
+abbrev pub sum_over : (BookedLeg → ℕ) → List (Vec BookedLeg) → ℕ
+sum_over f sweeps = sum_by (λ legs. sum_by f legs.items) sweeps
+
+-- how many withdrawals of a leg may still come: one, while all its shares are open
+abbrev pub legs_due : BookedLeg → ℕ
+legs_due leg = if leg.parts.still_open == leg_shares leg.parts then 1 else 0
+
+-- the resolved shares of a leg, if it is of this venue
+abbrev pub resolved_at : ℕ → BookedLeg → ℕ
+resolved_at venue leg = if leg.venue == venue then resolved_shares leg else 0
+
+-- an entry about one leg alone, which a call writes: what is kept of the leg before it and after it
+pub record ChangesLeg (id : LegIdParts) (was now : BookedLeg) (entry : BookEntry) (book : BookParts) : Type 0 where
+  pub writes : again book entry ≡ written entry book
+  pub opens_none : opened (entry ∷ []) ≡ []
+  pub before : option_map (booked_leg book id) (order_of id book.entries) ≡ Some was
+  pub after : option_map (booked_leg (written entry book) id) (order_of id book.entries) ≡ Some now
+  pub others : (other : LegIdParts) (shares : ℕ) → is_same_leg id other ≡ false → leg_parts other shares (written entry book) ≡ leg_parts other shares book
+  pub less : now.parts.still_open ≤ was.parts.still_open
+
+-- the legs are those of the history, each sum is that of its legs, and the history has room for each withdrawal
+pub record IsKept (ledger : Ledger) : Type 0 where
+  pub replays : replay (new_book (length ledger.resolved.items)) ledger.history.items ≡ ledger_seen ledger
+  pub sweeps : length ledger.sweeps.items ≡ length (opened ledger.history.items)
+  pub legs : (id : LegIdParts) → kept_leg id ledger.sweeps.items ≡ option_map (booked_leg (ledger_seen ledger) id) (order_of id ledger.history.items)
+  pub short : (number : ℕ) (legs : Vec BookedLeg) → numbered number ledger.sweeps.items ≡ Some legs → length legs.items ≤ 32
+  pub known : (id : LegIdParts) (leg : BookedLeg) → kept_leg id ledger.sweeps.items ≡ Some leg → leg.venue < length ledger.resolved.items
+  pub resolved : (venue : ℕ) → venue < length ledger.resolved.items → get_or ledger.resolved.items venue 0 ≡ sum_over (resolved_at venue) ledger.sweeps.items
+  pub shares : ledger.shares ≡ opened_shares (ledger_seen ledger)
+  pub all : sum_over (λ leg. leg_shares leg.parts) ledger.sweeps.items ≡ ledger.shares
+  pub few : ledger.shares ≤ 1000000000000000000
+  pub due : ledger.due ≡ sum_over legs_due ledger.sweeps.items
+  pub room : vec_len ledger.history + ledger.due ≤ vec_capacity ledger.history
