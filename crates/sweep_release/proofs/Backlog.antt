@@ -14,6 +14,7 @@ use Rattle.sweep_release.specs.Released.{released}
 use Rattle.sweep_release.specs.Desk.{DeskVenue, DeskParts, new_desk, venue_at, gate_of, placed_legs, placed, refused_at, is_up, count_to, backlog_refusal, release_refusal, with_gate, one_left}
 use Rattle.sweep_release.specs.History.{again, replay}
 use Rattle.sweep_release.specs.Laws.{IsCounted}
+use Rattle.sweep_release.proofs.Refusals.{not_first}
 use Rattle.sweep_release.proofs.Venues.{venue_at-other, with_venue-past, left-with_gate, left-one_left, left-new_desk}
 use Rattle.sweep_release.proofs.Released.{length-released-push}
 use Rattle.sweep_release.proofs.Calls.{IsStep, stays, releases, turns, leaves, step}
@@ -35,10 +36,6 @@ backlog_none desk legs e =
     (none_second (refused_if (nat_lt 32 (length legs)) TooManyLegs) _
     (none_second (refused_if (length legs == 0) Empty) _ e))))
 
-not_full : (b : Bool) (fault : ReleaseFault) (rest : Option ReleaseFault) → (if b then Some fault else rest) ≡ None → (b ≡ false) × (rest ≡ None)
-not_full true fault rest e = cc
-not_full false fault rest e = (refl, e)
-
 one_more : (b : Bool) (n m : ℕ) → n ≡ m + 1 → (if b then suc n else n) ≡ (if b then suc m else m) + 1
 one_more true n m e = omega arith
 one_more false n m e = e
@@ -58,7 +55,7 @@ count_to-other venue (first ∷ before) routed other =
 fits_along : (desk : DeskParts) (venue : ℕ) (before legs : List Routed) → backlog_refusal desk before legs ≡ None → placed desk venue + count_to venue before ≤ 256 → placed desk venue + count_to venue (before ++ legs) ≤ 256
 fits_along desk venue before [] e h = rw append-nil h
 fits_along desk venue before (routed ∷ legs) e h =
-    let parts = not_full (nat_lt 256 (placed desk routed.venue + count_to routed.venue before + 1)) (BacklogFull routed.venue) (backlog_refusal desk (before ++ routed ∷ []) legs) e in
+    let parts = not_first (nat_lt 256 (placed desk routed.venue + count_to routed.venue before + 1)) (BacklogFull routed.venue) (backlog_refusal desk (before ++ routed ∷ []) legs) e in
     let fits = ltb-false 256 (placed desk routed.venue + count_to routed.venue before + 1) parts.0 in
     let joined : (before ++ routed ∷ []) ++ legs ≡ before ++ (routed ∷ legs) = append_assoc before (routed ∷ []) legs in
     let next : placed desk venue + count_to venue (before ++ routed ∷ []) ≤ 256 =

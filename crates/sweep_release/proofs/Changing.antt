@@ -1,8 +1,8 @@
 -- What the desk keeps, once one venue changed and an entry was written.
 use Rattle.std.proofs.Common.{◌≡◌, Some, None, Ok, Err, true, ℕ, ◌+◌, ◌<◌, ◌≤◌, inl, inr, List, [], ◌∷◌, ◌++◌, length, map, drop, get_or, set, refl, ap, sym, ◌∙◌, subst, arith}
-use Rattle.std.specs.Prelude.{◌==◌, sum_by, unwrap_or, vec_len, vec_capacity, option_map}
+use Rattle.std.specs.Prelude.{◌==◌, slice_index_or, sum_by, unwrap_or, vec_len, vec_capacity, option_map}
 use Rattle.std.proofs.lemmas.Bool.{cases_eq}
-use Rattle.std.proofs.lemmas.List.{append-nil, length-map, length-set, map-set, set-get_or, get_or-set_same, get_or-set_other}
+use Rattle.std.proofs.lemmas.List.{append-nil, nil_from_length, length-map, length-set, map-set, set-get_or, get_or-set_same, get_or-set_other}
 use Rattle.std.proofs.lemmas.Option.{slice_get-map, slice_get-get_or}
 use Rattle.std.proofs.lemmas.List.Sums.{sum_by-set, get_or-le-sum_by}
 use Rattle.leg.specs.declared.sweep.Routed.{Routed}
@@ -16,8 +16,8 @@ use Rattle.sweep_release.specs.declared.gate_fault.GateFault.TheVariants.{OutOfM
 use Rattle.sweep_release.specs.declared.gate.Gate.{Gate}
 use Rattle.sweep_release.specs.declared.gate.Gate.TheVariants.{Up, Down, Shut}
 use Rattle.sweep_release.specs.Released.{released}
-use Rattle.sweep_release.specs.Desk.{DeskVenue, DeskParts, venue_at, with_venue, gate_of, placed_legs, placed, with_gate, one_left, leave_first, leave, gate_up_from, gate_up}
-use Rattle.sweep_release.specs.History.{DeskWithHistory, with_entries, gate_up_entries_from, gate_up_entries}
+use Rattle.sweep_release.specs.Desk.{DeskVenue, DeskParts, venue_at, with_venue, gate_of, placed_legs, placed, with_gate, one_left, leave_first, leave, next_leg, gate_up_from, gate_up}
+use Rattle.sweep_release.specs.History.{KeptDesk, DeskWithHistory, without_room, with_entries, gate_up_entries_from, gate_up_entries}
 use Rattle.sweep_release.specs.Kept.{desk_seen, released_sweeps, venue_seen, entries_due, IsKeptVenue, IsKept}
 
 pub released_sweeps-append : (xs ys : List DeskEntry) → released_sweeps (xs ++ ys) ≡ released_sweeps xs ++ released_sweeps ys
@@ -70,7 +70,7 @@ kept-changed old new i now before more h there none venues_are history_is sweeps
     }
 
 -- what is known of a venue that was read at index i
-pub record IsRead (desk : Inside) (seen : DeskWithHistory) (venue i : ℕ) (before : Venue) : Type 0 where
+pub record IsRead (desk : Inside) (seen : KeptDesk) (venue i : ℕ) (before : Venue) : Type 0 where
   pub at : i ≡ venue
   pub there : i < length desk.venues.items
   pub was : get_or desk.venues.items i before ≡ before
@@ -105,14 +105,14 @@ read_at desk i before there was h =
       kept = kept;
     }
 
-pub is_read : (desk : Inside) (seen : DeskWithHistory) (venue i : ℕ) (before : Venue) → desk_seen desk ≡ seen → i ≡ venue → venue < length seen.desk.venues → before ≡ get_or desk.venues.items i before → IsKept desk → IsRead desk seen venue i before
+pub is_read : (desk : Inside) (seen : KeptDesk) (venue i : ℕ) (before : Venue) → desk_seen desk ≡ seen → i ≡ venue → venue < length seen.desk.venues → before ≡ get_or desk.venues.items i before → IsKept desk → IsRead desk seen venue i before
 is_read desk seen venue i before e at there was h =
     subst (λ s. IsRead desk s venue i before) e
     (subst (λ v. IsRead desk (desk_seen desk) v i before) at
     (read_at desk i before (subst (λ v. v < length (desk_seen desk).desk.venues) (sym at) (subst (λ s. venue < length s.desk.venues) (sym e) there)) was h))
 
 -- the desk as it is seen, once a venue changed and entries were written
-pub seen_changed : (desk : Inside) (seen : DeskWithHistory) (venue i : ℕ) (now : Venue) (items : List DeskEntry) (more : List DeskEntry) → desk_seen desk ≡ seen → i ≡ venue → released_sweeps more ≡ [] → items ≡ desk.history.items ++ more → (let after : DeskParts = record { sweeps = released_sweeps items; venues = map venue_seen (set desk.venues.items i now) } in after ≡ with_venue venue (venue_seen now) seen.desk)
+pub seen_changed : (desk : Inside) (seen : KeptDesk) (venue i : ℕ) (now : Venue) (items : List DeskEntry) (more : List DeskEntry) → desk_seen desk ≡ seen → i ≡ venue → released_sweeps more ≡ [] → items ≡ desk.history.items ++ more → (let after : DeskParts = record { sweeps = released_sweeps items; venues = map venue_seen (set desk.venues.items i now) } in after ≡ with_venue venue (venue_seen now) seen.desk)
 seen_changed desk seen venue i now items more e at none history_is =
     let after : DeskParts = record { sweeps = released_sweeps items; venues = map venue_seen (set desk.venues.items i now) } in
     let sweeps : released_sweeps items ≡ released_sweeps desk.history.items = ap released_sweeps history_is ∙ no_more_sweeps desk.history.items more none in
@@ -120,7 +120,7 @@ seen_changed desk seen venue i now items more e at none history_is =
     here ∙ (ap (λ s. with_venue i (venue_seen now) s.desk) e ∙ ap (λ v. with_venue v (venue_seen now) seen.desk) at)
 
 -- the same, where the gate alone changed
-pub seen_turned : (desk : Inside) (seen : DeskWithHistory) (venue i : ℕ) (before : Venue) (gate : Gate) (items : List DeskEntry) (more : List DeskEntry) → desk_seen desk ≡ seen → IsRead desk seen venue i before → released_sweeps more ≡ [] → items ≡ desk.history.items ++ more → (let after : DeskParts = record { sweeps = released_sweeps items; venues = map venue_seen (set desk.venues.items i (record { gate = gate; left = before.left; placed = before.placed })) } in after ≡ with_gate venue gate seen.desk)
+pub seen_turned : (desk : Inside) (seen : KeptDesk) (venue i : ℕ) (before : Venue) (gate : Gate) (items : List DeskEntry) (more : List DeskEntry) → desk_seen desk ≡ seen → IsRead desk seen venue i before → released_sweeps more ≡ [] → items ≡ desk.history.items ++ more → (let after : DeskParts = record { sweeps = released_sweeps items; venues = map venue_seen (set desk.venues.items i (record { gate = gate; left = before.left; placed = before.placed })) } in after ≡ with_gate venue gate seen.desk)
 seen_turned desk seen venue i before gate items more e read none history_is =
     let at = read.at in
     let seen_as = read.seen_as in
@@ -128,7 +128,7 @@ seen_turned desk seen venue i before gate items more e read none history_is =
     ∙ ap (λ (v : DeskVenue). with_venue venue (record { gate = gate; left = v.left }) seen.desk) (sym seen_as)
 
 -- the same, where a leg left
-pub seen_left : (desk : Inside) (seen : DeskWithHistory) (venue i : ℕ) (before now : Venue) (items : List DeskEntry) (more : List DeskEntry) → desk_seen desk ≡ seen → IsRead desk seen venue i before → released_sweeps more ≡ [] → items ≡ desk.history.items ++ more → now.gate ≡ before.gate → now.left ≡ before.left + 1 → (let after : DeskParts = record { sweeps = released_sweeps items; venues = map venue_seen (set desk.venues.items i now) } in after ≡ one_left venue seen.desk)
+pub seen_left : (desk : Inside) (seen : KeptDesk) (venue i : ℕ) (before now : Venue) (items : List DeskEntry) (more : List DeskEntry) → desk_seen desk ≡ seen → IsRead desk seen venue i before → released_sweeps more ≡ [] → items ≡ desk.history.items ++ more → now.gate ≡ before.gate → now.left ≡ before.left + 1 → (let after : DeskParts = record { sweeps = released_sweeps items; venues = map venue_seen (set desk.venues.items i now) } in after ≡ one_left venue seen.desk)
 seen_left desk seen venue i before now items more e read none history_is gate left =
     let at = read.at in
     let seen_as = read.seen_as in
@@ -138,10 +138,10 @@ seen_left desk seen venue i before now items more e read none history_is gate le
     ∙ ap (λ (v : DeskVenue). with_venue venue (record { gate = v.gate; left = v.left + 1 }) seen.desk) (sym seen_as))
 
 -- nothing is seen of memory that was reserved
-pub seen_same : (desk : Inside) (seen : DeskWithHistory) (venues : List Venue) (items : List DeskEntry) → desk_seen desk ≡ seen → map venue_seen venues ≡ map venue_seen desk.venues.items → items ≡ desk.history.items → (let after : DeskWithHistory = record { desk = record { sweeps = released_sweeps items; venues = map venue_seen venues }; history = items } in after ≡ seen)
+pub seen_same : (desk : Inside) (seen : KeptDesk) (venues : List Venue) (items : List DeskEntry) → desk_seen desk ≡ seen → map venue_seen venues ≡ map venue_seen desk.venues.items → items ≡ desk.history.items → (let after : DeskWithHistory = record { desk = record { sweeps = released_sweeps items; venues = map venue_seen venues }; history = items } in after ≡ without_room seen)
 seen_same desk seen venues items e venues_are history_is =
-    let here : (let after : DeskWithHistory = record { desk = record { sweeps = released_sweeps items; venues = map venue_seen venues }; history = items } in after ≡ desk_seen desk) = λ k. record { desk = record { sweeps = released_sweeps (history_is k); venues = venues_are k }; history = history_is k } in
-    here ∙ e
+    let here : (let after : DeskWithHistory = record { desk = record { sweeps = released_sweeps items; venues = map venue_seen venues }; history = items } in after ≡ without_room (desk_seen desk)) = λ k. record { desk = record { sweeps = released_sweeps (history_is k); venues = venues_are k }; history = history_is k } in
+    here ∙ ap without_room e
 
 pub left_none-leg : (desk : DeskParts) (venue : ℕ) → placed_legs desk venue ≡ [] → (leave desk venue).0 ≡ None
 left_none-leg desk venue e = ap (λ l. (leave_first l desk venue).0) e
@@ -155,21 +155,31 @@ left_first-leg desk venue leg legs e = ap (λ l. (leave_first l desk venue).0) e
 pub left_first-desk : (desk : DeskParts) (venue : ℕ) (leg : Leg) (legs : List Leg) → placed_legs desk venue ≡ leg ∷ legs → (leave desk venue).1 ≡ one_left venue desk
 left_first-desk desk venue leg legs e = ap (λ l. (leave_first l desk venue).1) e
 
+-- the next leg, where the queue is read
+pub next_none : (desk : DeskParts) (venue : ℕ) (queue : List Leg) → placed_legs desk venue ≡ queue → length queue ≡ 0 → None ≡ next_leg desk venue
+next_none desk venue queue placed none = sym (left_none-leg desk venue (placed ∙ nil_from_length queue none))
+
+pub next_first : (desk : DeskParts) (venue left : ℕ) (queue : List Leg) (first copy : Leg) → (venue_at desk venue).left ≡ left → placed_legs desk venue ≡ queue → first ≡ slice_index_or queue 0 first → copy ≡ first → 0 < length queue → Some (record { ordinal = left + 1; leg = copy }) ≡ next_leg desk venue
+next_first desk venue left [] first copy lefts placed front is some = absurd (omega (arith, some))
+next_first desk venue left (leg ∷ legs) first copy lefts placed front is some =
+    let same : copy ≡ leg = is ∙ front in
+    (λ k. Some (record { ordinal = sym lefts k + 1; leg = same k })) ∙ sym (left_first-leg desk venue leg legs placed)
+
 -- what is answered where a gate is put up that is down and drained
-pub raised : (seen now : DeskWithHistory) (venue : ℕ) → gate_of seen.desk venue ≡ Down → placed seen.desk venue ≡ 0 → now.desk ≡ with_gate venue Up seen.desk → now.history ≡ seen.history ++ entry.Up venue ∷ [] → Answers OutOfMemory seen (with_entries seen (gate_up_entries seen.desk venue) (gate_up seen.desk venue)) (Ok tt) now
+pub raised : (seen now : KeptDesk) (venue : ℕ) → gate_of seen.desk venue ≡ Down → placed seen.desk venue ≡ 0 → now.desk ≡ with_gate venue Up seen.desk → now.history ≡ seen.history ++ entry.Up venue ∷ [] → Answers OutOfMemory (without_room seen) (with_entries (without_room seen) (gate_up_entries seen.desk venue) (gate_up seen.desk venue)) (Ok tt) (without_room now)
 raised seen now venue down drained desk_is history_is =
-    subst (λ g. Answers OutOfMemory seen (with_entries seen (gate_up_entries_from g seen.desk venue) (gate_up_from g seen.desk venue)) (Ok tt) now) (sym down)
+    subst (λ g. Answers OutOfMemory (without_room seen) (with_entries (without_room seen) (gate_up_entries_from g seen.desk venue) (gate_up_from g seen.desk venue)) (Ok tt) (without_room now)) (sym down)
     (let test : (placed seen.desk venue == 0) ≡ true = ap (λ n. n == 0) drained in
     rw test (refl, (λ k. record { desk = desk_is k; history = history_is k })))
 
-pub unraised : (seen now : DeskWithHistory) (venue : ℕ) → gate_of seen.desk venue ≡ Down → placed seen.desk venue ≡ 0 → now ≡ seen → Answers OutOfMemory seen (with_entries seen (gate_up_entries seen.desk venue) (gate_up seen.desk venue)) (Err OutOfMemory) now
+pub unraised : (seen now : KeptDesk) (venue : ℕ) → gate_of seen.desk venue ≡ Down → placed seen.desk venue ≡ 0 → without_room now ≡ without_room seen → Answers OutOfMemory (without_room seen) (with_entries (without_room seen) (gate_up_entries seen.desk venue) (gate_up seen.desk venue)) (Err OutOfMemory) (without_room now)
 unraised seen now venue down drained same =
-    subst (λ g. Answers OutOfMemory seen (with_entries seen (gate_up_entries_from g seen.desk venue) (gate_up_from g seen.desk venue)) (Err OutOfMemory) now) (sym down)
+    subst (λ g. Answers OutOfMemory (without_room seen) (with_entries (without_room seen) (gate_up_entries_from g seen.desk venue) (gate_up_from g seen.desk venue)) (Err OutOfMemory) (without_room now)) (sym down)
     (let test : (placed seen.desk venue == 0) ≡ true = ap (λ n. n == 0) drained in
     rw test (refl, same))
 
 -- nor of a venue that is put back as it was
-pub seen_kept : (desk : Inside) (seen : DeskWithHistory) (i : ℕ) (now before : Venue) → desk_seen desk ≡ seen → get_or desk.venues.items i before ≡ before → now.gate ≡ before.gate → now.left ≡ before.left → (let after : DeskWithHistory = record { desk = record { sweeps = released_sweeps desk.history.items; venues = map venue_seen (set desk.venues.items i now) }; history = desk.history.items } in after ≡ seen)
+pub seen_kept : (desk : Inside) (seen : KeptDesk) (i : ℕ) (now before : Venue) → desk_seen desk ≡ seen → get_or desk.venues.items i before ≡ before → now.gate ≡ before.gate → now.left ≡ before.left → (let after : DeskWithHistory = record { desk = record { sweeps = released_sweeps desk.history.items; venues = map venue_seen (set desk.venues.items i now) }; history = desk.history.items } in after ≡ without_room seen)
 seen_kept desk seen i now before e was gate left =
     let same : venue_seen now ≡ venue_seen before = λ k. record { gate = gate k; left = left k } in
     let venues : map venue_seen (set desk.venues.items i now) ≡ map venue_seen desk.venues.items =

@@ -18,7 +18,7 @@ use Rattle.sweep_release.specs.declared.release_fault.ReleaseFault.TheVariants.{
 use Rattle.sweep_release.specs.declared.venue.Venue.{Venue}
 use Rattle.sweep_release.specs.Released.{legs_to, released}
 use Rattle.sweep_release.specs.Desk.{DeskParts, venue_at, placed, placed_shares, count_to, refused_at, is_up, gate_of, backlog_refusal, is_spent, release_refusal, next_number, with_sweep, release_unless, release}
-use Rattle.sweep_release.specs.History.{DeskWithHistory, with_entries, release_entries}
+use Rattle.sweep_release.specs.History.{KeptDesk, without_room, with_entries, release_entries}
 use Rattle.sweep_release.specs.Kept.{desk_seen, released_sweeps, venue_seen, IsKeptVenue, IsKept, HaveRoom, IsEnqueued}
 use Rattle.sweep_release.proofs.Released.{released-push, length-legs_to, length-released-push}
 use Rattle.sweep_release.proofs.Backlog.{none_second, fits}
@@ -141,7 +141,7 @@ kept_released old new legs h fine short joined history_is sweeps_are shares_are 
     }
 
 -- the desk as it is seen
-pub seen_released : (old : Inside) (seen : DeskWithHistory) (legs : List Routed) (venues : List Venue) (items : List DeskEntry) (number : ℕ) → desk_seen old ≡ seen → IsEnqueued number legs old.venues.items venues → items ≡ old.history.items ++ entry.Released (record { legs = legs }) ∷ [] → (let after : DeskParts = record { sweeps = released_sweeps items; venues = map venue_seen venues } in after ≡ with_sweep legs seen.desk)
+pub seen_released : (old : Inside) (seen : KeptDesk) (legs : List Routed) (venues : List Venue) (items : List DeskEntry) (number : ℕ) → desk_seen old ≡ seen → IsEnqueued number legs old.venues.items venues → items ≡ old.history.items ++ entry.Released (record { legs = legs }) ∷ [] → (let after : DeskParts = record { sweeps = released_sweeps items; venues = map venue_seen venues } in after ≡ with_sweep legs seen.desk)
 seen_released old seen legs venues items number e joined history_is =
     let after : DeskParts = record { sweeps = released_sweeps items; venues = map venue_seen venues } in
     let more : released_sweeps items ≡ released_sweeps old.history.items ++ legs ∷ [] = ap released_sweeps history_is ∙ released_sweeps-append old.history.items (entry.Released (record { legs = legs }) ∷ []) in
@@ -150,11 +150,11 @@ seen_released old seen legs venues items number e joined history_is =
     here ∙ ap (λ s. with_sweep legs s.desk) e
 
 -- what is answered where a sweep isn't refused
-pub released_whole : (seen now : DeskWithHistory) (legs : List Routed) (receipt : Receipt) → release_refusal seen.desk legs ≡ None → receipt.number ≡ next_number seen.desk → receipt.shares ≡ sweep_shares legs → now.desk ≡ with_sweep legs seen.desk → now.history ≡ seen.history ++ entry.Released (record { legs = legs }) ∷ [] → Answers OutOfMemory seen (with_entries seen (release_entries legs (release seen.desk legs).0) (release seen.desk legs)) (Ok receipt) now
+pub released_whole : (seen now : KeptDesk) (legs : List Routed) (receipt : Receipt) → release_refusal seen.desk legs ≡ None → receipt.number ≡ next_number seen.desk → receipt.shares ≡ sweep_shares legs → now.desk ≡ with_sweep legs seen.desk → now.history ≡ seen.history ++ entry.Released (record { legs = legs }) ∷ [] → Answers OutOfMemory (without_room seen) (with_entries (without_room seen) (release_entries legs (release seen.desk legs).0) (release seen.desk legs)) (Ok receipt) (without_room now)
 released_whole seen now legs receipt fine number shares desk_is history_is =
-    subst (λ r. Answers OutOfMemory seen (with_entries seen (release_entries legs (release_unless r seen.desk legs).0) (release_unless r seen.desk legs)) (Ok receipt) now) (sym fine)
+    subst (λ r. Answers OutOfMemory (without_room seen) (with_entries (without_room seen) (release_entries legs (release_unless r seen.desk legs).0) (release_unless r seen.desk legs)) (Ok receipt) (without_room now)) (sym fine)
     ((λ k. record { number = number k; shares = shares k }), (λ k. record { desk = desk_is k; history = history_is k }))
 
-pub release_wanting : (seen now : DeskWithHistory) (legs : List Routed) → release_refusal seen.desk legs ≡ None → now ≡ seen → Answers OutOfMemory seen (with_entries seen (release_entries legs (release seen.desk legs).0) (release seen.desk legs)) (Err OutOfMemory) now
+pub release_wanting : (seen now : KeptDesk) (legs : List Routed) → release_refusal seen.desk legs ≡ None → without_room now ≡ without_room seen → Answers OutOfMemory (without_room seen) (with_entries (without_room seen) (release_entries legs (release seen.desk legs).0) (release seen.desk legs)) (Err OutOfMemory) (without_room now)
 release_wanting seen now legs fine same =
-    subst (λ r. Answers OutOfMemory seen (with_entries seen (release_entries legs (release_unless r seen.desk legs).0) (release_unless r seen.desk legs)) (Err OutOfMemory) now) (sym fine) (refl, same)
+    subst (λ r. Answers OutOfMemory (without_room seen) (with_entries (without_room seen) (release_entries legs (release_unless r seen.desk legs).0) (release_unless r seen.desk legs)) (Err OutOfMemory) (without_room now)) (sym fine) (refl, same)

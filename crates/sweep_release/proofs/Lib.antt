@@ -1,3 +1,4 @@
+pub mod Answered
 pub mod Venues
 pub mod Released
 pub mod Calls
@@ -5,6 +6,7 @@ pub mod Backlog
 pub mod Lasting
 pub mod AtVenue
 pub mod Placing
+pub mod PlaceAnswered
 pub mod Changing
 pub mod Fresh
 pub mod Refusals

@@ -9,7 +9,7 @@ use Rattle.sweep_release.specs.declared.release_fault.ReleaseFault.{ReleaseFault
 use Rattle.sweep_release.specs.declared.release_fault.ReleaseFault.TheVariants.{UnknownVenue, GateShut}
 use Rattle.sweep_release.specs.Desk.{DeskParts, refused_at, is_up, gate_of, release_refusal}
 
-not_first : (b : Bool) (fault : ReleaseFault) (rest : Option ReleaseFault) → (if b then Some fault else rest) ≡ None → (b ≡ false) × (rest ≡ None)
+pub not_first : (b : Bool) (fault : ReleaseFault) (rest : Option ReleaseFault) → (if b then Some fault else rest) ≡ None → (b ≡ false) × (rest ≡ None)
 not_first true fault rest e = cc
 not_first false fault rest e = (refl, e)
 

@@ -55,7 +55,10 @@ placed_shares desk = sum_by sweep_shares desk.sweeps
 -- the refusal that names the venue of the first leg that fails a test
 abbrev pub refused_at : (ℕ → ReleaseFault) → (ℕ → Bool) → List Routed → Option ReleaseFault
 refused_at fault fails [] = None
-refused_at fault fails (routed ∷ legs) = if fails routed.venue then Some (fault routed.venue) else refused_at fault fails legs
+refused_at fault fails (routed ∷ legs) =
+    if fails routed.venue
+    then Some (fault routed.venue)
+    else refused_at fault fails legs
 
 -- whether legs may be released to a venue and taken to it
 abbrev pub is_up : Gate → Bool
@@ -101,7 +104,8 @@ with_sweep legs desk = record desk { sweeps = desk.sweeps ++ legs ∷ [] }
 -- a sweep that isn't refused is released whole, under the next number
 abbrev pub release_unless : Option ReleaseFault → DeskParts → List Routed → Result Receipt ReleaseFault × DeskParts
 release_unless (Some fault) desk legs = (Err fault, desk)
-release_unless None desk legs = (Ok (record { number = next_number desk; shares = sweep_shares legs }), with_sweep legs desk)
+release_unless None desk legs =
+    (Ok (record { number = next_number desk; shares = sweep_shares legs }), with_sweep legs desk)
 
 abbrev pub release : DeskParts → List Routed → Result Receipt ReleaseFault × DeskParts
 release desk legs = release_unless (release_refusal desk legs) desk legs
@@ -154,6 +158,10 @@ leave_first (leg ∷ legs) desk venue =
 
 abbrev pub leave : DeskParts → ℕ → Option PlacedLeg × DeskParts
 leave desk venue = leave_first (placed_legs desk venue) desk venue
+
+-- the next leg of a venue, whatever its gate: that which leaves next
+abbrev pub next_leg : DeskParts → ℕ → Option PlacedLeg
+next_leg desk venue = (leave desk venue).0
 
 -- the next leg is taken, while the gate is up
 abbrev pub take : DeskParts → ℕ → Option PlacedLeg × DeskParts

@@ -76,6 +76,15 @@ pub record DeskWithHistory : Type 0 where
   pub desk : DeskParts
   pub history : List DeskEntry
 
+-- the same, with how many more entries can be written without memory, beside those of the calls that take none
+pub record KeptDesk : Type 0 where
+  pub desk : DeskParts
+  pub history : List DeskEntry
+  pub room : ℕ
+
+abbrev pub without_room : KeptDesk → DeskWithHistory
+without_room kept = record { desk = kept.desk; history = kept.history }
+
 -- a call's answer, and the desk after it with what the call adds to its history
 abbrev pub with_entries : {X : Type 0} → DeskWithHistory → List DeskEntry → X × DeskParts → X × DeskWithHistory
 with_entries before entries (answer, desk) = (answer, record { desk = desk; history = before.history ++ entries })

@@ -1,5 +1,5 @@
 -- What the desk keeps beside its history, so that no call walks it.
-use Rattle.std.specs.Prelude.{◌≡◌, ℕ, ◌+◌, ◌*◌, ◌<◌, ◌≤◌, List, [], ◌∷◌, ◌++◌, length, map, drop, sum_by, get_or, vec_len, vec_capacity}
+use Rattle.std.specs.Prelude.{◌≡◌, ℕ, ◌+◌, ◌-◌, ◌*◌, ◌<◌, ◌≤◌, List, [], ◌∷◌, ◌++◌, length, map, drop, sum_by, get_or, vec_len, vec_capacity}
 use Rattle.std.specs.VecDeque.{deque_capacity}
 use Rattle.leg.specs.declared.leg.Leg.{Leg}
 use Rattle.leg.specs.declared.sweep.Routed.{Routed}
@@ -11,7 +11,7 @@ use Rattle.sweep_release.specs.declared.venue.Venue.{Venue}
 use Rattle.sweep_release.specs.Gates.{gate_due}
 use Rattle.sweep_release.specs.Released.{legs_to, released}
 use Rattle.sweep_release.specs.Desk.{DeskVenue, count_to}
-use Rattle.sweep_release.specs.History.{DeskWithHistory}
+use Rattle.sweep_release.specs.History.{KeptDesk}
 
 -- the sweeps that were released, in the order of their numbers
 abbrev pub released_sweeps : List DeskEntry → List (List Routed)
@@ -24,11 +24,12 @@ abbrev pub venue_seen : Venue → DeskVenue
 venue_seen venue = record { gate = venue.gate; left = venue.left }
 
 -- the desk as a caller sees it
-abbrev pub desk_seen : Inside → DeskWithHistory
+abbrev pub desk_seen : Inside → KeptDesk
 desk_seen desk =
     record {
       desk = record { sweeps = released_sweeps desk.history.items; venues = map venue_seen desk.venues.items };
       history = desk.history.items;
+      room = vec_capacity desk.history - (vec_len desk.history + desk.due);
     }
 
 -- how many entries the calls at a venue that take no memory may write: one for each placed leg, and those of its gate
@@ -45,7 +46,9 @@ pub record IsKeptVenue (sweeps : List (List Routed)) (number : ℕ) (venue : Ven
 
 -- the counts are those of the history, and the history has room for what is due
 pub record IsKept (desk : Inside) : Type 0 where
-  pub venues : (k : ℕ) (other : Venue) → k < length desk.venues.items → IsKeptVenue (released_sweeps desk.history.items) k (get_or desk.venues.items k other)
+  pub venues : (k : ℕ) (other : Venue) →
+      k < length desk.venues.items →
+      IsKeptVenue (released_sweeps desk.history.items) k (get_or desk.venues.items k other)
   pub count : desk.sweeps ≡ length (released_sweeps desk.history.items)
   pub shares : desk.shares ≡ sum_by sweep_shares (released_sweeps desk.history.items)
   pub few : desk.sweeps ≤ 999999999999
@@ -55,7 +58,9 @@ pub record IsKept (desk : Inside) : Type 0 where
 
 -- each venue's queue has room for the legs that join it
 pub record HaveRoom (legs : List Routed) (venues : List Venue) : Type 0 where
-  pub fits : (k : ℕ) (other : Venue) → k < length venues → length (get_or venues k other).placed.items + count_to k legs ≤ deque_capacity (get_or venues k other).placed
+  pub fits : (k : ℕ) (other : Venue) →
+      k < length venues →
+      length (get_or venues k other).placed.items + count_to k legs ≤ deque_capacity (get_or venues k other).placed
 
 -- a venue after these legs joined its queue
 pub record IsJoined (legs : List Leg) (before after : Venue) : Type 0 where
@@ -66,6 +71,8 @@ pub record IsJoined (legs : List Leg) (before after : Venue) : Type 0 where
 -- the venues after the legs of a sweep joined their queues, each in the order of the places
 pub record IsEnqueued (number : ℕ) (legs : List Routed) (before after : List Venue) : Type 0 where
   pub many : length after ≡ length before
-  pub joined : (k : ℕ) (other : Venue) → k < length before → IsJoined (legs_to k number 1 legs) (get_or before k other) (get_or after k other)
+  pub joined : (k : ℕ) (other : Venue) →
+      k < length before →
+      IsJoined (legs_to k number 1 legs) (get_or before k other) (get_or after k other)
   pub seen : map venue_seen after ≡ map venue_seen before
   pub due : sum_by entries_due after ≡ sum_by entries_due before + length legs

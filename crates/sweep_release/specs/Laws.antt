@@ -26,7 +26,8 @@ pub record IsCounted (desk : DeskParts) (venue : ℕ) : Type 0 where
   pub all : (venue_at desk venue).left + placed desk venue ≡ length (released venue desk.sweeps)
   pub few : placed desk venue ≤ 256
 
--- a leg that left was the first of those placed, the others are still placed, and its ordinal is its place among the released legs, from 1
+-- a leg that left was the first of those placed, the others are still placed, and its ordinal is its place among the
+-- released legs, from 1
 pub record LeavesFirst (venue : ℕ) (before after : DeskParts) (placed_leg : PlacedLeg) : Type 0 where
   pub first : placed_legs before venue ≡ placed_leg.leg ∷ placed_legs after venue
   pub ordinal : numbered placed_leg.ordinal (released venue before.sweeps) ≡ Some placed_leg.leg

@@ -1,4 +1,5 @@
--- The legs released to a venue (17 CFR 242.600(b): the orders of a sweep are routed simultaneously; here they are released in one step).
+-- The legs released to a venue (17 CFR 242.600(b): the orders of a sweep are routed simultaneously; here they are
+-- released in one step).
 use Rattle.std.specs.Prelude.{ℕ, suc, List, [], ◌∷◌, ◌++◌, ◌==◌, if◌then◌else◌}
 use Rattle.leg.specs.declared.leg.Leg.{Leg}
 use Rattle.leg.specs.declared.sweep.Routed.{Routed}
@@ -8,7 +9,8 @@ abbrev pub legs_to : ℕ → ℕ → ℕ → List Routed → List Leg
 legs_to venue number place [] = []
 legs_to venue number place (routed ∷ legs) =
     if routed.venue == venue
-    then record { id = record { sweep = number; place = place }; terms = routed.terms } ∷ legs_to venue number (suc place) legs
+    then record { id = record { sweep = number; place = place }; terms = routed.terms }
+    ∷ legs_to venue number (suc place) legs
     else legs_to venue number (suc place) legs
 
 -- the legs of these sweeps to a venue, the first of them having this number

@@ -1,29 +1,26 @@
 //! The desk of released legs.
 
-ghost use Rattle.std.specs.Prelude.{◌≡◌, ◌<◌, ◌≤◌, [], ◌∷◌, ◌++◌, length, not, nat_le, IfOk, IfNone, IsOkUnless};
+ghost use Rattle.std.specs.Prelude.{◌≡◌, ◌+◌, ◌<◌, ◌≤◌, [], ◌∷◌, ◌++◌, length, not, nat_le, IfOk, IfNone, OnErr, IsOkUnless};
 ghost use Rattle.std.specs.List.{All};
 ghost use Rattle.share_ledger.specs.Entries.{sweep_shares};
 ghost use Rattle.leg.specs.Answering.{Answers};
-ghost use Rattle.sweep_release.specs.Desk.{new_desk, is_up, refused_at, count_to, backlog_refusal, release_refusal, ready, release, gate_of, placed, placed_shares, with_gate, gate_up, gate_down, shut, leave, take, drop_next};
-ghost use Rattle.sweep_release.specs.History.{with_entries, release_entries, gate_up_entries, gate_down_entries, shut_entries, left_entries, take_entries, drop_next_entries};
+ghost use Rattle.sweep_release.specs.Desk.{new_desk, is_up, refused_at, count_to, backlog_refusal, release_refusal, ready, release, gate_of, placed, placed_shares, next_leg, next_number, with_gate, gate_up, gate_down, shut, leave, take, drop_next};
+ghost use Rattle.sweep_release.specs.History.{without_room, with_entries, release_entries, gate_up_entries, gate_down_entries, shut_entries, left_entries, take_entries, drop_next_entries};
 ghost use Rattle.sweep_release.specs.Gates.{gate_due};
 ghost use Rattle.sweep_release.specs.Kept.{released_sweeps, HaveRoom, IsEnqueued};
 
+use crate::enqueue::enqueue;
+use crate::refusing::refusal;
+use crate::shares::shares_of;
 use crate::venue::Venue;
 use crate::{DeskEntry, Gate, GateFault, Receipt, ReleaseFault};
-use leg::{Leg, LegId, MAX_SWEEP, PlacedLeg, Routed, Sweep, VenueId};
+use leg::{PlacedLeg, Sweep, VenueId};
 use std::alloc::Global;
 use std::collections::VecDeque;
 use std::marker::Model;
 
 /// The most legs that are placed at a venue, neither taken nor dropped.
-const MAX_PLACED: usize = 256;
-
-/// The most legs of a sweep.
-const MAX_LEGS: usize = 32;
-
-/// The most shares that are released in all.
-const MAX_PLACED_SHARES: u64 = 1_000_000_000_000_000_000;
+pub const MAX_PLACED: usize = 256;
 
 /// The desk: sweeps are released into its venues' queues together or not at all, and leave leg by leg. A call for a
 /// venue that the desk hasn't got is a broken condition, except at a release.
@@ -38,9 +35,9 @@ pub struct Desk {
 }
 
 impl Model for Desk {
-    ghost use Rattle.sweep_release.specs.History.{DeskWithHistory};
+    ghost use Rattle.sweep_release.specs.History.{KeptDesk};
 
-    ghost Value = { DeskWithHistory };
+    ghost Value = { KeptDesk };
 
     ghost use Rattle.sweep_release.specs.Kept.{desk_seen, IsKept};
 
@@ -54,12 +51,12 @@ impl Desk {
     pub fn new(alloc: Global, venues: u8) -> Result<Desk, ReleaseFault>
         requires low { 1 ≤ venues }
         requires high { venues ≤ 16 }
-        ensures ok { IfOk result (λ desk. desk ≡ record { desk = new_desk venues; history = [] }) }
+        ensures ok { IfOk result (λ desk. without_room desk ≡ record { desk = new_desk venues; history = [] }) }
         ensures only { IsOkUnless result ReleaseFault.OutOfMemory }
     {
         let count = usize::from(venues);
         let mut list = Vec::with_capacity(alloc, count)?;
-        'each: for _ in 0..count {
+        for _ in 0..count {
             list.push(Venue {
                 gate: Gate::Down,
                 left: 0,
@@ -99,9 +96,25 @@ impl Desk {
         self.venues[usize::from(venue.number())].placed.len()
     }
 
+    /// The next leg of a venue, whatever its gate: that which leaves with the next call that takes or drops one there.
+    pub fn next_leg(&self, venue: VenueId) -> Option<PlacedLeg>
+        requires { venue < length self.now.desk.venues }
+        ensures { result ≡ next_leg self.now.desk venue }
+    {
+        let at = &self.venues[usize::from(venue.number())];
+        match at.placed.front() {
+            Some(leg) => Some(PlacedLeg {
+                ordinal: at.left + 1,
+                leg: leg.clone().unwrap(),
+            }),
+            None => None,
+        }
+    }
+
     /// The shares of all sweeps released, at most 10^18.
     pub fn placed_shares(&self) -> u64
-        ensures { result ≡ placed_shares self.now.desk }
+        ensures value { result ≡ placed_shares self.now.desk }
+        ensures few { result ≤ 1000000000000000000 }
     {
         self.shares
     }
@@ -117,7 +130,8 @@ impl Desk {
     /// shut, G01 where legs are still placed.
     pub fn gate_up(&mut self, venue: VenueId) -> Result<(), GateFault>
         requires { venue < length self.old.desk.venues }
-        ensures { Answers GateFault.OutOfMemory self.old (with_entries self.old (gate_up_entries self.old.desk venue) (gate_up self.old.desk venue)) result self.new }
+        ensures answer { Answers GateFault.OutOfMemory (without_room self.old) (with_entries (without_room self.old) (gate_up_entries self.old.desk venue) (gate_up self.old.desk venue)) result (without_room self.new) }
+        ensures room { OnErr result (self.new.room ≡ self.old.room) }
     {
         match self.gate(venue) {
             Gate::Up => return Ok(()),
@@ -141,6 +155,7 @@ impl Desk {
         requires { venue < length self.old.desk.venues }
         ensures desk { self.new.desk ≡ gate_down self.old.desk venue }
         ensures history { self.new.history ≡ self.old.history ++ gate_down_entries self.old.desk venue }
+        ensures room { self.old.room ≤ self.new.room }
     {
         match self.gate(venue) {
             Gate::Up => self.turn(venue, Gate::Down, DeskEntry::Down(venue)),
@@ -154,6 +169,7 @@ impl Desk {
         requires { venue < length self.old.desk.venues }
         ensures desk { self.new.desk ≡ shut self.old.desk venue }
         ensures history { self.new.history ≡ self.old.history ++ shut_entries self.old.desk venue }
+        ensures room { self.old.room ≤ self.new.room }
     {
         match self.gate(venue) {
             Gate::Up => self.turn(venue, Gate::Shut, DeskEntry::Shut(venue)),
@@ -162,13 +178,14 @@ impl Desk {
         }
     }
 
-    // Puts a gate so that fewer entries are due, and writes this one.
+    /// Puts a gate so that fewer entries are due, and writes this one.
     fn turn(&mut self, venue: VenueId, gate: Gate, entry: DeskEntry)
         requires there { venue < length self.old.desk.venues }
         requires fewer { gate_due gate < gate_due (gate_of self.old.desk venue) }
         requires no_release { released_sweeps (entry ∷ []) ≡ [] }
         ensures desk { self.new.desk ≡ with_gate venue gate self.old.desk }
         ensures history { self.new.history ≡ self.old.history ++ entry ∷ [] }
+        ensures room { self.old.room ≤ self.new.room }
     {
         let at = &mut self.venues[usize::from(venue.number())];
         self.due -= at.gate.due() - gate.due();
@@ -182,6 +199,7 @@ impl Desk {
         ensures leg { result ≡ (take self.old.desk venue).0 }
         ensures desk { self.new.desk ≡ (take self.old.desk venue).1 }
         ensures history { self.new.history ≡ self.old.history ++ take_entries self.old.desk venue }
+        ensures room { self.new.room ≡ self.old.room }
     {
         match self.gate(venue) {
             Gate::Up => self.leave(venue, DeskEntry::Taken(venue)),
@@ -196,6 +214,7 @@ impl Desk {
         ensures leg { result ≡ (drop_next self.old.desk venue).0 }
         ensures desk { self.new.desk ≡ (drop_next self.old.desk venue).1 }
         ensures history { self.new.history ≡ self.old.history ++ drop_next_entries self.old.desk venue }
+        ensures room { self.new.room ≡ self.old.room }
     {
         match self.gate(venue) {
             Gate::Up => None,
@@ -204,13 +223,14 @@ impl Desk {
         }
     }
 
-    // The next leg leaves, whatever the gate; the entry says how.
+    /// The next leg leaves, whatever the gate; the entry says how.
     fn leave(&mut self, venue: VenueId, entry: DeskEntry) -> Option<PlacedLeg>
         requires there { venue < length self.old.desk.venues }
         requires no_release { released_sweeps (entry ∷ []) ≡ [] }
         ensures leg { result ≡ (leave self.old.desk venue).0 }
         ensures desk { self.new.desk ≡ (leave self.old.desk venue).1 }
         ensures history { self.new.history ≡ self.old.history ++ left_entries entry (leave self.old.desk venue).0 }
+        ensures room { self.new.room ≡ self.old.room }
     {
         let at = &mut self.venues[usize::from(venue.number())];
         let leg = at.placed.pop_front()?;
@@ -221,13 +241,15 @@ impl Desk {
         Some(PlacedLeg { ordinal, leg })
     }
 
-    /// Whether a release of this sweep would be refused, and for what; where it wouldn't, the room for it is reserved.
-    /// It changes nothing. R01 to R07.
+    /// Whether a release of this sweep would be refused, and for what; where it wouldn't, the room for it is reserved,
+    /// so that its release, with no other call between, is never R07. It changes nothing else. R01 to R07.
     pub fn ready(&mut self, sweep: &Sweep) -> Result<(), ReleaseFault>
-        ensures { Answers ReleaseFault.OutOfMemory self.old (with_entries self.old [] (ready self.old.desk sweep.now.legs)) result self.new }
+        ensures answer { Answers ReleaseFault.OutOfMemory (without_room self.old) (with_entries (without_room self.old) [] (ready self.old.desk sweep.now.legs)) result (without_room self.new) }
+        ensures reserved { IfOk result (λ _. 1 + length sweep.now.legs ≤ self.new.room) }
+        ensures room { OnErr result (self.new.room ≡ self.old.room) }
     {
         let legs = sweep.legs.as_slice();
-        if let Some(fault) = self.refusal(legs) {
+        if let Some(fault) = refusal(self, legs) {
             return Err(fault);
         }
         self.history.reserve(self.due + 1 + legs.len())?;
@@ -236,10 +258,12 @@ impl Desk {
 
     /// Releases a sweep, whole or not at all. R01 to R07; a refused sweep is dropped.
     pub fn release(&mut self, sweep: Sweep) -> Result<Receipt, ReleaseFault>
-        ensures { Answers ReleaseFault.OutOfMemory self.old (with_entries self.old (release_entries sweep.legs (release self.old.desk sweep.legs).0) (release self.old.desk sweep.legs)) result self.new }
+        ensures answer { Answers ReleaseFault.OutOfMemory (without_room self.old) (with_entries (without_room self.old) (release_entries sweep.legs (release self.old.desk sweep.legs).0) (release self.old.desk sweep.legs)) result (without_room self.new) }
+        ensures reserved { 1 + length sweep.legs ≤ self.old.room → result ≡ (release self.old.desk sweep.legs).0 }
+        ensures room { OnErr result (self.new.room ≡ self.old.room) }
     {
         let legs = sweep.legs.as_slice();
-        if let Some(fault) = self.refusal(legs) {
+        if let Some(fault) = refusal(self, legs) {
             return Err(fault);
         }
         // Its own entry, and one for each leg that will leave.
@@ -256,121 +280,12 @@ impl Desk {
         Ok(receipt)
     }
 
-    // The first refusal of a sweep, want of memory aside.
-    fn refusal(&self, legs: &[Routed]) -> Option<ReleaseFault>
-        ensures value { result ≡ release_refusal self.now.desk legs.now }
-        ensures short { IfNone result (length legs.now ≤ 32) }
-        ensures known { IfNone result (All (λ routed. routed.venue < length self.now.desk.venues) legs.now) }
+    /// The number of the next sweep.
+    pub(crate) fn next_number(&self) -> u64
+        ensures value { result ≡ next_number self.now.desk }
+        ensures low { 1 ≤ result }
+        ensures high { result ≤ 1000000000000 }
     {
-        if legs.is_empty() {
-            return Some(ReleaseFault::Empty);
-        }
-        if legs.len() > MAX_LEGS {
-            return Some(ReleaseFault::TooManyLegs);
-        }
-        if let Some(fault) = first_unknown(self.venues.len(), legs) {
-            return Some(fault);
-        }
-        if let Some(fault) = self.first_closed(legs) {
-            return Some(fault);
-        }
-        if let Some(fault) = self.first_full(legs) {
-            return Some(fault);
-        }
-        if self.sweeps >= MAX_SWEEP || self.shares + shares_of(legs) > MAX_PLACED_SHARES {
-            return Some(ReleaseFault::SweepsSpent);
-        }
-        None
-    }
-
-    // The refusal of the first leg whose gate isn't up.
-    fn first_closed(&self, legs: &[Routed]) -> Option<ReleaseFault>
-        requires { All (λ routed. routed.venue < length self.now.desk.venues) legs.now }
-        ensures { result ≡ refused_at ReleaseFault.GateShut (λ venue. not (is_up (gate_of self.now.desk venue))) legs.now }
-    {
-        for routed in legs {
-            match self.gate(routed.venue) {
-                Gate::Up => {}
-                Gate::Down => return Some(ReleaseFault::GateShut(routed.venue)),
-                Gate::Shut => return Some(ReleaseFault::GateShut(routed.venue)),
-            }
-        }
-        None
-    }
-
-    // The refusal of the first leg that finds its venue's queue full, the sweep's legs before it counted.
-    fn first_full(&self, legs: &[Routed]) -> Option<ReleaseFault>
-        requires known { All (λ routed. routed.venue < length self.now.desk.venues) legs.now }
-        requires short { length legs.now ≤ 32 }
-        ensures { result ≡ backlog_refusal self.now.desk [] legs.now }
-    {
-        for at in 0..legs.len() {
-            let venue = legs[at].venue;
-            if self.placed(venue) + legs_for(venue, &legs[..at]) + 1 > MAX_PLACED {
-                return Some(ReleaseFault::BacklogFull(venue));
-            }
-        }
-        None
-    }
-}
-
-// The refusal of the first leg for a venue that isn't one of so many.
-fn first_unknown(venues: usize, legs: &[Routed]) -> Option<ReleaseFault>
-    ensures value { result ≡ refused_at ReleaseFault.UnknownVenue (λ venue. nat_le venues venue) legs.now }
-    ensures known { IfNone result (All (λ routed. routed.venue < venues) legs.now) }
-{
-    for routed in legs {
-        if usize::from(routed.venue.number()) >= venues {
-            return Some(ReleaseFault::UnknownVenue(routed.venue));
-        }
-    }
-    None
-}
-
-// How many of these orders are for a venue.
-fn legs_for(venue: VenueId, legs: &[Routed]) -> usize
-    ensures value { result ≡ count_to venue legs.now }
-    ensures few { result ≤ length legs.now }
-{
-    let mut count = 0;
-    for routed in legs {
-        if routed.venue.number() == venue.number() {
-            count += 1;
-        }
-    }
-    count
-}
-
-// The shares of a sweep's legs.
-fn shares_of(legs: &[Routed]) -> u64
-    requires { length legs.now ≤ 32 }
-    ensures value { result ≡ sweep_shares legs.now }
-    ensures few { result ≤ 32000000 }
-{
-    let mut shares = 0;
-    for routed in legs {
-        shares += routed.terms.shares();
-    }
-    shares
-}
-
-// The legs of a sweep join the queues of their venues, which have room for them.
-fn enqueue(venues: &mut Vec<Venue>, number: u64, legs: &[Routed])
-    requires low { 1 ≤ number }
-    requires high { number ≤ MAX_SWEEP }
-    requires short { length legs.now ≤ 32 }
-    requires known { All (λ routed. routed.venue < length venues.old.items) legs.now }
-    requires room { HaveRoom legs.now venues.old.items }
-    ensures { IsEnqueued number legs.now venues.old.items venues.new.items }
-{
-    let mut place = 0u8;
-    for routed in legs {
-        place += 1;
-        let leg = Leg {
-            id: LegId::new(number, place),
-            terms: routed.terms.clone().unwrap(),
-        };
-        let at = &mut venues[usize::from(routed.venue.number())];
-        at.placed.push_back_reserved(leg);
+        self.sweeps + 1
     }
 }

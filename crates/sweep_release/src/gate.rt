@@ -15,7 +15,7 @@ pub enum Gate {
 }
 
 impl Gate {
-    // How many entries the next changes of the gate may write: one that is up is put down and then shut.
+    /// How many entries the next changes of the gate may write: one that is up is put down and then shut.
     pub(crate) fn due(self) -> usize
         ensures { result ≡ gate_due self }
     {

@@ -3,12 +3,15 @@
 
 mod desk;
 mod desk_entry;
+mod enqueue;
 mod gate;
 mod gate_fault;
 pub mod laws;
 mod receipt;
+mod refusing;
 mod release_fault;
 pub mod rows;
+mod shares;
 mod venue;
 
 pub use desk::Desk;

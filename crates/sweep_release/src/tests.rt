@@ -11,7 +11,7 @@ fn venue(number: u8) -> Result<VenueId, Fail> {
     Ok(VenueId::new(number).ok().ok_or("a venue")?)
 }
 
-// The venue of a number, which the desk has.
+/// The venue of a number, which the desk has.
 fn known(desk: &Desk, number: u8) -> Result<VenueId, Fail>
     ensures { IfOk result (λ venue. venue < length desk.now.desk.venues) }
 {
@@ -24,14 +24,14 @@ fn known(desk: &Desk, number: u8) -> Result<VenueId, Fail>
     }
 }
 
-// So many orders of ten shares for a venue.
-fn sweep(alloc: Global, number: u8, count: usize) -> Result<Sweep, Fail> {
+/// So many orders for a venue, each of so many shares.
+fn sweep_of(alloc: Global, number: u8, count: usize, shares: u64) -> Result<Sweep, Fail> {
     let mut legs = Vec::new(alloc);
     for _ in 0..count {
         let symbol = Symbol::new(b"IBM", b"").ok().ok_or("a symbol")?;
         legs.push(Routed {
             venue: venue(number)?,
-            terms: Terms::new(symbol, Side::Buy, 10, 100_000)
+            terms: Terms::new(symbol, Side::Buy, shares, 100_000)
                 .ok()
                 .ok_or("terms")?,
         })?;
@@ -41,7 +41,12 @@ fn sweep(alloc: Global, number: u8, count: usize) -> Result<Sweep, Fail> {
     })
 }
 
-// Two venues, gate 0 up and gate 1 down.
+/// So many orders of ten shares for a venue.
+fn sweep(alloc: Global, number: u8, count: usize) -> Result<Sweep, Fail> {
+    sweep_of(alloc, number, count, 10)
+}
+
+/// Two venues, gate 0 up and gate 1 down.
 fn two_venues(alloc: Global) -> Result<Desk, Fail> {
     let mut desk = Desk::new(alloc, 2).ok().ok_or("a desk")?;
     let at = known(&desk, 0)?;
@@ -112,6 +117,70 @@ fn a_backlog_is_full_at_256_and_drained(rt: HostRuntime) -> Result<(), Fail> {
     assert_eq!(rt; desk.gate_up(at), Err(GateFault::Closed));
     let at = known(&desk, 0)?;
     assert_eq!(rt; desk.gate(at), Gate::Shut);
+    assert_eq!(rt;
+        desk.release(sweep(rt.alloc(), 0, 1)?),
+        Err(ReleaseFault::GateShut(venue(0)?))
+    );
+    Ok(())
+}
+
+#[test]
+fn a_sweep_fills_the_backlog_to_the_leg(rt: HostRuntime) -> Result<(), Fail> {
+    let mut desk = two_venues(rt.alloc())?;
+    for _ in 0..7 {
+        desk.release(sweep(rt.alloc(), 0, 32)?)
+            .ok()
+            .ok_or("a receipt")?;
+    }
+    desk.release(sweep(rt.alloc(), 0, 16)?)
+        .ok()
+        .ok_or("a receipt")?;
+    assert_eq!(rt;
+        desk.release(sweep(rt.alloc(), 0, 17)?),
+        Err(ReleaseFault::BacklogFull(venue(0)?))
+    );
+    let at = known(&desk, 0)?;
+    assert_eq!(rt; desk.placed(at), 240);
+    desk.release(sweep(rt.alloc(), 0, 16)?)
+        .ok()
+        .ok_or("a receipt")?;
+    let at = known(&desk, 0)?;
+    assert_eq!(rt; desk.placed(at), 256);
+    Ok(())
+}
+
+#[test]
+fn the_greatest_sweep(rt: HostRuntime) -> Result<(), Fail> {
+    let mut desk = two_venues(rt.alloc())?;
+    assert_eq!(rt;
+        desk.release(sweep_of(rt.alloc(), 0, 32, 1_000_000)?),
+        Ok(Receipt {
+            number: 1,
+            shares: 32_000_000
+        })
+    );
+    assert_eq!(rt; desk.placed_shares(), 32_000_000);
+    Ok(())
+}
+
+#[test]
+fn the_next_leg_is_that_which_leaves(rt: HostRuntime) -> Result<(), Fail> {
+    let mut desk = two_venues(rt.alloc())?;
+    desk.release(sweep(rt.alloc(), 0, 2)?)
+        .ok()
+        .ok_or("a receipt")?;
+    let at = known(&desk, 0)?;
+    desk.gate_down(at);
+    for place in 1..3 {
+        let at = known(&desk, 0)?;
+        let next = desk.next_leg(at).ok_or("a leg")?;
+        assert_eq!(rt; next.ordinal, u64::from(place));
+        assert_eq!(rt; next.leg.id.place(), place);
+        let at = known(&desk, 0)?;
+        assert_eq!(rt; desk.drop_next(at), Some(next));
+    }
+    let at = known(&desk, 0)?;
+    assert!(rt; desk.next_leg(at).is_none());
     Ok(())
 }
 

@@ -1,9 +1,11 @@
-use Rattle.std.proofs.Common.{◌≡◌, [], ◌∷◌, ◌++◌, refl, ap, sym, ◌∙◌, arith}
+use Rattle.std.proofs.Common.{◌≡◌, [], ◌∷◌, ◌++◌, map, set, refl, ap, sym, ◌∙◌, arith}
 use Rattle.sweep_release.specs.declared.desk_entry.DeskEntry.TheVariants as entry
 use Rattle.sweep_release.specs.declared.gate.Gate.TheVariants.{Up, Down}
 use Rattle.sweep_release.specs.declared.venue.Venue.{Venue}
 use Rattle.sweep_release.specs.Gates.{gate_due}
 use Rattle.sweep_release.specs.Desk.{placed}
+use Rattle.sweep_release.specs.History.{KeptDesk}
+use Rattle.sweep_release.specs.Kept.{released_sweeps, venue_seen}
 use Rattle.sweep_release.proofs.Changing.{is_read, kept-changed, seen_turned, raised}
 use Rattle.sweep_release.proofs.desk.Desk.gate_up.Goals as goal
 
@@ -22,14 +24,16 @@ invariant_of-self-2 c =
     (omega (arith, c.in_ok-reserve.ensures.ok, c.push_reserved.ensures.len, c.push_reserved.ensures.capacity))
     (record { queue = kept.queue; few = kept.few; room = kept.room; all = kept.all; counted = kept.counted })
 
-pub returns : goal.returns
-returns c =
+pub returns-clause-answer : goal.returns-clause-answer
+returns-clause-answer c =
     let desk = c.self.inside in
     let seen = c.args.self.now in
     let before = c.index_mut-at.result.now in
     let items = c.push_reserved.ensures.items ∙ ap (λ l. l ++ entry.Up c.args.venue ∷ []) c.in_ok-reserve.ensures.items in
     let read = is_read desk seen c.args.venue c.from.result before c.self.view_is (c.from.ensures ∙ c.number.ensures.value) c.requires c.index_mut-at.ensures.value c.self.invariant in
     let drained : placed seen.desk c.args.venue ≡ 0 = omega (arith, c.placed.ensures, c.if-placed-gt0.false) in
-    raised seen _ c.args.venue (sym c.gate.ensures ∙ c.in-Down.is) drained
+    let now : Venue = record { gate = Up; left = before.left; placed = before.placed } in
+    let after : KeptDesk = record { desk = record { sweeps = released_sweeps c.push_reserved.new.self.items; venues = map venue_seen (set desk.venues.items c.from.result now) }; history = c.push_reserved.new.self.items; room = 0 } in
+    raised seen after c.args.venue (sym c.gate.ensures ∙ c.in-Down.is) drained
     (seen_turned desk seen c.args.venue c.from.result before Up _ (entry.Up c.args.venue ∷ []) c.self.view_is read refl items)
     (items ∙ ap (λ s. s.history ++ entry.Up c.args.venue ∷ []) c.self.view_is)

@@ -1,12 +1,13 @@
-use Rattle.std.proofs.Common.{◌≡◌, ◌+◌, ◌≤◌, [], ◌∷◌, ◌++◌, length, map, Ok, refl, ap, sym, ◌∙◌, subst, arith}
+use Rattle.std.proofs.Common.{◌≡◌, ◌+◌, ◌≤◌, [], ◌∷◌, ◌++◌, length, map, Some, Ok, refl, ap, sym, ◌∙◌, subst, arith}
 use Rattle.std.specs.Prelude.{IfNone}
 use Rattle.leg.specs.Answering.{Answers}
 use Rattle.sweep_release.specs.declared.desk_entry.DeskEntry.TheVariants as entry
 use Rattle.sweep_release.specs.declared.receipt.Receipt.{Receipt}
 use Rattle.sweep_release.specs.declared.release_fault.ReleaseFault.TheVariants.{OutOfMemory}
-use Rattle.sweep_release.specs.Desk.{release_refusal, next_number, release}
-use Rattle.sweep_release.specs.History.{DeskWithHistory, with_entries, release_entries}
+use Rattle.sweep_release.specs.Desk.{release_refusal, release_unless, next_number, release}
+use Rattle.sweep_release.specs.History.{KeptDesk, without_room, with_entries, release_entries}
 use Rattle.sweep_release.specs.Kept.{released_sweeps, venue_seen}
+use Rattle.sweep_release.proofs.Answered.{answered}
 use Rattle.sweep_release.proofs.KeptReleased.{have_room, kept_released, seen_released, released_whole}
 use Rattle.sweep_release.proofs.desk.Desk.release.Goals as goal
 
@@ -26,17 +27,25 @@ invariant_of-self-2 c =
     (ap (λ n. c.self.inside.shares + n) c.shares_of.ensures.value) refl
     (omega (arith, c.in_ok-reserve.ensures.ok, c.push_reserved.ensures.len, c.push_reserved.ensures.capacity))
 
-pub returns : goal.returns
-returns c =
+pub returns-clause-answer : goal.returns-clause-answer
+returns-clause-answer c =
     let legs = c.as_slice-legs.result.now in
     let seen = c.args.self.now in
     let items = c.push_reserved.new.self.items in
     let receipt : Receipt = record { number = c.self.inside.sweeps + 1; shares = c.shares_of.result } in
-    let now : DeskWithHistory = record { desk = record { sweeps = released_sweeps items; venues = map venue_seen c.enqueue.new.venues.items }; history = items } in
+    let now : KeptDesk = record { desk = record { sweeps = released_sweeps items; venues = map venue_seen c.enqueue.new.venues.items }; history = items; room = 0 } in
     let history_is = c.push_reserved.ensures.items ∙ (ap (λ l. l ++ entry.Released c.args.sweep ∷ []) c.in_ok-reserve.ensures.items ∙ ap (λ ls. c.self.inside.history.items ++ entry.Released (record { legs = ls }) ∷ []) (sym c.as_slice-legs.ensures)) in
     let count = c.self.invariant.count in
     let number : c.self.inside.sweeps + 1 ≡ next_number seen.desk = ap (λ n. n + 1) (count ∙ ap (λ s. length s.desk.sweeps) c.self.view_is) in
-    subst (λ ls. Answers OutOfMemory seen (with_entries seen (release_entries ls (release seen.desk ls).0) (release seen.desk ls)) (Ok receipt) now) c.as_slice-legs.ensures
+    subst (λ ls. Answers OutOfMemory (without_room seen) (with_entries (without_room seen) (release_entries ls (release seen.desk ls).0) (release seen.desk ls)) (Ok receipt) (without_room now)) c.as_slice-legs.ensures
     (released_whole seen now legs receipt (sym c.refusal.ensures.value ∙ c.in_default.is) number c.shares_of.ensures.value
     (seen_released c.self.inside seen legs c.enqueue.new.venues.items items (c.self.inside.sweeps + 1) c.self.view_is c.enqueue.ensures history_is)
     (history_is ∙ ap (λ s. s.history ++ entry.Released (record { legs = legs }) ∷ []) c.self.view_is))
+
+pub returns-clause-reserved : goal.returns-clause-reserved
+returns-clause-reserved c = λ room. (answered OutOfMemory _ _ _ _ (returns-clause-answer c)).0
+
+pub returns-in-Some-clause-reserved : goal.returns-in-Some-clause-reserved
+returns-in-Some-clause-reserved c = λ room.
+    let refused : release_refusal c.args.self.now.desk c.as_slice-legs.result.now ≡ Some c.in-Some.fault = sym c.in-Some.ensures.value in
+    sym (ap (λ ls. (release c.args.self.now.desk ls).0) (sym c.as_slice-legs.ensures) ∙ ap (λ r. (release_unless r c.args.self.now.desk c.as_slice-legs.result.now).0) refused)

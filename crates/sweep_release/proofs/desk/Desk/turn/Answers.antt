@@ -33,3 +33,12 @@ returns-clause-desk c =
     let before = c.index_mut-at.result.now in
     let read = is_read desk c.args.self.now c.args.venue c.from.result before c.self.view_is (c.from.ensures ∙ c.number.ensures.value) c.requires.there c.index_mut-at.ensures.value c.self.invariant in
     seen_turned desk c.args.self.now c.args.venue c.from.result before c.args.gate _ (c.args.entry ∷ []) c.self.view_is read c.requires.no_release c.push_reserved.ensures.items
+
+pub returns-clause-room : goal.returns-clause-room
+returns-clause-room c =
+    let read = is_read c.self.inside c.args.self.now c.args.venue c.from.result c.index_mut-at.result.now c.self.view_is (c.from.ensures ∙ c.number.ensures.value) c.requires.there c.index_mut-at.ensures.value c.self.invariant in
+    let due = read.due in
+    let room = c.self.invariant.room in
+    let gate = ap (λ v. gate_due v.gate) read.seen_as in
+    let before = ap (λ s. s.room) c.self.view_is in
+    omega (arith, due, room, gate, before, c.requires.fewer, c.due.ensures, c.due-2.ensures, c.push_reserved.ensures.len, c.push_reserved.ensures.capacity)

@@ -4,7 +4,7 @@ use Rattle.std.proofs.lemmas.List.{at_drop_all}
 use Rattle.sweep_release.specs.declared.release_fault.ReleaseFault.TheVariants.{UnknownVenue}
 use Rattle.sweep_release.specs.Desk.{refused_at}
 use Rattle.sweep_release.proofs.Refusals.{all_known}
-use Rattle.sweep_release.proofs.desk.first_unknown.Goals as goal
+use Rattle.sweep_release.proofs.refusing.first_unknown.Goals as goal
 
 pub returns-clause-known : goal.returns-clause-known
 returns-clause-known c =

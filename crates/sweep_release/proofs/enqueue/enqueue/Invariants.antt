@@ -1,6 +1,6 @@
 use Rattle.std.proofs.Common.{◌≡◌, take}
 use Rattle.sweep_release.specs.Kept.{IsEnqueued}
-use Rattle.sweep_release.proofs.desk.enqueue.Given as goal
+use Rattle.sweep_release.proofs.enqueue.enqueue.Given as goal
 
 abbrev pub invariant-loop-routed : goal.invariant-loop-routed
 invariant-loop-routed l = record {

@@ -1,6 +1,6 @@
 use Rattle.std.proofs.Common.{◌≡◌, ◌+◌, ◌≤◌, drop}
 use Rattle.sweep_release.specs.Desk.{count_to}
-use Rattle.sweep_release.proofs.desk.legs_for.Given as goal
+use Rattle.sweep_release.proofs.refusing.legs_for.Given as goal
 
 abbrev pub invariant-loop-routed : goal.invariant-loop-routed
 invariant-loop-routed l = record {

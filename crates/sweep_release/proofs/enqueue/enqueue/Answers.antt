@@ -3,7 +3,7 @@ use Rattle.leg.specs.declared.leg.Leg.{Leg}
 use Rattle.sweep_release.specs.declared.venue.Venue.{Venue}
 use Rattle.sweep_release.specs.Kept.{IsEnqueued}
 use Rattle.sweep_release.proofs.Enqueued.{enqueued_none, enqueued_more, room_for}
-use Rattle.sweep_release.proofs.desk.enqueue.Goals as goal
+use Rattle.sweep_release.proofs.enqueue.enqueue.Goals as goal
 
 pub loop-routed-init : goal.loop-routed-init
 loop-routed-init c = record { place = refl; joined = enqueued_none c.args.number c.args.legs.now c.args.venues.now.items }
