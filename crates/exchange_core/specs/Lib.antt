@@ -6,4 +6,5 @@ pub mod Acts
 pub mod Keeping
 pub mod Shares
 pub mod Sound
+pub mod Kept
 pub mod Rows

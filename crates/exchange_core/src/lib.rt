@@ -1,8 +1,15 @@
 //! An exchange: which orders it takes, what it answers and what it reports.
 #![tactic(auto)]
 
+mod ending;
+mod exchange;
 mod exchange_fault;
 pub mod laws;
+mod live_connection;
+mod order;
+mod own;
 pub mod rows;
+mod trade;
 
+pub use exchange::Exchange;
 pub use exchange_fault::ExchangeFault;
