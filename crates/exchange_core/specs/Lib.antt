@@ -7,4 +7,5 @@ pub mod Keeping
 pub mod Shares
 pub mod Sound
 pub mod Kept
+pub mod Plan
 pub mod Rows

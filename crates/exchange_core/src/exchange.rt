@@ -4,6 +4,8 @@ ghost use Rattle.std.specs.Prelude.{◌≡◌};
 ghost use Rattle.exchange_core.specs.Exchange.{new_exchange, accepted_by, drop_connection};
 ghost use Rattle.exchange_core.specs.Kept.{reports_of};
 
+mod plans;
+
 use crate::live_connection::LiveConnection;
 use crate::order::Order;
 use crate::own::Own;

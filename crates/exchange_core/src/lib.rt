@@ -6,8 +6,10 @@ mod exchange;
 mod exchange_fault;
 pub mod laws;
 mod live_connection;
+mod numbered_id;
 mod order;
 mod own;
+mod plan;
 pub mod rows;
 mod trade;
 
