@@ -1,5 +1,5 @@
 -- A message as a session and an exchange understand it: an envelope whose application fields the dialect has read.
-use Rattle.std.specs.Prelude.{ℕ, Bool, true, false, List, [], ◌∷◌, Option, Result, ◌==◌, if◌then◌else◌}
+use Rattle.std.specs.Prelude.{ℕ, Bool, true, false, List, [], ◌∷◌, Result, ◌==◌, if◌then◌else◌}
 use Rattle.fix_text.specs.Tagged.{Tagged}
 use Rattle.fix_tags.specs.declared.body.Body.{Body}
 use Rattle.fix_tags.specs.declared.body.Body.TheVariants as body
@@ -7,24 +7,9 @@ use Rattle.fix_tags.specs.declared.envelope.Envelope.{Envelope}
 use Rattle.leg.specs.declared.leg.Leg.{Leg}
 use Rattle.dialect.specs.declared.fault.DialectFault.{DialectFault}
 use Rattle.dialect.specs.declared.report.Report.{Report}
-
--- what a message says (FIX 4.4 Volume 2, session messages; Volume 4, NewOrderSingle and ExecutionReport)
-pub data Content : Type 0 where
-  Logon : (heart : ℕ) (reset : Bool) (next : Option ℕ) → Content
-  Heartbeat : (id : Option (List ℕ)) → Content
-  TestRequest : (id : List ℕ) → Content
-  ResendRequest : (begin last : ℕ) → Content
-  Reject : (number : ℕ) → Content
-  GapFill : (new_number : ℕ) → Content
-  Reset : (new_number : ℕ) → Content
-  Logout : Content
-  BusinessReject : (number : Option ℕ) → Content
-  -- an application message of kind `D`, with the leg that the dialect reads, or its fault
-  Order : (read : Result Leg DialectFault) → Content
-  -- one of kind `8`, with the report that the dialect reads, or its fault
-  ExecutionReport : (read : Result Report DialectFault) → Content
-  -- one of another kind
-  Other : Content
+pub use Rattle.dialect.specs.declared.content.Content.{Content}
+pub use Rattle.dialect.specs.declared.content.Content.TheVariants.{Logon, Heartbeat, TestRequest, ResendRequest, Reject, GapFill, Reset, Logout, BusinessReject, Order, ExecutionReport, Other}
+pub use Rattle.dialect.specs.declared.message.Message.{Message}
 
 -- whether it is a Logon
 abbrev pub is_logon : Content → Bool
@@ -40,16 +25,6 @@ is_logon (BusinessReject number) = false
 is_logon (Order read) = false
 is_logon (ExecutionReport read) = false
 is_logon Other = false
-
-pub record Message : Type 0 where
-  -- SenderCompID (49) and TargetCompID (56)
-  pub from : List ℕ
-  pub to : List ℕ
-  -- MsgSeqNum (34)
-  pub number : ℕ
-  -- PossDupFlag (43)
-  pub poss_dup : Bool
-  pub content : Content
 
 -- how a dialect reads orders and reports
 pub record Readers : Type 0 where

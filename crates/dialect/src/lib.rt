@@ -3,6 +3,7 @@
 
 mod any_dialect;
 mod coded;
+mod content;
 mod dialect;
 mod digits;
 mod fault;
@@ -14,10 +15,13 @@ mod kind;
 mod laws;
 mod limit;
 mod mark;
+mod message;
+mod message_read;
 mod note;
 mod order;
 mod order_view;
 mod ordinal;
+mod outgoing;
 mod plain;
 mod plain_id;
 mod push;
@@ -31,10 +35,12 @@ mod split;
 mod split4;
 mod symbol_text;
 mod tag;
+mod text_ref;
 mod time;
 
 pub use any_dialect::AnyDialect;
 pub use coded::Coded;
+pub use content::Content;
 pub use dialect::Dialect;
 pub use fault::{DialectFault, SpellFault};
 pub use fill::Fill;
@@ -44,13 +50,17 @@ pub use laws::{
     frames_read_back, orders_tell_legs_apart, reports_tell_apart, writable_messages_are_framed,
     writable_messages_fit,
 };
+pub use message::Message;
+pub use message_read::see;
 pub use note::Note;
 pub use order_view::OrderView;
+pub use outgoing::Outgoing;
 pub use plain::Plain;
 pub use report::{Report, ReportKind};
 pub use spelling::{IdText, Spelling};
 pub use split4::Split4;
 pub use symbol_text::read_symbol;
+pub use text_ref::TextRef;
 
 #[cfg(test)]
 mod tests;

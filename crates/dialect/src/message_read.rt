@@ -1,0 +1,73 @@
+//! An envelope is read as a message.
+ghost use Rattle.std.specs.Prelude.{◌≡◌};
+ghost use Rattle.fix_tags.specs.Lent.{body_of};
+ghost use Rattle.dialect.specs.Message.{Readers, application, content_of, seen};
+
+use crate::content::Content;
+use crate::dialect::Dialect;
+use crate::message::Message;
+use crate::text_ref::TextRef;
+use fix_tags::{BodyRef, EnvelopeRef};
+use fix_text::FieldRef;
+
+/// What an application message of one kind says.
+fn application<D: Dialect>(dialect: &D, kind: &[u8], fields: &[FieldRef<'_>]) -> Content<'static>
+    ensures { result ≡ application
+        (record { order = D.order_read dialect.now; report = D.report_read dialect.now }) kind.now fields.now }
+{
+    match kind {
+        [b'D'] => Content::Order(dialect.read_order(fields)),
+        [b'8'] => Content::ExecutionReport(dialect.read_report(fields)),
+        _ => Content::Other,
+    }
+}
+
+/// What a body says.
+fn content_of<'a, D: Dialect>(dialect: &D, body: &BodyRef<'a>) -> Content<'a>
+    ensures { result ≡ content_of
+        (record { order = D.order_read dialect.now; report = D.report_read dialect.now }) (body_of body.now) }
+{
+    match body {
+        BodyRef::Logon { heart, reset, next } => Content::Logon {
+            heart: *heart,
+            reset: *reset,
+            next: *next,
+        },
+        BodyRef::Heartbeat { id: None } => Content::Heartbeat { id: None },
+        BodyRef::Heartbeat { id: Some(id) } => Content::Heartbeat {
+            id: Some(TextRef::new(id)),
+        },
+        BodyRef::TestRequest { id } => Content::TestRequest {
+            id: TextRef::new(id),
+        },
+        BodyRef::ResendRequest { begin, last } => Content::ResendRequest {
+            begin: *begin,
+            last: *last,
+        },
+        BodyRef::Reject { number } => Content::Reject { number: *number },
+        BodyRef::GapFill { new_number } => Content::GapFill {
+            new_number: *new_number,
+        },
+        BodyRef::Reset { new_number } => Content::Reset {
+            new_number: *new_number,
+        },
+        BodyRef::Logout => Content::Logout,
+        BodyRef::BusinessReject { number } => Content::BusinessReject { number: *number },
+        BodyRef::App { kind, fields } => application(dialect, kind, fields.as_slice()),
+    }
+}
+
+/// The message that an envelope is, in this dialect. It takes no memory. An order or a report that the dialect refuses
+/// is a message all the same, with the dialect's fault in it.
+pub fn see<'a, D: Dialect>(dialect: &D, envelope: &EnvelopeRef<'a>) -> Message<'a>
+    ensures { result ≡ seen
+        (record { order = D.order_read dialect.now; report = D.report_read dialect.now }) envelope.now }
+{
+    Message {
+        from: TextRef::new(envelope.sender()),
+        to: TextRef::new(envelope.target()),
+        number: envelope.number(),
+        poss_dup: envelope.poss_dup(),
+        content: content_of(dialect, envelope.body()),
+    }
+}
