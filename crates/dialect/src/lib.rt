@@ -17,6 +17,7 @@ mod limit;
 mod mark;
 mod message;
 mod message_read;
+mod message_write;
 mod note;
 mod order;
 mod order_view;
@@ -52,6 +53,7 @@ pub use laws::{
 };
 pub use message::Message;
 pub use message_read::see;
+pub use message_write::write_message;
 pub use note::Note;
 pub use order_view::OrderView;
 pub use outgoing::Outgoing;
