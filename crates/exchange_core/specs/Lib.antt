@@ -8,4 +8,5 @@ pub mod Shares
 pub mod Sound
 pub mod Kept
 pub mod Plan
+pub mod Frames
 pub mod Rows

@@ -11,6 +11,7 @@ mod order;
 mod own;
 mod plan;
 pub mod rows;
+mod to_peer;
 mod trade;
 
 pub use exchange::Exchange;
