@@ -1,14 +1,15 @@
 //! A trade.
 
-ghost use Rattle.std.specs.Prelude.{◌≡◌};
+ghost use Rattle.std.specs.Prelude.{⊤, ◌≡◌};
 ghost use Rattle.dialect.specs.Fill.{fill_of};
 
 use crate::free_text::LastPx;
 use leg::MAX_SHARES;
+use std::alloc::AllocError;
 use std::marker::Model;
 
 /// A trade of an order's shares: LastQty (32) and LastPx (31) of an ExecutionReport, FIX 4.4 Volume 4.
-#[derive(Clone, Debug, PartialEq, Eq, Drop)]
+#[derive(Debug, PartialEq, Eq, Drop)]
 pub struct Fill {
     shares: u64,
     px: LastPx,
@@ -55,5 +56,19 @@ impl Fill {
         ensures in_range { IsFill self.now }
     {
         &self.px
+    }
+}
+
+/// A clone takes no memory and doesn't fail: it is the same trade.
+impl Clone for Fill {
+    ghost is_clone = { λ fill copy. copy ≡ fill };
+
+    ghost is_infallible = { λ _. ⊤ };
+
+    fn clone(&self) -> Result<Fill, AllocError> {
+        Ok(Fill {
+            shares: self.shares,
+            px: self.px.clone()?,
+        })
     }
 }

@@ -1,10 +1,11 @@
 //! Texts that a venue picks: an id or a price that is kept as it came.
 
-ghost use Rattle.std.specs.Prelude.{◌≡◌};
+ghost use Rattle.std.specs.Prelude.{⊤, ◌≡◌};
 ghost use Rattle.dialect.specs.FreeText.{IsFreeText, is_free_text, free_text_of};
 
 use arrayvec::ArrayVec;
 use fix_text::can_write_value;
+use std::alloc::AllocError;
 use std::marker::Model;
 
 /// The most bytes of the id of a report or an order.
@@ -24,7 +25,7 @@ pub type OrderId = FreeText<MAX_ID>;
 pub type LastPx = FreeText<MAX_LAST_PX>;
 
 /// A text of 1 to N bytes without SOH, in the place of N, kept as a venue spelled it.
-#[derive(Clone, Debug, PartialEq, Eq, Hash, Drop)]
+#[derive(Debug, PartialEq, Eq, Hash, Drop)]
 pub struct FreeText<const N: usize> {
     bytes: ArrayVec<u8, N>,
 }
@@ -67,5 +68,18 @@ impl<const N: usize> FreeText<N> {
         ensures in_range { IsFreeText N self.now }
     {
         self.bytes.as_slice()
+    }
+}
+
+/// A clone takes no memory and doesn't fail: it is the same text.
+impl<const N: usize> Clone for FreeText<N> {
+    ghost is_clone = { λ text copy. copy ≡ text };
+
+    ghost is_infallible = { λ _. ⊤ };
+
+    fn clone(&self) -> Result<FreeText<N>, AllocError> {
+        Ok(FreeText {
+            bytes: self.bytes.clone()?,
+        })
     }
 }

@@ -1,15 +1,16 @@
 //! An order as its exchange sees it.
 
-ghost use Rattle.std.specs.Prelude.{◌≡◌};
+ghost use Rattle.std.specs.Prelude.{⊤, ◌≡◌};
 ghost use Rattle.dialect.specs.OrderView.{order_view_of};
 
 use crate::free_text::OrderId;
 use leg::Leg;
+use std::alloc::AllocError;
 use std::marker::Model;
 
 /// What an exchange writes beside a report: the leg, its OrderID (37), its CumQty (14), the shares filled and not
 /// busted, and its LeavesQty (151), the shares open, of an ExecutionReport, FIX 4.4 Volume 4.
-#[derive(Clone, Debug, PartialEq, Eq, Drop)]
+#[derive(Debug, PartialEq, Eq, Drop)]
 pub struct OrderView {
     leg: Leg,
     order_id: OrderId,
@@ -95,5 +96,21 @@ impl OrderView {
         ensures in_range { IsOrderView self.now }
     {
         self.leaves
+    }
+}
+
+/// A clone takes no memory and doesn't fail: it is the same view.
+impl Clone for OrderView {
+    ghost is_clone = { λ view copy. copy ≡ view };
+
+    ghost is_infallible = { λ _. ⊤ };
+
+    fn clone(&self) -> Result<OrderView, AllocError> {
+        Ok(OrderView {
+            leg: self.leg.clone()?,
+            order_id: self.order_id.clone()?,
+            cum: self.cum,
+            leaves: self.leaves,
+        })
     }
 }

@@ -1,5 +1,5 @@
 -- The ids that an exchange makes, a letter and a number, can be written.
-use Rattle.std.proofs.Common.{◌≡◌, ◌≢◌, ◌==◌, ℕ, ◌<◌, ◌≤◌, true, nat_le, List, ◌∷◌, length, decimal, arith}
+use Rattle.std.proofs.Common.{◌≡◌, ◌≢◌, ◌==◌, refl, ℕ, ◌<◌, ◌≤◌, true, nat_le, List, ◌∷◌, length, decimal, Option, IsSome, arith}
 use Rattle.std.specs.List.{All}
 use Rattle.std.proofs.lemmas.Bool.{and_from, ne_eqb, not_from_false}
 use Rattle.std.proofs.lemmas.Bool.Decides.{nat_tests}
@@ -7,7 +7,7 @@ use Rattle.std.proofs.lemmas.Fmt.{length-decimal-le}
 use Rattle.std.proofs.lemmas.List.Elements.{All-cons}
 use Rattle.std.proofs.lemmas.List.Folds.{list_any_none}
 use Rattle.leg.proofs.Digits.{IsDigit, digits_of_decimal}
-use Rattle.dialect.specs.FreeText.{IsFreeText}
+use Rattle.dialect.specs.FreeText.{IsFreeText, free_text_of}
 use Rattle.exchange_core.specs.Order.{order_id}
 use Rattle.exchange_core.specs.Own.{exec_id}
 use Rattle.exchange_core.specs.Acts.{test_id}
@@ -26,7 +26,7 @@ free_text value some short none =
 digit_free : (c : ℕ) → IsDigit c → c ≢ 1
 digit_free c digit = λ e. omega arith
 
-letter_and_number : (c n : ℕ) → 2 ≤ c → n ≤ 999_999_999 → IsFreeText 64 (c ∷ decimal n)
+pub letter_and_number : (c n : ℕ) → 2 ≤ c → n ≤ 999_999_999 → IsFreeText 64 (c ∷ decimal n)
 letter_and_number c n letter small =
     let digits = digits_of_decimal n (omega arith) in
     let short = length-decimal-le 9 n (omega arith) (omega arith) (omega arith) in
@@ -41,3 +41,7 @@ order_id_is place small = letter_and_number 79 place (omega arith) small
 
 pub test_id_is : (number : ℕ) → number ≤ 999_999_999 → IsFreeText 64 (test_id number)
 test_id_is number small = letter_and_number 88 number (omega arith) small
+
+-- a text that is made of such a text is there
+pub made : (most : ℕ) (text : List ℕ) (value : Option (List ℕ)) → value ≡ free_text_of most text → IsFreeText most text → IsSome value
+made most text value is fits = rw (is, fits) refl

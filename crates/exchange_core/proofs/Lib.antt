@@ -16,3 +16,4 @@ pub mod Written
 pub mod Closing
 pub mod Answers
 pub mod Counted
+pub mod Kept

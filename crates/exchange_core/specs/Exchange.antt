@@ -14,11 +14,7 @@ use Rattle.dialect.specs.declared.outgoing.Outgoing.{Outgoing}
 use Rattle.dialect.specs.Outgoing.{alone}
 use Rattle.exchange_core.specs.Order.{OrderParts, new_order, view_of}
 use Rattle.exchange_core.specs.Own.{Own, Admin, Reported, Refused, next_own_number, has_numbers, next_exec, exec_id, execution_report, resent_answer}
-
--- the live connection, and the expected number for which the missing messages were asked for in it, if they were
-pub record LiveConnection : Type 0 where
-  pub connection : ℕ
-  pub asked : Option ℕ
+pub use Rattle.exchange_core.specs.declared.live_connection.LiveConnection.{LiveConnection}
 
 pub record ExchangeParts : Type 0 where
   pub config : ConfigParts

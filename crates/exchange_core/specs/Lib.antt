@@ -6,4 +6,7 @@ pub mod Acts
 pub mod Keeping
 pub mod Shares
 pub mod Sound
+pub mod Kept
+pub mod Plan
+pub mod Frames
 pub mod Rows

@@ -6,17 +6,14 @@ use Rattle.leg.specs.declared.leg.Leg.{Leg}
 use Rattle.dialect.specs.OrderView.{OrderViewParts}
 use Rattle.exchange_core.specs.declared.exchange_fault.ExchangeFault.{ExchangeFault}
 use Rattle.exchange_core.specs.declared.exchange_fault.ExchangeFault.TheVariants.{TooManyShares, NoSuchTrade}
+pub use Rattle.exchange_core.specs.declared.ending.Ending.{Ending}
+pub use Rattle.exchange_core.specs.declared.ending.Ending.TheVariants.{ByCancel, ByReject}
 
 -- a trade: its shares, the count in the ExecID of its report, and whether it was busted
 pub record TradeParts : Type 0 where
   pub shares : ℕ
   pub exec : ℕ
   pub is_busted : Bool
-
--- what ended an order whose shares were not all traded
-pub data Ending : Type 0 where
-  ByCancel : Ending
-  ByReject : Ending
 
 -- the leg, what became of its shares, its trades in order, and what ended it if something did
 pub record OrderParts : Type 0 where

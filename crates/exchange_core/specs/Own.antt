@@ -10,13 +10,8 @@ use Rattle.dialect.specs.declared.content.Content.TheVariants.{Reject, GapFill, 
 use Rattle.dialect.specs.OrderView.{OrderViewParts}
 use Rattle.dialect.specs.declared.outgoing.Outgoing.{Outgoing}
 use Rattle.dialect.specs.Outgoing.{alone}
-
--- what an own number was used for: a message of the session, a report with the order as it was then, or the refusal of
--- a message by its number
-pub data Own : Type 0 where
-  Admin : Own
-  Reported : (report : Report) (view : OrderViewParts) → Own
-  Refused : (number : ℕ) → Own
+pub use Rattle.exchange_core.specs.declared.own.Own.{Own}
+pub use Rattle.exchange_core.specs.declared.own.Own.TheVariants.{Admin, Reported, Refused}
 
 -- Own numbers begin at 1, and what they were used for is listed in their order.
 

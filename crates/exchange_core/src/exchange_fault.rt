@@ -1,5 +1,8 @@
 //! Why an act of an exchange is refused.
 
+ghost use Rattle.std.specs.Prelude.{◌≡◌};
+
+use std::alloc::{AllocError, AllocFailed};
 use thiserror::Error;
 
 /// Why an act is refused. The exchange is as it was.
@@ -26,4 +29,24 @@ pub enum ExchangeFault {
     /// The order wasn't ended by a cancel of its rest, which a bust needs.
     #[error("X07 not cancelled")]
     NotCancelled,
+}
+
+impl From<AllocError> for ExchangeFault {
+    ghost use Rattle.exchange_core.specs.declared.exchange_fault.ExchangeFault.TheVariants.{OutOfMemory};
+
+    ghost from_gives = { λ _ e. e ≡ OutOfMemory };
+
+    fn from(_e: AllocError) -> ExchangeFault {
+        ExchangeFault::OutOfMemory
+    }
+}
+
+impl<T: Drop> From<AllocFailed<T>> for ExchangeFault {
+    ghost use Rattle.exchange_core.specs.declared.exchange_fault.ExchangeFault.TheVariants.{OutOfMemory};
+
+    ghost from_gives = { λ _ e. e ≡ OutOfMemory };
+
+    fn from(_e: AllocFailed<T>) -> ExchangeFault {
+        ExchangeFault::OutOfMemory
+    }
 }

@@ -1,8 +1,18 @@
 //! An exchange: which orders it takes, what it answers and what it reports.
 #![tactic(auto)]
 
+mod ending;
+mod exchange;
 mod exchange_fault;
 pub mod laws;
+mod live_connection;
+mod numbered_id;
+mod order;
+mod own;
+mod plan;
 pub mod rows;
+mod to_peer;
+mod trade;
 
+pub use exchange::Exchange;
 pub use exchange_fault::ExchangeFault;

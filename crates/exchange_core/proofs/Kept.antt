@@ -1,0 +1,23 @@
+-- What an exchange keeps beside its state, and what its soundness says of a part.
+use Rattle.std.proofs.Common.{◌≡◌, ℕ, suc, ◌≤◌, List, [], ◌∷◌, length, Some, refl, ap}
+use Rattle.leg.specs.Numbered.{numbered}
+use Rattle.dialect.specs.declared.report.Report.{Report}
+use Rattle.dialect.specs.Writable.{IsReference}
+use Rattle.exchange_core.specs.Order.{OrderParts, TradeParts}
+use Rattle.exchange_core.specs.Own.{Own, Admin, Reported, Refused, report_count}
+use Rattle.exchange_core.specs.Exchange.{ExchangeParts}
+use Rattle.exchange_core.specs.Kept.{reports_of}
+use Rattle.exchange_core.specs.Sound.{IsTradeSound, IsOrderSound, IsSound}
+use Rattle.exchange_core.proofs.Entries.{all_at}
+
+-- there are as many reports as are counted
+pub reports_counted : (own : List Own) → length (reports_of own) ≡ report_count own
+reports_counted [] = refl
+reports_counted (Admin ∷ own) = reports_counted own
+reports_counted (Reported report view ∷ own) = ap suc (reports_counted own)
+reports_counted (Refused number ∷ own) = reports_counted own
+
+-- the count in the ExecID of a trade is in range
+pub exec_of_trade : (x : ExchangeParts) (place : ℕ) (order : OrderParts) (which : ℕ) (trade : TradeParts) → IsSound x → numbered place x.orders ≡ Some order → numbered which order.trades ≡ Some trade → trade.exec ≤ 999999999
+exec_of_trade x place order which trade sound there has =
+    all_at IsTradeSound order.trades which trade (all_at IsOrderSound x.orders place order sound.orders there).trades has

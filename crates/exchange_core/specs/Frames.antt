@@ -1,0 +1,31 @@
+-- What a call gives: frames, each of one message.
+use Rattle.std.specs.Prelude.{◌≡◌, ℕ, List, [], ◌∷◌, Option, option_to_list, Result, Ok, Err}
+use Rattle.std.specs.Global.{Vec}
+use Rattle.fix_tags.specs.Stamp.{StampParts}
+use Rattle.dialect.specs.Framed.{Writers, IsFramed}
+use Rattle.dialect.specs.declared.outgoing.Outgoing.{Outgoing}
+use Rattle.exchange_core.specs.declared.exchange_fault.ExchangeFault.{ExchangeFault}
+use Rattle.exchange_core.specs.declared.exchange_fault.ExchangeFault.TheVariants.{OutOfMemory}
+use Rattle.exchange_core.specs.Exchange.{ExchangeParts, Answer}
+use Rattle.exchange_core.specs.Acts.{ActAnswer}
+
+-- the frames are those of these messages, in order, each written at this moment
+abbrev pub AreFramed : Writers → StampParts → List Outgoing → List (Vec ℕ) → Type 0
+AreFramed w stamp [] [] = Unit {0}
+AreFramed w stamp (out ∷ written) (frame ∷ frames) =
+    IsFramed w stamp out frame.items × AreFramed w stamp written frames
+AreFramed w stamp written frames = ⊥
+
+-- what an act gives: its refusal; or the frame of what is written, if anything is; or want of memory, where it would not
+-- have been refused, and the exchange as it was
+abbrev pub ActGives : Writers → StampParts → ExchangeParts → ActAnswer → Result (Option (Vec ℕ)) ExchangeFault → ExchangeParts → Type 0
+ActGives w stamp before (Err fault, after) answer now = (answer ≡ Err fault) × (now ≡ after)
+ActGives w stamp before (Ok written, after) (Ok frame) now =
+    AreFramed w stamp written (option_to_list frame) × (now ≡ after)
+ActGives w stamp before (Ok written, after) (Err fault) now = (fault ≡ OutOfMemory) × (now ≡ before)
+
+-- what is given for a message that comes: the frames of what is written; or want of memory, and the exchange as it was
+abbrev pub TakeGives : Writers → StampParts → ExchangeParts → Answer → Result (Vec (Vec ℕ)) ExchangeFault → ExchangeParts → Type 0
+TakeGives w stamp before (written, after) (Ok frames) now =
+    AreFramed w stamp written frames.items × (now ≡ after)
+TakeGives w stamp before (written, after) (Err fault) now = (fault ≡ OutOfMemory) × (now ≡ before)
