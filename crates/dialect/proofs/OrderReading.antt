@@ -4,6 +4,7 @@ use Rattle.std.specs.Option.{ok_or, option_map_or}
 use Rattle.std.proofs.lemmas.Bool.{eqb-true}
 use Rattle.std.proofs.lemmas.Option.{same_Some, cond_some, option_and_then_some}
 use Rattle.std.proofs.lemmas.Slice.Eq.{bytes_eq-Decides}
+use Rattle.fix_text.specs.Then.{unless}
 use Rattle.fix_text.specs.Tagged.{Tagged, value_of}
 use Rattle.fix_tags.specs.Shares.{shares_of}
 use Rattle.fix_tags.specs.Price.{price_of}
@@ -15,7 +16,7 @@ use Rattle.leg.specs.declared.side.Side.TheVariants.{Buy, Sell}
 use Rattle.dialect.specs.declared.limit.Limit.{Limit}
 use Rattle.dialect.specs.declared.fault.DialectFault.{DialectFault}
 use Rattle.dialect.specs.declared.fault.DialectFault.TheVariants.{Missing, Bad, NotIoc, NotMarked}
-use Rattle.dialect.specs.Fields.{required, required_as, ReadsAs, unless, has_value, is_text}
+use Rattle.dialect.specs.Fields.{required, required_as, ReadsAs, has_value, is_text}
 use Rattle.dialect.specs.Limit.{order_shares_of, side_of, side_text, limit_order_in, limit_in, leg_of}
 use Rattle.dialect.specs.Time.{immediate_in}
 use Rattle.dialect.specs.Spelling.{SpellingParts, IsSpelling}

@@ -3,15 +3,10 @@ use Rattle.std.specs.Prelude.{ℕ, Bool, true, false, not, ◌==◌, List, ◌++
 use Rattle.std.specs.List.{AllByRecursion, list_all}
 use Rattle.std.specs.Option.{ok_or, option_map_or}
 use Rattle.std.specs.Str.{bytes_eq}
+use Rattle.fix_text.specs.Then.{◌>>=◌}
 use Rattle.fix_text.specs.Tagged.{Tagged, value_of}
 use Rattle.dialect.specs.declared.fault.DialectFault.{DialectFault}
 use Rattle.dialect.specs.declared.fault.DialectFault.TheVariants.{Missing, Bad}
-
--- the next step, where this one met no fault
-infixl 10 ◌>>=◌
-abbrev pub ◌>>=◌ : {A B : Type 0} → Result A DialectFault → (A → Result B DialectFault) → Result B DialectFault
-(Ok x) >>= f = f x
-(Err fault) >>= f = Err fault
 
 -- the value of a field that must be there
 abbrev pub required : List Tagged → ℕ → Result (List ℕ) DialectFault
@@ -26,11 +21,6 @@ pub record ReadsAs {A : Type 0} (reads : List ℕ → Option A) (fields : List T
   pub text : List ℕ
   pub there : value_of fields tag ≡ Some text
   pub reads_as : reads text ≡ Some x
-
--- the fault, unless a test holds
-abbrev pub unless : Bool → DialectFault → Result (Unit {0}) DialectFault
-unless true fault = Ok tt
-unless false fault = Err fault
 
 -- whether a field is there and passes a test
 abbrev pub has_value : (List ℕ → Bool) → List Tagged → ℕ → Bool

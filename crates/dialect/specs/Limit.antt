@@ -1,6 +1,7 @@
 -- How much an order is for, at which limit, and on which side (FIX 4.4 Volume 4, NewOrderSingle: OrderQty, OrdType,
 -- Price, Side).
 use Rattle.std.specs.Prelude.{ℕ, List, [], ◌∷◌, Option, Some, None, option_and_then, codes, decimal, Result, Ok, ◌==◌, if◌then◌else◌}
+use Rattle.fix_text.specs.Then.{◌>>=◌, unless}
 use Rattle.fix_text.specs.Tagged.{Tagged}
 use Rattle.fix_tags.specs.Shares.{shares_of}
 use Rattle.fix_tags.specs.Price.{price_of}
@@ -13,7 +14,7 @@ use Rattle.leg.specs.Terms.{is_shares, IsShares, IsPrice}
 use Rattle.dialect.specs.declared.limit.Limit.{Limit}
 use Rattle.dialect.specs.declared.fault.DialectFault.{DialectFault}
 use Rattle.dialect.specs.declared.fault.DialectFault.TheVariants.{Bad}
-use Rattle.dialect.specs.Fields.{◌>>=◌, required, required_as, unless, is_text, field}
+use Rattle.dialect.specs.Fields.{required, required_as, is_text, field}
 
 -- shares and price are those of a leg
 pub record IsInRange (limit : Limit) : Type 0 where

@@ -14,17 +14,7 @@ pub use Rattle.dialect.specs.declared.message.Message.{Message}
 -- whether it is a Logon
 abbrev pub is_logon : Content → Bool
 is_logon (Logon heart reset next) = true
-is_logon (Heartbeat id) = false
-is_logon (TestRequest id) = false
-is_logon (ResendRequest begin last) = false
-is_logon (Reject number) = false
-is_logon (GapFill new_number) = false
-is_logon (Reset new_number) = false
-is_logon Logout = false
-is_logon (BusinessReject number) = false
-is_logon (Order read) = false
-is_logon (ExecutionReport read) = false
-is_logon Other = false
+is_logon _ = false
 
 -- how a dialect reads orders and reports
 pub record Readers : Type 0 where

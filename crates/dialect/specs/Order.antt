@@ -1,5 +1,6 @@
 -- An order (FIX 4.4 Volume 4, NewOrderSingle) in any spelling.
 use Rattle.std.specs.Prelude.{◌≡◌, List, [], ◌∷◌, ◌++◌, codes, Some, IsSome, Result, Ok}
+use Rattle.fix_text.specs.Then.{◌>>=◌, unless}
 use Rattle.fix_text.specs.Tagged.{Tagged, value_of}
 use Rattle.fix_tags.specs.Price.{price_of}
 use Rattle.fix_tags.specs.Shares.{shares_of}
@@ -8,7 +9,7 @@ use Rattle.leg.specs.declared.leg.Leg.{Leg}
 use Rattle.leg.specs.Leg.{IsLeg}
 use Rattle.dialect.specs.declared.fault.DialectFault.{DialectFault}
 use Rattle.dialect.specs.declared.fault.DialectFault.TheVariants.{NotMarked}
-use Rattle.dialect.specs.Fields.{◌>>=◌, required_as, unless, ReadsAs, field, AreIn}
+use Rattle.dialect.specs.Fields.{required_as, ReadsAs, field, AreIn}
 use Rattle.dialect.specs.Mark.{CarriesMark}
 use Rattle.dialect.specs.Limit.{side_text, limit_in, limit_fields, leg_of}
 use Rattle.dialect.specs.Time.{immediate_in, immediate_fields}

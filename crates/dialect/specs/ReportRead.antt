@@ -1,12 +1,13 @@
 -- What fields say that are read as a report (FIX 4.4 Volume 4, ExecutionReport).
 use Rattle.std.specs.Prelude.{◌==◌, ℕ, List, [], ◌∷◌, Result, Ok, Err, if◌then◌else◌}
+use Rattle.fix_text.specs.Then.{◌>>=◌}
 use Rattle.fix_text.specs.Tagged.{Tagged}
 use Rattle.dialect.specs.declared.fault.DialectFault.{DialectFault}
 use Rattle.dialect.specs.declared.fault.DialectFault.TheVariants.{Bad}
 use Rattle.dialect.specs.declared.report.Report.{Report}
 use Rattle.dialect.specs.declared.report.ReportKind.{ReportKind}
 use Rattle.dialect.specs.declared.report.ReportKind.TheVariants.{New, Trade, Canceled, Rejected, Expired, Bust}
-use Rattle.dialect.specs.Fields.{◌>>=◌, required, required_as}
+use Rattle.dialect.specs.Fields.{required, required_as}
 use Rattle.dialect.specs.Fill.{FillParts}
 use Rattle.dialect.specs.FreeText.{free_text_of}
 use Rattle.dialect.specs.Limit.{order_shares_of}

@@ -2,13 +2,14 @@
 use Rattle.std.specs.Prelude.{ℕ, List, [], ◌∷◌, ◌++◌, Option, Some, None, option_and_then, codes, Result, Ok}
 use Rattle.std.specs.Option.{ok_or}
 use Rattle.std.specs.Result.{result_ok}
+use Rattle.fix_text.specs.Then.{◌>>=◌}
 use Rattle.fix_text.specs.Tagged.{Tagged, value_of}
 use Rattle.fix_tags.specs.Price.{price_four}
 use Rattle.leg.specs.LegId.{LegIdParts}
 use Rattle.leg.specs.Symbol.{SymbolParts, symbol_of}
 use Rattle.dialect.specs.declared.fault.DialectFault.{DialectFault}
 use Rattle.dialect.specs.declared.fault.DialectFault.TheVariants.{Bad}
-use Rattle.dialect.specs.Fields.{◌>>=◌, required_as, field}
+use Rattle.dialect.specs.Fields.{required_as, field}
 use Rattle.dialect.specs.Split.{parts_round}
 use Rattle.dialect.specs.Digits.{digits}
 use Rattle.dialect.specs.FixedId.{fixed_id_of}

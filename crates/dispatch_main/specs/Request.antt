@@ -18,6 +18,7 @@ use Rattle.std.specs.Prelude.{
 }
 use Rattle.std.specs.Option.{ok_or}
 use Rattle.std.specs.Str.{bytes_eq}
+use Rattle.fix_text.specs.Then.{◌>>=◌}
 use Rattle.fix_tags.specs.CompId.{comp_id_of}
 use Rattle.fix_tags.specs.Number.{number_of}
 use Rattle.fix_tags.specs.Stamp.{StampParts, stamp_read}
@@ -30,12 +31,6 @@ use Rattle.dispatch_main.specs.declared.order.option.OrderOption.{OrderOption}
 use Rattle.dispatch_main.specs.declared.order.option.OrderOption.TheVariants as Of
 use Rattle.dispatch_main.specs.declared.order.options.Options.{Options}
 use Rattle.dispatch_main.specs.declared.order.request.Request.{Request}
-
-infixl 10 ◌>>=◌
-abbrev pub ◌>>=◌ : {A B : Type 0} → Result A ProgramFault → (A → Result B ProgramFault)
-    → Result B ProgramFault
-(Ok x) >>= f = f x
-(Err fault) >>= f = Err fault
 
 -- the value of an option's text, if it has one
 abbrev pub given : {A : Type 0} → OrderOption → Option A → Result A ProgramFault

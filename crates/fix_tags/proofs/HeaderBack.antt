@@ -1,10 +1,11 @@
 -- A written message reads back as itself.
 use Rattle.std.proofs.Common.{◌≡◌, ℕ, Bool, true, false, List, ◌++◌, Option, Some, None, Result, Ok, refl, ◌∙◌, ap}
 use Rattle.std.specs.Fmt.{decimal}
+use Rattle.fix_text.specs.Then.{◌>>=◌}
 use Rattle.fix_text.specs.Tagged.{Tagged, value_of}
 use Rattle.fix_tags.specs.CompId.{is_comp_id, comp_id_of}
 use Rattle.fix_tags.specs.Flag.{flag_of}
-use Rattle.fix_tags.specs.Reading.{◌>>=◌, required, flag_at, short_text, number_if, anything, body_read, envelope_read}
+use Rattle.fix_tags.specs.Reading.{required, flag_at, short_text, number_if, anything, body_read, envelope_read}
 use Rattle.fix_tags.specs.Message.{is_message_number, kind_of, header_fields}
 use Rattle.fix_tags.specs.declared.envelope.Envelope.{Envelope}
 use Rattle.fix_tags.specs.declared.tag_fault.TagFault.{TagFault}

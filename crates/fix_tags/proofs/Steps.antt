@@ -4,12 +4,13 @@ use Rattle.std.specs.Prelude.{IfSome}
 use Rattle.std.proofs.lemmas.Bool.{eqb-true, and_parts}
 use Rattle.std.proofs.lemmas.Bool.Decides.{nat_tests}
 use Rattle.std.proofs.lemmas.Option.{same_Some, cond_some, option_and_then_some}
+use Rattle.fix_text.specs.Then.{◌>>=◌}
 use Rattle.fix_text.specs.Tagged.{Tagged, value_of}
 use Rattle.fix_tags.specs.CompId.{IsCompId, is_comp_id, comp_id_of}
 use Rattle.fix_tags.specs.Flag.{flag_of}
 use Rattle.fix_tags.specs.Number.{number_of}
 use Rattle.fix_tags.specs.Readable.{IsShortText}
-use Rattle.fix_tags.specs.Reading.{◌>>=◌, good, wanted, required, or_default, optional, passing, number_if, some_number, short_text, some_text, no_encryption}
+use Rattle.fix_tags.specs.Reading.{good, wanted, required, or_default, optional, passing, number_if, some_number, short_text, some_text, no_encryption}
 use Rattle.fix_tags.specs.Reading as reading
 use Rattle.fix_tags.specs.Says.{SaysNumber, SaysNumberIfAny, SaysFlag}
 use Rattle.fix_tags.specs.declared.tag_fault.TagFault.{TagFault}

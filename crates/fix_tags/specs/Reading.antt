@@ -1,5 +1,6 @@
 -- What fields are read as (FIX 4.4 Volume 2): the message, or the first fault, a missing field before a bad one.
 use Rattle.std.specs.Prelude.{◌≡◌, ℕ, List, [], ◌∷◌, length, Bool, false, ◌&&◌, ◌==◌, nat_lt, nat_le, Option, Some, None, Result, Ok, Err, filter, option_and_then, if◌then◌else◌}
+use Rattle.fix_text.specs.Then.{◌>>=◌}
 use Rattle.fix_text.specs.Tagged.{Tagged, value_of}
 use Rattle.fix_tags.specs.App.{is_app_tag}
 use Rattle.fix_tags.specs.CompId.{comp_id_of}
@@ -18,11 +19,6 @@ use Rattle.fix_tags.specs.declared.tag_fault.TagFault.TheVariants.{Missing, BadF
 abbrev pub IsApp : Body → Type 0
 IsApp (App kind fields) = Unit {0}
 IsApp _ = ⊥
-
-infixl 10 ◌>>=◌
-abbrev pub ◌>>=◌ : {A B : Type 0} → Result A TagFault → (A → Result B TagFault) → Result B TagFault
-(Ok x) >>= f = f x
-(Err fault) >>= f = Err fault
 
 -- what a call answers, seen by view, is what is read
 abbrev pub Gives : {X Y : Type 0} → (X → Y) → Result X TagFault → Result Y TagFault → Type 0

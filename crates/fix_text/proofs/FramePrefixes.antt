@@ -1,10 +1,11 @@
 -- A frame, as its parts: more bytes change nothing that was decided, and what is short can be made whole.
 use Rattle.std.proofs.Common.{◌≡◌, ℕ, ◌-◌, ◌<◌, List, [], ◌∷◌, ◌++◌, length, take, replicate, Result, Ok, Err, refl, sym, ap, subst, ◌∙◌, arith, append_assoc, inl, inr}
 use Rattle.std.proofs.lemmas.List.{length-append, length-replicate}
+use Rattle.fix_text.specs.Then.{◌>>=◌}
 use Rattle.fix_text.specs.declared.parse.Stop.{Stop}
 use Rattle.fix_text.specs.declared.parse.Stop.TheVariants.{Short, Differs}
 use Rattle.fix_text.specs.Grammar.{number_of, IsLength, IsCheck, EndsInSoh, IsFrame, opening, header_of, trailer_of}
-use Rattle.fix_text.specs.Reading.{◌>>=◌, literal_at, length_at, body_at, trailer_at, frame_at, WholeParts}
+use Rattle.fix_text.specs.Reading.{literal_at, length_at, body_at, trailer_at, frame_at, WholeParts}
 use Rattle.fix_text.proofs.Readers.{literal_takes, length_takes, body_takes, length_step, body_step, end_step, frame_takes, frame_again, is_length_from, Completes, Spelled}
 use Rattle.fix_text.proofs.Prefixes.{bind_err, ok_differs, literal_more, literal_stays, literal_completes, length_more, length_stays, length_completes, body_more, body_stays, body_completes}
 use Rattle.fix_text.proofs.TrailerPrefixes.{trailer_stays, trailer_completes, three_is}

@@ -5,10 +5,11 @@ use Rattle.std.specs.Char.{is_ascii_digit}
 use Rattle.std.specs.Str.{all_ascii_digits}
 use Rattle.std.proofs.lemmas.Bool.{eqb-true, ltb-true, ltb-false, leb-true, le-ltb, and_parts, and_from, and_cases, and_left, and_right, or_parts, or_cases, cases_lt}
 use Rattle.std.proofs.lemmas.List.{length-append, length-replicate, get_or_append_left}
+use Rattle.fix_text.specs.Then.{◌>>=◌}
 use Rattle.fix_text.specs.declared.parse.Stop.{Stop}
 use Rattle.fix_text.specs.declared.parse.Stop.TheVariants.{Short, Differs}
 use Rattle.fix_text.specs.Grammar.{EndsInSoh}
-use Rattle.fix_text.specs.Reading.{◌>>=◌, literal_at, digit_at, length_at, body_at}
+use Rattle.fix_text.specs.Reading.{literal_at, digit_at, length_at, body_at}
 use Rattle.fix_text.proofs.Readers.{chosen, done, literal_takes, literal_again, digit_takes, digit_again, Completes, length_takes, length_again, body_takes, body_again, digit_is}
 
 -- where a step stopped: at its first part, or behind it

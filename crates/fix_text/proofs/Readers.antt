@@ -5,10 +5,11 @@ use Rattle.std.specs.Char.{is_ascii_digit}
 use Rattle.std.specs.Str.{all_ascii_digits}
 use Rattle.std.proofs.lemmas.Bool.{eqb-true, ltb-true, ltb-false, lt-ltb, le-ltb, le-leb, ne_eqb, eq-eqb, and_parts, and_from}
 use Rattle.std.proofs.lemmas.List.{take_at, drop_at, take-append-drop, length-append, length-take-le, length_push, get_or_at, take_more}
+use Rattle.fix_text.specs.Then.{◌>>=◌}
 use Rattle.fix_text.specs.declared.parse.Stop.{Stop}
 use Rattle.fix_text.specs.declared.parse.Stop.TheVariants.{Short, Differs}
 use Rattle.fix_text.specs.Grammar.{number_after, IsLength, IsCheck, EndsInSoh, opening, header_of, trailer_of}
-use Rattle.fix_text.specs.Reading.{◌>>=◌, literal_at, digit_at, length_at, body_at, trailer_at, frame_at, WholeParts}
+use Rattle.fix_text.specs.Reading.{literal_at, digit_at, length_at, body_at, trailer_at, frame_at, WholeParts}
 
 -- the value of a step that went well
 pub bind_ok : {A B : Type 0} (r : Result A Stop) (f : A → Result B Stop) (y : B) → (r >>= f) ≡ Ok y → (x : A) × (r ≡ Ok x) × (f x ≡ Ok y)

@@ -3,10 +3,11 @@ use Rattle.std.proofs.Common.{◌≡◌, ℕ, ◌+◌, ◌*◌, ◌<◌, ◌≤�
 use Rattle.std.specs.Prelude.{codes}
 use Rattle.std.proofs.lemmas.Bool.{and_from}
 use Rattle.std.proofs.lemmas.List.{length-append}
+use Rattle.fix_text.specs.Then.{◌>>=◌}
 use Rattle.fix_text.specs.declared.parse.Stop.{Stop}
 use Rattle.fix_text.specs.declared.parse.Stop.TheVariants.{Short, Differs}
 use Rattle.fix_text.specs.Grammar.{number_of, IsCheck, trailer_of}
-use Rattle.fix_text.specs.Reading.{◌>>=◌, literal_at, digit_at, trailer_at}
+use Rattle.fix_text.specs.Reading.{literal_at, digit_at, trailer_at}
 use Rattle.fix_text.proofs.Readers.{literal_takes, digit_takes, first_step, second_step, third_step, last_step, digit_is}
 use Rattle.fix_text.proofs.Prefixes.{bind_err, ok_differs, literal_more, literal_stays, literal_completes, digit_more, digit_stays, digit_short}
 

@@ -2,6 +2,7 @@ pub mod Tagged
 pub mod Text
 pub mod Frame
 pub mod Grammar
+pub mod Then
 pub mod Reading
 pub mod Placing
 pub mod FrameFields

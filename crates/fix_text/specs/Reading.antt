@@ -1,17 +1,13 @@
 -- How a stream of bytes is read: what stands at a place, and what a call of the reader gives (FIX 4.4 Volume 2, "Message structure").
 use Rattle.std.specs.Prelude.{◌≡◌, ◌≤◌, IsTrue, ℕ, zero, suc, ◌+◌, ◌-◌, ◌*◌, ◌^◌, ◌%◌, ◌&&◌, ◌||◌, List, [], ◌∷◌, ◌++◌, length, take, drop, slice_index, sum, min, codes, Option, Some, None, option_map, option_and_then, Result, Ok, Err, nat_lt, nat_le, ◌==◌, if◌then◌else◌}
 use Rattle.std.specs.Char.{is_ascii_digit}
+use Rattle.fix_text.specs.Then.{◌>>=◌}
 use Rattle.fix_text.specs.Tagged.{Tagged}
 use Rattle.fix_text.specs.Text.{fields_text, begins_with_type, has_writable_tags, has_writable_values}
 use Rattle.fix_text.specs.Frame.{frame_text}
 use Rattle.fix_text.specs.Grammar.{opening}
 use Rattle.fix_text.specs.declared.parse.Stop.{Stop}
 use Rattle.fix_text.specs.declared.parse.Stop.TheVariants.{Short, Differs}
-
-infixl 10 ◌>>=◌
-abbrev pub ◌>>=◌ : {A B : Type 0} → Result A Stop → (A → Result B Stop) → Result B Stop
-(Ok x) >>= f = f x
-(Err stop) >>= f = Err stop
 
 -- what follows these very bytes
 unfoldable pub literal_at : List ℕ → List ℕ → Result (List ℕ) Stop

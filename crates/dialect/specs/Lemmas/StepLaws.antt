@@ -1,10 +1,11 @@
 -- Lemmas: what is known where steps met no fault.
 use Rattle.std.proofs.Common.{◌≡◌, ℕ, Bool, true, false, List, Option, Some, None, Result, Ok, Err, refl}
 use Rattle.std.specs.Option.{ok_or}
+use Rattle.fix_text.specs.Then.{◌>>=◌, unless}
 use Rattle.fix_text.specs.Tagged.{Tagged}
 use Rattle.dialect.specs.declared.fault.DialectFault.{DialectFault}
 use Rattle.dialect.specs.declared.fault.DialectFault.TheVariants.{Bad}
-use Rattle.dialect.specs.Fields.{◌>>=◌, required, required_as, ReadsAs, unless}
+use Rattle.dialect.specs.Fields.{required, required_as, ReadsAs}
 
 -- the value of a step that met no fault
 pub bind_ok : {A B : Type 0} (r : Result A DialectFault) (f : A → Result B DialectFault) (y : B) → (r >>= f) ≡ Ok y
