@@ -1,5 +1,5 @@
 -- A message that can be written is refused under no header, and read back from its frame, in any dialect.
-use Rattle.std.proofs.Common.{◌≡◌, ℕ, ◌+◌, ◌*◌, ◌≤◌, Bool, true, false, cond, List, [], ◌∷◌, ◌++◌, length, nat_lt, nat_le, decimal, codes, Option, Some, None, Result, Ok, Err, refl, sym, ap, subst, ◌∙◌, arith, length-append}
+use Rattle.std.proofs.Common.{◌≡◌, ℕ, ◌*◌, ◌≤◌, Bool, true, false, List, [], ◌∷◌, ◌++◌, length, nat_lt, nat_le, decimal, codes, Option, Some, None, Ok, Err, refl, sym, ap, subst, ◌∙◌, arith, length-append}
 use Rattle.std.specs.List.{AllByRecursion}
 use Rattle.std.proofs.lemmas.Bool.{and_parts, and_from}
 use Rattle.std.proofs.lemmas.Bool.Decides.{nat_tests}
@@ -7,7 +7,7 @@ use Rattle.std.proofs.lemmas.Fmt.{length-decimal-le}
 use Rattle.fix_text.specs.Tagged.{Tagged}
 use Rattle.fix_text.specs.Text.{field_text, fields_text, is_writable_value}
 use Rattle.fix_text.specs.Frame.{frame_text}
-use Rattle.fix_text.specs.Reading.{Stream, next_read}
+use Rattle.fix_text.specs.Reading.{Stream}
 use Rattle.fix_text.proofs.Lengths.{length-field_text}
 use Rattle.fix_text.proofs.Rewritten.{next_begins}
 use Rattle.fix_tags.specs.CompId.{IsCompId}
@@ -16,7 +16,6 @@ use Rattle.fix_tags.specs.Stamp.{StampParts, IsStamp, stamp_text}
 use Rattle.fix_tags.proofs.Written.{length-stamp_text}
 use Rattle.fix_tags.specs.declared.body.Body.{Body}
 use Rattle.fix_tags.specs.declared.body.Body.TheVariants as body
-use Rattle.fix_tags.specs.declared.envelope.Envelope.{Envelope}
 use Rattle.fix_tags.proofs.AppFits.{header_length, no_app_fault}
 use Rattle.fix_tags.proofs.MessageBack.{envelope_read-written}
 use Rattle.fix_tags.proofs.WritableFields.{good_message, good_tags, good_values}
@@ -24,7 +23,7 @@ use Rattle.leg.specs.declared.leg.Leg.{Leg}
 use Rattle.leg.specs.Leg.{IsLeg}
 use Rattle.dialect.specs.declared.report.Report.{Report}
 use Rattle.dialect.specs.Dialect.{FitsMessage}
-use Rattle.dialect.specs.Framed.{Writers, IsApp, IsBody, envelope_of, IsFramed, IsReadAs}
+use Rattle.dialect.specs.Framed.{Writers, IsBody, envelope_of, IsFramed, IsReadAs}
 use Rattle.dialect.specs.FreeText.{IsFreeText}
 use Rattle.dialect.specs.declared.content.Content.{Content}
 use Rattle.dialect.specs.declared.content.Content.TheVariants.{Logon, Heartbeat, TestRequest, ResendRequest, Reject, GapFill, Reset, Logout, BusinessReject, Order, ExecutionReport, Other}

@@ -1,5 +1,5 @@
 -- What a report that was read says.
-use Rattle.std.proofs.Common.{◌≡◌, ◌==◌, ℕ, Bool, true, false, cond, List, [], ◌∷◌, Option, Some, Result, Ok, Err, IfOk, refl, sym, ap, subst, ◌∙◌}
+use Rattle.std.proofs.Common.{◌≡◌, ◌==◌, ℕ, Bool, true, false, cond, List, [], ◌∷◌, Some, Result, Ok, Err, IfOk, refl, sym, ap, subst, ◌∙◌}
 use Rattle.std.proofs.lemmas.Bool.{eqb-true, leb-true, and_parts}
 use Rattle.std.proofs.lemmas.Option.{cond_some, option_and_then_some}
 use Rattle.fix_text.specs.Then.{◌>>=◌}
@@ -15,7 +15,7 @@ use Rattle.dialect.specs.Fields.{required, required_as, ReadsAs}
 use Rattle.dialect.specs.Fill.{FillParts, IsFill}
 use Rattle.dialect.specs.FreeText.{IsFreeText, free_text_of}
 use Rattle.dialect.specs.Limit.{order_shares_of}
-use Rattle.dialect.specs.Report.{IsReport, IsReportKind}
+use Rattle.dialect.specs.Report.{IsReportKind}
 use Rattle.dialect.specs.ReportFields.{exec_type_text}
 use Rattle.dialect.specs.ReportRead.{fill_in, trade_in, bust_in, kind_of_byte, kind_of_text, kind_in, report_read_of}
 use Rattle.dialect.specs.ReportReading.{SaysFill, SaysDetail, IsReportReadingOf}

@@ -1,8 +1,8 @@
 -- A message as the bytes of one frame, in a dialect, and as what a stream that begins with it reads as.
-use Rattle.std.specs.Prelude.{◌≡◌, ℕ, false, List, ◌++◌, Option, Some, None, Result, Ok, Err, codes}
+use Rattle.std.specs.Prelude.{◌≡◌, ℕ, false, List, Option, Some, None, Result, Ok, Err, codes}
 use Rattle.fix_text.specs.Tagged.{Tagged}
 use Rattle.fix_text.specs.Frame.{frame_text}
-use Rattle.fix_text.specs.Reading.{Stream, NextFrame, next_read}
+use Rattle.fix_text.specs.Reading.{Stream, next_read}
 use Rattle.fix_tags.specs.Message.{envelope_fields}
 use Rattle.fix_tags.specs.Reading.{envelope_read}
 use Rattle.fix_tags.specs.Stamp.{StampParts}

@@ -1,10 +1,10 @@
 -- Fields with short values fit a message.
-use Rattle.std.proofs.Common.{◌≡◌, ◌==◌, ℕ, ◌+◌, ◌*◌, ◌≤◌, Bool, true, ◌&&◌, not, List, [], ◌∷◌, length, decimal, Some, refl, arith, length-append}
-use Rattle.std.specs.List.{AllByRecursion, list_all}
+use Rattle.std.proofs.Common.{◌≡◌, ℕ, ◌+◌, ◌*◌, ◌≤◌, true, ◌&&◌, not, List, [], ◌∷◌, length, decimal, refl, arith, length-append}
+use Rattle.std.specs.List.{AllByRecursion}
 use Rattle.std.proofs.lemmas.Bool.{and_parts, and_from}
 use Rattle.std.proofs.lemmas.Bool.Decides.{nat_tests}
 use Rattle.std.proofs.lemmas.Fmt.{length-decimal-le}
-use Rattle.fix_text.specs.Tagged.{Tagged, value_of}
+use Rattle.fix_text.specs.Tagged.{Tagged}
 use Rattle.fix_text.specs.Text.{field_text, fields_text, is_writable_tag, is_writable_value}
 use Rattle.fix_text.proofs.Lengths.{length-field_text}
 use Rattle.fix_tags.specs.App.{is_header_tag, are_app_fields}
