@@ -14,7 +14,7 @@ use Rattle.session_core.specs.declared.session_fault.SessionFault.TheVariants.{N
 use Rattle.session_core.specs.Session.{is_connected}
 use Rattle.session_core.specs.Turn.{StepParts}
 use Rattle.session_core.specs.Receiving.{receive}
-use Rattle.session_core.specs.Calling.{SessionAnswer, connect, send_leg, quiet, silent, close, broken}
+use Rattle.session_core.specs.Calling.{SessionAnswer, connect, send_leg, quiet, silent, close}
 use Rattle.exchange_core.specs.Exchange.{ExchangeParts, live_connection}
 use Rattle.exchange_core.specs.Acts.{ActAnswer}
 use Rattle.dialect.specs.declared.outgoing.Outgoing.{Outgoing}

@@ -3,15 +3,12 @@
 use Rattle.std.proofs.Common.{◌≡◌, ◌<◌, ◌⊎◌, ℕ, Option, Some, None, refl, sym, ap, ◌∙◌, inl, inr, arith}
 use Rattle.std.proofs.lemmas.Bool.{cases_lt}
 use Rattle.leg.specs.LegId.{LegIdParts}
-use Rattle.leg.specs.Numbered.{numbered}
 use Rattle.leg.specs.declared.leg_state.LegState.{LegState}
 use Rattle.leg.specs.declared.leg_state.LegState.TheVariants.{Withdrawn}
 use Rattle.resend.specs.Log.{SentLeg, state_of}
 use Rattle.resend.specs.Log.Entry.{Sent}
-use Rattle.resend.specs.Later.{MayBecome}
 use Rattle.session_core.specs.Session.{leg_state}
 use Rattle.venue_line.specs.Line.{Line}
-use Rattle.venue_line.specs.Copies.{IsLegAt}
 use Rattle.venue_line.specs.LineInvariant.{LineInvariant}
 use Rattle.venue_line.specs.LineTheorem.{IsWithdrawnLeg}
 use Rattle.venue_line.proofs.ForGood.{state_is}

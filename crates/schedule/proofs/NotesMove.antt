@@ -1,6 +1,6 @@
 -- The book lets in every note that it is given, so that its notes of a venue are those given, in order.
-use Rattle.std.proofs.Common.{◌≡◌, ◌==◌, ◌≤◌, ◌<◌, ◌+◌, ◌||◌, ◌&&◌, ℕ, zero, suc, Bool, true, false, List, [], ◌∷◌, ◌++◌, length, map, take, filter, Option, Some, None, refl, sym, ap, subst, ◌∙◌, inl, inr, if◌then◌else◌, arith}
-use Rattle.std.specs.Prelude.{slice_get, option_and_then, bytes_eq, get_or}
+use Rattle.std.proofs.Common.{◌≡◌, ◌==◌, ◌≤◌, ◌+◌, ◌||◌, ◌&&◌, ℕ, zero, suc, Bool, true, false, List, [], ◌∷◌, ◌++◌, length, map, take, filter, Option, Some, None, refl, sym, ap, subst, ◌∙◌, inl, inr, if◌then◌else◌, arith}
+use Rattle.std.specs.Prelude.{slice_get, option_and_then, bytes_eq}
 use Rattle.std.specs.List.{Contains, list_any}
 use Rattle.std.specs.List.Sorted.{IsStrictlyIncreasing}
 use Rattle.std.specs.Option.{option_map_or}
@@ -20,23 +20,21 @@ use Rattle.dialect.specs.declared.report.Report.{Report}
 use Rattle.dialect.specs.declared.message.Message.{Message}
 use Rattle.session_core.specs.Receiving.{receive, confirm}
 use Rattle.exchange_core.specs.Own.{Own, Admin, Reported, Refused, exec_id}
-use Rattle.exchange_core.specs.Exchange.{ExchangeParts, accepted_by}
+use Rattle.exchange_core.specs.Exchange.{accepted_by}
 use Rattle.exchange_core.specs.Keeping.{AreCounted}
 use Rattle.share_ledger.specs.declared.applied.Applied.{Applied}
 use Rattle.share_ledger.specs.declared.applied.Applied.TheVariants as applied
 use Rattle.share_ledger.specs.declared.book_entry.BookEntry.{BookEntry}
 use Rattle.share_ledger.specs.declared.book_entry.BookEntry.TheVariants.{Opened, Withdrawn, Moved}
-use Rattle.share_ledger.specs.Entries.{opened, order_of, is_same_leg, is_withdrawn, is_about, notes_on, has_exec, is_booked}
+use Rattle.share_ledger.specs.Entries.{order_of, is_same_leg, is_withdrawn, is_about, notes_on, has_exec, is_booked}
 use Rattle.share_ledger.specs.Shares.{Move, move_of, parts_of}
 use Rattle.share_ledger.specs.Book.{BookParts, written, moves_on, leg_parts, move_answer, leg_answer, answer_to, after_note, apply}
 use Rattle.share_ledger.proofs.OneMore.{is_same_leg-refl, is_same_leg-true}
 use Rattle.share_ledger.proofs.Outcomes.{apply_outcome}
 use Rattle.sweep_release.specs.Released.{released}
-use Rattle.schedule.specs.declared.event.Event.{Event}
-use Rattle.schedule.specs.World.{World, VenueParts, venue_in, given, made, reports_in, opening}
+use Rattle.schedule.specs.World.{World, VenueParts, venue_in, given, made, reports_in}
 use Rattle.venue_line.specs.Line.{noted}
-use Rattle.schedule.specs.Happening.{withdrawn_in, booked, session_turn, session_wrote, happens}
-use Rattle.schedule.specs.Growing.{IsWorldLater}
+use Rattle.schedule.specs.Happening.{withdrawn_in, booked, session_turn, session_wrote}
 use Rattle.schedule.specs.LineOf.{line_at}
 use Rattle.venue_line.proofs.LineGives.{line_holds}
 use Rattle.schedule.proofs.Grown.{slice_get-set_other}

@@ -1,6 +1,6 @@
 -- What our exchange reported of an order says what the order is: its trades, which of them are busted, and what is
 -- cancelled. So the next report on it is one that the share rule has room for.
-use Rattle.std.proofs.Common.{◌≡◌, ◌≤◌, ◌<◌, ◌+◌, ◌-◌, ◌⊎◌, ◌||◌, not, ℕ, zero, suc, Bool, true, false, List, [], ◌∷◌, ◌++◌, map, decimal, Option, Some, refl, sym, ap, subst, ◌∙◌, inl, inr, sum_by, if◌then◌else◌, arith}
+use Rattle.std.proofs.Common.{◌≡◌, ◌≤◌, ◌<◌, ◌+◌, ◌-◌, ◌||◌, ℕ, zero, suc, Bool, true, false, List, [], ◌∷◌, ◌++◌, map, decimal, Some, refl, sym, ap, subst, ◌∙◌, inl, inr, sum_by, if◌then◌else◌, arith}
 use Rattle.std.specs.Prelude.{slice_get, slice_set, bytes_eq, nat_le}
 use Rattle.std.specs.List.{list_any, AllByRecursion}
 use Rattle.std.proofs.Math.Bool.{or-false}
@@ -11,7 +11,7 @@ use Rattle.std.proofs.lemmas.List.Folds.{list_any-append}
 use Rattle.std.proofs.lemmas.List.Sums.{sum_by-cons}
 use Rattle.std.proofs.lemmas.Option.{same_Some}
 use Rattle.std.proofs.lemmas.Slice.Eq.{bytes_eq-Decides}
-use Rattle.leg.specs.Numbered.{numbered, with_numbered}
+use Rattle.leg.specs.Numbered.{numbered}
 use Rattle.dialect.specs.declared.report.ReportKind.{ReportKind}
 use Rattle.exchange_core.specs.Order.{OrderParts, TradeParts, Ending, ended_by}
 use Rattle.exchange_core.specs.Own.{exec_id}

@@ -1,6 +1,6 @@
 -- What our exchange keeps of its reports: it refuses no order, its reports are on accepted legs, counted, and fit the
 -- share rule.
-use Rattle.std.proofs.Common.{◌≡◌, ◌==◌, ◌≤◌, ◌+◌, ℕ, zero, suc, Bool, true, false, List, [], ◌∷◌, ◌++◌, length, map, Option, Some, None, Ok, Err, refl, sym, ap, subst, ◌∙◌, length-append, arith}
+use Rattle.std.proofs.Common.{◌≡◌, ◌==◌, ◌≤◌, ◌+◌, ℕ, suc, Bool, true, false, List, [], ◌∷◌, ◌++◌, length, Option, Some, None, Ok, Err, refl, sym, ap, subst, ◌∙◌, length-append, arith}
 use Rattle.std.proofs.lemmas.Bool.Decides.{nat_tests}
 use Rattle.std.proofs.lemmas.List.{append-nil, map-append}
 use Rattle.fix_tags.specs.Config.{ConfigParts}
@@ -14,8 +14,8 @@ use Rattle.dialect.specs.declared.content.Content.{Content}
 use Rattle.dialect.specs.declared.content.Content.TheVariants.{TestRequest, GapFill, Logout, Order}
 use Rattle.dialect.specs.declared.message.Message.{Message}
 use Rattle.exchange_core.specs.Order.{OrderParts, new_order, view_of}
-use Rattle.exchange_core.specs.Own.{Own, Admin, Reported, Refused, next_own_number, has_numbers, report_count, next_exec}
-use Rattle.exchange_core.specs.Exchange.{LiveConnection, ExchangeParts, new_exchange, accepted_by, next_report, logon_answer, with_connection, due_taken, asks, take, drop_connection}
+use Rattle.exchange_core.specs.Own.{Own, Admin, Reported, Refused, next_own_number, report_count, next_exec}
+use Rattle.exchange_core.specs.Exchange.{ExchangeParts, new_exchange, accepted_by, next_report, logon_answer, with_connection, due_taken, asks, take, drop_connection}
 use Rattle.exchange_core.specs.Acts.{reported, tested}
 use Rattle.exchange_core.specs.Keeping.{AreCounted}
 use Rattle.exchange_core.proofs.After.{legs_kept}
@@ -28,7 +28,7 @@ use Rattle.schedule.specs.World.{reports_in}
 use Rattle.schedule.specs.Happening.{act_of}
 use Rattle.venue_line.proofs.Kept.{numbered_none}
 use Rattle.schedule.proofs.Clean.{IsClean, IsRead, take_clean, act_clean}
-use Rattle.schedule.proofs.ReportedLegs.{IsNumberOf, AreOn, made_on, take_on, act_on}
+use Rattle.schedule.proofs.ReportedLegs.{AreOn, made_on, take_on, act_on}
 use Rattle.schedule.proofs.ReportsFit.{AreApart, AreMatched, legs_of, report_on, reported_match, accepted_match}
 
 -- reports of own numbers, one list behind the other

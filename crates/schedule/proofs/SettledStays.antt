@@ -1,14 +1,13 @@
 -- What is settled at a venue stays so, as it does on its line.
-use Rattle.std.proofs.Common.{◌≡◌, ◌≤◌, ℕ, zero, suc, Bool, List, [], ◌∷◌, ◌++◌, map, Option, Some, None, refl, sym, ap, subst, ◌∙◌, inl, inr, arith}
+use Rattle.std.proofs.Common.{◌≡◌, ℕ, List, [], ◌∷◌, ◌++◌, Option, Some, None, refl, sym, subst, ◌∙◌, arith, ap}
 use Rattle.std.specs.List.{Contains}
 use Rattle.std.specs.Option.{option_map_or}
-use Rattle.std.proofs.lemmas.Option.{same_Some, slice_get_past, slice_get_within}
+use Rattle.std.proofs.lemmas.List.Elements.{Contains-append_left}
+use Rattle.std.proofs.lemmas.Option.{same_Some, slice_get_past}
 use Rattle.leg.specs.Numbered.{numbered}
 use Rattle.leg.specs.declared.leg.Leg.{Leg}
-use Rattle.leg.specs.declared.leg_state.LegState.{LegState}
-use Rattle.leg.specs.declared.leg_state.LegState.TheVariants.{Queued, Doubt, Taken, Withdrawn}
-use Rattle.sweep_release.specs.Released.{released}
-use Rattle.venue_line.specs.Line.{Line}
+use Rattle.leg.specs.declared.leg_state.LegState.TheVariants.{Taken, Withdrawn}
+use Rattle.exchange_core.specs.Exchange.{accepted_by}
 use Rattle.venue_line.specs.ForGood.{StaysSettled as LineStaysSettled}
 use Rattle.venue_line.proofs.PastLines.{IsPast}
 use Rattle.venue_line.proofs.ForGood.{settled-refl, settled-trans, stays_settled}
@@ -16,26 +15,33 @@ use Rattle.schedule.specs.declared.event.Event.{Event}
 use Rattle.schedule.specs.World.{World, VenueParts, venue_in, opening, state_of, released_to, accepted}
 use Rattle.schedule.specs.Happening.{happens, happen, run}
 use Rattle.schedule.specs.LineOf.{line_at}
-use Rattle.schedule.specs.SweepTheorem.{IsWithdrawn, HoldsAt}
+use Rattle.schedule.specs.SweepTheorem.{IsWithdrawn}
 use Rattle.schedule.specs.ForGood.{StaysSettled, WhatIsSettledStays}
 use Rattle.schedule.proofs.Happened.{event_is_later}
-use Rattle.schedule.proofs.Lines.{Steps, event_advances}
+use Rattle.schedule.proofs.Lines.{event_advances}
 use Rattle.schedule.proofs.RunsSafely.{IsSafe, safe_after, safe_run, safe_opening}
 use Rattle.schedule.proofs.OrderHolds.{withdrawn_at, withdrawn_of, sent_as, sent_of, holds_by, never, none_past}
 use Rattle.schedule.proofs.LegNumbers.{one_ordinal}
 use Rattle.schedule.proofs.GoneLegs.{passed, ordinal_of}
 
--- a venue of a later world, whose line keeps what is settled
+-- a venue of a later world, whose line keeps what is settled, and whose exchange what it accepted
 record KeepsVenue (w later : World) (v : ℕ) (venue : VenueParts) : Type 0 where
   now : VenueParts
   there : venue_in later v ≡ Some now
   stays : LineStaysSettled (line_at w.desk v venue) (line_at later.desk v now)
+  accepts : (leg : Leg) → Contains (accepted_by venue.exchange) leg → Contains (accepted_by now.exchange) leg
 
 abbrev Keeps : World → World → Type 0
 Keeps w later = (v : ℕ) (venue : VenueParts) → venue_in w v ≡ Some venue → KeepsVenue w later v venue
 
 keeps-refl : (w : World) → Keeps w w
-keeps-refl w v venue there = record { now = venue; there = there; stays = settled-refl (line_at w.desk v venue) }
+keeps-refl w v venue there =
+    record {
+      now = venue;
+      there = there;
+      stays = settled-refl (line_at w.desk v venue);
+      accepts = λ leg among. among;
+    }
 
 keeps-trans : (a b c : World) → Keeps a b → Keeps b c → Keeps a c
 keeps-trans a b c first more v venue there =
@@ -46,6 +52,7 @@ keeps-trans a b c first more v venue there =
       there = two.there;
       stays = settled-trans (line_at a.desk v venue) (line_at b.desk v one.now) (line_at c.desk v two.now) one.stays
           two.stays;
+      accepts = λ leg among. two.accepts leg (one.accepts leg among);
     }
 
 keeps_event : (w : World) (e : Event) → IsSafe w → IsSafe (happens w e) → Keeps w (happens w e)
@@ -61,6 +68,10 @@ keeps_event w e safe safe_after v venue there =
       there = now.1;
       stays = stays_settled (line_at w.desk v venue) (line_at after.desk v now.0) past
           (safe_after.lines v now.0 now.1).0;
+      accepts = λ leg among.
+          (let more = now.2.exchange.accepted in
+          subst (λ l. Contains l leg) (sym more.1)
+          (Contains-append_left (accepted_by venue.exchange) more.0 leg among));
     }
 
 keeps_run : (more : List Event) (w : World) → IsSafe w → Keeps w (happen more w)
@@ -69,6 +80,10 @@ keeps_run (e ∷ more) w safe =
     let after = happens w e in
     let next = safe_after w after (event_advances w e) safe in
     keeps-trans w after (happen more after) (keeps_event w e safe next) (keeps_run more after next)
+
+-- the legs accepted at a venue
+abbrev accepted_at : Option VenueParts → List Leg
+accepted_at found = option_map_or (λ (venue : VenueParts). accepted_by venue.exchange) found []
 
 -- by the states of a world
 module _ (w later : World) (safe : IsSafe w) (safe_later : IsSafe later) (v : ℕ) (venue : VenueParts)
@@ -89,16 +104,22 @@ module _ (w later : World) (safe : IsSafe w) (safe_later : IsSafe later) (v : �
       (kept.stays.taken ordinal
       (sent_as w v venue there old.0 old.1 (safe.orderly v venue there).clean ordinal Taken (λ e. cc) (λ e. cc) is))
 
-  never_accepted : (ordinal : ℕ) (leg : Leg) → numbered ordinal (released_to w v) ≡ Some leg
-      → IsWithdrawn w v ordinal → Contains (accepted later v) leg → ⊥
-  never_accepted ordinal leg whole is among =
+  -- a leg isn't both withdrawn and accepted
+  not_both : (ordinal : ℕ) (leg : Leg) → numbered ordinal (released_to w v) ≡ Some leg
+      → IsWithdrawn later v ordinal → Contains (accepted later v) leg → ⊥
+  not_both ordinal leg whole gone among =
       let h = holds_by later v (venue_in later v) refl safe_later in
       let o = ordinal_of (accepted later v) h.ordinals (λ k. numbered k (released_to later v)) leg h.order.released
       among in
       let same : ordinal ≡ o.0 =
       one_ordinal v later.desk.sweeps ordinal o.0 leg leg (kept.stays.released ordinal leg whole) o.2 refl in
-      h.gaps.withdrawn_is_missing ordinal (withdrawn_stays ordinal is)
-      (subst (Contains h.ordinals) (sym same) o.1)
+      h.gaps.withdrawn_is_missing ordinal gone (subst (Contains h.ordinals) (sym same) o.1)
+
+  still_accepted : (leg : Leg) → Contains (accepted w v) leg → Contains (accepted later v) leg
+  still_accepted leg among =
+      let before : accepted w v ≡ accepted_by venue.exchange = ap accepted_at there in
+      let after : accepted later v ≡ accepted_by kept.now.exchange = ap accepted_at kept.there in
+      subst (λ l. Contains l leg) (sym after) (kept.accepts leg (subst (λ l. Contains l leg) before among))
 
 settled_at : (w later : World) → IsSafe w → IsSafe later → Keeps w later → (v : ℕ) (found : Option VenueParts)
     → venue_in w v ≡ found → StaysSettled w later v
@@ -107,7 +128,10 @@ settled_at w later safe safe_later keeps v (Some venue) is =
     record {
       withdrawn = withdrawn_stays w later safe safe_later v venue is kept;
       taken = taken_stays w later safe safe_later v venue is kept;
-      never_accepted = never_accepted w later safe safe_later v venue is kept;
+      never_accepted = λ ordinal leg whole gone among. not_both w later safe safe_later v venue is kept ordinal leg whole
+          (withdrawn_stays w later safe safe_later v venue is kept ordinal gone) among;
+      never_withdrawn = λ ordinal leg whole among gone. not_both w later safe safe_later v venue is kept ordinal leg whole
+          gone (still_accepted w later safe safe_later v venue is kept leg among);
     }
 settled_at w later safe safe_later keeps v None is =
     let past = none_past w.venues v is in
@@ -116,6 +140,10 @@ settled_at w later safe safe_later keeps v None is =
       withdrawn = λ ordinal gone. absurd (never w v is (rw none refl) ordinal Withdrawn (λ e. cc) gone);
       taken = λ ordinal gone. absurd (never w v is (rw none refl) ordinal Taken (λ e. cc) gone);
       never_accepted = λ ordinal leg whole gone. absurd (never w v is (rw none refl) ordinal Withdrawn (λ e. cc) gone);
+      never_withdrawn = λ ordinal leg whole among gone.
+          (let none : accepted w v ≡ [] = ap accepted_at is in
+          let h = (subst (λ l. Contains l leg) none among).1 in
+          omega arith);
     }
 
 happen-append : (xs ys : List Event) (w : World) → happen (xs ++ ys) w ≡ happen ys (happen xs w)

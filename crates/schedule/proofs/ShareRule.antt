@@ -1,14 +1,13 @@
 -- The parts of each leg in the book are what the share rule makes of the notes given on it and of its withdrawal.
-use Rattle.std.proofs.Common.{◌≡◌, ◌+◌, ℕ, zero, suc, Bool, List, [], ◌∷◌, map, filter, Some, refl, sym, ap, subst, ◌∙◌, arith}
+use Rattle.std.proofs.Common.{◌≡◌, ◌+◌, ℕ, suc, List, [], ◌∷◌, map, filter, Some, refl, ap, subst, ◌∙◌, arith}
 use Rattle.std.specs.Prelude.{slice_get, option_and_then}
 use Rattle.std.specs.List.{Contains, list_any}
 use Rattle.leg.specs.LegId.{LegIdParts}
 use Rattle.leg.specs.Numbered.{numbered}
 use Rattle.leg.specs.declared.sweep.Routed.{Routed}
-use Rattle.dialect.specs.declared.note.Note.{Note}
-use Rattle.share_ledger.specs.Entries.{is_same_leg, is_about, is_withdrawn, notes_on}
+use Rattle.share_ledger.specs.Entries.{is_same_leg, is_about, notes_on}
 use Rattle.share_ledger.specs.Shares.{move_of, parts_of}
-use Rattle.share_ledger.specs.Book.{BookedLeg, booked_from, leg_parts}
+use Rattle.share_ledger.specs.Book.{booked_from, leg_parts}
 use Rattle.schedule.specs.World.{World, withdrawn_ids}
 use Rattle.schedule.specs.SweepTheorem.{given_on, parts_by_rule, legs_by_rule}
 use Rattle.schedule.proofs.RunsSafely.{IsSafe}

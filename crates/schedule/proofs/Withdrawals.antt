@@ -30,7 +30,7 @@ use Rattle.share_ledger.specs.Book.{BookParts, BookAnswer, withdraw, open_sweep}
 use Rattle.sweep_release.specs.declared.receipt.Receipt.{Receipt}
 use Rattle.sweep_release.specs.declared.release_fault.ReleaseFault.{ReleaseFault}
 use Rattle.sweep_release.specs.Released.{released}
-use Rattle.sweep_release.specs.Desk.{DeskParts, venue_at, placed_legs, gate_of, is_up, one_left, gate_up, gate_down, shut, leave, leave_first, drop_next, next_number, with_sweep, release_unless, release_refusal}
+use Rattle.sweep_release.specs.Desk.{DeskParts, venue_at, placed_legs, gate_of, is_up, one_left, leave, leave_first, drop_next, next_number, with_sweep, release_unless, release_refusal}
 use Rattle.sweep_release.specs.Desk as desk
 use Rattle.sweep_release.specs.Place.{place_after, place_in_book}
 use Rattle.sweep_release.proofs.Venues.{left-one_left}

@@ -9,12 +9,15 @@ use Rattle.schedule.specs.World.{World, accepted, released_to, state_of}
 use Rattle.schedule.specs.Happening.{run}
 use Rattle.schedule.specs.SweepTheorem.{IsWithdrawn, IsOpening}
 
--- from a world to a later one: what is withdrawn or taken stays so, and no leg that was withdrawn is accepted later
+-- from a world to a later one: what is withdrawn or taken stays so, no leg that was withdrawn is accepted later, and
+-- none that was accepted is withdrawn later
 pub record StaysSettled (w later : World) (v : ℕ) : Type 0 where
   pub withdrawn : (ordinal : ℕ) → IsWithdrawn w v ordinal → IsWithdrawn later v ordinal
   pub taken : (ordinal : ℕ) → state_of w v ordinal ≡ Some Taken → state_of later v ordinal ≡ Some Taken
   pub never_accepted : (ordinal : ℕ) (leg : Leg) → numbered ordinal (released_to w v) ≡ Some leg
       → IsWithdrawn w v ordinal → Contains (accepted later v) leg → ⊥
+  pub never_withdrawn : (ordinal : ℕ) (leg : Leg) → numbered ordinal (released_to w v) ≡ Some leg
+      → Contains (accepted w v) leg → IsWithdrawn later v ordinal → ⊥
 
 -- whatever happened, and whatever happens after it
 abbrev pub WhatIsSettledStays : Type 0

@@ -47,7 +47,7 @@ pub fn the_sweep_theorem_holds()
 {}
 
 /// For good: over every further list of events a leg that is withdrawn stays so, and is never accepted, whichever old copy
-/// is delivered; and a leg that is taken stays so.
+/// is delivered; a leg that was accepted is never withdrawn; and a leg that is taken stays so.
 pub fn what_is_settled_stays_settled()
     ensures { WhatIsSettledStays }
 {}

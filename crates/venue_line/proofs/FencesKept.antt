@@ -159,6 +159,31 @@ module _ (taken : List Carried) where
       (goes_spends taken b s content config log settled (λ fence there. inl (fences fence there))
       (let h = f.logon_below in omega arith) may test no_fill f) f
 
+  -- what the desk does touches none of it
+  by_desk : (b : Line) (released : List Leg) (left : ℕ) → Fences taken b
+      → Fences taken (record b { released = released; left = left })
+  by_desk b released left f = record {
+    numbers_small = f.numbers_small;
+    next_small = f.next_small;
+    expected_from = f.expected_from;
+    expected_to = f.expected_to;
+    written_spent = f.written_spent;
+    written_for_legs = f.written_for_legs;
+    tests_carry = f.tests_carry;
+    fences_are_admin = f.fences_are_admin;
+    never_queued = f.never_queued;
+    settled_no_doubt = f.settled_no_doubt;
+    settled_below = f.settled_below;
+    logon_below = f.logon_below;
+    fills_below = f.fills_below;
+    fills_spare_doubt = f.fills_spare_doubt;
+    told_passed = f.told_passed;
+    answers_passed = f.answers_passed;
+    tests_passed = f.tests_passed;
+    passed_or_withdrawn = f.passed_or_withdrawn;
+    taken_was_accepted = f.taken_was_accepted;
+  }
+
   pub fences_calls : Calls (λ b. Unit {0}) (Fences taken)
   fences_calls = record {
     marks = λ b expected requested pending silent close_asked given j f.
@@ -211,46 +236,6 @@ module _ (taken : List Carried) where
         f;
     closes = λ b up j f. stays b _ refl refl refl (λ fence there. there) refl f;
     sends = λ b leg there up may j f. fences_sends taken b leg there may f;
-    releases = λ b more j f. record {
-      numbers_small = f.numbers_small;
-      next_small = f.next_small;
-      expected_from = f.expected_from;
-      expected_to = f.expected_to;
-      written_spent = f.written_spent;
-      written_for_legs = f.written_for_legs;
-      tests_carry = f.tests_carry;
-      fences_are_admin = f.fences_are_admin;
-      never_queued = f.never_queued;
-      settled_no_doubt = f.settled_no_doubt;
-      settled_below = f.settled_below;
-      logon_below = f.logon_below;
-      fills_below = f.fills_below;
-      fills_spare_doubt = f.fills_spare_doubt;
-      told_passed = f.told_passed;
-      answers_passed = f.answers_passed;
-      tests_passed = f.tests_passed;
-      passed_or_withdrawn = f.passed_or_withdrawn;
-      taken_was_accepted = f.taken_was_accepted;
-    };
-    drops = λ b below j f. record {
-      numbers_small = f.numbers_small;
-      next_small = f.next_small;
-      expected_from = f.expected_from;
-      expected_to = f.expected_to;
-      written_spent = f.written_spent;
-      written_for_legs = f.written_for_legs;
-      tests_carry = f.tests_carry;
-      fences_are_admin = f.fences_are_admin;
-      never_queued = f.never_queued;
-      settled_no_doubt = f.settled_no_doubt;
-      settled_below = f.settled_below;
-      logon_below = f.logon_below;
-      fills_below = f.fills_below;
-      fills_spare_doubt = f.fills_spare_doubt;
-      told_passed = f.told_passed;
-      answers_passed = f.answers_passed;
-      tests_passed = f.tests_passed;
-      passed_or_withdrawn = f.passed_or_withdrawn;
-      taken_was_accepted = f.taken_was_accepted;
-    };
+    releases = λ b more j f. by_desk b (b.released ++ more) b.left f;
+    drops = λ b below j f. by_desk b b.released (suc b.left) f;
   }

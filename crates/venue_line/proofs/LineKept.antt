@@ -1,6 +1,5 @@
 -- The invariant holds of a line on which nothing has happened, and every step keeps it.
-use Rattle.std.proofs.Common.{◌≡◌, ◌≤◌, ℕ, zero, suc, [], Some, refl, arith}
-use Rattle.leg.specs.Numbered.{numbered}
+use Rattle.std.proofs.Common.{◌≤◌, [], refl, arith}
 use Rattle.fix_tags.specs.Config.{ConfigParts}
 use Rattle.venue_line.specs.Line.{Line, new_line, LineStep}
 use Rattle.venue_line.specs.Copies.{Copies}

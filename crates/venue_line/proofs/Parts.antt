@@ -4,11 +4,9 @@ use Rattle.std.specs.Prelude.{true, false, IfSome}
 use Rattle.std.specs.List.{Contains}
 use Rattle.leg.specs.Numbered.{numbered}
 use Rattle.leg.specs.declared.leg.Leg.{Leg}
-use Rattle.leg.specs.declared.leg_state.LegState.TheVariants.{Doubt}
 use Rattle.dialect.specs.declared.note.Note.{Note}
 use Rattle.dialect.specs.declared.content.Content.{Content}
 use Rattle.dialect.specs.declared.content.Content.TheVariants.{Logon, Heartbeat, TestRequest, ResendRequest, GapFill, Logout, Order}
-use Rattle.resend.specs.Log.{Entry, SentLeg}
 use Rattle.session_core.specs.declared.phase.Phase.{Phase}
 use Rattle.session_core.specs.declared.phase.Phase.TheVariants as phase
 use Rattle.session_core.specs.Session.{SessionParts, next_out, may_write, is_connected}
@@ -17,7 +15,7 @@ use Rattle.session_core.specs.Receiving.{passing, is_closing_fence}
 use Rattle.session_core.specs.Calling.{connecting, own_next, sending}
 use Rattle.exchange_core.specs.Acceptance.{Carried, RuleState, May}
 use Rattle.venue_line.specs.Line.{Line}
-use Rattle.venue_line.specs.Copies.{IsLegAt, IsBeforeUp, told_by}
+use Rattle.venue_line.specs.Copies.{IsBeforeUp, told_by}
 use Rattle.venue_line.specs.Close.{HasNoDoubt}
 
 -- the session, with other marks that the invariant doesn't speak of
