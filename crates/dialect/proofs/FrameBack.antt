@@ -25,9 +25,12 @@ use Rattle.dialect.specs.declared.report.Report.{Report}
 use Rattle.dialect.specs.Dialect.{FitsMessage}
 use Rattle.dialect.specs.Framed.{Writers, IsBody, envelope_of, IsFramed, IsReadAs}
 use Rattle.dialect.specs.FreeText.{IsFreeText}
-use Rattle.dialect.specs.Message.{Content, Logon, Heartbeat, TestRequest, ResendRequest, Reject, GapFill, Reset, Logout, BusinessReject, Order, ExecutionReport, Other, Message, Readers, content_of}
+use Rattle.dialect.specs.declared.content.Content.{Content}
+use Rattle.dialect.specs.declared.content.Content.TheVariants.{Logon, Heartbeat, TestRequest, ResendRequest, Reject, GapFill, Reset, Logout, BusinessReject, Order, ExecutionReport, Other}
+use Rattle.dialect.specs.declared.message.Message.{Message}
+use Rattle.dialect.specs.Message.{Readers, content_of}
 use Rattle.dialect.specs.OrderView.{OrderViewParts, IsOrderView}
-use Rattle.dialect.specs.Outgoing.{Outgoing}
+use Rattle.dialect.specs.declared.outgoing.Outgoing.{Outgoing}
 use Rattle.dialect.specs.Report.{IsReport}
 use Rattle.dialect.specs.Writable.{IsReference, IsNext, IsTestId, IsWritableContent, IsWritable}
 

@@ -2,7 +2,8 @@
 use Rattle.std.specs.Prelude.{ℕ, Bool, ◌&&◌}
 use Rattle.std.specs.Str.{bytes_eq}
 use Rattle.fix_tags.specs.Config.{ConfigParts}
-use Rattle.dialect.specs.Message.{Message, Content}
+use Rattle.dialect.specs.declared.content.Content.{Content}
+use Rattle.dialect.specs.declared.message.Message.{Message}
 
 -- a message from this end to its peer: its number, and whether the peer may have seen it before (43=Y)
 abbrev pub message_of : ConfigParts → ℕ → Bool → Content → Message

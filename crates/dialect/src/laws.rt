@@ -11,7 +11,7 @@ ghost use Rattle.dialect.specs.declared.report.Report.{Report};
 ghost use Rattle.dialect.specs.Framed.{Writers, IsBody, envelope_of, IsFramed, IsReadAs};
 ghost use Rattle.dialect.specs.Message.{Readers};
 ghost use Rattle.dialect.specs.OrderView.{OrderViewParts};
-ghost use Rattle.dialect.specs.Outgoing.{Outgoing};
+ghost use Rattle.dialect.specs.declared.outgoing.Outgoing.{Outgoing};
 ghost use Rattle.dialect.specs.Writable.{IsWritable};
 
 use crate::dialect::Dialect;

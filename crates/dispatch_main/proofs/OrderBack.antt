@@ -11,7 +11,9 @@ use Rattle.fix_tags.specs.CompId.{IsCompId}
 use Rattle.leg.specs.Leg.{IsLeg}
 use Rattle.leg.specs.declared.leg.Leg.{Leg}
 use Rattle.dialect.specs.Framed.{Writers, IsBody}
-use Rattle.dialect.specs.Message.{Order, ExecutionReport, Other, Message, Readers, content_of}
+use Rattle.dialect.specs.declared.content.Content.TheVariants.{Order, ExecutionReport, Other}
+use Rattle.dialect.specs.declared.message.Message.{Message}
+use Rattle.dialect.specs.Message.{Readers, content_of}
 use Rattle.dialect.specs.Writable.{IsWritable}
 use Rattle.dialect.specs.declared.fault.DialectFault.{DialectFault}
 use Rattle.dialect.proofs.FrameBack.{Agrees, frame_back}

@@ -29,8 +29,9 @@ use Rattle.fix_tags.specs.declared.envelope.Envelope.{Envelope}
 use Rattle.fix_tags.specs.declared.tag_fault.TagFault.{TagFault}
 use Rattle.leg.specs.declared.leg.Leg.{Leg}
 use Rattle.dialect.specs.Framed.{Writers, IsFramed}
-use Rattle.dialect.specs.Message.{Order}
-use Rattle.dialect.specs.Outgoing.{Outgoing, alone}
+use Rattle.dialect.specs.declared.content.Content.TheVariants.{Order}
+use Rattle.dialect.specs.declared.outgoing.Outgoing.{Outgoing}
+use Rattle.dialect.specs.Outgoing.{alone}
 use Rattle.dialect.specs.Writable.{IsWritable}
 use Rattle.dialect.specs.declared.fault.DialectFault.{DialectFault}
 use Rattle.dispatch_main.specs.declared.order.order_fault.OrderFault.{OrderFault}

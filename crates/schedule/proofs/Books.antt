@@ -8,7 +8,7 @@ use Rattle.leg.specs.Numbered.{numbered}
 use Rattle.leg.specs.declared.placed_leg.PlacedLeg.{PlacedLeg}
 use Rattle.leg.specs.declared.sweep.Routed.{Routed}
 use Rattle.dialect.specs.declared.note.Note.{Note}
-use Rattle.dialect.specs.Message.{Message}
+use Rattle.dialect.specs.declared.message.Message.{Message}
 use Rattle.session_core.specs.declared.session_fault.SessionFault.TheVariants.{NotDown, Closed, NumbersSpent, OutOfMemory, NotUp, OrdinalNotGreater, NotConnected}
 use Rattle.session_core.specs.Session.{is_connected}
 use Rattle.session_core.specs.Turn.{StepParts}

@@ -1,6 +1,6 @@
 -- Whatever an exchange takes or does, what it accepted and made stands.
 use Rattle.std.proofs.Common.{ℕ}
-use Rattle.dialect.specs.Message.{Message}
+use Rattle.dialect.specs.declared.message.Message.{Message}
 use Rattle.exchange_core.specs.Exchange.{ExchangeParts, take, drop_connection}
 use Rattle.exchange_core.specs.Keeping.{IsExchangeLater}
 use Rattle.exchange_core.proofs.After.{take_after, drop_after, trade_after, cancel_rest_after, reject_after, bust_after, test_after}

@@ -12,9 +12,9 @@ use Rattle.leg.specs.declared.leg.Leg.{Leg}
 use Rattle.leg.specs.declared.placed_leg.PlacedLeg.{PlacedLeg}
 use Rattle.leg.specs.declared.sweep.Routed.{Routed}
 use Rattle.dialect.specs.declared.fault.DialectFault.{DialectFault}
-use Rattle.dialect.specs.Message.{Message}
-use Rattle.dialect.specs.Message.Content.{Order}
-use Rattle.dialect.specs.Outgoing.{Outgoing}
+use Rattle.dialect.specs.declared.message.Message.{Message}
+use Rattle.dialect.specs.declared.content.Content.TheVariants.{Order}
+use Rattle.dialect.specs.declared.outgoing.Outgoing.{Outgoing}
 use Rattle.session_core.specs.declared.session_fault.SessionFault.TheVariants.{NotDown, Closed, NumbersSpent, OutOfMemory, NotUp, OrdinalNotGreater, NotConnected}
 use Rattle.session_core.specs.Session.{SessionParts, is_connected}
 use Rattle.session_core.specs.Turn.{StepParts}

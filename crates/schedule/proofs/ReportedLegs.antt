@@ -10,7 +10,9 @@ use Rattle.leg.specs.Numbered.{numbered, with_numbered}
 use Rattle.leg.specs.declared.leg.Leg.{Leg}
 use Rattle.dialect.specs.declared.report.Report.{Report}
 use Rattle.dialect.specs.declared.report.ReportKind.{ReportKind}
-use Rattle.dialect.specs.Message.{Message, Content, TestRequest, GapFill, Logout, Order}
+use Rattle.dialect.specs.declared.content.Content.{Content}
+use Rattle.dialect.specs.declared.content.Content.TheVariants.{TestRequest, GapFill, Logout, Order}
+use Rattle.dialect.specs.declared.message.Message.{Message}
 use Rattle.exchange_core.specs.Order.{OrderParts, new_order}
 use Rattle.exchange_core.specs.Own.{Own, Admin, Reported, Refused, next_exec}
 use Rattle.exchange_core.specs.Exchange.{ExchangeParts, accepted_by, logon_answer, with_connection, due_taken, take}

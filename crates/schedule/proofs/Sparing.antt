@@ -1,8 +1,8 @@
 -- Gates, the session's other calls, the exchange and breaks withdraw no leg.
 use Rattle.std.proofs.Common.{◌≡◌, ℕ, List, [], ◌∷◌, Option, Some, None, Ok, Err, refl, sym}
 use Rattle.leg.specs.Growing.{Grew}
-use Rattle.dialect.specs.Message.{Message}
-use Rattle.dialect.specs.Outgoing.{Outgoing}
+use Rattle.dialect.specs.declared.message.Message.{Message}
+use Rattle.dialect.specs.declared.outgoing.Outgoing.{Outgoing}
 use Rattle.session_core.specs.Turn.{StepParts}
 use Rattle.session_core.specs.Onward.{OrUnchanged, IsCall, IsConnection}
 use Rattle.session_core.specs.Calling.{SessionAnswer, connect, broken, abandon}

@@ -12,7 +12,7 @@ use Rattle.leg.specs.declared.leg_state.LegState.TheVariants.{Doubt, Withdrawn}
 use Rattle.leg.specs.declared.placed_leg.PlacedLeg.{PlacedLeg}
 use Rattle.leg.specs.declared.sweep.Routed.{Routed}
 use Rattle.dialect.specs.declared.note.Note.{Note}
-use Rattle.dialect.specs.Message.{Message}
+use Rattle.dialect.specs.declared.message.Message.{Message}
 use Rattle.resend.specs.Log.{SentLeg}
 use Rattle.resend.specs.Log.Entry.{Sent}
 use Rattle.resend.specs.Later.{IsLater, withdrawn_since}

@@ -3,7 +3,7 @@ use Rattle.std.specs.Prelude.{◌-◌, map, drop as list_drop, ℕ, suc, zero, t
 use Rattle.leg.specs.Symbol.{SymbolParts}
 use Rattle.leg.specs.declared.side.Side.TheVariants.{Buy}
 use Rattle.leg.specs.declared.sweep.Routed.{Routed}
-use Rattle.dialect.specs.Message.{Content}
+use Rattle.dialect.specs.declared.content.Content.{Content}
 use Rattle.schedule.specs.declared.act.Act.TheVariants as act
 use Rattle.schedule.specs.declared.event.Event.{Event}
 use Rattle.schedule.specs.declared.event.Event.TheVariants as event

@@ -9,7 +9,7 @@ use Rattle.leg.specs.declared.leg_state.LegState.TheVariants.{Queued, Doubt, Wit
 use Rattle.leg.specs.declared.totals.Totals.{Totals}
 use Rattle.dialect.specs.declared.note.Note.{Note}
 use Rattle.dialect.specs.declared.report.Report.{Report}
-use Rattle.dialect.specs.Message.{Message}
+use Rattle.dialect.specs.declared.message.Message.{Message}
 use Rattle.session_core.specs.Session.{SessionParts, new_session, leg_state}
 use Rattle.exchange_core.specs.Own.{Own}
 use Rattle.exchange_core.specs.Own.Own.{Admin, Reported, Refused}

@@ -3,7 +3,7 @@
 ghost use Rattle.std.specs.Prelude.{◌≡◌, ◌∷◌, ◌++◌, [], codes, true, false};
 ghost use Rattle.std.specs.Prelude.{None, Some, Ok};
 ghost use Rattle.dialect.specs.declared.report.ReportKind.TheVariants.{Bust};
-ghost use Rattle.dialect.specs.Message.Content.{Logon, Heartbeat, TestRequest, ResendRequest, GapFill, ExecutionReport};
+ghost use Rattle.dialect.specs.declared.content.Content.TheVariants.{Logon, Heartbeat, TestRequest, ResendRequest, GapFill, ExecutionReport};
 ghost use Rattle.leg.specs.declared.sweep.Routed.{Routed};
 ghost use Rattle.schedule.specs.declared.event.Event.TheVariants as event;
 ghost use Rattle.std.specs.Prelude.{Err};

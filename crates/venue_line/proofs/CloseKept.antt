@@ -7,8 +7,8 @@ use Rattle.std.proofs.lemmas.List.Elements.{All-contains, Contains-append_left, 
 use Rattle.leg.specs.declared.leg.Leg.{Leg}
 use Rattle.leg.specs.declared.leg_state.LegState.TheVariants.{Taken}
 use Rattle.dialect.specs.declared.note.Note.{Note}
-use Rattle.dialect.specs.Message.{Content}
-use Rattle.dialect.specs.Message.Content.{TestRequest, GapFill, Logout, Order}
+use Rattle.dialect.specs.declared.content.Content.{Content}
+use Rattle.dialect.specs.declared.content.Content.TheVariants.{TestRequest, GapFill, Logout, Order}
 use Rattle.resend.specs.Log.{Entry, SentLeg, take_below}
 use Rattle.resend.specs.Log.Entry.{Admin, Sent}
 use Rattle.session_core.specs.declared.phase.Phase.{Phase}

@@ -3,8 +3,8 @@ use Rattle.std.proofs.Common.{◌≡◌, ◌≤◌, ◌<◌, ◌⊎◌, ◌||◌
 use Rattle.std.proofs.lemmas.List.Elements.{Contains-append_left, Contains-push_cases}
 use Rattle.leg.proofs.Numbered.{numbered-append}
 use Rattle.leg.specs.declared.leg.Leg.{Leg}
-use Rattle.dialect.specs.Message.{Content}
-use Rattle.dialect.specs.Message.Content.{GapFill, Logout, Order}
+use Rattle.dialect.specs.declared.content.Content.{Content}
+use Rattle.dialect.specs.declared.content.Content.TheVariants.{GapFill, Logout, Order}
 use Rattle.resend.specs.Log.{Entry}
 use Rattle.session_core.specs.declared.phase.Phase.{Phase}
 use Rattle.session_core.specs.declared.phase.Phase.TheVariants as phase

@@ -5,8 +5,8 @@ use Rattle.std.specs.List.{Contains}
 use Rattle.std.proofs.lemmas.List.Elements.{All-contains, Contains-append_cases}
 use Rattle.leg.specs.Numbered.{numbered}
 use Rattle.leg.proofs.Numbered.{numbered-append}
-use Rattle.dialect.specs.Message.{Content}
-use Rattle.dialect.specs.Message.Content.{Reject, GapFill, BusinessReject, Order, ExecutionReport}
+use Rattle.dialect.specs.declared.content.Content.{Content}
+use Rattle.dialect.specs.declared.content.Content.TheVariants.{Reject, GapFill, BusinessReject, Order, ExecutionReport}
 use Rattle.resend.specs.Log.{Entry, leg_of}
 use Rattle.resend.specs.Log.Entry.{Admin, Sent}
 use Rattle.session_core.specs.Session.{next_out}

@@ -8,8 +8,8 @@ use Rattle.std.proofs.lemmas.Option.{same_Some}
 use Rattle.leg.specs.Numbered.{numbered}
 use Rattle.leg.specs.declared.leg.Leg.{Leg}
 use Rattle.dialect.specs.declared.note.Note.{Note}
-use Rattle.dialect.specs.Message.{Content}
-use Rattle.dialect.specs.Message.Content.{Reject, GapFill, BusinessReject, ExecutionReport}
+use Rattle.dialect.specs.declared.content.Content.{Content}
+use Rattle.dialect.specs.declared.content.Content.TheVariants.{Reject, GapFill, BusinessReject, ExecutionReport}
 use Rattle.resend.specs.Log.{Entry, next_to_send, leg_of, leg_at}
 use Rattle.resend.specs.Log.Entry.{Admin, Sent}
 use Rattle.resend.specs.Later.{IsLater}

@@ -2,8 +2,8 @@
 use Rattle.std.proofs.Common.{◌≡◌, ◌≤◌, ◌++◌, suc, false, not, List, [], None, Ok, Err, refl, sym, ap, subst, ◌∙◌, inl, inr, arith}
 use Rattle.std.specs.List.{All}
 use Rattle.fix_tags.specs.Config.{ConfigParts}
-use Rattle.dialect.specs.Message.{Message}
-use Rattle.dialect.specs.Message.Content.{Heartbeat}
+use Rattle.dialect.specs.declared.message.Message.{Message}
+use Rattle.dialect.specs.declared.content.Content.TheVariants.{Heartbeat}
 use Rattle.session_core.specs.declared.phase.Phase.{Phase}
 use Rattle.session_core.specs.declared.phase.Phase.TheVariants as phase
 use Rattle.session_core.specs.declared.ended.Ended.TheVariants as ended

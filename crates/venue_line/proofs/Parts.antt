@@ -6,8 +6,8 @@ use Rattle.leg.specs.Numbered.{numbered}
 use Rattle.leg.specs.declared.leg.Leg.{Leg}
 use Rattle.leg.specs.declared.leg_state.LegState.TheVariants.{Doubt}
 use Rattle.dialect.specs.declared.note.Note.{Note}
-use Rattle.dialect.specs.Message.{Content}
-use Rattle.dialect.specs.Message.Content.{Logon, Heartbeat, TestRequest, ResendRequest, GapFill, Logout, Order}
+use Rattle.dialect.specs.declared.content.Content.{Content}
+use Rattle.dialect.specs.declared.content.Content.TheVariants.{Logon, Heartbeat, TestRequest, ResendRequest, GapFill, Logout, Order}
 use Rattle.resend.specs.Log.{Entry, SentLeg}
 use Rattle.session_core.specs.declared.phase.Phase.{Phase}
 use Rattle.session_core.specs.declared.phase.Phase.TheVariants as phase

@@ -2,8 +2,8 @@
 use Rattle.std.specs.Prelude.{◌≡◌, ◌<◌, ◌⊎◌, ℕ, suc, false, List, ◌++◌, length, Option, Some, None}
 use Rattle.std.specs.List.{Contains}
 use Rattle.leg.specs.Numbered.{numbered}
-use Rattle.dialect.specs.Message.{Content}
-use Rattle.dialect.specs.Message.Content.{Reject, GapFill, BusinessReject, ExecutionReport}
+use Rattle.dialect.specs.declared.content.Content.{Content}
+use Rattle.dialect.specs.declared.content.Content.TheVariants.{Reject, GapFill, BusinessReject, ExecutionReport}
 use Rattle.resend.specs.Log.{Entry, next_to_send, leg_at}
 use Rattle.exchange_core.specs.Acceptance.{Carried, IsGap}
 use Rattle.venue_line.specs.Line.{Line}

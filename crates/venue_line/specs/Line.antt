@@ -6,7 +6,7 @@ use Rattle.fix_tags.specs.Config.{ConfigParts}
 use Rattle.leg.specs.Numbered.{numbered}
 use Rattle.leg.specs.declared.leg.Leg.{Leg}
 use Rattle.dialect.specs.declared.note.Note.{Note}
-use Rattle.dialect.specs.Message.{Message}
+use Rattle.dialect.specs.declared.message.Message.{Message}
 use Rattle.session_core.specs.Session.{SessionParts, new_session}
 use Rattle.session_core.specs.Turn.{Turn}
 use Rattle.session_core.specs.Receiving.{receive, confirm}

@@ -3,8 +3,8 @@ use Rattle.std.specs.Prelude.{List, [], ◌∷◌, ◌++◌, Option, Some, None}
 use Rattle.leg.specs.LegId.{LegIdParts}
 use Rattle.dialect.specs.declared.note.Note.{Note}
 use Rattle.dialect.specs.declared.note.Note.TheVariants as note
-use Rattle.dialect.specs.Message.{Content}
-use Rattle.dialect.specs.Message.Content.{Reject, BusinessReject, ExecutionReport}
+use Rattle.dialect.specs.declared.content.Content.{Content}
+use Rattle.dialect.specs.declared.content.Content.TheVariants.{Reject, BusinessReject, ExecutionReport}
 use Rattle.resend.specs.Log.{Entry, leg_at}
 use Rattle.session_core.specs.Receiving.{report_note}
 use Rattle.venue_line.specs.Line.{noted}
