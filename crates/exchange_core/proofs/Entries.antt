@@ -49,3 +49,7 @@ module _ {A : Type 0} (P : A → Type 0) where
   all_drop zero xs all = all
   all_drop (suc count) [] all = tt
   all_drop (suc count) (x ∷ xs) all = all_drop count xs all.1
+
+  pub all_last : (xs : List A) (x : A) → AllByRecursion P (xs ++ x ∷ []) → P x
+  all_last [] x all = all.0
+  all_last (y ∷ ys) x all = all_last ys x all.1

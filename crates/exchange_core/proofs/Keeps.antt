@@ -46,13 +46,13 @@ room_for_one x config left =
 pub room_for_two : (x : ExchangeParts) → IsConfig x.config → HasRoom x → suc (next_own_number x.own) ≤ 999_999_998
 room_for_two x config room = let limit = config.max_number in omega (arith, room, limit)
 
-reports_within : (own : List Own) → report_count own ≤ length own
+pub reports_within : (own : List Own) → report_count own ≤ length own
 reports_within [] = omega arith
 reports_within (Admin ∷ own) = let less = reports_within own in omega (arith, less)
 reports_within (Reported report view ∷ own) = let less = reports_within own in omega (arith, less)
 reports_within (Refused number ∷ own) = let less = reports_within own in omega (arith, less)
 
-next_exec_small : (x : ExchangeParts) → HasNumber x → next_exec x.own ≤ 999_999_999
+pub next_exec_small : (x : ExchangeParts) → HasNumber x → next_exec x.own ≤ 999_999_999
 next_exec_small x number = let less = reports_within x.own in omega (arith, number, less)
 
 -- a report on a sound order, and the order as it is then
@@ -99,7 +99,7 @@ kind_sound exec old new kind (by_bust which trade there live within after says) 
     subst IsReportKind (sym says) (exec_id_is trade.exec (all_at IsTradeSound old.trades which trade sound.trades there))
 
 -- a place where an order is
-place_within : (orders : List OrderParts) (place : ℕ) (order : OrderParts) → numbered place orders ≡ Some order → place ≤ length orders
+pub place_within : (orders : List OrderParts) (place : ℕ) (order : OrderParts) → numbered place orders ≡ Some order → place ≤ length orders
 place_within orders zero order there = omega arith
 place_within orders (suc before) order there = let inside = slice_get_within orders before order there in omega (arith, inside)
 

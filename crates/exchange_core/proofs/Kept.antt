@@ -1,5 +1,5 @@
 -- What an exchange keeps beside its state, and what its soundness says of a part.
-use Rattle.std.proofs.Common.{◌≡◌, ℕ, suc, ◌≤◌, List, [], ◌∷◌, length, Some, refl, ap}
+use Rattle.std.proofs.Common.{◌≡◌, ℕ, suc, ◌≤◌, List, [], ◌∷◌, ◌++◌, length, Some, refl, ap}
 use Rattle.leg.specs.Numbered.{numbered}
 use Rattle.dialect.specs.declared.report.Report.{Report}
 use Rattle.dialect.specs.Writable.{IsReference}
@@ -21,3 +21,10 @@ reports_counted (Refused number ∷ own) = reports_counted own
 pub exec_of_trade : (x : ExchangeParts) (place : ℕ) (order : OrderParts) (which : ℕ) (trade : TradeParts) → IsSound x → numbered place x.orders ≡ Some order → numbered which order.trades ≡ Some trade → trade.exec ≤ 999999999
 exec_of_trade x place order which trade sound there has =
     all_at IsTradeSound order.trades which trade (all_at IsOrderSound x.orders place order sound.orders there).trades has
+
+-- a message of the session is no report
+pub reports_silent : (own : List Own) → reports_of (own ++ Admin ∷ []) ≡ reports_of own
+reports_silent [] = refl
+reports_silent (Admin ∷ own) = reports_silent own
+reports_silent (Reported report view ∷ own) = ap (λ l. report ∷ l) (reports_silent own)
+reports_silent (Refused number ∷ own) = reports_silent own

@@ -17,3 +17,5 @@ pub mod Closing
 pub mod Answers
 pub mod Counted
 pub mod Kept
+pub mod Reporting
+pub mod Testing

@@ -59,7 +59,7 @@ reported_is_sound x sound place old new kind is =
       own = parts.own;
     }
 
-tested_is_sound : (x : ExchangeParts) → IsSound x → has_numbers 1 x.config x.own ≡ true → IsSound (tested x).1
+pub tested_is_sound : (x : ExchangeParts) → IsSound x → has_numbers 1 x.config x.own ≡ true → IsSound (tested x).1
 tested_is_sound x sound left =
     let parts = tested_parts x (parts_of x sound) in
     record {

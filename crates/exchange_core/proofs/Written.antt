@@ -181,7 +181,7 @@ reject_said x place sound = written_by x (end_answer x place ByReject Rejected) 
 pub bust_said : (x : ExchangeParts) (place which : ℕ) → IsSound x → IfOk (bust x place which).0 AreWritable
 bust_said x place which sound = written_by x (bust_answer x place which) (bust_reports (IsFreeText 20) x (λ (a : Answer). AreWritable a.0) (reported_said x sound) place which)
 
-tested_said : (x : ExchangeParts) → IsSound x → has_numbers 1 x.config x.own ≡ true → AreWritable (tested x).0
+pub tested_said : (x : ExchangeParts) → IsSound x → has_numbers 1 x.config x.own ≡ true → AreWritable (tested x).0
 tested_said x sound left =
     let number : HasNumber x = room_for_one x sound.config left in
     let content : Content = TestRequest (test_id (next_own_number x.own)) in

@@ -6,8 +6,13 @@ use Rattle.dialect.specs.Framed.{Writers, IsFramed}
 use Rattle.dialect.specs.declared.outgoing.Outgoing.{Outgoing}
 use Rattle.exchange_core.specs.declared.exchange_fault.ExchangeFault.{ExchangeFault}
 use Rattle.exchange_core.specs.declared.exchange_fault.ExchangeFault.TheVariants.{OutOfMemory}
-use Rattle.exchange_core.specs.Exchange.{ExchangeParts, Answer}
+use Rattle.exchange_core.specs.Exchange.{ExchangeParts}
 use Rattle.exchange_core.specs.Acts.{ActAnswer}
+
+-- the frames of a session's own messages are the same in every dialect: they are those in one that writes no orders
+-- and no reports
+abbrev pub no_dialect : Writers
+no_dialect = record { IsOrder = λ leg stamp fields. ⊥; IsReport = λ report view fields. ⊥ }
 
 -- the frames are those of these messages, in order, each written at this moment
 abbrev pub AreFramed : Writers → StampParts → List Outgoing → List (Vec ℕ) → Type 0
@@ -16,16 +21,14 @@ AreFramed w stamp (out ∷ written) (frame ∷ frames) =
     IsFramed w stamp out frame.items × AreFramed w stamp written frames
 AreFramed w stamp written frames = ⊥
 
--- what an act gives: its refusal; or the frame of what is written, if anything is; or want of memory, where it would not
--- have been refused, and the exchange as it was
-abbrev pub ActGives : Writers → StampParts → ExchangeParts → ActAnswer → Result (Option (Vec ℕ)) ExchangeFault → ExchangeParts → Type 0
+-- what an act answers: a frame, if something is written
+abbrev pub ActResult : Type 0
+ActResult = Result (Option (Vec ℕ)) ExchangeFault
+
+-- what an act gives: its refusal; or the frame of what is written, if anything is; or want of memory, where it would
+-- not have been refused, and the exchange as it was
+abbrev pub ActGives : Writers → StampParts → ExchangeParts → ActAnswer → ActResult → ExchangeParts → Type 0
 ActGives w stamp before (Err fault, after) answer now = (answer ≡ Err fault) × (now ≡ after)
 ActGives w stamp before (Ok written, after) (Ok frame) now =
     AreFramed w stamp written (option_to_list frame) × (now ≡ after)
 ActGives w stamp before (Ok written, after) (Err fault) now = (fault ≡ OutOfMemory) × (now ≡ before)
-
--- what is given for a message that comes: the frames of what is written; or want of memory, and the exchange as it was
-abbrev pub TakeGives : Writers → StampParts → ExchangeParts → Answer → Result (Vec (Vec ℕ)) ExchangeFault → ExchangeParts → Type 0
-TakeGives w stamp before (written, after) (Ok frames) now =
-    AreFramed w stamp written frames.items × (now ≡ after)
-TakeGives w stamp before (written, after) (Err fault) now = (fault ≡ OutOfMemory) × (now ≡ before)

@@ -1,5 +1,5 @@
 -- How a plan changes an order, and what is then reported.
-use Rattle.std.specs.Prelude.{◌≡◌, ℕ, ◌≤◌, [], ◌∷◌, ◌++◌, length, Some, Result, Ok, Err, All}
+use Rattle.std.specs.Prelude.{◌≡◌, ℕ, ◌≤◌, List, [], ◌∷◌, ◌++◌, length, Some, Result, Ok, Err, All}
 use Rattle.std.specs.Option.{option_map_or}
 use Rattle.leg.specs.Numbered.{numbered, with_numbered}
 use Rattle.leg.specs.Split.{SplitParts}
@@ -45,10 +45,9 @@ pub record IsFor (x : ExchangeParts) (place : ℕ) (step : OrderStep) : Type 0 w
 
 -- the exchange after a step of the order at a place, with one more own number
 abbrev pub after_step : ExchangeParts → ℕ → SplitParts → OrderStep → Own → ExchangeParts
-after_step x place split step entry = record x {
-  orders = option_map_or (λ order. with_numbered place (stepped split step order) x.orders) (numbered place x.orders) x.orders;
-  own = x.own ++ entry ∷ [];
-}
+after_step x place split step entry =
+    let now : OrderParts → List OrderParts = λ order. with_numbered place (stepped split step order) x.orders in
+    record x { orders = option_map_or now (numbered place x.orders) x.orders; own = x.own ++ entry ∷ [] }
 
 -- what is written can be written, and the exchange is sound afterwards
 pub record IsFit (a : Answer) : Type 0 where

@@ -2,6 +2,7 @@
 use Rattle.std.specs.Prelude.{ℕ, zero, suc, true, false, List, [], ◌++◌, codes, Some, None, Ok, Err}
 use Rattle.leg.specs.declared.leg.Leg.{Leg}
 use Rattle.leg.specs.declared.side.Side.TheVariants.{Buy}
+use Rattle.dialect.specs.declared.report.Report.{Report}
 use Rattle.dialect.specs.declared.report.ReportKind.{ReportKind}
 use Rattle.dialect.specs.declared.content.Content.{Content}
 use Rattle.dialect.specs.declared.content.Content.TheVariants.{Logon, TestRequest, Order, ExecutionReport}
@@ -59,7 +60,12 @@ logon = Logon 30 false None
 abbrev pub leg : Leg
 leg = record {
   id = record { sweep = 1; place = 1 };
-  terms = record { symbol = record { root = codes "BRK"; suffix = codes "B" }; side = Buy; shares = 100; price = 102500 };
+  terms = record {
+    symbol = record { root = codes "BRK"; suffix = codes "B" };
+    side = Buy;
+    shares = 100;
+    price = 102500;
+  };
 }
 
 -- the order as its exchange sees it, with so many shares filled and open
@@ -69,7 +75,8 @@ view cum leaves = record { leg = leg; order_id = order_id 1; cum = cum; leaves =
 -- a report on it under a number, new or again, and beside it the order as it was then
 abbrev pub reports : ℕ → List ℕ → ReportKind → OrderViewParts → Outgoing
 reports number exec kind view =
-    let m : Message = (to_peer number (ExecutionReport (Ok (record { id = leg.id; exec = exec; kind = kind })))).message in
+    let report : Report = record { id = leg.id; exec = exec; kind = kind } in
+    let m : Message = (to_peer number (ExecutionReport (Ok report))).message in
     record { message = m; beside = Some view }
 
 abbrev pub reports_again : ℕ → List ℕ → ReportKind → OrderViewParts → Outgoing

@@ -4,6 +4,7 @@ ghost use Rattle.std.specs.Prelude.{◌≡◌};
 ghost use Rattle.exchange_core.specs.Exchange.{new_exchange, accepted_by, drop_connection};
 ghost use Rattle.exchange_core.specs.Kept.{reports_of};
 
+mod acts;
 mod plans;
 
 use crate::live_connection::LiveConnection;

@@ -48,10 +48,11 @@ impl Order {
         }
     }
 
-    pub(crate) fn leg(&self) -> &Leg
-        ensures { result.now ≡ self.now.leg }
+    /// A copy of its leg. It takes no memory.
+    pub(crate) fn leg(&self) -> Leg
+        ensures { result ≡ self.now.leg }
     {
-        &self.leg
+        self.leg.clone().unwrap()
     }
 
     /// What became of its shares.

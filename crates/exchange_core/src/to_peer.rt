@@ -9,12 +9,7 @@ use dialect::{Content, Message, OrderView, Outgoing, Report, TextRef};
 use fix_tags::Config;
 
 /// A message to the peer under a number, marked where the peer may have seen it before.
-fn message<'a>(
-    config: &'a Config,
-    number: u64,
-    poss_dup: bool,
-    content: Content<'a>,
-) -> Message<'a>
+fn message<'a>(config: &'a Config, number: u64, poss_dup: bool, content: Content<'a>) -> Message<'a>
     ensures { result ≡ message_of config.entry.now number poss_dup content.entry }
 {
     Message {

@@ -3,9 +3,10 @@
 ghost use Rattle.std.specs.Prelude.{◌≡◌, ◌≤◌, IfOk};
 ghost use Rattle.std.specs.Option.{option_map};
 ghost use Rattle.leg.specs.Numbered.{numbered};
+ghost use Rattle.dialect.specs.FreeText.{IsFreeText};
 ghost use Rattle.exchange_core.specs.Own.{has_numbers, next_exec};
 ghost use Rattle.exchange_core.specs.Acts.{trade_answer, end_answer, bust_answer};
-ghost use Rattle.exchange_core.specs.Plan.{planned};
+ghost use Rattle.exchange_core.specs.Plan.{planned, IsFor};
 ghost use Rattle.exchange_core.specs.Sound.{IsSound};
 
 use super::Exchange;
@@ -20,11 +21,13 @@ use dialect::{Fill, LastPx, ReportKind};
 impl Exchange {
     /// The order at a place, counted from 1.
     fn order_at(&self, place: usize) -> Option<&Order>
-        ensures { option_map (λ order. order.now) result ≡ numbered place self.now.orders }
+        ensures value { option_map (λ order. order.now) result ≡ numbered place self.now.orders }
+        ensures sound { IsSound self.now }
     {
+        let orders = self.orders.as_slice();
         match place.checked_sub(1) {
             None => None,
-            Some(index) => self.orders.get(index),
+            Some(index) => orders.get(index),
         }
     }
 
@@ -52,8 +55,12 @@ impl Exchange {
         px: LastPx,
     ) -> Result<Plan, ExchangeFault>
         ensures answer { trade_answer self.now place shares px ≡ planned self.now place result }
-        ensures sound { IfOk result (λ _. IsSound self.now) }
+        ensures there { IfOk result (λ plan. IsFor self.now place plan.step) }
+        ensures sound { IsSound self.now }
+        ensures price { IfOk result (λ _. IsFreeText 20 px) }
     {
+        // That the price is in range is known of one that was read.
+        let _ = px.as_bytes();
         let Some(order) = self.order_at(place) else {
             return Err(ExchangeFault::NoSuchOrder);
         };
@@ -88,7 +95,8 @@ impl Exchange {
         kind: ReportKind,
     ) -> Result<Plan, ExchangeFault>
         ensures answer { end_answer self.now place ending kind ≡ planned self.now place result }
-        ensures sound { IfOk result (λ _. IsSound self.now) }
+        ensures there { IfOk result (λ plan. IsFor self.now place plan.step) }
+        ensures sound { IsSound self.now }
     {
         let Some(order) = self.order_at(place) else {
             return Err(ExchangeFault::NoSuchOrder);
@@ -111,7 +119,8 @@ impl Exchange {
     /// The plan of the bust of a trade, by its place among the order's trades, counted from 1.
     pub(super) fn plan_of_bust(&self, place: usize, which: usize) -> Result<Plan, ExchangeFault>
         ensures answer { bust_answer self.now place which ≡ planned self.now place result }
-        ensures sound { IfOk result (λ _. IsSound self.now) }
+        ensures there { IfOk result (λ plan. IsFor self.now place plan.step) }
+        ensures sound { IsSound self.now }
     {
         let Some(order) = self.order_at(place) else {
             return Err(ExchangeFault::NoSuchOrder);
