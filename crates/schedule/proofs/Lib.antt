@@ -22,7 +22,9 @@ pub mod Sparing
 pub mod Withdrawals
 pub mod BookFollows
 pub mod SweepParts
+pub mod AcceptedLegs
 pub mod BookedNotes
+pub mod NoteLists
 pub mod NotesMove
 pub mod ShareRule
 pub mod SweepHolds

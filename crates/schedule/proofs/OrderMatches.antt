@@ -109,7 +109,8 @@ id_more ids a n small few differs =
 id_last : (ids : List (List ℕ)) (a : ℕ) → has_id (exec_id a) (ids ++ exec_id a ∷ []) ≡ true
 id_last ids a =
     list_any-append (bytes_eq (exec_id a)) ids (exec_id a ∷ [])
-    ∙ (ap (λ b. has_id (exec_id a) ids || (b || false)) (same_bytes (exec_id a)) ∙ or_right (has_id (exec_id a) ids) true refl)
+    ∙ (ap (λ b. has_id (exec_id a) ids || (b || false)) (same_bytes (exec_id a))
+    ∙ or_right (has_id (exec_id a) ids) true refl)
 
 -- one more bust flags its own trade alone
 flags_other : (ids : List (List ℕ)) (n low top : ℕ) (ts : List TradeParts) → top ≤ 999999999 → RiseTo low top ts

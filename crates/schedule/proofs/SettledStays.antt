@@ -128,10 +128,12 @@ settled_at w later safe safe_later keeps v (Some venue) is =
     record {
       withdrawn = withdrawn_stays w later safe safe_later v venue is kept;
       taken = taken_stays w later safe safe_later v venue is kept;
-      never_accepted = λ ordinal leg whole gone among. not_both w later safe safe_later v venue is kept ordinal leg whole
+      never_accepted = λ ordinal leg whole gone among.
+          not_both w later safe safe_later v venue is kept ordinal leg whole
           (withdrawn_stays w later safe safe_later v venue is kept ordinal gone) among;
-      never_withdrawn = λ ordinal leg whole among gone. not_both w later safe safe_later v venue is kept ordinal leg whole
-          gone (still_accepted w later safe safe_later v venue is kept leg among);
+      never_withdrawn = λ ordinal leg whole among gone.
+          not_both w later safe safe_later v venue is kept ordinal leg whole gone
+          (still_accepted w later safe safe_later v venue is kept leg among);
     }
 settled_at w later safe safe_later keeps v None is =
     let past = none_past w.venues v is in

@@ -12,7 +12,9 @@ use Rattle.schedule.specs.World.{World, withdrawn_ids}
 use Rattle.schedule.specs.SweepTheorem.{given_on, parts_by_rule, legs_by_rule}
 use Rattle.schedule.proofs.RunsSafely.{IsSafe}
 use Rattle.schedule.proofs.BookFollows.{BookFollows}
-use Rattle.schedule.proofs.NotesMove.{IsBooked, note_venue, notes_from, moved_in}
+use Rattle.schedule.proofs.AcceptedLegs.{note_venue}
+use Rattle.schedule.proofs.NoteLists.{notes_from, moved_in}
+use Rattle.schedule.proofs.NotesMove.{IsBooked}
 use Rattle.schedule.proofs.SweepParts.{booked_is}
 
 module _ (w : World) (safe : IsSafe w) (follows : BookFollows w) (booked : IsBooked w) where
