@@ -14,9 +14,13 @@ use Rattle.dialect.specs.declared.outgoing.Outgoing.{Outgoing}
 use Rattle.exchange_core.specs.declared.exchange_fault.ExchangeFault.{ExchangeFault}
 use Rattle.exchange_core.specs.Acceptance.{Intake, HasAccepted, MayWrite, May, IsLast}
 use Rattle.exchange_core.specs.Acceptance as rules
-use Rattle.exchange_core.specs.Order.{OrderParts, ByCancel, ByReject, view_of}
-use Rattle.exchange_core.specs.Own.{Own, Admin, Reported, next_own_number, has_numbers}
-use Rattle.exchange_core.specs.Exchange.{LiveConnection, ExchangeParts, Answer, live_connection, next_report, next_execution_report, next_message, drop_connection, accepted_by}
+use Rattle.exchange_core.specs.declared.ending.Ending.TheVariants.{ByCancel, ByReject}
+use Rattle.exchange_core.specs.Order.{OrderParts, view_of}
+use Rattle.exchange_core.specs.declared.own.Own.{Own}
+use Rattle.exchange_core.specs.declared.own.Own.TheVariants.{Admin, Reported}
+use Rattle.exchange_core.specs.Own.{next_own_number, has_numbers}
+use Rattle.exchange_core.specs.declared.live_connection.LiveConnection.{LiveConnection}
+use Rattle.exchange_core.specs.Exchange.{ExchangeParts, Answer, live_connection, next_report, next_execution_report, next_message, drop_connection, accepted_by}
 use Rattle.exchange_core.specs.Acts.{answered, while_live, reported, trade_answer, trade, end_answer, cancel_rest, reject, bust_answer, bust, test_id, tested, test_answer, test}
 use Rattle.exchange_core.specs.Keeping.{intake_of, rule_state, into, IsLastLive, IsDone, IsAct}
 use Rattle.exchange_core.proofs.Step.{in_connection, silent, kept_next, written_next, MaySayNext}

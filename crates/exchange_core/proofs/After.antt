@@ -9,8 +9,10 @@ use Rattle.dialect.specs.declared.content.Content.{Content}
 use Rattle.dialect.specs.declared.content.Content.TheVariants.{TestRequest, GapFill, Logout, Order}
 use Rattle.dialect.specs.declared.message.Message.{Message}
 use Rattle.exchange_core.specs.Order.{OrderParts, new_order, view_of}
-use Rattle.exchange_core.specs.Own.{Own, Admin, Reported, Refused}
-use Rattle.exchange_core.specs.Exchange.{LiveConnection, ExchangeParts, Answer, accepted_by, next_report, passed_by, with_connection, logon_answer, logon_taken, due_taken, asks, by_number, take, drop_connection}
+use Rattle.exchange_core.specs.declared.own.Own.{Own}
+use Rattle.exchange_core.specs.declared.own.Own.TheVariants.{Admin, Reported, Refused}
+use Rattle.exchange_core.specs.declared.live_connection.LiveConnection.{LiveConnection}
+use Rattle.exchange_core.specs.Exchange.{ExchangeParts, Answer, accepted_by, next_report, passed_by, with_connection, logon_answer, logon_taken, due_taken, asks, by_number, take, drop_connection}
 use Rattle.exchange_core.specs.Acts.{reported, trade, cancel_rest, reject, bust, tested, test}
 use Rattle.exchange_core.specs.Keeping.{IsExchangeLater}
 use Rattle.exchange_core.proofs.Entries.{chosen}

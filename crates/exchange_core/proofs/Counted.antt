@@ -8,7 +8,9 @@ use Rattle.dialect.specs.declared.content.Content.{Content}
 use Rattle.dialect.specs.declared.content.Content.TheVariants.{TestRequest, GapFill, Logout, Order}
 use Rattle.dialect.specs.declared.message.Message.{Message}
 use Rattle.exchange_core.specs.Order.{OrderParts, new_order, view_of}
-use Rattle.exchange_core.specs.Own.{Own, Admin, Reported, Refused, report_count, exec_id}
+use Rattle.exchange_core.specs.declared.own.Own.{Own}
+use Rattle.exchange_core.specs.declared.own.Own.TheVariants.{Admin, Reported, Refused}
+use Rattle.exchange_core.specs.Own.{report_count, exec_id}
 use Rattle.exchange_core.specs.Exchange.{ExchangeParts, next_report, logon_answer, with_connection, due_taken, take}
 use Rattle.exchange_core.specs.Acts.{reported, trade, cancel_rest, reject, bust, test}
 use Rattle.exchange_core.specs.Keeping.{AreCounted}

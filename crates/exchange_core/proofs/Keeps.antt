@@ -16,7 +16,9 @@ use Rattle.dialect.specs.declared.message.Message.{Message}
 use Rattle.dialect.specs.Report.{IsReportKind}
 use Rattle.dialect.specs.Writable.{IsReportBeside}
 use Rattle.exchange_core.specs.Order.{OrderParts, new_order, view_of}
-use Rattle.exchange_core.specs.Own.{Own, Admin, Reported, Refused, report_count, next_exec, next_own_number, has_numbers}
+use Rattle.exchange_core.specs.declared.own.Own.{Own}
+use Rattle.exchange_core.specs.declared.own.Own.TheVariants.{Admin, Reported, Refused}
+use Rattle.exchange_core.specs.Own.{report_count, next_exec, next_own_number, has_numbers}
 use Rattle.exchange_core.specs.Exchange.{ExchangeParts, next_report, logon_answer, with_connection, order_refused, due_taken, asks, take}
 use Rattle.exchange_core.specs.Acts.{reported, trade, tested}
 use Rattle.exchange_core.specs.Keeping.{IsExpectable}

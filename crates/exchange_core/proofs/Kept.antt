@@ -4,7 +4,9 @@ use Rattle.leg.specs.Numbered.{numbered}
 use Rattle.dialect.specs.declared.report.Report.{Report}
 use Rattle.dialect.specs.Writable.{IsReference}
 use Rattle.exchange_core.specs.Order.{OrderParts, TradeParts}
-use Rattle.exchange_core.specs.Own.{Own, Admin, Reported, Refused, report_count}
+use Rattle.exchange_core.specs.declared.own.Own.{Own}
+use Rattle.exchange_core.specs.declared.own.Own.TheVariants.{Admin, Reported, Refused}
+use Rattle.exchange_core.specs.Own.{report_count}
 use Rattle.exchange_core.specs.Exchange.{ExchangeParts}
 use Rattle.exchange_core.specs.Kept.{reports_of}
 use Rattle.exchange_core.specs.Sound.{IsTradeSound, IsOrderSound, IsSound}

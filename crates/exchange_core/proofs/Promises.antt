@@ -6,7 +6,9 @@ use Rattle.dialect.specs.FreeText.{IsFreeText}
 use Rattle.dialect.specs.declared.message.Message.{Message}
 use Rattle.dialect.specs.declared.report.ReportKind.{ReportKind}
 use Rattle.exchange_core.specs.Order.{OrderParts, view_of}
-use Rattle.exchange_core.specs.Own.{Own, Admin, Reported, has_numbers}
+use Rattle.exchange_core.specs.declared.own.Own.{Own}
+use Rattle.exchange_core.specs.declared.own.Own.TheVariants.{Admin, Reported}
+use Rattle.exchange_core.specs.Own.{has_numbers}
 use Rattle.exchange_core.specs.Exchange.{ExchangeParts, new_exchange, next_report, take, drop_connection}
 use Rattle.exchange_core.specs.Acts.{reported, trade, cancel_rest, reject, bust, tested, test}
 use Rattle.exchange_core.specs.Sound.{IsRead, IsSound}

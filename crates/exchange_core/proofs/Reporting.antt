@@ -19,8 +19,11 @@ use Rattle.exchange_core.specs.declared.exchange_fault.ExchangeFault.{ExchangeFa
 use Rattle.exchange_core.specs.declared.plan.OrderStep.{OrderStep}
 use Rattle.exchange_core.specs.declared.plan.OrderStep.TheVariants.{Traded, Ended, Busted}
 use Rattle.exchange_core.specs.declared.plan.Plan.{Plan}
-use Rattle.exchange_core.specs.Order.{OrderParts, ByCancel, ByReject, order_id, view_of}
-use Rattle.exchange_core.specs.Own.{Own, Admin, Reported, Refused, next_own_number, next_exec, exec_id, execution_report}
+use Rattle.exchange_core.specs.declared.ending.Ending.TheVariants.{ByCancel, ByReject}
+use Rattle.exchange_core.specs.Order.{OrderParts, order_id, view_of}
+use Rattle.exchange_core.specs.declared.own.Own.{Own}
+use Rattle.exchange_core.specs.declared.own.Own.TheVariants.{Admin, Reported, Refused}
+use Rattle.exchange_core.specs.Own.{next_own_number, next_exec, exec_id, execution_report}
 use Rattle.exchange_core.specs.Exchange.{ExchangeParts, Answer, next_report}
 use Rattle.exchange_core.specs.Frames.{AreFramed, ActGives}
 use Rattle.exchange_core.specs.Acts.{answered, while_live, reported, trade_answer, trade, end_answer, cancel_rest, reject, bust_answer, bust}

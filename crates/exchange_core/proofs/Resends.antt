@@ -13,7 +13,9 @@ use Rattle.dialect.specs.declared.content.Content.{Content}
 use Rattle.dialect.specs.declared.content.Content.TheVariants.{GapFill, Reject}
 use Rattle.dialect.specs.declared.outgoing.Outgoing.{Outgoing}
 use Rattle.exchange_core.specs.Acceptance.{Carried, RuleState, MayWrite}
-use Rattle.exchange_core.specs.Own.{Own, Admin, Reported, Refused, execution_report, again, closing_fill, run_from, resent, resent_answer}
+use Rattle.exchange_core.specs.declared.own.Own.{Own}
+use Rattle.exchange_core.specs.declared.own.Own.TheVariants.{Admin, Reported, Refused}
+use Rattle.exchange_core.specs.Own.{execution_report, again, closing_fill, run_from, resent, resent_answer}
 use Rattle.exchange_core.specs.Keeping.{kept, written_in}
 use Rattle.exchange_core.proofs.Entries.{chosen, numbered-seam}
 

@@ -9,7 +9,8 @@ use Rattle.dialect.specs.declared.report.ReportKind.{ReportKind}
 use Rattle.dialect.specs.declared.content.Content.{Content}
 use Rattle.dialect.specs.declared.content.Content.TheVariants.{TestRequest, GapFill, Logout, Order}
 use Rattle.dialect.specs.declared.message.Message.{Message}
-use Rattle.exchange_core.specs.Order.{OrderParts, TradeParts, Ending, new_order, ended_by}
+use Rattle.exchange_core.specs.declared.ending.Ending.{Ending}
+use Rattle.exchange_core.specs.Order.{OrderParts, TradeParts, new_order, ended_by}
 use Rattle.exchange_core.specs.Exchange.{ExchangeParts, logon_answer, with_connection, due_taken, take}
 use Rattle.exchange_core.specs.Acts.{reported, trade, cancel_rest, reject, bust, test}
 use Rattle.exchange_core.specs.Shares.{live_shares, busted_shares, SharesAddUp, OrdersAddUp}

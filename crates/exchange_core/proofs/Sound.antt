@@ -7,7 +7,8 @@ use Rattle.dialect.specs.declared.content.Content.{Content}
 use Rattle.dialect.specs.declared.content.Content.TheVariants.{TestRequest, GapFill, Logout, Order}
 use Rattle.dialect.specs.declared.message.Message.{Message}
 use Rattle.exchange_core.specs.Own.{next_own_number}
-use Rattle.exchange_core.specs.Exchange.{LiveConnection, ExchangeParts, live_connection, passed_by, logon_taken, logon_answer, with_connection, due_taken, asks, take}
+use Rattle.exchange_core.specs.declared.live_connection.LiveConnection.{LiveConnection}
+use Rattle.exchange_core.specs.Exchange.{ExchangeParts, live_connection, passed_by, logon_taken, logon_answer, with_connection, due_taken, asks, take}
 use Rattle.exchange_core.specs.Keeping.{IsLastLive, IsExchangeLater, IsExpectable, IsFillInRange, IsInRange, OwnNumbersFit}
 use Rattle.exchange_core.proofs.Entries.{chosen}
 use Rattle.exchange_core.proofs.Cases.{after_take_is}

@@ -6,7 +6,9 @@ use Rattle.std.proofs.lemmas.List.Elements.{All-nil, All-cons}
 use Rattle.leg.specs.Numbered.{numbered}
 use Rattle.dialect.specs.declared.content.Content.{Content}
 use Rattle.exchange_core.specs.Acceptance.{Carried, MayMove, MayAnswer, MayRefuse, MayRefuseOther, MayKeep, MaySay, MayWrite, May}
-use Rattle.exchange_core.specs.Own.{Own, Admin, next_own_number}
+use Rattle.exchange_core.specs.declared.own.Own.{Own}
+use Rattle.exchange_core.specs.declared.own.Own.TheVariants.{Admin}
+use Rattle.exchange_core.specs.Own.{next_own_number}
 use Rattle.exchange_core.specs.Exchange.{ExchangeParts}
 use Rattle.exchange_core.specs.Keeping.{kept, intake_of, rule_state}
 use Rattle.exchange_core.proofs.Entries.{numbered-seam, numbered-second}

@@ -14,8 +14,10 @@ use Rattle.dialect.specs.declared.outgoing.Outgoing.{Outgoing}
 use Rattle.exchange_core.specs.Acceptance.{Carried, Intake, RuleState, IsDue, IsOther, Takes, MayMove, Took, MayWrite, May, IsLast}
 use Rattle.exchange_core.specs.Acceptance as rules
 use Rattle.exchange_core.specs.Order.{OrderParts, new_order, view_of}
-use Rattle.exchange_core.specs.Own.{Own, Admin, Reported, Refused}
-use Rattle.exchange_core.specs.Exchange.{LiveConnection, ExchangeParts, Answer, live_connection, next_report, request, passed_by, with_connection, with_logon, with_logon_and_request, logon_answer, logon_taken, expecting_next, order_taken, order_refused, logout_taken, test_taken, due_taken, asks, by_number, resends, received, take, accepted_by}
+use Rattle.exchange_core.specs.declared.own.Own.{Own}
+use Rattle.exchange_core.specs.declared.own.Own.TheVariants.{Admin, Reported, Refused}
+use Rattle.exchange_core.specs.declared.live_connection.LiveConnection.{LiveConnection}
+use Rattle.exchange_core.specs.Exchange.{ExchangeParts, Answer, live_connection, next_report, request, passed_by, with_connection, with_logon, with_logon_and_request, logon_answer, logon_taken, expecting_next, order_taken, order_refused, logout_taken, test_taken, due_taken, asks, by_number, resends, received, take, accepted_by}
 use Rattle.exchange_core.specs.Keeping.{kept, intake_of, rule_state, carried, written_in, into, IsLastLive, IsExchangeLater}
 use Rattle.exchange_core.proofs.Entries.{numbered-seam}
 use Rattle.exchange_core.proofs.Cases.{IsLogonTaken, IsLive, by_number_is, take_is}

@@ -8,9 +8,14 @@ use Rattle.dialect.specs.declared.content.Content.TheVariants.{TestRequest}
 use Rattle.dialect.specs.declared.outgoing.Outgoing.{Outgoing}
 use Rattle.exchange_core.specs.declared.exchange_fault.ExchangeFault.{ExchangeFault}
 use Rattle.exchange_core.specs.declared.exchange_fault.ExchangeFault.TheVariants.{NoSuchOrder, TooManyShares, Done, NumbersSpent, NoSuchTrade, NotCancelled}
-use Rattle.exchange_core.specs.Order.{OrderParts, TradeParts, Ending, ByCancel, ByReject, traded, ended_by, busted_at, is_cancelled, view_of}
-use Rattle.exchange_core.specs.Own.{Own, Admin, Reported, next_own_number, has_numbers, next_exec, exec_id}
-use Rattle.exchange_core.specs.Exchange.{LiveConnection, ExchangeParts, Answer, next_report, next_execution_report, next_message}
+use Rattle.exchange_core.specs.declared.ending.Ending.{Ending}
+use Rattle.exchange_core.specs.declared.ending.Ending.TheVariants.{ByCancel, ByReject}
+use Rattle.exchange_core.specs.Order.{OrderParts, TradeParts, traded, ended_by, busted_at, is_cancelled, view_of}
+use Rattle.exchange_core.specs.declared.own.Own.{Own}
+use Rattle.exchange_core.specs.declared.own.Own.TheVariants.{Admin, Reported}
+use Rattle.exchange_core.specs.Own.{next_own_number, has_numbers, next_exec, exec_id}
+use Rattle.exchange_core.specs.declared.live_connection.LiveConnection.{LiveConnection}
+use Rattle.exchange_core.specs.Exchange.{ExchangeParts, Answer, next_report, next_execution_report, next_message}
 
 -- what an act answers, and the exchange afterwards. What is written goes into the live connection.
 abbrev pub ActAnswer : Type 0

@@ -13,8 +13,10 @@ use Rattle.dialect.specs.declared.message.Message.{Message}
 use Rattle.dialect.specs.declared.outgoing.Outgoing.{Outgoing}
 use Rattle.dialect.specs.Outgoing.{alone}
 use Rattle.exchange_core.specs.Order.{OrderParts, new_order, view_of}
-use Rattle.exchange_core.specs.Own.{Own, Admin, Reported, Refused, next_own_number, has_numbers, next_exec, exec_id, execution_report, resent_answer}
-pub use Rattle.exchange_core.specs.declared.live_connection.LiveConnection.{LiveConnection}
+use Rattle.exchange_core.specs.declared.own.Own.{Own}
+use Rattle.exchange_core.specs.declared.own.Own.TheVariants.{Admin, Reported, Refused}
+use Rattle.exchange_core.specs.Own.{next_own_number, has_numbers, next_exec, exec_id, execution_report, resent_answer}
+use Rattle.exchange_core.specs.declared.live_connection.LiveConnection.{LiveConnection}
 
 pub record ExchangeParts : Type 0 where
   pub config : ConfigParts

@@ -6,7 +6,9 @@ use Rattle.dialect.specs.declared.content.Content.TheVariants.{Reject, GapFill, 
 use Rattle.dialect.specs.declared.message.Message.{Message}
 use Rattle.dialect.specs.declared.outgoing.Outgoing.{Outgoing}
 use Rattle.exchange_core.specs.Acceptance.{Carried, Intake, RuleState, LiveIsLast, May}
-use Rattle.exchange_core.specs.Own.{Own, Admin, Reported, Refused, next_own_number, exec_id}
+use Rattle.exchange_core.specs.declared.own.Own.{Own}
+use Rattle.exchange_core.specs.declared.own.Own.TheVariants.{Admin, Reported, Refused}
+use Rattle.exchange_core.specs.Own.{next_own_number, exec_id}
 use Rattle.exchange_core.specs.Exchange.{ExchangeParts, Answer, accepted_by, live_connection}
 use Rattle.exchange_core.specs.Acts.{ActAnswer}
 

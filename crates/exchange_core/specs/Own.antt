@@ -10,8 +10,8 @@ use Rattle.dialect.specs.declared.content.Content.TheVariants.{Reject, GapFill, 
 use Rattle.dialect.specs.OrderView.{OrderViewParts}
 use Rattle.dialect.specs.declared.outgoing.Outgoing.{Outgoing}
 use Rattle.dialect.specs.Outgoing.{alone}
-pub use Rattle.exchange_core.specs.declared.own.Own.{Own}
-pub use Rattle.exchange_core.specs.declared.own.Own.TheVariants.{Admin, Reported, Refused}
+use Rattle.exchange_core.specs.declared.own.Own.{Own}
+use Rattle.exchange_core.specs.declared.own.Own.TheVariants.{Admin, Reported, Refused}
 
 -- Own numbers begin at 1, and what they were used for is listed in their order.
 

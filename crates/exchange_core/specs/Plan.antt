@@ -9,7 +9,7 @@ use Rattle.exchange_core.specs.declared.plan.OrderStep.TheVariants.{Traded, Ende
 use Rattle.exchange_core.specs.declared.plan.Plan.{Plan}
 use Rattle.exchange_core.specs.declared.exchange_fault.ExchangeFault.{ExchangeFault}
 use Rattle.exchange_core.specs.Order.{OrderParts}
-use Rattle.exchange_core.specs.Own.{Own}
+use Rattle.exchange_core.specs.declared.own.Own.{Own}
 use Rattle.exchange_core.specs.Exchange.{ExchangeParts, Answer}
 use Rattle.exchange_core.specs.Acts.{◌>>=◌, order_at, reported}
 use Rattle.exchange_core.specs.Sound.{IsSound}

@@ -9,7 +9,8 @@ use Rattle.dialect.specs.declared.content.Content.TheVariants.{Logon, TestReques
 use Rattle.dialect.specs.declared.message.Message.{Message}
 use Rattle.dialect.specs.Writable.{IsReference, IsReportBeside}
 use Rattle.exchange_core.specs.Order.{OrderParts, TradeParts}
-use Rattle.exchange_core.specs.Own.{Own, Admin, Reported, Refused}
+use Rattle.exchange_core.specs.declared.own.Own.{Own}
+use Rattle.exchange_core.specs.declared.own.Own.TheVariants.{Admin, Reported, Refused}
 use Rattle.exchange_core.specs.Exchange.{ExchangeParts}
 use Rattle.exchange_core.specs.Keeping.{IsLastLive, OwnNumbersFit, IsExpectable, IsInRange}
 use Rattle.exchange_core.specs.Shares.{SharesAddUp}

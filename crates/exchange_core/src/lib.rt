@@ -14,5 +14,8 @@ pub mod rows;
 mod to_peer;
 mod trade;
 
+pub use ending::Ending;
 pub use exchange::Exchange;
 pub use exchange_fault::ExchangeFault;
+pub use live_connection::LiveConnection;
+pub use own::Own;

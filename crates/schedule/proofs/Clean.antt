@@ -9,7 +9,8 @@ use Rattle.dialect.specs.declared.content.Content.{Content}
 use Rattle.dialect.specs.declared.content.Content.TheVariants.{TestRequest, GapFill, Logout, Order}
 use Rattle.dialect.specs.declared.message.Message.{Message}
 use Rattle.resend.specs.Log.{Entry}
-use Rattle.exchange_core.specs.Own.{Own, Admin, Reported, Refused}
+use Rattle.exchange_core.specs.declared.own.Own.{Own}
+use Rattle.exchange_core.specs.declared.own.Own.TheVariants.{Admin, Reported, Refused}
 use Rattle.exchange_core.specs.Exchange.{ExchangeParts, logon_answer, with_connection, due_taken, take}
 use Rattle.exchange_core.specs.Keeping.{kept}
 use Rattle.exchange_core.proofs.Cases.{after_take_is}

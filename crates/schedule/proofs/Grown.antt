@@ -5,8 +5,8 @@ use Rattle.std.proofs.lemmas.Option.{same_Some}
 use Rattle.std.proofs.lemmas.List.{append-nil}
 use Rattle.leg.specs.Growing.{Grew}
 use Rattle.dialect.specs.declared.report.Report.{Report}
-use Rattle.exchange_core.specs.Own.{Own}
-use Rattle.exchange_core.specs.Own.{Admin, Reported, Refused}
+use Rattle.exchange_core.specs.declared.own.Own.{Own}
+use Rattle.exchange_core.specs.declared.own.Own.TheVariants.{Admin, Reported, Refused}
 use Rattle.exchange_core.specs.Exchange.{ExchangeParts, accepted_by}
 use Rattle.session_core.proofs.Adding.{onward-refl, onward-trans}
 use Rattle.schedule.specs.World.{World, VenueParts, reports_in}

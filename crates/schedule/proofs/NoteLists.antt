@@ -10,7 +10,9 @@ use Rattle.leg.specs.declared.sweep.Routed.{Routed}
 use Rattle.dialect.specs.declared.note.Note.{Note}
 use Rattle.dialect.specs.declared.note.Note.TheVariants as note
 use Rattle.dialect.specs.declared.report.Report.{Report}
-use Rattle.exchange_core.specs.Own.{Own, Admin, Reported, Refused, exec_id}
+use Rattle.exchange_core.specs.declared.own.Own.{Own}
+use Rattle.exchange_core.specs.declared.own.Own.TheVariants.{Admin, Reported, Refused}
+use Rattle.exchange_core.specs.Own.{exec_id}
 use Rattle.exchange_core.specs.Keeping.{AreCounted}
 use Rattle.share_ledger.specs.declared.applied.Applied.{Applied}
 use Rattle.share_ledger.specs.declared.applied.Applied.TheVariants as applied

@@ -13,7 +13,8 @@ use Rattle.std.proofs.lemmas.Option.{same_Some}
 use Rattle.std.proofs.lemmas.Slice.Eq.{bytes_eq-Decides}
 use Rattle.leg.specs.Numbered.{numbered}
 use Rattle.dialect.specs.declared.report.ReportKind.{ReportKind}
-use Rattle.exchange_core.specs.Order.{OrderParts, TradeParts, Ending, ended_by}
+use Rattle.exchange_core.specs.declared.ending.Ending.{Ending}
+use Rattle.exchange_core.specs.Order.{OrderParts, TradeParts, ended_by}
 use Rattle.exchange_core.specs.Own.{exec_id}
 use Rattle.exchange_core.specs.Shares.{live_shares, busted_shares, SharesAddUp}
 use Rattle.exchange_core.proofs.Entries.{all_more}

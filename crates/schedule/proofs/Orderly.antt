@@ -14,7 +14,9 @@ use Rattle.dialect.specs.declared.content.Content.{Content}
 use Rattle.dialect.specs.declared.content.Content.TheVariants.{TestRequest, GapFill, Logout, Order}
 use Rattle.dialect.specs.declared.message.Message.{Message}
 use Rattle.exchange_core.specs.Order.{OrderParts, new_order, view_of}
-use Rattle.exchange_core.specs.Own.{Own, Admin, Reported, Refused, next_own_number, report_count, next_exec}
+use Rattle.exchange_core.specs.declared.own.Own.{Own}
+use Rattle.exchange_core.specs.declared.own.Own.TheVariants.{Admin, Reported, Refused}
+use Rattle.exchange_core.specs.Own.{next_own_number, report_count, next_exec}
 use Rattle.exchange_core.specs.Exchange.{ExchangeParts, new_exchange, accepted_by, next_report, logon_answer, with_connection, due_taken, asks, take, drop_connection}
 use Rattle.exchange_core.specs.Acts.{reported, tested}
 use Rattle.exchange_core.specs.Keeping.{AreCounted}

@@ -11,7 +11,9 @@ use Rattle.dialect.specs.declared.content.Content.{Content}
 use Rattle.dialect.specs.declared.content.Content.TheVariants.{TestRequest, GapFill, Logout, Order}
 use Rattle.dialect.specs.declared.message.Message.{Message}
 use Rattle.exchange_core.specs.Order.{OrderParts, new_order}
-use Rattle.exchange_core.specs.Own.{Own, Admin, Reported, Refused, next_exec}
+use Rattle.exchange_core.specs.declared.own.Own.{Own}
+use Rattle.exchange_core.specs.declared.own.Own.TheVariants.{Admin, Reported, Refused}
+use Rattle.exchange_core.specs.Own.{next_exec}
 use Rattle.exchange_core.specs.Exchange.{ExchangeParts, accepted_by, logon_answer, with_connection, due_taken, take}
 use Rattle.exchange_core.specs.Acts.{reported}
 use Rattle.exchange_core.proofs.After.{legs_kept}

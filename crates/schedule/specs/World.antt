@@ -11,8 +11,8 @@ use Rattle.dialect.specs.declared.note.Note.{Note}
 use Rattle.dialect.specs.declared.report.Report.{Report}
 use Rattle.dialect.specs.declared.message.Message.{Message}
 use Rattle.session_core.specs.Session.{SessionParts, new_session, leg_state}
-use Rattle.exchange_core.specs.Own.{Own}
-use Rattle.exchange_core.specs.Own.{Admin, Reported, Refused}
+use Rattle.exchange_core.specs.declared.own.Own.{Own}
+use Rattle.exchange_core.specs.declared.own.Own.TheVariants.{Admin, Reported, Refused}
 use Rattle.exchange_core.specs.Exchange.{ExchangeParts, new_exchange, accepted_by}
 use Rattle.share_ledger.specs.Book.{BookParts, new_book}
 use Rattle.share_ledger.specs.Book as book

@@ -2,7 +2,7 @@
 
 ghost use Rattle.std.specs.Prelude.{◌≡◌, [], ◌∷◌, false, IfOk, OnErr, OnOk, All, option_to_list};
 ghost use Rattle.dialect.specs.Writable.{IsWritable};
-ghost use Rattle.exchange_core.specs.Own.{Reported};
+ghost use Rattle.exchange_core.specs.declared.own.Own.TheVariants.{Reported};
 ghost use Rattle.exchange_core.specs.Own.{next_own_number, execution_report};
 ghost use Rattle.exchange_core.specs.Acts.{while_live, answered, trade, cancel_rest, reject, bust, test};
 ghost use Rattle.exchange_core.specs.Frames.{AreFramed, ActGives, no_dialect};
