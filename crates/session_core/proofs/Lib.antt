@@ -6,3 +6,7 @@ pub mod Legs
 pub mod Sound
 pub mod Kept
 pub mod Promised
+pub mod Drafted
+pub mod Framing
+pub mod Decided
+pub mod KeptOn

@@ -5,3 +5,6 @@ pub mod Calling
 pub mod Example
 pub mod Onward
 pub mod Sound
+pub mod Kept
+pub mod Draft
+pub mod Given

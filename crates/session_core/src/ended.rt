@@ -1,5 +1,7 @@
 //! Why a connection ended.
 
+ghost use Rattle.std.specs.Prelude.{◌≡◌};
+
 use thiserror::Error;
 
 /// Why a session ended its connection (FIX 4.4 Volume 2).
@@ -44,4 +46,29 @@ pub enum Ended {
     /// The number that a Logon expects next (789) is above what was sent.
     #[error("E13 bad next expected number")]
     BadNextExpected,
+}
+
+impl Ended {
+    ghost use Rattle.session_core.specs.Turn.{after_peer_logout};
+
+    /// Whether the exchange logged out first, after which the session is over.
+    pub(crate) fn is_peer_logout(self) -> bool
+        ensures { result ≡ after_peer_logout self }
+    {
+        match self {
+            Ended::PeerLogout => true,
+            Ended::FirstNotLogon => false,
+            Ended::TooLow => false,
+            Ended::WrongComp => false,
+            Ended::ResetRefused => false,
+            Ended::ResendInDoubt => false,
+            Ended::BadResend => false,
+            Ended::LogonAgain => false,
+            Ended::BadGapFill => false,
+            Ended::Silent => false,
+            Ended::Malformed => false,
+            Ended::LogoutDone => false,
+            Ended::BadNextExpected => false,
+        }
+    }
 }

@@ -1,12 +1,21 @@
-//! The dispatcher's session with an exchange: its phases, endings and refusals. Its rules are definitions, in `specs/`.
+//! The dispatcher's session with an exchange. Its rules are definitions, in `specs/`, and `Session` does what they say.
 #![tactic(auto)]
 
+mod calls;
+mod commit;
+mod draft;
 mod ended;
+mod fence;
 mod laws;
+mod line;
 mod phase;
+mod receive;
 mod rows;
+mod session;
 mod session_fault;
+mod standing;
 mod step;
+mod write;
 
 pub use ended::Ended;
 pub use laws::{
@@ -20,3 +29,6 @@ pub use rows::{
     goes_on_when_up, is_told_the_next_number, keeps_alive_and_closes, keeps_doubt,
     logs_on_and_settles, notes_are_confirmed, refuses_calls, withdraws_what_is_asked_for_again,
 };
+pub use session::Session;
+pub use session_fault::SessionFault;
+pub use step::{Frames, LegIds, Step};

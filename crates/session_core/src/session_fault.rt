@@ -1,5 +1,8 @@
 //! Why a call of a session is refused.
 
+ghost use Rattle.std.specs.Prelude.{◌≡◌};
+
+use std::alloc::{AllocError, AllocFailed};
 use thiserror::Error;
 
 /// Why a call of a session is refused. A refusal leaves the session as it was.
@@ -25,4 +28,24 @@ pub enum SessionFault {
     /// There is no connection.
     #[error("S07 not connected")]
     NotConnected,
+}
+
+impl From<AllocError> for SessionFault {
+    ghost use Rattle.session_core.specs.declared.session_fault.SessionFault.TheVariants.{OutOfMemory};
+
+    ghost from_gives = { λ _ e. e ≡ OutOfMemory };
+
+    fn from(_e: AllocError) -> SessionFault {
+        SessionFault::OutOfMemory
+    }
+}
+
+impl<T: Drop> From<AllocFailed<T>> for SessionFault {
+    ghost use Rattle.session_core.specs.declared.session_fault.SessionFault.TheVariants.{OutOfMemory};
+
+    ghost from_gives = { λ _ e. e ≡ OutOfMemory };
+
+    fn from(_e: AllocFailed<T>) -> SessionFault {
+        SessionFault::OutOfMemory
+    }
 }

@@ -1,0 +1,156 @@
+-- A message more that is to be written, in the turn that was decided on.
+use Rattle.std.proofs.Common.{◌≡◌, ◌+◌, ℕ, Bool, true, false, not, List, [], ◌∷◌, ◌++◌, length, map, cond, count_by, refl, ap, ◌∙◌, if◌then◌else◌, arith, length-append}
+use Rattle.std.proofs.lemmas.List.{map-append}
+use Rattle.std.proofs.lemmas.List.Sums.{sum_by-cons}
+use Rattle.dialect.specs.declared.message.Message.{Message}
+use Rattle.resend.specs.Log.{Entry, GapFillParts, take_below}
+use Rattle.resend.specs.Log.Entry.{Admin}
+use Rattle.leg.specs.declared.leg_state.LegState.TheVariants.{Taken, Withdrawn}
+use Rattle.std.specs.Prelude.{nat_lt, nat_le}
+use Rattle.resend.proofs.Later.{length-settled_where}
+use Rattle.session_core.specs.declared.line.Line.{Line}
+use Rattle.session_core.specs.declared.line.Said.{Said}
+use Rattle.session_core.specs.declared.line.Said.TheVariants as said
+use Rattle.session_core.specs.declared.draft.Draft.{Draft}
+use Rattle.session_core.specs.declared.draft.Settling.{Settling}
+use Rattle.session_core.specs.declared.draft.Settling.TheVariants.{Nothing, Passed, At}
+use Rattle.session_core.specs.Session.{SessionParts, next_out}
+use Rattle.session_core.specs.Turn.{Turn, puts, puts_fence, fills}
+use Rattle.session_core.specs.Kept.{seen}
+use Rattle.session_core.specs.Draft.{content_in, message_in, logged, is_fence, with_fences, settled_log, fences_left, withdrawn_by, drafted}
+
+-- one line more
+pub logged-push : (log : List Entry) (lines : List Line) (line : Line)
+    → logged log (lines ++ line ∷ []) ≡ (if line.poss_dup then logged log lines else logged log lines ++ Admin ∷ [])
+logged-push log [] line = refl
+logged-push log (first ∷ lines) line = logged-push (if first.poss_dup then log else log ++ Admin ∷ []) lines line
+
+pub with_fences-push : (fences : List ℕ) (lines : List Line) (line : Line)
+    → with_fences fences (lines ++ line ∷ [])
+    ≡ (if is_fence line.said then with_fences fences lines ++ line.number ∷ [] else with_fences fences lines)
+with_fences-push fences [] line = refl
+with_fences-push fences (first ∷ lines) line =
+    with_fences-push (if is_fence first.said then fences ++ first.number ∷ [] else fences) lines line
+
+-- how many numbers are spent
+length-if : (b : Bool) (log : List Entry) → length (if b then log else log ++ Admin ∷ [])
+    ≡ length log + cond (not b) 1 0
+length-if true log = omega arith
+length-if false log = omega (arith, length-append log (Admin ∷ []))
+
+pub length-logged : (log : List Entry) (lines : List Line)
+    → length (logged log lines) ≡ length log + count_by (λ (line : Line). not line.poss_dup) lines
+length-logged log [] = omega arith
+length-logged log (line ∷ lines) =
+    omega (
+      arith,
+      length-logged (if line.poss_dup then log else log ++ Admin ∷ []) lines,
+      length-if line.poss_dup log,
+      sum_by-cons (λ (line : Line). cond (not line.poss_dup) 1 0) line lines,
+    )
+
+pub length-settled_log : (settling : Settling) (log : List Entry) → length (settled_log settling log) ≡ length log
+length-settled_log Nothing log = refl
+length-settled_log (Passed fence) log = length-settled_where (λ n. nat_lt n fence) Taken 1 log
+length-settled_log (At number) log =
+    length-settled_where (λ n. nat_le number n) Withdrawn 1 (take_below number log)
+    ∙ length-settled_where (λ n. nat_lt n number) Taken 1 log
+
+pub next-drafted : (s : SessionParts) (draft : Draft)
+    → next_out (drafted s draft).session ≡ next_out s + count_by (λ (line : Line). not line.poss_dup) draft.lines.items
+next-drafted s draft =
+    omega (
+      arith,
+      length-logged (settled_log draft.settling s.log) draft.lines.items,
+      length-settled_log
+          draft.settling s.log,
+    )
+
+-- the turn with other messages, another log and other fences
+turn_with : SessionParts → Draft → List Message → List Entry → List ℕ → Turn
+turn_with s draft written log fences = record {
+  step = record {
+    written = written;
+    note = draft.note;
+    withdrawn = withdrawn_by draft.settling s.log;
+    ended = draft.ended;
+  };
+  session = seen s.config log fences s.connection draft.standing;
+}
+
+module _ (s : SessionParts) (draft : Draft) where
+  abbrev written : List Message
+  written = map (message_in s.config draft.answered) draft.lines.items
+
+  abbrev log : List Entry
+  log = logged (settled_log draft.settling s.log) draft.lines.items
+
+  abbrev fences : List ℕ
+  fences = with_fences (fences_left draft.settling s.current.fences) draft.lines.items
+
+  abbrev with_lines : List Line → Draft
+  with_lines lines = record draft { lines = record { items = lines } }
+
+  pushed : (line : Line) (lines : List Line) → lines ≡ draft.lines.items ++ line ∷ []
+      → drafted s (with_lines lines)
+      ≡ turn_with s draft (written ++ message_in s.config draft.answered line ∷ []) (if line.poss_dup then log else
+      log ++ Admin ∷ [])
+      (if is_fence line.said then fences ++ line.number ∷ [] else fences)
+  unfolding turn_with
+  pushed line lines is =
+      (let more : List Line = draft.lines.items ++ line ∷ [] in
+      let kept : List Entry = settled_log draft.settling s.log in
+      let left : List ℕ = fences_left draft.settling s.current.fences in
+      ap (λ (ls : List Line). drafted s (with_lines ls)) is
+      ∙ (ap (λ (w : List Message). turn_with s draft w (logged kept more) (with_fences left more))
+      (map-append (message_in s.config draft.answered) draft.lines.items (line ∷ []))
+      ∙ (ap (λ (l : List Entry). turn_with s draft (written ++ message_in s.config draft.answered line ∷ []) l
+      (with_fences left more))
+      (logged-push kept draft.lines.items line)
+      ∙ ap (λ (f : List ℕ). turn_with s draft (written ++ message_in s.config draft.answered line ∷ [])
+      (if line.poss_dup then log else log ++ Admin ∷ []) f)
+      (with_fences-push left draft.lines.items line))))
+
+  pub put-turn : (what : Said) (number : ℕ) (lines : List Line)
+      → lines ≡ draft.lines.items ++ (let line : Line = record { number = number; poss_dup = false; said = what } in
+      line) ∷ []
+      → number ≡ next_out (drafted s draft).session → is_fence what ≡ false
+      → drafted s (with_lines lines) ≡ puts (content_in draft.answered (next_out (drafted s draft).session) what)
+      (drafted s draft)
+  unfolding turn_with
+  put-turn what number lines is number_is no_fence =
+      (let line : Line = record { number = number; poss_dup = false; said = what } in
+      pushed line lines is
+      ∙ (ap (λ (b : Bool). turn_with s draft (written ++ message_in s.config draft.answered line ∷ []) (log ++ Admin ∷
+      [])
+      (if b then fences ++ number ∷ [] else fences)) no_fence
+      ∙ ap (λ (n : ℕ). let line : Line = record { number = n; poss_dup = false; said = what } in
+      turn_with s draft (written ++ message_in s.config draft.answered line ∷ []) (log ++ Admin ∷ []) fences)
+      number_is))
+
+  pub fence-turn : (number : ℕ) (lines : List Line)
+      → lines ≡ draft.lines.items ++ (let line : Line = record {
+        number = number;
+        poss_dup = false;
+        said = said.Fence;
+      } in line) ∷ []
+      → number ≡ next_out (drafted s draft).session
+      → drafted s (with_lines lines) ≡ puts_fence (drafted s draft)
+  unfolding turn_with
+  fence-turn number lines is number_is =
+      pushed (record { number = number; poss_dup = false; said = said.Fence }) lines is
+      ∙ ap (λ (n : ℕ). let line : Line = record { number = n; poss_dup = false; said = said.Fence } in
+      turn_with s draft (written ++ message_in s.config draft.answered line ∷ []) (log ++ Admin ∷ []) (fences ++ n ∷
+      [])) number_is
+
+  pub fill-turn : (fill : GapFillParts) (lines : List Line)
+      → lines ≡ draft.lines.items ++ (let line : Line = record {
+        number = fill.first;
+        poss_dup = true;
+        said =
+            said.GapFill fill.new_number;
+      } in line) ∷ []
+      → drafted s (with_lines lines) ≡ fills fill (drafted s draft)
+  unfolding turn_with
+  fill-turn fill lines is =
+      pushed (record { number = fill.first; poss_dup = true; said = said.GapFill fill.new_number }) lines is

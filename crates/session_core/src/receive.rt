@@ -1,0 +1,437 @@
+//! What a session does with a message that it receives: it is decided, row by row.
+
+ghost use Rattle.std.specs.Prelude.{◌≡◌, ◌≤◌, true, length};
+ghost use Rattle.fix_tags.specs.Range.{is_range};
+ghost use Rattle.dialect.specs.FreeText.{IsFreeText};
+ghost use Rattle.dialect.specs.Message.{is_logon};
+ghost use Rattle.resend.specs.Judging.{judged};
+ghost use Rattle.session_core.specs.Turn.{quietly, counts, notes, ends};
+ghost use Rattle.session_core.specs.Receiving.{settles_told, logon_row, resend_while_settling, resend_later, resend_row, passes_fence, answers_test, in_turn, gap_fill_row, refused_row, logout_row, report_note, row, is_reset, by_number, received, receive};
+ghost use Rattle.session_core.specs.Session.{SessionParts};
+ghost use Rattle.session_core.specs.Kept.{standing_at};
+ghost use Rattle.session_core.specs.Sound.{IsReadContent, IsRead};
+ghost use Rattle.session_core.specs.Draft.{drafted};
+
+use crate::draft::{Draft, Settling};
+use crate::ended::Ended;
+use crate::line::Said;
+use crate::phase::Phase;
+use crate::session::Session;
+use crate::standing::Standing;
+use dialect::{Content, DialectFault, FreeText, MAX_ID, Message, Note, Report};
+use resend::{GapFill, Judged, MAX_NUMBER};
+
+/// Nothing is done.
+fn nothing(at: Standing) -> Draft
+    ensures turn { (s : SessionParts) → drafted s result ≡ quietly (standing_at s at) }
+    ensures standing { result.standing ≡ at }
+    ensures room { length result.lines.items ≤ 0 }
+{
+    Draft::new(at, Settling::Nothing)
+}
+
+/// The connection ends, and nothing else is done.
+fn ending(at: Standing, why: Ended) -> Draft
+    ensures turn { (s : SessionParts) → drafted s result ≡ ends why (standing_at s at) }
+    ensures expected { result.standing.expected ≡ at.expected }
+    ensures room { length result.lines.items ≤ 0 }
+{
+    let mut draft = Draft::new(at, Settling::Nothing);
+    draft.end(why);
+    draft
+}
+
+/// Whether a range is one of numbers that were sent; 0 as its last number means all that was sent.
+fn is_range_of(sent: u64, begin: u64, last: u64) -> bool
+    ensures { result ≡ is_range sent begin last }
+{
+    1 <= begin && begin <= sent && (last == 0 || begin <= last)
+}
+
+/// What a report is to the book.
+fn note_of(read: Result<Report, DialectFault>) -> Note
+    ensures { result ≡ report_note read }
+{
+    match read {
+        Ok(report) => Note::Report(report),
+        Err(fault) => Note::Unread(fault),
+    }
+}
+
+/// The id of a TestRequest, to be kept until it is answered.
+fn test_id(id: &[u8]) -> FreeText<MAX_ID>
+    requires { IsFreeText 64 id.now }
+    ensures { result ≡ id.now }
+{
+    FreeText::new(id).unwrap()
+}
+
+impl Session {
+    /// Every leg in doubt is settled by the number that the exchange expects next (789), if it told one, and what lies
+    /// between it and the session's own Logon is filled.
+    fn settled_as_told(&self, at: Standing, next: Option<u64>) -> Draft
+        requires { at.logon_number ≤ 999999999 }
+        ensures turn { drafted self.now result ≡ settles_told (standing_at self.now at) next }
+        ensures standing { result.standing ≡ at }
+        ensures room { length result.lines.items ≤ 1 }
+    {
+        match next {
+            None => Draft::new(at, Settling::Nothing),
+            Some(number) => {
+                let logon_number = at.logon_number;
+                let mut draft = Draft::new(at, Settling::At(number));
+                if number <= logon_number {
+                    let fill = GapFill {
+                        first: number,
+                        new_number: logon_number + 1,
+                    };
+                    draft.fill(fill);
+                }
+                draft
+            }
+        }
+    }
+
+    /// A Logon.
+    fn logon(&self, at: Standing, due: bool, next: Option<u64>) -> Draft
+        requires logon { at.logon_number ≤ 999999999 }
+        requires due { due ≡ true → at.expected ≤ MAX_NUMBER }
+        ensures turn { drafted self.now result ≡ logon_row due (standing_at self.now at) next }
+        ensures room { length result.lines.items ≤ 3 }
+    {
+        if !at.phase.is_logging_on() {
+            return ending(at, Ended::LogonAgain);
+        }
+        let told = if self.has_next() { next } else { None };
+        if at.is_too_high(told) {
+            return ending(at, Ended::BadNextExpected);
+        }
+        let mut draft = self.settled_as_told(at, told);
+        draft.count_if(due);
+        draft.ask_if(self, !due);
+        draft.write_fence(self);
+        draft.come_to(Phase::Settling);
+        draft
+    }
+
+    /// A ResendRequest while legs of earlier connections aren't settled: every leg in doubt is, and the range is filled.
+    fn resend_settling(&self, at: Standing, begin: u64, last: u64) -> Draft
+        ensures turn { drafted self.now result ≡ resend_while_settling (standing_at self.now at) begin last }
+        ensures standing { result.standing ≡ at }
+        ensures room { length result.lines.items ≤ 2 }
+    {
+        let mut draft = Draft::new(at, Settling::At(begin));
+        if let Some(fill) = self.fill_to(begin, last, self.last_number()) {
+            draft.fill(fill);
+        }
+        draft.write_fence(self);
+        draft
+    }
+
+    /// A ResendRequest later: what was settled is filled.
+    fn resend_settled(&self, at: Standing, fill: Option<GapFill>) -> Draft
+        ensures turn { drafted self.now result ≡ resend_later fill (standing_at self.now at) }
+        ensures standing { result.standing.expected ≡ at.expected }
+        ensures room { length result.lines.items ≤ 1 }
+    {
+        match fill {
+            None => ending(at, Ended::ResendInDoubt),
+            Some(fill) => {
+                let mut draft = Draft::new(at, Settling::Nothing);
+                draft.fill(fill);
+                draft
+            }
+        }
+    }
+
+    /// A ResendRequest.
+    fn resend(&self, at: Standing, due: bool, begin: u64, last: u64) -> Draft
+        requires { due ≡ true → at.expected ≤ MAX_NUMBER }
+        ensures turn { drafted self.now result ≡ resend_row due (standing_at self.now at) begin last }
+        ensures room { length result.lines.items ≤ 3 }
+    {
+        if !is_range_of(self.last_number(), begin, last) {
+            return ending(at, Ended::BadResend);
+        }
+        if at.phase.is_settling() {
+            let mut draft = self.resend_settling(at, begin, last);
+            draft.count_if(due);
+            return draft;
+        }
+        let fill = self.fill_to(begin, last, at.settled);
+        let mut draft = self.resend_settled(at, fill);
+        draft.count_if(due);
+        draft
+    }
+
+    /// A Heartbeat, by the fence that it names.
+    fn fence_answered(&self, at: Standing, fence: Option<u64>) -> Draft
+        ensures turn { drafted self.now result ≡ passes_fence (standing_at self.now at) fence }
+        ensures standing { result.standing.expected ≡ at.expected }
+        ensures room { length result.lines.items ≤ 1 }
+    {
+        let Some(fence) = fence else {
+            return Draft::new(at, Settling::Nothing);
+        };
+        let passed = Standing {
+            settled: fence,
+            ..at
+        };
+        let mut draft = Draft::new(passed, Settling::Passed(fence));
+        match at.phase {
+            Phase::Settling => {
+                if at.close_asked {
+                    draft.log_out(self);
+                } else {
+                    draft.come_to(Phase::Up);
+                }
+            }
+            Phase::Closing => {
+                if at.is_closing_fence(fence) {
+                    draft.log_out(self);
+                }
+            }
+            Phase::Down => {}
+            Phase::LoggingOn => {}
+            Phase::Up => {}
+            Phase::LoggedOut => {}
+            Phase::Closed => {}
+        }
+        draft
+    }
+
+    /// A TestRequest in its turn.
+    fn test(&self, at: Standing, id: &[u8]) -> Draft
+        requires low { at.expected ≤ MAX_NUMBER }
+        requires id { IsFreeText 64 id.now }
+        ensures turn { drafted self.now result ≡ counts (answers_test (standing_at self.now at) id.now) }
+        ensures room { length result.lines.items ≤ 1 }
+    {
+        if at.phase.is_logged_out() {
+            let mut draft = nothing(at);
+            draft.count();
+            return draft;
+        }
+        let mut draft = Draft::for_test(at, test_id(id));
+        draft.write(self, Said::Heartbeat);
+        draft.count();
+        draft
+    }
+
+    /// A gap fill in its turn, to the number that comes next behind it.
+    fn gap_fill(&self, at: Standing, number: u64, new_number: u64) -> Draft
+        requires due { number ≡ at.expected }
+        requires reference { new_number ≤ 999999999 }
+        ensures turn { drafted self.now result ≡ gap_fill_row (standing_at self.now at) number new_number }
+        ensures room { length result.lines.items ≤ 0 }
+    {
+        if number >= new_number {
+            return ending(at, Ended::BadGapFill);
+        }
+        let mut at = at;
+        at.expected.fill_to(new_number);
+        Draft::new(at, Settling::Nothing)
+    }
+
+    /// A Reject or a BusinessReject in its turn, of the message under a number.
+    fn refused(&self, at: Standing, number: Option<u64>) -> Draft
+        requires { at.expected ≤ MAX_NUMBER }
+        ensures turn { drafted self.now result ≡ refused_row (standing_at self.now at) number }
+        ensures room { length result.lines.items ≤ 0 }
+    {
+        let mut draft = Draft::new(at, Settling::Nothing);
+        match self.leg_of(number) {
+            Some(id) => draft.give(Note::Refused(id)),
+            None => draft.count(),
+        }
+        draft
+    }
+
+    /// A Logout.
+    fn logout(&self, at: Standing) -> Draft
+        ensures turn { drafted self.now result ≡ logout_row (standing_at self.now at) }
+        ensures room { length result.lines.items ≤ 1 }
+    {
+        if at.phase.is_logged_out() {
+            return ending(at, Ended::LogoutDone);
+        }
+        let mut draft = Draft::new(at, Settling::Nothing);
+        draft.write(self, Said::Logout);
+        draft.end(Ended::PeerLogout);
+        draft
+    }
+
+    /// A message under the number that is expected, which is due, or ahead of it.
+    fn row(&self, at: Standing, due: bool, number: u64, content: Content<'_>) -> Draft
+        requires logon { at.logon_number ≤ 999999999 }
+        requires low { due ≡ true → at.expected ≤ MAX_NUMBER }
+        requires due { due ≡ true → number ≡ at.expected }
+        requires read { IsReadContent content }
+        ensures turn { drafted self.now result ≡ row due (standing_at self.now at) number content.entry }
+        ensures room { length result.lines.items ≤ 3 }
+    {
+        match content {
+            Content::Logon { next, .. } => self.logon(at, due, next),
+            Content::ResendRequest { begin, last } => self.resend(at, due, begin, last),
+            Content::Heartbeat { id } => {
+                let fence = self.fence_of(id);
+                let mut draft = self.fence_answered(at, fence);
+                draft.count_if(due);
+                draft
+            }
+            Content::Logout => self.logout(at),
+            Content::TestRequest { id } => {
+                if due {
+                    self.test(at, id.as_bytes())
+                } else {
+                    nothing(at)
+                }
+            }
+            Content::GapFill { new_number } => {
+                if due {
+                    self.gap_fill(at, number, new_number)
+                } else {
+                    nothing(at)
+                }
+            }
+            Content::Reject { number: refused } => self.refused_if(at, due, Some(refused)),
+            Content::BusinessReject { number: refused } => self.refused_if(at, due, refused),
+            Content::ExecutionReport(read) => reported_if(at, due, read),
+            Content::Reset { .. } => counted_if(at, due),
+            Content::Order(_) => counted_if(at, due),
+            Content::Other => counted_if(at, due),
+        }
+    }
+
+    /// A Reject or a BusinessReject, of the message under a number.
+    fn refused_if(&self, at: Standing, due: bool, number: Option<u64>) -> Draft
+        requires { due ≡ true → at.expected ≤ MAX_NUMBER }
+        ensures turn { drafted self.now result ≡ in_turn due (standing_at self.now at) (refused_row (standing_at self.now at) number) }
+        ensures room { length result.lines.items ≤ 0 }
+    {
+        if due {
+            self.refused(at, number)
+        } else {
+            nothing(at)
+        }
+    }
+
+    /// A message, by how its number stands to the expected one.
+    fn by_number(&self, at: Standing, message: Message<'_>) -> Draft
+        requires logon { at.logon_number ≤ 999999999 }
+        requires read { IsRead message }
+        ensures { drafted self.now result ≡ by_number (standing_at self.now at) message.entry (judged at.expected message.entry.number message.entry.poss_dup) }
+    {
+        let number = message.number;
+        match at.expected.judge(number, message.poss_dup) {
+            Judged::Due => self.row(at, true, number, message.content),
+            Judged::Ahead => {
+                let mut draft = self.row(at, false, number, message.content);
+                draft.ask_missing(self);
+                draft
+            }
+            Judged::Repeat => nothing(at),
+            Judged::TooLow => ending(at, Ended::TooLow),
+        }
+    }
+
+    /// A message, by the checks before its number's, in order.
+    fn checked(&self, at: Standing, message: Message<'_>) -> Draft
+        requires logon { at.logon_number ≤ 999999999 }
+        requires read { IsRead message }
+        ensures { drafted self.now result ≡ received (standing_at self.now at) message.entry }
+    {
+        if !self.is_peer_of(&message) {
+            return ending(at, Ended::WrongComp);
+        }
+        if at.phase.is_logging_on() && !is_first(&message.content) {
+            return ending(at, Ended::FirstNotLogon);
+        }
+        if resets(&message.content) {
+            return ending(at, Ended::ResetRefused);
+        }
+        self.by_number(at, message)
+    }
+
+    /// A message received. Whatever it is, a note that wasn't confirmed is given up.
+    pub(crate) fn on_message(&self, message: Message<'_>) -> Draft
+        requires { IsRead message }
+        ensures { drafted self.now result ≡ receive self.now message.entry }
+    {
+        let standing = self.standing();
+        if !standing.is_connected() {
+            return nothing(standing);
+        }
+        let heard = Standing {
+            pending: false,
+            silent: false,
+            ..standing
+        };
+        self.checked(heard, message)
+    }
+}
+
+/// Whether this is a Logon.
+fn is_first(content: &Content<'_>) -> bool
+    ensures { result ≡ is_logon content.now }
+{
+    match content {
+        Content::Logon { .. } => true,
+        Content::Heartbeat { .. } => false,
+        Content::TestRequest { .. } => false,
+        Content::ResendRequest { .. } => false,
+        Content::Reject { .. } => false,
+        Content::GapFill { .. } => false,
+        Content::Reset { .. } => false,
+        Content::Logout => false,
+        Content::BusinessReject { .. } => false,
+        Content::Order(_) => false,
+        Content::ExecutionReport(_) => false,
+        Content::Other => false,
+    }
+}
+
+/// Whether the exchange wants to begin its numbers anew.
+fn resets(content: &Content<'_>) -> bool
+    ensures { result ≡ is_reset content.now }
+{
+    match content {
+        Content::Logon { reset, .. } => *reset,
+        Content::Reset { .. } => true,
+        Content::Heartbeat { .. } => false,
+        Content::TestRequest { .. } => false,
+        Content::ResendRequest { .. } => false,
+        Content::Reject { .. } => false,
+        Content::GapFill { .. } => false,
+        Content::Logout => false,
+        Content::BusinessReject { .. } => false,
+        Content::Order(_) => false,
+        Content::ExecutionReport(_) => false,
+        Content::Other => false,
+    }
+}
+
+/// A message of which nothing but its number counts.
+fn counted_if(at: Standing, due: bool) -> Draft
+    requires { due ≡ true → at.expected ≤ MAX_NUMBER }
+    ensures turn { (s : SessionParts) → drafted s result ≡ in_turn due (standing_at s at) (counts (quietly (standing_at s at))) }
+    ensures room { length result.lines.items ≤ 0 }
+{
+    let mut draft = Draft::new(at, Settling::Nothing);
+    if due {
+        draft.count();
+    }
+    draft
+}
+
+/// A report, or why it can't be read.
+fn reported_if(at: Standing, due: bool, read: Result<Report, DialectFault>) -> Draft
+    ensures turn { (s : SessionParts) → drafted s result ≡ in_turn due (standing_at s at) (notes (report_note read) (standing_at s at)) }
+    ensures room { length result.lines.items ≤ 0 }
+{
+    let mut draft = Draft::new(at, Settling::Nothing);
+    if due {
+        draft.give(note_of(read));
+    }
+    draft
+}

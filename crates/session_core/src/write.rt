@@ -1,0 +1,209 @@
+//! What was decided is written as frames, and put in place.
+
+ghost use Rattle.std.specs.Prelude.{◌≡◌, false, Ok, IfOk, IsOkUnless, map};
+ghost use Rattle.dialect.specs.Addressed.{message_of};
+ghost use Rattle.dialect.specs.declared.content.Content.TheVariants.{Logon, Order};
+ghost use Rattle.dialect.specs.Framed.{IsFramed};
+ghost use Rattle.dialect.specs.Outgoing.{alone};
+ghost use Rattle.dialect.specs.Writable.{IsWritable};
+ghost use Rattle.session_core.specs.Calling.{answers};
+ghost use Rattle.session_core.specs.Sound.{IsSound, AreWritable};
+ghost use Rattle.session_core.specs.Draft.{message_in, withdrawn_by, drafted};
+ghost use Rattle.session_core.specs.Given.{AreFramed, IsStep, Gives};
+
+use crate::draft::{Draft, Settling};
+use crate::fence::fence_id_text;
+use crate::line::{Line, Said};
+use crate::session::Session;
+use crate::session_fault::SessionFault;
+use crate::step::{Frames, LegIds, Step};
+use dialect::{Content, Dialect, FreeText, MAX_ID, Message, Outgoing, TextRef, write_message};
+use fix_tags::{Config, Stamp};
+use leg::Leg;
+use std::alloc::Global;
+
+/// The frame of a message from this end to its peer.
+fn frame<'a, D: Dialect>(
+    alloc: Global,
+    dialect: &D,
+    stamp: &Stamp,
+    config: &'a Config,
+    number: u64,
+    poss_dup: bool,
+    content: Content<'a>,
+) -> Result<Vec<u8>, SessionFault>
+    requires { IsWritable (alone (message_of config.now number poss_dup content)) }
+    ensures ok { IfOk result (λ bytes. IsFramed (record { IsOrder = D.IsOrder dialect.now; IsReport = D.IsReport dialect.now }) stamp.now (alone (message_of config.now number poss_dup content.entry)) bytes.items) }
+    ensures refusal { IsOkUnless result SessionFault.OutOfMemory }
+{
+    let message = Message {
+        from: TextRef::new(config.me().as_bytes()),
+        to: TextRef::new(config.peer().as_bytes()),
+        number,
+        poss_dup,
+        content,
+    };
+    let outgoing = Outgoing {
+        message,
+        beside: None,
+    };
+    Ok(write_message(alloc, dialect, stamp, &outgoing)?)
+}
+
+/// The frame of a Logon, which says the number that is expected next (789), if it is to.
+pub(crate) fn logon_frame<D: Dialect>(
+    alloc: Global,
+    dialect: &D,
+    stamp: &Stamp,
+    config: &Config,
+    number: u64,
+    next: Option<u64>,
+) -> Result<Vec<u8>, SessionFault>
+    requires { IsWritable (alone (message_of config.now number false (Logon config.now.heart false next))) }
+    ensures ok { IfOk result (λ bytes. IsFramed (record { IsOrder = D.IsOrder dialect.now; IsReport = D.IsReport dialect.now }) stamp.now (alone (message_of config.now number false (Logon config.now.heart false next))) bytes.items) }
+    ensures refusal { IsOkUnless result SessionFault.OutOfMemory }
+{
+    let content = Content::Logon {
+        heart: config.heart(),
+        reset: false,
+        next,
+    };
+    frame(alloc, dialect, stamp, config, number, false, content)
+}
+
+/// The frame of the order for a leg.
+pub(crate) fn order_frame<D: Dialect>(
+    alloc: Global,
+    dialect: &D,
+    stamp: &Stamp,
+    config: &Config,
+    number: u64,
+    leg: &Leg,
+) -> Result<Vec<u8>, SessionFault>
+    requires { IsWritable (alone (message_of config.now number false (Order (Ok leg.now)))) }
+    ensures ok { IfOk result (λ bytes. IsFramed (record { IsOrder = D.IsOrder dialect.now; IsReport = D.IsReport dialect.now }) stamp.now (alone (message_of config.now number false (Order (Ok leg.now)))) bytes.items) }
+    ensures refusal { IsOkUnless result SessionFault.OutOfMemory }
+{
+    let content = Content::Order(Ok(leg.clone().unwrap()));
+    frame(alloc, dialect, stamp, config, number, false, content)
+}
+
+/// The frame of a message of the session's own. `answered` is the id of the TestRequest that it answers, if it is an
+/// answer.
+fn line_frame<D: Dialect>(
+    alloc: Global,
+    dialect: &D,
+    stamp: &Stamp,
+    config: &Config,
+    answered: &Option<FreeText<MAX_ID>>,
+    line: Line,
+) -> Result<Vec<u8>, SessionFault>
+    requires { IsWritable (alone (message_in config.now answered.now line)) }
+    ensures ok { IfOk result (λ bytes. IsFramed (record { IsOrder = D.IsOrder dialect.now; IsReport = D.IsReport dialect.now }) stamp.now (alone (message_in config.now answered.now line)) bytes.items) }
+    ensures refusal { IsOkUnless result SessionFault.OutOfMemory }
+{
+    let number = line.number;
+    let poss_dup = line.poss_dup;
+    match line.said {
+        Said::Heartbeat => match answered {
+            None => {
+                let content = Content::Heartbeat { id: None };
+                frame(alloc, dialect, stamp, config, number, poss_dup, content)
+            }
+            Some(id) => {
+                let id = Some(TextRef::new(id.as_bytes()));
+                let content = Content::Heartbeat { id };
+                frame(alloc, dialect, stamp, config, number, poss_dup, content)
+            }
+        },
+        Said::Fence => {
+            let text = fence_id_text(number);
+            let id = TextRef::new(text.as_slice());
+            let content = Content::TestRequest { id };
+            frame(alloc, dialect, stamp, config, number, poss_dup, content)
+        }
+        Said::ResendRequest(begin) => {
+            let content = Content::ResendRequest { begin, last: 0 };
+            frame(alloc, dialect, stamp, config, number, poss_dup, content)
+        }
+        Said::GapFill(new_number) => {
+            let content = Content::GapFill { new_number };
+            frame(alloc, dialect, stamp, config, number, poss_dup, content)
+        }
+        Said::Logout => {
+            frame(
+                alloc,
+                dialect,
+                stamp,
+                config,
+                number,
+                poss_dup,
+                Content::Logout,
+            )
+        }
+    }
+}
+
+/// The frames of messages of the session's own, in order.
+fn frames<D: Dialect>(
+    alloc: Global,
+    dialect: &D,
+    stamp: &Stamp,
+    config: &Config,
+    answered: &Option<FreeText<MAX_ID>>,
+    lines: &[Line],
+) -> Result<Vec<Vec<u8>>, SessionFault>
+    requires { AreWritable (map (message_in config.now answered.now) lines.now) }
+    ensures ok { IfOk result (λ frames. AreFramed (record { IsOrder = D.IsOrder dialect.now; IsReport = D.IsReport dialect.now }) stamp.now (map (message_in config.now answered.now) lines.now) (map (λ frame. frame.items) frames.items)) }
+    ensures refusal { IsOkUnless result SessionFault.OutOfMemory }
+{
+    let mut frames = Vec::with_capacity(alloc, lines.len())?;
+    for line in lines {
+        let frame = line_frame(alloc, dialect, stamp, config, answered, *line)?;
+        frames.push(frame)?;
+    }
+    Ok(frames)
+}
+
+impl Session {
+    /// The legs that are withdrawn where legs in doubt are settled.
+    fn withdrawn(&self, settling: Settling) -> Result<LegIds, SessionFault>
+        ensures ok { IfOk result (λ ids. ids ≡ withdrawn_by settling self.now.log) }
+        ensures refusal { IsOkUnless result SessionFault.OutOfMemory }
+    {
+        match settling {
+            Settling::Nothing => Ok(LegIds::new(Vec::new(self.alloc()))),
+            Settling::Passed(_) => Ok(LegIds::new(Vec::new(self.alloc()))),
+            Settling::At(number) => self.legs_from(number),
+        }
+    }
+
+    /// What was decided is written and put in place. Everything that takes memory comes first.
+    pub(crate) fn carry_out<D: Dialect>(
+        &mut self,
+        dialect: &D,
+        stamp: &Stamp,
+        draft: Draft,
+    ) -> Result<Step, SessionFault>
+        requires sound { IsSound self.old → IsSound (drafted self.old draft).session }
+        requires writable { IsSound self.old → AreWritable (drafted self.old draft).step.written }
+        ensures { Gives (IsStep (record { IsOrder = D.IsOrder dialect.now; IsReport = D.IsReport dialect.now }) stamp.now) self.old (answers (drafted self.old draft)) result self.new }
+    {
+        let out = frames(
+            self.alloc(),
+            dialect,
+            stamp,
+            self.config(),
+            &draft.answered,
+            draft.lines.as_slice(),
+        )?;
+        let withdrawn = self.withdrawn(draft.settling)?;
+        self.commit(&draft)?;
+        Ok(Step {
+            out: Frames::new(out),
+            note: draft.note,
+            withdrawn,
+            ended: draft.ended,
+        })
+    }
+}
