@@ -1,8 +1,8 @@
 -- What the ledger keeps, once one leg changed.
-use Rattle.std.proofs.Common.{◌≡◌, ℕ, zero, suc, ◌+◌, ◌-◌, ◌<◌, ◌≤◌, inl, inr, Bool, true, false, List, [], ◌∷◌, ◌++◌, length, set, Option, Some, None, refl, ap, sym, ◌∙◌, subst, arith, if◌then◌else◌}
+use Rattle.std.proofs.Common.{◌≡◌, ℕ, zero, suc, ◌+◌, ◌-◌, ◌<◌, ◌≤◌, inl, inr, true, false, List, [], ◌∷◌, ◌++◌, length, set, Option, Some, None, refl, ap, sym, ◌∙◌, subst, arith, if◌then◌else◌}
 use Rattle.std.specs.Prelude.{◌==◌, slice_get, option_map, option_and_then, sum_by, get_or, vec_len, vec_capacity}
 use Rattle.std.specs.Global.{Vec}
-use Rattle.std.proofs.lemmas.Bool.{cases_Bool, cases_eq, eqb-true, eq-eqb, ne_eqb}
+use Rattle.std.proofs.lemmas.Bool.{cases_Bool, cases_eq, eq-eqb, ne_eqb}
 use Rattle.std.proofs.lemmas.List.{append-nil, get_or-set_same, get_or-set_other, length-set}
 use Rattle.std.proofs.lemmas.List.Sums.{sum_by-le-sum_by}
 use Rattle.std.proofs.lemmas.Option.{slice_get_within}
@@ -13,7 +13,7 @@ use Rattle.leg.specs.declared.sweep.Routed.{Routed}
 use Rattle.share_ledger.specs.declared.book_entry.BookEntry.{BookEntry}
 use Rattle.share_ledger.specs.declared.ledger.Ledger.{Ledger}
 use Rattle.share_ledger.specs.Entries.{sweep_shares, opened, order_of, is_same_leg}
-use Rattle.share_ledger.specs.Book.{BookParts, BookedLeg, new_book, written, leg_parts, resolved_of, again, replay}
+use Rattle.share_ledger.specs.Book.{BookParts, BookedLeg, new_book, written, replay}
 use Rattle.share_ledger.specs.Kept.{ledger_seen, kept_leg, booked_leg, sum_over, legs_due, resolved_at, ChangesLeg, IsKept}
 use Rattle.share_ledger.proofs.OneMore.{opened-append, is_same_leg-true}
 use Rattle.share_ledger.proofs.Sound.{IsSound, sound-new, sound-replay}

@@ -1,12 +1,11 @@
 -- The kept legs, by their numbers: after one of them changed, and after a sweep was opened.
-use Rattle.std.proofs.Common.{◌≡◌, ◌≢◌, ℕ, zero, suc, ◌+◌, ◌<◌, ◌≤◌, inl, inr, Bool, true, false, List, [], ◌∷◌, ◌++◌, length, set, Option, Some, None, refl, ap, sym, ◌∙◌, subst, arith}
-use Rattle.std.specs.Prelude.{◌==◌, ◌&&◌, slice_get, option_map, option_and_then, sum_by, get_or}
+use Rattle.std.proofs.Common.{◌≡◌, ◌≢◌, ℕ, zero, suc, ◌+◌, ◌<◌, ◌≤◌, inl, inr, true, false, List, [], ◌∷◌, ◌++◌, length, set, Some, refl, ap, sym, ◌∙◌, arith}
+use Rattle.std.specs.Prelude.{◌==◌, ◌&&◌, slice_get, option_map, option_and_then, sum_by}
 use Rattle.std.specs.Global.{Vec}
-use Rattle.std.proofs.lemmas.Bool.{cases_eq, and_parts, eq-eqb, ne_eqb}
+use Rattle.std.proofs.lemmas.Bool.{cases_eq, eq-eqb}
 use Rattle.std.proofs.lemmas.List.{get_or-set_same, length-set}
 use Rattle.std.proofs.lemmas.List.Sums.{sum_by-set, get_or-le-sum_by}
 use Rattle.std.proofs.lemmas.Option.{slice_get-get_or, slice_get_within, get_or_from_slice_get}
-use Rattle.leg.specs.LegId.{LegIdParts}
 use Rattle.leg.specs.Numbered.{numbered}
 use Rattle.leg.specs.declared.sweep.Routed.{Routed}
 use Rattle.share_ledger.specs.Entries.{is_same_leg}

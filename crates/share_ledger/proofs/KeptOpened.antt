@@ -1,12 +1,12 @@
 -- What the ledger keeps, once one more sweep is opened.
-use Rattle.std.proofs.Common.{◌≡◌, ℕ, zero, suc, ◌+◌, ◌<◌, ◌≤◌, inl, inr, true, false, Bool, List, [], ◌∷◌, ◌++◌, length, map, Option, Some, None, Ok, Err, refl, ap, sym, ◌∙◌, subst, arith, if◌then◌else◌}
+use Rattle.std.proofs.Common.{◌≡◌, ℕ, zero, suc, ◌+◌, ◌<◌, ◌≤◌, inl, inr, true, false, List, [], ◌∷◌, ◌++◌, length, map, Option, Some, None, Ok, Err, refl, ap, sym, ◌∙◌, arith, if◌then◌else◌}
 use Rattle.std.specs.Prelude.{◌==◌, ◌&&◌, slice_get, option_map, option_and_then, sum_by, get_or, nat_le, nat_lt, vec_len, vec_capacity}
 use Rattle.std.specs.List.{list_all}
 use Rattle.std.specs.Global.{Vec}
 use Rattle.std.proofs.lemmas.Bool.{cases_Bool, cases_eq, cases_lt, and_parts, eq-eqb, leb-true, ltb-true}
 use Rattle.std.proofs.lemmas.List.{length-map, length_push}
 use Rattle.std.proofs.lemmas.List.Sums.{sum_by-cons, sum_by_push}
-use Rattle.std.proofs.lemmas.Option.{slice_get-map, slice_get_past, slice_get_within}
+use Rattle.std.proofs.lemmas.Option.{slice_get-map, slice_get_past}
 use Rattle.leg.specs.LegId.{LegIdParts}
 use Rattle.leg.specs.Numbered.{numbered}
 use Rattle.leg.specs.Split.{all_open, leg_shares}
@@ -17,7 +17,7 @@ use Rattle.share_ledger.specs.declared.book_fault.BookFault.TheVariants.{NotNext
 use Rattle.share_ledger.specs.declared.ledger.Ledger.{Ledger}
 use Rattle.share_ledger.specs.Entries.{sweep_shares, opened, order_of, is_withdrawn, notes_on}
 use Rattle.share_ledger.specs.Shares.{move_of, parts_of}
-use Rattle.share_ledger.specs.Book.{BookParts, BookedLeg, BookAnswer, new_book, written, leg_parts, opened_shares, is_fit, next_sweep, open_sweep, again, replay}
+use Rattle.share_ledger.specs.Book.{BookParts, BookedLeg, BookAnswer, new_book, written, leg_parts, opened_shares, is_fit, next_sweep, again, replay}
 use Rattle.share_ledger.specs.Kept.{ledger_seen, kept_leg, booked_leg, opened_leg, sum_over, legs_due, resolved_at, IsKept}
 use Rattle.share_ledger.proofs.OneMore.{opened-append, is_withdrawn-opened, notes_on-opened}
 use Rattle.share_ledger.proofs.Sound.{IsSound}

@@ -1,17 +1,16 @@
 -- The sums of what is kept are those of the history.
-use Rattle.std.proofs.Common.{◌≡◌, ℕ, zero, suc, ◌+◌, ◌<◌, ◌≤◌, inl, inr, true, false, List, [], ◌∷◌, ◌++◌, length, Option, Some, None, refl, ap, sym, ◌∙◌, subst, arith}
+use Rattle.std.proofs.Common.{◌≡◌, ℕ, suc, ◌+◌, ◌<◌, ◌≤◌, inl, inr, false, List, [], ◌∷◌, length, Some, refl, ap, sym, ◌∙◌, arith}
 use Rattle.std.specs.Prelude.{◌==◌, slice_get, option_map, option_and_then, sum_by}
 use Rattle.std.specs.Global.{Vec}
 use Rattle.std.proofs.lemmas.Bool.{cases_Bool, ne_eqb}
 use Rattle.std.proofs.lemmas.List.Sums.{sum_by-cons}
 use Rattle.std.proofs.lemmas.Option.{slice_get-get_or, slice_get_within}
 use Rattle.leg.specs.LegId.{LegIdParts}
-use Rattle.leg.specs.Numbered.{numbered}
 use Rattle.leg.specs.declared.sweep.Routed.{Routed}
 use Rattle.share_ledger.specs.declared.ledger.Ledger.{Ledger}
-use Rattle.share_ledger.specs.Entries.{opened, order_of}
+use Rattle.share_ledger.specs.Entries.{opened}
 use Rattle.share_ledger.specs.Book.{BookParts, BookedLeg, booked_from, all_booked_from, totals_of, totals, resolved_shares, venue_resolved}
-use Rattle.share_ledger.specs.Kept.{ledger_seen, kept_leg, booked_leg, sum_over, resolved_at, IsKept}
+use Rattle.share_ledger.specs.Kept.{ledger_seen, booked_leg, sum_over, resolved_at, IsKept}
 use Rattle.share_ledger.proofs.VenueSums.{at_venue, at_venue-append, at_venue-this}
 use Rattle.share_ledger.proofs.KeptLegs.{same_list, booked_from-at}
 

@@ -1,5 +1,5 @@
 -- The withdrawal of a leg, from what is kept of it.
-use Rattle.std.proofs.Common.{◌≡◌, ℕ, ◌≤◌, Bool, true, false, List, [], ◌∷◌, Option, Some, None, Ok, Err, refl, ap, sym, ◌∙◌, subst, arith, if◌then◌else◌}
+use Rattle.std.proofs.Common.{◌≡◌, ◌≤◌, Bool, true, false, Some, None, Ok, Err, refl, ap, sym, ◌∙◌, subst, arith, if◌then◌else◌}
 use Rattle.std.specs.Prelude.{◌==◌, option_map, Result, not, is_err, IsOk}
 use Rattle.std.proofs.lemmas.Bool.{ne_eqb}
 use Rattle.leg.specs.LegId.{LegIdParts}

@@ -18,6 +18,7 @@ use Rattle.share_ledger.specs.Book.{BookParts, BookAnswer, new_book, written, mo
 use Rattle.share_ledger.specs.Steps.{split_step}
 use Rattle.share_ledger.proofs.ShareSums.{IsWithin, filled_and_busted, leg_shares-parts_of}
 use Rattle.share_ledger.proofs.OneMore.{is_withdrawn-moved, is_withdrawn-this, notes_on-this, notes_on-withdrawn, is_same_leg-refl}
+use Rattle.share_ledger.proofs.Outcomes.{answered}
 use Rattle.share_ledger.proofs.Sound.{IsSound, LetIn, let_in, sound-new, sound-replay}
 use Rattle.share_ledger.proofs.Steps.{new_id, same_split, step_is}
 use Rattle.share_ledger.proofs.Told.{IsTold, told-replay, trade_exec}
@@ -48,7 +49,7 @@ module _ (book : BookParts) (venue : ℕ) (note : Note) (leg : LegIdParts) (abou
 same_order : (leg : LegIdParts) (book : BookParts) (a b : Routed) → order_of leg book.entries ≡ Some a → order_of leg book.entries ≡ Some b → a ≡ b
 same_order leg book a b e f = cc
 
-note_step : (book : BookParts) (venue : ℕ) (note : Note) (id : LegIdParts) (routed : Routed) → IsSound book → IsTold book → leg_of_note note ≡ Some id → order_of id book.entries ≡ Some routed → answer_to book venue note ≡ applied.Moved → split_step (moves_on id book) (move_of note) (leg_parts id routed.terms.shares book) ≡ (Ok tt, leg_parts id routed.terms.shares (written (Moved venue note) book))
+pub note_step : (book : BookParts) (venue : ℕ) (note : Note) (id : LegIdParts) (routed : Routed) → IsSound book → IsTold book → leg_of_note note ≡ Some id → order_of id book.entries ≡ Some routed → answer_to book venue note ≡ applied.Moved → split_step (moves_on id book) (move_of note) (leg_parts id routed.terms.shares book) ≡ (Ok tt, leg_parts id routed.terms.shares (written (Moved venue note) book))
 note_step book venue (note.Report report) id routed sound told of_leg found moved =
     let this : report.id ≡ id = cc in
     let duplicate = is_booked venue report.exec book.entries in
@@ -70,9 +71,10 @@ note_step book venue (note.Refused leg) id routed sound told of_leg found moved 
     (step_at book venue (note.Refused leg) leg (λ k. refl) false it fresh sound told))
 note_step book venue (note.Unread fault) id routed sound told of_leg found moved = cc
 
-pub steps-apply : (venues : ℕ) (entries : List BookEntry) (venue : ℕ) (note : Note) (id : LegIdParts) (routed : Routed) → leg_of_note note ≡ Some id → order_of id (replay (new_book venues) entries).entries ≡ Some routed → (apply (replay (new_book venues) entries) venue note).0 ≡ applied.Moved → split_step (moves_on id (replay (new_book venues) entries)) (move_of note) (leg_parts id routed.terms.shares (replay (new_book venues) entries)) ≡ (Ok tt, leg_parts id routed.terms.shares (apply (replay (new_book venues) entries) venue note).1)
-steps-apply venues entries venue note id routed of_leg found moved =
+pub steps-apply : (venues : ℕ) (entries : List BookEntry) (venue : ℕ) (note : Note) (id : LegIdParts) (routed : Routed) → leg_of_note note ≡ Some id → order_of id (replay (new_book venues) entries).entries ≡ Some routed → (apply (replay (new_book venues) entries) venue note).0 ≡ Ok applied.Moved → split_step (moves_on id (replay (new_book venues) entries)) (move_of note) (leg_parts id routed.terms.shares (replay (new_book venues) entries)) ≡ (Ok tt, leg_parts id routed.terms.shares (apply (replay (new_book venues) entries) venue note).1)
+steps-apply venues entries venue note id routed of_leg found ok =
     let book = replay (new_book venues) entries in
+    let moved = answered (answer_to book venue note) applied.Moved ok in
     note_step book venue note id routed (sound-replay (new_book venues) entries (sound-new venues)) (told-replay venues entries) of_leg found moved
     ∙ ap (λ answer. (Ok tt, leg_parts id routed.terms.shares (after_note book venue note answer))) (sym moved)
 

@@ -14,3 +14,7 @@ pub mod KeptChanged
 pub mod KeptRead
 pub mod KeptWithdrawn
 pub mod KeptOpened
+pub mod Standing
+pub mod KeptTold
+pub mod KeptMoved
+pub mod Applying

@@ -55,11 +55,11 @@ notes_on-append id (Withdrawn leg ∷ xs) ys = notes_on-append id xs ys
 notes_on-append id (Moved venue note ∷ xs) ys =
     chosen-append (is_about id note) note (notes_on id xs) (notes_on id ys) (notes_on id (xs ++ ys)) (notes_on-append id xs ys)
 
-or_false : (b : Bool) → (b || false) ≡ b
+pub or_false : (b : Bool) → (b || false) ≡ b
 or_false true = refl
 or_false false = refl
 
-or_true : (b : Bool) → (b || true) ≡ true
+pub or_true : (b : Bool) → (b || true) ≡ true
 or_true true = refl
 or_true false = refl
 

@@ -1,5 +1,5 @@
 -- A call writes its entry, or leaves the book as it was.
-use Rattle.std.proofs.Common.{◌≡◌, ℕ, ◌⊎◌, inl, inr, Bool, true, false, List, [], ◌∷◌, ◌++◌, map, Option, Some, None, Ok, Err, refl, ap, sym, ◌∙◌, if◌then◌else◌}
+use Rattle.std.proofs.Common.{◌≡◌, ℕ, ◌⊎◌, inl, inr, Bool, true, false, List, [], ◌∷◌, ◌++◌, map, Option, Some, None, Result, Ok, Err, refl, ap, sym, ◌∙◌, if◌then◌else◌}
 use Rattle.std.specs.Prelude.{◌==◌}
 use Rattle.leg.specs.LegId.{LegIdParts}
 use Rattle.leg.specs.declared.sweep.Routed.{Routed}
@@ -8,6 +8,7 @@ use Rattle.share_ledger.specs.declared.applied.Applied.{Applied}
 use Rattle.share_ledger.specs.declared.applied.Applied.TheVariants as applied
 use Rattle.share_ledger.specs.declared.book_entry.BookEntry.{BookEntry}
 use Rattle.share_ledger.specs.declared.book_entry.BookEntry.TheVariants.{Opened, Withdrawn, Moved}
+use Rattle.share_ledger.specs.declared.book_fault.BookFault.{BookFault}
 use Rattle.share_ledger.specs.declared.book_fault.BookFault.TheVariants.{NotNext, AlreadyMoved, Unfit}
 use Rattle.share_ledger.specs.Entries.{order_of, is_same_leg, is_withdrawn, is_about, notes_on}
 use Rattle.share_ledger.specs.Shares.{move_of, parts_of}
@@ -45,6 +46,10 @@ note_outcome book venue note applied.Stray = inr refl
 
 pub apply_outcome : (book : BookParts) (venue : ℕ) (note : Note) → IsWrittenOrSame (Moved venue note) book (apply book venue note).1
 apply_outcome book venue note = note_outcome book venue note (answer_to book venue note)
+
+-- what is answered to a note
+pub answered : (a b : Applied) → (let r : Result Applied BookFault = Ok a in r ≡ Ok b) → a ≡ b
+answered a b e = cc
 
 pub again_outcome : (book : BookParts) (entry : BookEntry) → IsWrittenOrSame entry book (again book entry)
 again_outcome book (Opened sweep) = open_outcome book (next_sweep book) sweep.legs

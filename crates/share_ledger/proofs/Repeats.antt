@@ -1,5 +1,5 @@
 -- A report that moved, and comes again, is a duplicate.
-use Rattle.std.proofs.Common.{◌≡◌, ℕ, true, List, [], ◌∷◌, ◌++◌, Some, refl, ap, ◌∙◌}
+use Rattle.std.proofs.Common.{◌≡◌, ℕ, true, List, [], ◌∷◌, ◌++◌, Some, Ok, refl, ap, ◌∙◌}
 use Rattle.std.specs.Prelude.{◌==◌, bytes_eq}
 use Rattle.std.proofs.lemmas.Bool.{eq-eqb, or_right}
 use Rattle.std.proofs.lemmas.Slice.Eq.{bytes_eq-Decides}
@@ -14,6 +14,7 @@ use Rattle.share_ledger.specs.Entries.{order_of, is_booked}
 use Rattle.share_ledger.specs.Shares.{Move, move_of}
 use Rattle.share_ledger.specs.Book.{BookParts, written, leg_answer, answer_to, after_note, apply}
 use Rattle.share_ledger.proofs.OneMore.{is_booked-append, order_of-moved}
+use Rattle.share_ledger.proofs.Outcomes.{answered}
 use Rattle.share_ledger.proofs.Sound.{let_in}
 
 pub booked_now : (venue : ℕ) (report : Report) (entries : List BookEntry) → is_booked venue report.exec (entries ++ Moved venue (note.Report report) ∷ []) ≡ true
@@ -35,6 +36,7 @@ again_duplicate book venue report moved =
     ∙ (ap (leg_answer after venue true (move_of (note.Report report)) report.id) found
     ∙ duplicate after venue (move_of (note.Report report)) report.id it.order it.of_venue)
 
-pub counts_once : (book : BookParts) (venue : ℕ) (report : Report) → (apply book venue (note.Report report)).0 ≡ applied.Moved → (apply (apply book venue (note.Report report)).1 venue (note.Report report)).0 ≡ applied.Duplicate
-counts_once book venue report moved =
-    ap (λ answer. answer_to (after_note book venue (note.Report report) answer) venue (note.Report report)) moved ∙ again_duplicate book venue report moved
+pub counts_once : (book : BookParts) (venue : ℕ) (report : Report) → (apply book venue (note.Report report)).0 ≡ Ok applied.Moved → (apply (apply book venue (note.Report report)).1 venue (note.Report report)).0 ≡ Ok applied.Duplicate
+counts_once book venue report ok =
+    let moved = answered (answer_to book venue (note.Report report)) applied.Moved ok in
+    ap Ok (ap (λ answer. answer_to (after_note book venue (note.Report report) answer) venue (note.Report report)) moved ∙ again_duplicate book venue report moved)

@@ -18,10 +18,10 @@ use Rattle.share_ledger.specs.declared.book_entry.BookEntry.{BookEntry}
 use Rattle.share_ledger.specs.declared.book_entry.BookEntry.TheVariants.{Moved}
 use Rattle.share_ledger.specs.Entries.{opened, order_of, is_same_leg, is_withdrawn, is_about, notes_on, is_booked}
 use Rattle.share_ledger.specs.Shares.{move_of}
-use Rattle.share_ledger.specs.Book.{BookParts, new_book, written, moves_on, leg_parts, all_booked_from, resolved_of, venue_resolved, after_note, apply, replay}
+use Rattle.share_ledger.specs.Book.{BookParts, new_book, written, moves_on, leg_parts, all_booked_from, resolved_of, venue_resolved, answer_to, after_note, apply, replay}
 use Rattle.share_ledger.specs.Steps.{traded_under, split_step}
 use Rattle.share_ledger.proofs.OneMore.{opened-moved, is_withdrawn-moved, notes_on-other}
-use Rattle.share_ledger.proofs.Outcomes.{same_parts}
+use Rattle.share_ledger.proofs.Outcomes.{answered, same_parts}
 use Rattle.share_ledger.proofs.Sound.{let_in}
 use Rattle.share_ledger.proofs.LegSteps.{steps-apply}
 use Rattle.share_ledger.proofs.VenueSums.{at_venue, hit_all}
@@ -56,31 +56,32 @@ busted_same s n t true h e = let f = ap (λ r. resolved_of r.1) e in let low = l
 busted_same s n t false h e = let never = ap (λ r. r.0) e in cc
 
 module _ (venues : ℕ) (entries : List BookEntry) (venue : ℕ) (id : LegIdParts) (exec : List ℕ) where
-  report_gains : (kind : ReportKind) (n : ℕ) → (let r : Report = record { id = id; exec = exec; kind = kind } in (apply (replay (new_book venues) entries) venue (note.Report r)).0 ≡ applied.Moved)
+  report_gains : (kind : ReportKind) (n : ℕ) → (let r : Report = record { id = id; exec = exec; kind = kind } in (apply (replay (new_book venues) entries) venue (note.Report r)).0 ≡ Ok applied.Moved)
       → ((s t : SplitParts) → split_step (moves_on id (replay (new_book venues) entries)) (let r : Report = record { id = id; exec = exec; kind = kind } in move_of (note.Report r)) s ≡ (Ok tt, t) → resolved_of t ≡ resolved_of s + n)
       → (let r : Report = record { id = id; exec = exec; kind = kind } in venue_resolved (apply (replay (new_book venues) entries) venue (note.Report r)).1 venue ≡ venue_resolved (replay (new_book venues) entries) venue + n)
-  report_gains kind n moved by =
+  report_gains kind n ok by =
       let report : Report = record { id = id; exec = exec; kind = kind } in
       let book = replay (new_book venues) entries in
+      let moved = answered (answer_to book venue (note.Report report)) applied.Moved ok in
       let it = let_in book venue (is_booked venue exec book.entries) (move_of (note.Report report)) id (order_of id book.entries) refl moved in
       let shares = it.order.terms.shares in
-      let step = steps-apply venues entries venue (note.Report report) id it.order refl it.found moved in
+      let step = steps-apply venues entries venue (note.Report report) id it.order refl it.found ok in
       let after : (apply book venue (note.Report report)).1 ≡ written (Moved venue (note.Report report)) book = ap (after_note book venue (note.Report report)) moved in
       let gained = by (leg_parts id shares book) (leg_parts id shares (written (Moved venue (note.Report report)) book)) (step ∙ ap (λ b. (Ok tt, leg_parts id shares b)) after) in
       let whole = gains book venue (note.Report report) id it.order (λ k. refl) it.found it.of_venue in
       let sum : venue_resolved (written (Moved venue (note.Report report)) book) venue ≡ venue_resolved book venue + n = omega (arith, gained, whole) in
       ap (λ b. venue_resolved b venue) after ∙ sum
 
-  pub resolved-trade : (fill : FillParts) → (apply (replay (new_book venues) entries) venue (note.Report (record { id = id; exec = exec; kind = Trade fill }))).0 ≡ applied.Moved → venue_resolved (apply (replay (new_book venues) entries) venue (note.Report (record { id = id; exec = exec; kind = Trade fill }))).1 venue ≡ venue_resolved (replay (new_book venues) entries) venue + fill.shares
+  pub resolved-trade : (fill : FillParts) → (apply (replay (new_book venues) entries) venue (note.Report (record { id = id; exec = exec; kind = Trade fill }))).0 ≡ Ok applied.Moved → venue_resolved (apply (replay (new_book venues) entries) venue (note.Report (record { id = id; exec = exec; kind = Trade fill }))).1 venue ≡ venue_resolved (replay (new_book venues) entries) venue + fill.shares
   resolved-trade fill moved = report_gains (Trade fill) fill.shares moved (λ s t e. filled_more (nat_le fill.shares s.still_open) s fill.shares t e)
 
-  pub resolved-bust : (cancelled_id : List ℕ) → (apply (replay (new_book venues) entries) venue (note.Report (record { id = id; exec = exec; kind = Bust cancelled_id }))).0 ≡ applied.Moved → venue_resolved (apply (replay (new_book venues) entries) venue (note.Report (record { id = id; exec = exec; kind = Bust cancelled_id }))).1 venue ≡ venue_resolved (replay (new_book venues) entries) venue
+  pub resolved-bust : (cancelled_id : List ℕ) → (apply (replay (new_book venues) entries) venue (note.Report (record { id = id; exec = exec; kind = Bust cancelled_id }))).0 ≡ Ok applied.Moved → venue_resolved (apply (replay (new_book venues) entries) venue (note.Report (record { id = id; exec = exec; kind = Bust cancelled_id }))).1 venue ≡ venue_resolved (replay (new_book venues) entries) venue
   resolved-bust cancelled_id moved =
       let book = replay (new_book venues) entries in
       let n = traded_under cancelled_id (moves_on id book) in
       report_gains (Bust cancelled_id) 0 moved (λ s t e. (let same = busted_same s n t (nat_le n s.filled) refl e in omega (arith, same))) ∙ add-zero (venue_resolved book venue)
 
-  pub resolved-new : (apply (replay (new_book venues) entries) venue (note.Report (record { id = id; exec = exec; kind = New }))).0 ≡ applied.Moved → venue_resolved (apply (replay (new_book venues) entries) venue (note.Report (record { id = id; exec = exec; kind = New }))).1 venue ≡ venue_resolved (replay (new_book venues) entries) venue
+  pub resolved-new : (apply (replay (new_book venues) entries) venue (note.Report (record { id = id; exec = exec; kind = New }))).0 ≡ Ok applied.Moved → venue_resolved (apply (replay (new_book venues) entries) venue (note.Report (record { id = id; exec = exec; kind = New }))).1 venue ≡ venue_resolved (replay (new_book venues) entries) venue
   resolved-new moved =
       let book = replay (new_book venues) entries in
       report_gains New 0 moved (λ s t e. (let same = ap (λ r. resolved_of r.1) e in omega (arith, same))) ∙ add-zero (venue_resolved book venue)

@@ -112,14 +112,19 @@ module _ (book : BookParts) (leg : LegIdParts) (order : Routed) (found : order_o
         }
 
 -- a trade that was let in took no more than was open
-trade_within : (b : Bool) → (if b then applied.Moved else applied.Overfill) ≡ applied.Moved → b ≡ true
-trade_within true e = refl
-trade_within false e = cc
+pub let_in_trade : (b : Bool) → (if b then applied.Moved else applied.Overfill) ≡ applied.Moved → b ≡ true
+let_in_trade true e = refl
+let_in_trade false e = cc
+
+-- a bust that was let in names a trade that can be busted
+pub let_in_bust : (b : Bool) → (if b then applied.Moved else applied.Stray) ≡ applied.Moved → b ≡ true
+let_in_bust true e = refl
+let_in_bust false e = cc
 
 within-move : (shares : ℕ) (moves : List Move) (move : Move) → IsWithin shares false moves → move_answer (parts_of shares false moves).still_open moves move ≡ applied.Moved → IsWithin shares false (moves ++ move ∷ [])
 within-move shares moves (Trades trade) h e =
     let within = h.within in
-    let fits = leb-true trade.shares (parts_of shares false moves).still_open (trade_within (nat_le trade.shares (parts_of shares false moves).still_open) e) in
+    let fits = leb-true trade.shares (parts_of shares false moves).still_open (let_in_trade (nat_le trade.shares (parts_of shares false moves).still_open) e) in
     record { within = omega (arith, within, fits, filled_and_busted moves, traded-trade moves trade, cancelled-trade shares moves trade) }
 within-move shares moves (Busts exec) h e =
     let within = h.within in record { within = omega (arith, within, traded-bust moves exec, cancelled-bust shares moves exec) }

@@ -14,6 +14,8 @@ use Rattle.share_ledger.specs.declared.applied.Applied.TheVariants as applied
 use Rattle.share_ledger.specs.Shares.{Traded, Move, Trades, Busts, Ends, Tells, trades, busted_ids, has_id, is_busted, filled_shares, busted_shares, cancelled_shares, parts_of}
 use Rattle.share_ledger.specs.Book.{move_answer, can_bust}
 use Rattle.share_ledger.specs.Steps.{traded_under, split_step}
+use Rattle.share_ledger.proofs.OneMore.{or_false}
+use Rattle.share_ledger.proofs.Sound.{let_in_trade, let_in_bust}
 use Rattle.share_ledger.proofs.ShareSums.{IsWithin, traded, filled_and_busted, trades-append, traded-trade, traded-bust, cancelled-trade, cancelled-bust, cancelled-told, cancelled-end}
 
 -- the reports of the leg's trades, and those that a bust names, were booked
@@ -79,11 +81,7 @@ either_picks both one other (t ∷ ts) is apart =
 bytes_eq-sym : (xs ys : List ℕ) → bytes_eq xs ys ≡ true → bytes_eq ys xs ≡ true
 bytes_eq-sym xs ys e = (bytes_eq-Decides ys xs).1 (sym ((bytes_eq-Decides xs ys).0 e))
 
-or_false : (b : Bool) → (b || false) ≡ b
-or_false true = refl
-or_false false = refl
-
-bytes_eq-flip : (xs ys : List ℕ) → bytes_eq xs ys ≡ bytes_eq ys xs
+pub bytes_eq-flip : (xs ys : List ℕ) → bytes_eq xs ys ≡ bytes_eq ys xs
 bytes_eq-flip xs ys =
     elim (cases_Bool (bytes_eq xs ys)) [
       | inl e ↦ e ∙ sym (bytes_eq-sym xs ys e)
@@ -113,14 +111,6 @@ traded-same : (moves : List Move) (move : Move) → trades (move ∷ []) ≡ [] 
 traded-same moves move no_trade =
     ap (λ l. sum_by (λ t. t.shares) l) (trades-append moves (move ∷ []) ∙ (ap (λ l. trades moves ++ l) no_trade ∙ append-nil (trades moves)))
 
-let_in_fill : (b : Bool) → (if b then applied.Moved else applied.Overfill) ≡ applied.Moved → b ≡ true
-let_in_fill true e = refl
-let_in_fill false e = cc
-
-let_in_bust : (b : Bool) → (if b then applied.Moved else applied.Stray) ≡ applied.Moved → b ≡ true
-let_in_bust true e = refl
-let_in_bust false e = cc
-
 done : (n m : ℕ) (a b c : SplitParts) → n ≤ m → a ≡ c → (let r : SplitAnswer = if nat_le n m then (Ok tt, a) else (Err Overfill, b) in r ≡ (Ok tt, c))
 done n m a b c low same = rw (le-leb n m low) (ap (λ s. (Ok tt, s)) same)
 
@@ -131,7 +121,7 @@ undone n m a b c low same = rw (le-leb n m low) (ap (λ s. (Ok tt, s)) same)
 pub step_is : (shares : ℕ) (moves : List Move) (move : Move) → IsWithin shares false moves → ((trade : Traded) → move ≡ Trades trade → is_busted moves trade ≡ false) → move_answer (parts_of shares false moves).still_open moves move ≡ applied.Moved → split_step moves move (parts_of shares false moves) ≡ (Ok tt, parts_of shares false (moves ++ move ∷ []))
 step_is shares moves (Trades trade) h unbusted e =
     let within = h.within in
-    let low = leb-true trade.shares (parts_of shares false moves).still_open (let_in_fill (nat_le trade.shares (parts_of shares false moves).still_open) e) in
+    let low = leb-true trade.shares (parts_of shares false moves).still_open (let_in_trade (nat_le trade.shares (parts_of shares false moves).still_open) e) in
     let after = moves ++ Trades trade ∷ [] in
     let bust = busted-trade moves trade (unbusted trade refl) in
     let both = filled_and_busted moves in

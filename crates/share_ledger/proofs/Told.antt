@@ -23,7 +23,7 @@ use Rattle.share_ledger.proofs.ShareSums.{trades-append}
 use Rattle.share_ledger.proofs.OneMore.{notes_on-opened, notes_on-withdrawn, notes_on-this, notes_on-other, is_same_leg-true, order_of-opened, order_of-withdrawn, order_of-moved, is_booked-append}
 use Rattle.share_ledger.proofs.Outcomes.{again_outcome}
 use Rattle.share_ledger.proofs.Repeats.{booked_now}
-use Rattle.share_ledger.proofs.Sound.{IsSound, LetIn, let_in, sound-new, sound-again}
+use Rattle.share_ledger.proofs.Sound.{IsSound, LetIn, let_in, let_in_bust, sound-new, sound-again}
 use Rattle.share_ledger.proofs.Steps.{IsNamed, busted_ids-append}
 
 weaker : {X : Type 0} (P Q : X → Type 0) → ((x : X) → P x → Q x) → (xs : List X) → AllByRecursion P xs → AllByRecursion Q xs
@@ -67,7 +67,7 @@ named-move booked moves Tells h of_trade of_bust =
     }
 
 -- the id of a trade on the leg was booked
-any_booked : (booked : List ℕ → Bool) (exec : List ℕ) (ts : List Traded) → AllByRecursion (λ t. booked t.exec ≡ true) ts → list_any (λ t. bytes_eq exec t.exec) ts ≡ true → booked exec ≡ true
+pub any_booked : (booked : List ℕ → Bool) (exec : List ℕ) (ts : List Traded) → AllByRecursion (λ t. booked t.exec ≡ true) ts → list_any (λ t. bytes_eq exec t.exec) ts ≡ true → booked exec ≡ true
 any_booked booked exec [] all e = cc
 any_booked booked exec (t ∷ ts) all e =
     elim (cases_Bool (bytes_eq exec t.exec)) [
@@ -121,10 +121,6 @@ booked_trade venue (note.Report report) entries trade e =
     subst (λ x. is_booked venue x (entries ++ Moved venue (note.Report report) ∷ []) ≡ true) (trade_exec report.exec report.kind trade e) (booked_now venue report entries)
 booked_trade venue (note.Refused id) entries trade e = cc
 booked_trade venue (note.Unread fault) entries trade e = cc
-
-let_in_bust : (b : Bool) → (if b then applied.Moved else applied.Stray) ≡ applied.Moved → b ≡ true
-let_in_bust true e = refl
-let_in_bust false e = cc
 
 bust_booked : (booked : List ℕ → Bool) (open_shares : ℕ) (moves : List Move) (exec : List ℕ) → IsNamed booked moves → move_answer open_shares moves (Busts exec) ≡ applied.Moved → booked exec ≡ true
 bust_booked booked open_shares moves exec h e =

@@ -51,7 +51,8 @@ booked_from book number place (routed ∷ legs) =
 -- the legs of these sweeps, in order, the first of them having this number
 abbrev pub all_booked_from : BookParts → ℕ → List (List Routed) → List BookedLeg
 all_booked_from book number [] = []
-all_booked_from book number (legs ∷ sweeps) = booked_from book number 1 legs ++ all_booked_from book (suc number) sweeps
+all_booked_from book number (legs ∷ sweeps) =
+    booked_from book number 1 legs ++ all_booked_from book (suc number) sweeps
 
 -- the sums of the parts of some legs
 abbrev pub totals_of : List BookedLeg → Totals
@@ -66,7 +67,8 @@ totals_of legs =
 
 -- the totals of a sweep, if it was opened
 abbrev pub totals : BookParts → ℕ → Option Totals
-totals book number = option_map (λ legs. totals_of (booked_from book number 1 legs)) (numbered number (opened book.entries))
+totals book number =
+    option_map (λ legs. totals_of (booked_from book number 1 legs)) (numbered number (opened book.entries))
 
 -- the shares of all five
 abbrev pub totals_shares : Option Totals → Option ℕ
@@ -92,7 +94,8 @@ next_sweep book = length (opened book.entries) + 1
 abbrev pub opened_shares : BookParts → ℕ
 opened_shares book = sum_by sweep_shares (opened book.entries)
 
--- whether a sweep can be opened: it has 1 to 32 legs, each for a venue of the book, and the shares opened in all stay within 10^18
+-- whether a sweep can be opened: it has 1 to 32 legs, each for a venue of the book, and the shares opened in all stay
+-- within 10^18
 abbrev pub is_fit : BookParts → List Routed → Bool
 is_fit book legs =
     nat_le 1 (length legs)
@@ -126,13 +129,15 @@ withdraw book id = withdraw_order book id (order_of id book.entries)
 
 -- whether an id is that of a trade on the leg that isn't busted
 abbrev pub can_bust : List ℕ → List Move → Bool
-can_bust exec moves = list_any (λ trade. bytes_eq exec trade.exec) (trades moves) && not (has_id exec (busted_ids moves))
+can_bust exec moves =
+    list_any (λ trade. bytes_eq exec trade.exec) (trades moves) && not (has_id exec (busted_ids moves))
 
 -- what is done with a note on a leg of that venue, not withdrawn, under a new id
 abbrev pub move_answer : ℕ → List Move → Move → Applied
 move_answer open_shares moves Tells = applied.Moved
 move_answer open_shares moves Ends = applied.Moved
-move_answer open_shares moves (Trades trade) = if nat_le trade.shares open_shares then applied.Moved else applied.Overfill
+move_answer open_shares moves (Trades trade) =
+    if nat_le trade.shares open_shares then applied.Moved else applied.Overfill
 move_answer open_shares moves (Busts exec) = if can_bust exec moves then applied.Moved else applied.Stray
 
 -- what is done with a note on a leg, whose order was looked up: it has to be of that venue, and not withdrawn
@@ -148,8 +153,10 @@ leg_answer book venue is_duplicate move id (Some routed) =
 -- what is done with a note of a venue
 abbrev pub answer_to : BookParts → ℕ → Note → Applied
 answer_to book venue (note.Report report) =
-    leg_answer book venue (is_booked venue report.exec book.entries) (move_of (note.Report report)) report.id (order_of report.id book.entries)
-answer_to book venue (note.Refused id) = leg_answer book venue false (move_of (note.Refused id)) id (order_of id book.entries)
+    leg_answer book venue (is_booked venue report.exec book.entries) (move_of (note.Report report)) report.id
+    (order_of report.id book.entries)
+answer_to book venue (note.Refused id) =
+    leg_answer book venue false (move_of (note.Refused id)) id (order_of id book.entries)
 answer_to book venue (note.Unread fault) = applied.Stray
 
 -- a note that moves is written, and no other is
@@ -160,8 +167,8 @@ after_note book venue note applied.Overfill = book
 after_note book venue note applied.Stray = book
 
 -- a note of a venue
-abbrev pub apply : BookParts → ℕ → Note → Applied × BookParts
-apply book venue note = (answer_to book venue note, after_note book venue note (answer_to book venue note))
+abbrev pub apply : BookParts → ℕ → Note → Result Applied BookFault × BookParts
+apply book venue note = (Ok (answer_to book venue note), after_note book venue note (answer_to book venue note))
 
 -- an entry's call is made again; a sweep is opened under the next number
 abbrev pub again : BookParts → BookEntry → BookParts

@@ -51,7 +51,8 @@ abbrev pub notes_on : LegIdParts → List BookEntry → List Note
 notes_on id [] = []
 notes_on id (Opened sweep ∷ entries) = notes_on id entries
 notes_on id (Withdrawn leg ∷ entries) = notes_on id entries
-notes_on id (Moved venue note ∷ entries) = if is_about id note then note ∷ notes_on id entries else notes_on id entries
+notes_on id (Moved venue note ∷ entries) =
+    if is_about id note then note ∷ notes_on id entries else notes_on id entries
 
 -- whether a note is a report of this id (FIX 4.4 Volume 4, ExecID)
 abbrev pub has_exec : List ℕ → Note → Bool
@@ -64,4 +65,5 @@ abbrev pub is_booked : ℕ → List ℕ → List BookEntry → Bool
 is_booked venue exec [] = false
 is_booked venue exec (Opened sweep ∷ entries) = is_booked venue exec entries
 is_booked venue exec (Withdrawn id ∷ entries) = is_booked venue exec entries
-is_booked venue exec (Moved from note ∷ entries) = (from == venue && has_exec exec note) || is_booked venue exec entries
+is_booked venue exec (Moved from note ∷ entries) =
+    (from == venue && has_exec exec note) || is_booked venue exec entries

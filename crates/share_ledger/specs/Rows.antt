@@ -8,14 +8,19 @@ use Rattle.dialect.specs.declared.note.Note.TheVariants as note
 use Rattle.dialect.specs.declared.report.ReportKind.{ReportKind}
 use Rattle.dialect.specs.declared.report.ReportKind.TheVariants.{Trade, Bust}
 use Rattle.share_ledger.specs.declared.applied.Applied.{Applied}
-use Rattle.share_ledger.specs.Book.{BookParts, new_book, open_sweep, withdraw, apply}
+use Rattle.share_ledger.specs.Book.{BookParts, new_book, open_sweep, withdraw, answer_to, apply}
 
 -- an order to buy so many shares of IBM at 10 dollars
 abbrev pub order : ℕ → ℕ → Routed
 order venue shares =
     record {
       venue = venue;
-      terms = record { symbol = record { root = codes "IBM"; suffix = [] }; side = Buy; shares = shares; price = 100000 };
+      terms = record {
+        symbol = record { root = codes "IBM"; suffix = [] };
+        side = Buy;
+        shares = shares;
+        price = 100000;
+      };
     }
 
 -- the leg of the first sweep that has this place
@@ -35,7 +40,7 @@ bust place exec cancelled_id = report place exec (Bust cancelled_id)
 -- notes of venue 0, one after the other: what was done with each, and the book after them
 abbrev pub applied_all : BookParts → List Note → List Applied
 applied_all book [] = []
-applied_all book (note ∷ notes) = (apply book 0 note).0 ∷ applied_all (apply book 0 note).1 notes
+applied_all book (note ∷ notes) = answer_to book 0 note ∷ applied_all (apply book 0 note).1 notes
 
 abbrev pub after_all : BookParts → List Note → BookParts
 after_all book [] = book
@@ -59,7 +64,8 @@ trades_on_two_legs =
 abbrev pub one_leg : BookParts
 one_leg = (open_sweep (new_book 1) 1 (order 0 100 ∷ [])).1
 
--- a trade, its bust, the bust again under a new id, the bust of a trade that was never made, and a trade of more shares than are open
+-- a trade, its bust, the bust again under a new id, the bust of a trade that was never made, and a trade of more shares
+-- than are open
 abbrev pub a_bust : List Note
 a_bust =
     trade 1 (codes "E1") 60

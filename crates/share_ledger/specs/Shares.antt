@@ -1,4 +1,5 @@
--- The share rule: what the notes booked on a leg, and its withdrawal, make of its shares (FIX 4.4 Volume 4, ExecType, LastQty, ExecID, ExecRefID).
+-- The share rule: what the notes booked on a leg, and its withdrawal, make of its shares (FIX 4.4 Volume 4, ExecType,
+-- LastQty, ExecID, ExecRefID).
 use Rattle.std.specs.Prelude.{ℕ, ◌+◌, ◌-◌, Bool, not, List, [], ◌∷◌, filter, sum_by, bytes_eq, if◌then◌else◌}
 use Rattle.std.specs.List.{list_any}
 use Rattle.leg.specs.Split.{SplitParts}
@@ -84,7 +85,8 @@ withdrawn_shares shares is_withdrawn = if is_withdrawn then shares else 0
 
 -- the shares of a leg that aren't open
 abbrev pub resolved : ℕ → Bool → List Move → ℕ
-resolved shares is_withdrawn moves = filled_shares moves + busted_shares moves + cancelled_shares shares moves + withdrawn_shares shares is_withdrawn
+resolved shares is_withdrawn moves =
+    filled_shares moves + busted_shares moves + cancelled_shares shares moves + withdrawn_shares shares is_withdrawn
 
 -- the five parts of a leg's shares; what is open is the rest
 abbrev pub parts_of : ℕ → Bool → List Move → SplitParts

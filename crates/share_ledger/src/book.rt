@@ -1,11 +1,15 @@
 //! The book of what became of each leg's shares.
 
-ghost use Rattle.std.specs.Prelude.{◌≡◌, ◌≤◌, IfOk, IsOkUnless};
+ghost use Rattle.std.specs.Prelude.{◌≡◌, ◌≤◌, IfOk, OnErr, IsOkUnless};
 ghost use Rattle.leg.specs.Answering.{Answers};
-ghost use Rattle.share_ledger.specs.Book.{new_book, open_sweep, withdraw, totals, venue_resolved};
+ghost use Rattle.dialect.specs.declared.note.Note.TheVariants as note;
+ghost use Rattle.share_ledger.specs.Book.{new_book, answer_to, open_sweep, apply, withdraw, totals, venue_resolved};
 
+use crate::copy::copy_of;
 use crate::ledger::Ledger;
-use crate::{BookEntry, BookFault};
+use crate::reports::Reports;
+use crate::{Applied, BookEntry, BookFault};
+use dialect::{Note, Report};
 use leg::{LegId, Sweep, Totals, VenueId};
 use std::alloc::Global;
 use std::marker::Model;
@@ -15,6 +19,8 @@ use std::marker::Model;
 #[derive(Drop)]
 pub struct Book {
     ledger: Ledger,
+    // The reports booked for each venue.
+    reports: Vec<Reports>,
 }
 
 impl Model for Book {
@@ -22,11 +28,11 @@ impl Model for Book {
 
     ghost Value = { BookParts };
 
-    ghost use Rattle.share_ledger.specs.Kept.{ledger_seen, IsKept};
+    ghost use Rattle.share_ledger.specs.Kept.{ledger_seen, IsKeptBook};
 
     ghost view = { λ book. ledger_seen book.ledger };
 
-    ghost invariant = { λ book. IsKept book.ledger };
+    ghost invariant = { λ book. IsKeptBook book.ledger book.reports.items };
 }
 
 impl Book {
@@ -37,9 +43,13 @@ impl Book {
         ensures ok { IfOk result (λ book. book ≡ new_book venues) }
         ensures only { IsOkUnless result BookFault.OutOfMemory }
     {
-        Ok(Book {
-            ledger: Ledger::new(alloc, usize::from(venues))?,
-        })
+        let count = usize::from(venues);
+        let ledger = Ledger::new(alloc, count)?;
+        let mut reports = Vec::with_capacity(alloc, count)?;
+        'each: for _ in 0..count {
+            reports.push_reserved(Reports::new(alloc));
+        }
+        Ok(Book { ledger, reports })
     }
 
     /// Opens a sweep under its number, with all its shares open. B01, B04, B02. It reserves the place in the history
@@ -48,6 +58,66 @@ impl Book {
         ensures { Answers BookFault.OutOfMemory self.old (open_sweep self.old number sweep.now.legs) result self.new }
     {
         self.ledger.open_sweep(number, sweep)
+    }
+
+    /// Applies a note of a venue: only one that moves is booked. B02, and the note may be applied again.
+    pub fn apply(&mut self, venue: VenueId, note: &Note) -> Result<Applied, BookFault>
+        ensures answer { Answers BookFault.OutOfMemory self.old (apply self.old venue note.now) result self.new }
+        ensures wanting { OnErr result (answer_to self.old venue note.now ≡ Applied.Moved) }
+    {
+        match note {
+            Note::Report(report) => self.apply_report(venue, report),
+            Note::Refused(id) => self.apply_refusal(venue, *id),
+            Note::Unread(_) => Ok(Applied::Stray),
+        }
+    }
+
+    // Applies a report.
+    fn apply_report(&mut self, venue: VenueId, report: &Report) -> Result<Applied, BookFault>
+        ensures answer { Answers BookFault.OutOfMemory self.old (apply self.old venue (note.Report report.now)) result self.new }
+        ensures wanting { OnErr result (answer_to self.old venue (note.Report report.now) ≡ Applied.Moved) }
+    {
+        let Some(was) = self.ledger.leg(report.id) else {
+            return Ok(Applied::Stray);
+        };
+        if was.venue != venue {
+            return Ok(Applied::Stray);
+        }
+        let reports = &mut self.reports[usize::from(venue.number())];
+        if reports.has(&report.exec) {
+            return Ok(Applied::Duplicate);
+        }
+        if was.is_withdrawn() {
+            return Ok(Applied::Stray);
+        }
+        let now = match reports.moved(was, report) {
+            Ok(now) => now,
+            Err(answer) => return Ok(answer),
+        };
+        self.ledger.reserve()?;
+        reports.book(report)?;
+        let entry = BookEntry::Moved(venue, Note::Report(copy_of(report)));
+        self.ledger.settle(report.id, was, now, entry);
+        Ok(Applied::Moved)
+    }
+
+    // Applies the refusal of a leg's order.
+    fn apply_refusal(&mut self, venue: VenueId, id: LegId) -> Result<Applied, BookFault>
+        ensures answer { Answers BookFault.OutOfMemory self.old (apply self.old venue (note.Refused id)) result self.new }
+        ensures wanting { OnErr result (answer_to self.old venue (note.Refused id) ≡ Applied.Moved) }
+    {
+        let Some(was) = self.ledger.leg(id) else {
+            return Ok(Applied::Stray);
+        };
+        if was.venue != venue || was.is_withdrawn() {
+            return Ok(Applied::Stray);
+        }
+        let mut now = was;
+        now.parts.cancel_rest();
+        self.ledger.reserve()?;
+        let entry = BookEntry::Moved(venue, Note::Refused(id));
+        self.ledger.settle(id, was, now, entry);
+        Ok(Applied::Moved)
     }
 
     /// Withdraws a leg: it never reaches its venue. B03. It takes no memory.

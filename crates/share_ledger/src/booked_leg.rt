@@ -1,6 +1,6 @@
 //! A leg in the book.
 
-ghost use Rattle.std.specs.Prelude.{◌≡◌};
+ghost use Rattle.std.specs.Prelude.{◌≡◌, nat_lt};
 ghost use Rattle.leg.specs.Split.{IsSplit};
 ghost use Rattle.share_ledger.specs.Kept.{legs_due};
 
@@ -19,6 +19,14 @@ impl BookedLeg {
         ensures { result ≡ legs_due self.now }
     {
         usize::from(self.parts.still_open() == self.parts.shares())
+    }
+
+    /// Whether it was withdrawn.
+    pub fn is_withdrawn(&self) -> bool
+        ensures value { result ≡ nat_lt 0 self.now.parts.withdrawn }
+        ensures in_range { IsSplit self.now.parts }
+    {
+        self.parts.withdrawn() > 0
     }
 
     /// Does nothing when it runs. Its contract tells a caller that the parts are in range.

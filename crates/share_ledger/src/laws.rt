@@ -1,6 +1,6 @@
 //! What follows from the book's rules: each law is the contract of a function that does nothing.
 
-ghost use Rattle.std.specs.Prelude.{◌≡◌, ◌≢◌, ◌+◌, ℕ, false, List, OnOk, OnErr, IsOk};
+ghost use Rattle.std.specs.Prelude.{◌≡◌, ◌≢◌, ◌+◌, ℕ, false, List, Ok, OnOk, OnErr, IsOk};
 ghost use Rattle.leg.specs.LegId.{LegIdParts};
 ghost use Rattle.leg.specs.Numbered.{numbered};
 ghost use Rattle.leg.specs.Split.{all_open, leg_shares, split_withdraw};
@@ -44,7 +44,7 @@ pub fn what_is_refused_changes_nothing()
     ensures withdraw { (book : BookParts) (id : LegIdParts) →
         OnErr (withdraw book id).0 ((withdraw book id).1 ≡ book) }
     ensures apply { (book : BookParts) (venue : ℕ) (note : ANote) →
-        (apply book venue note).0 ≢ Applied.Moved → (apply book venue note).1 ≡ book }
+        (apply book venue note).0 ≢ Ok Applied.Moved → (apply book venue note).1 ≡ book }
 {}
 
 /// Every other call writes its one entry behind the others.
@@ -55,7 +55,7 @@ pub fn what_is_done_is_written()
     ensures withdraw { (book : BookParts) (id : LegIdParts) →
         OnOk (withdraw book id).0 ((withdraw book id).1 ≡ written (BookEntry.Withdrawn id) book) }
     ensures apply { (book : BookParts) (venue : ℕ) (note : ANote) →
-        (apply book venue note).0 ≡ Applied.Moved →
+        (apply book venue note).0 ≡ Ok Applied.Moved →
         (apply book venue note).1 ≡ written (BookEntry.Moved venue note) book }
 {}
 
@@ -74,8 +74,8 @@ pub fn other_legs_keep_their_shares()
 /// A report that moved, and comes again, is a duplicate.
 pub fn a_report_counts_once()
     ensures { (book : BookParts) (venue : ℕ) (report : AReport) →
-        (apply book venue (Note.Report report)).0 ≡ Applied.Moved →
-        (apply (apply book venue (Note.Report report)).1 venue (Note.Report report)).0 ≡ Applied.Duplicate }
+        (apply book venue (Note.Report report)).0 ≡ Ok Applied.Moved →
+        (apply (apply book venue (Note.Report report)).1 venue (Note.Report report)).0 ≡ Ok Applied.Duplicate }
 {}
 
 /// Whatever the calls were, each leg's five parts go as a split's: all open at first, and from there as its calls
@@ -87,7 +87,7 @@ pub fn each_leg_goes_as_a_split()
     ensures apply { (venues : ℕ) (entries : List AnEntry) (venue : ℕ) (note : ANote) (id : LegIdParts) (routed : Routed) →
         leg_of_note note ≡ Some id →
         order_of id (replay (new_book venues) entries).entries ≡ Some routed →
-        (apply (replay (new_book venues) entries) venue note).0 ≡ Applied.Moved →
+        (apply (replay (new_book venues) entries) venue note).0 ≡ Ok Applied.Moved →
         split_step (moves_on id (replay (new_book venues) entries)) (move_of note)
         (leg_parts id routed.terms.shares (replay (new_book venues) entries))
         ≡ (Ok tt, leg_parts id routed.terms.shares (apply (replay (new_book venues) entries) venue note).1) }
@@ -103,19 +103,19 @@ pub fn each_leg_goes_as_a_split()
 pub fn a_venue_gains_what_is_traded()
     ensures trade { (venues : ℕ) (entries : List AnEntry) (venue : ℕ) (id : LegIdParts) (exec : List ℕ) (fill : FillParts) →
         (apply (replay (new_book venues) entries) venue
-        (Note.Report (record { id = id; exec = exec; kind = ReportKind.Trade fill }))).0 ≡ Applied.Moved →
+        (Note.Report (record { id = id; exec = exec; kind = ReportKind.Trade fill }))).0 ≡ Ok Applied.Moved →
         venue_resolved (apply (replay (new_book venues) entries) venue
         (Note.Report (record { id = id; exec = exec; kind = ReportKind.Trade fill }))).1 venue
         ≡ venue_resolved (replay (new_book venues) entries) venue + fill.shares }
     ensures bust { (venues : ℕ) (entries : List AnEntry) (venue : ℕ) (id : LegIdParts) (exec cancelled_id : List ℕ) →
         (apply (replay (new_book venues) entries) venue
-        (Note.Report (record { id = id; exec = exec; kind = ReportKind.Bust cancelled_id }))).0 ≡ Applied.Moved →
+        (Note.Report (record { id = id; exec = exec; kind = ReportKind.Bust cancelled_id }))).0 ≡ Ok Applied.Moved →
         venue_resolved (apply (replay (new_book venues) entries) venue
         (Note.Report (record { id = id; exec = exec; kind = ReportKind.Bust cancelled_id }))).1 venue
         ≡ venue_resolved (replay (new_book venues) entries) venue }
     ensures first { (venues : ℕ) (entries : List AnEntry) (venue : ℕ) (id : LegIdParts) (exec : List ℕ) →
         (apply (replay (new_book venues) entries) venue
-        (Note.Report (record { id = id; exec = exec; kind = ReportKind.New }))).0 ≡ Applied.Moved →
+        (Note.Report (record { id = id; exec = exec; kind = ReportKind.New }))).0 ≡ Ok Applied.Moved →
         venue_resolved (apply (replay (new_book venues) entries) venue
         (Note.Report (record { id = id; exec = exec; kind = ReportKind.New }))).1 venue
         ≡ venue_resolved (replay (new_book venues) entries) venue }

@@ -1,6 +1,6 @@
 //! The history of a book, and the sums that are kept beside it.
 
-ghost use Rattle.std.specs.Prelude.{◌≡◌, ◌<◌, ◌≤◌, ◌+◌, [], ◌∷◌, ◌++◌, Some, length, map, nat_lt, vec_len, vec_capacity, IfOk, IfSome};
+ghost use Rattle.std.specs.Prelude.{◌≡◌, ◌<◌, ◌≤◌, ◌+◌, [], ◌∷◌, ◌++◌, Some, length, map, nat_lt, vec_len, vec_capacity, IfOk, IfSome, OnOk};
 ghost use Rattle.std.specs.List.{list_all};
 ghost use Rattle.std.specs.Option.{option_map};
 ghost use Rattle.leg.specs.Answering.{Answers};
@@ -126,6 +126,16 @@ impl Ledger {
         }
         self.settle(id, leg, now, BookEntry::Withdrawn(id));
         Ok(())
+    }
+
+    /// Makes room for one more entry.
+    pub fn reserve(&mut self) -> Result<(), AllocError>
+        requires kept { IsKept self.old }
+        ensures kept { IsKept self.new }
+        ensures seen { ledger_seen self.new ≡ ledger_seen self.old }
+        ensures room { OnOk result (vec_len self.new.history + self.new.due + 1 ≤ vec_capacity self.new.history) }
+    {
+        self.history.reserve(self.due + 1)
     }
 
     /// Writes an entry that changes one leg. The history has room for it.

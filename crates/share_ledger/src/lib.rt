@@ -6,11 +6,16 @@ mod book;
 mod book_entry;
 mod book_fault;
 mod booked_leg;
+mod copy;
 pub mod laws;
 mod ledger;
+mod reports;
 pub mod rows;
 
 pub use applied::Applied;
 pub use book::Book;
 pub use book_entry::BookEntry;
 pub use book_fault::BookFault;
+
+#[cfg(test)]
+mod tests;

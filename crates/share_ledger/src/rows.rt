@@ -1,6 +1,6 @@
 //! Examples of the book's rules, worked out: each is the contract of a function that does nothing.
 
-ghost use Rattle.std.specs.Prelude.{◌≡◌, List, [], ◌∷◌, Some, None, codes};
+ghost use Rattle.std.specs.Prelude.{◌≡◌, List, [], ◌∷◌, Some, None, Ok, codes};
 ghost use Rattle.dialect.specs.declared.fault.DialectFault.TheVariants.{NotMarked};
 ghost use Rattle.dialect.specs.declared.note.Note.TheVariants as note;
 ghost use Rattle.dialect.specs.declared.report.ReportKind.TheVariants.{New, Canceled, Rejected, Expired};
@@ -45,7 +45,7 @@ pub fn ends_of_a_leg()
     ensures refused { totals (after_all one_leg (note.Refused (leg 1) ∷ report 1 (codes "E1") Canceled ∷ [])) 1
         ≡ Some (record { filled = 0; busted = 0; cancelled = 100; withdrawn = 0; still_open = 0 }) }
     ensures unread { applied_all one_leg (note.Unread NotMarked ∷ []) ≡ Applied.Stray ∷ [] }
-    ensures elsewhere { (apply one_leg 1 (trade 1 (codes "E1") 10)).0 ≡ Applied.Stray }
+    ensures elsewhere { (apply one_leg 1 (trade 1 (codes "E1") 10)).0 ≡ Ok Applied.Stray }
     ensures unknown { applied_all one_leg (trade 2 (codes "E1") 10 ∷ []) ≡ Applied.Stray ∷ [] }
     ensures resolved { venue_resolved (after_all one_leg (trade 1 (codes "E1") 30 ∷ bust 1 (codes "E2") (codes "E1") ∷ [])) 0 ≡ 30 }
 {}

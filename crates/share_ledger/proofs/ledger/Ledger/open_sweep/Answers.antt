@@ -1,4 +1,4 @@
-use Rattle.std.proofs.Common.{◌≡◌, ◌+◌, [], ◌∷◌, ◌++◌, length, not, refl, ap, sym, ◌∙◌, subst, arith}
+use Rattle.std.proofs.Common.{◌+◌, [], ◌∷◌, ◌++◌, length, refl, ap, sym, ◌∙◌, arith}
 use Rattle.share_ledger.specs.declared.book_entry.BookEntry.TheVariants.{Opened}
 use Rattle.share_ledger.specs.declared.ledger.Ledger.{Ledger}
 use Rattle.share_ledger.proofs.KeptOpened.{kept_opened}

@@ -1,9 +1,8 @@
-use Rattle.std.proofs.Common.{◌≡◌, ◌<◌, ◌≤◌, ◌+◌, ◌-◌, suc, length, set, get_or, refl, ap, sym, ◌∙◌, subst, arith}
+use Rattle.std.proofs.Common.{◌≡◌, ◌+◌, ◌-◌, set, get_or, refl, ap, ◌∙◌, arith}
 use Rattle.std.specs.Vec.{with_item}
 use Rattle.std.proofs.lemmas.List.{get_or_default}
 use Rattle.std.proofs.lemmas.Option.{slice_get_within, get_or_from_slice_get}
 use Rattle.share_ledger.specs.declared.ledger.Ledger.{Ledger}
-use Rattle.share_ledger.specs.Kept.{legs_due}
 use Rattle.share_ledger.proofs.KeptLegs.{due_counts}
 use Rattle.share_ledger.proofs.KeptChanged.{changed_due, changed_stands, changed_there, gain_fits, kept_changed}
 use Rattle.share_ledger.proofs.ledger.Ledger.settle.Goals as goal

@@ -1,8 +1,6 @@
-use Rattle.std.proofs.Common.{◌≡◌, ◌<◌, Some, length, get_or, refl, ap, sym, ◌∙◌, subst, arith}
+use Rattle.std.proofs.Common.{◌<◌, length, get_or, ap, sym, ◌∙◌, arith}
 use Rattle.std.proofs.lemmas.Bool.{ltb-true, ltb-false}
 use Rattle.std.proofs.lemmas.List.{get_or_default}
-use Rattle.share_ledger.specs.Book.{venue_resolved}
-use Rattle.share_ledger.specs.Kept.{ledger_seen}
 use Rattle.share_ledger.proofs.KeptRead.{resolved_kept, unknown_kept}
 use Rattle.share_ledger.proofs.ledger.Ledger.venue_resolved.Goals as goal
 

@@ -1,8 +1,7 @@
-use Rattle.std.proofs.Common.{◌≡◌, Some, not, Ok, refl, ap, sym, ◌∙◌, subst, arith}
+use Rattle.std.proofs.Common.{not, Ok, refl, ap, sym, ◌∙◌, arith}
 use Rattle.share_ledger.specs.declared.booked_leg.BookedLeg.{BookedLeg}
 use Rattle.share_ledger.specs.Kept.{ledger_seen}
 use Rattle.share_ledger.proofs.KeptChanged.{sound_kept}
-use Rattle.share_ledger.proofs.KeptLegs.{due_counts}
 use Rattle.share_ledger.proofs.KeptWithdrawn.{withdraw_test, withdraw_refused, withdraw_done, withdraw_changes, withdraw_due}
 use Rattle.share_ledger.proofs.ledger.Ledger.withdraw.Goals as goal
 
