@@ -5,6 +5,7 @@ use Rattle.std.specs.Option.{ok_or, option_map_or}
 use Rattle.std.specs.Str.{bytes_eq}
 use Rattle.fix_text.specs.Then.{◌>>=◌}
 use Rattle.fix_text.specs.Tagged.{Tagged, value_of}
+pub use Rattle.fix_tags.specs.Message.{field}
 use Rattle.dialect.specs.declared.fault.DialectFault.{DialectFault}
 use Rattle.dialect.specs.declared.fault.DialectFault.TheVariants.{Missing, Bad}
 
@@ -29,10 +30,6 @@ has_value test fields tag = option_map_or test (value_of fields tag) false
 -- whether a text is this one
 abbrev pub is_text : List ℕ → List ℕ → Bool
 is_text text other = bytes_eq other text
-
--- a field of this tag and value
-abbrev pub field : ℕ → List ℕ → Tagged
-field tag value = record { tag = tag; value = value }
 
 -- new is old with some fields behind it
 abbrev pub IsGrown : List Tagged → List Tagged → Type 0

@@ -67,7 +67,8 @@ report_fields s report view =
     event_fields s report view ++ s.symbol_fields view.leg.terms.symbol ++ amount_fields report view
 
 -- these fields are a report beside this view, of an order for its own leg
-pub record IsReportOf (s : SpellingParts) (report : Report) (view : OrderViewParts) (fields : List Tagged) : Type 0 where
+pub record IsReportOf (s : SpellingParts) (report : Report) (view : OrderViewParts)
+    (fields : List Tagged) : Type 0 where
   pub in_range : IsReport report
   pub view_in_range : IsOrderView view
   pub own_leg : view.leg.id ≡ report.id

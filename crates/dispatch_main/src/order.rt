@@ -10,12 +10,14 @@ mod option;
 mod options;
 pub mod order_fault;
 mod request;
+pub mod room;
 
 use crate::fault::ProgramFault;
 use crate::order::frame::{read_order_frame, stream_of, write_order_frame};
 use crate::order::lines::order_lines;
 use crate::order::options::{Options, read_options};
 use crate::order::request::Request;
+use crate::order::room::OrderRoom;
 use crate::status::finish;
 use dialect::Dialect;
 pub use option::OrderOption;
@@ -75,7 +77,7 @@ fn order_text<D: Dialect>(
         (record { IsOrder = D.IsOrder dialect.now; IsReport = D.IsReport dialect.now }) (D.order_read dialect.now) request text.items) }
 {
     let Request { leg, header } = request;
-    let frame = write_order_frame(alloc, dialect, &leg, header)?;
+    let frame = write_order_frame(alloc, dialect, &leg, header, OrderRoom::new(alloc)?);
     let read = match read_order_frame(alloc, dialect, stream_of(alloc, &frame)?) {
         Ok(read) => read,
         // What was written is read back, unless memory runs out.

@@ -9,8 +9,8 @@ use Rattle.leg.specs.Numbered.{numbered}
 use Rattle.leg.specs.declared.leg.Leg.{Leg}
 use Rattle.dialect.specs.declared.report.ReportKind.{ReportKind}
 use Rattle.dialect.specs.declared.report.ReportKind.TheVariants.{Canceled, Rejected}
-use Rattle.dialect.specs.Message.{TestRequest}
-use Rattle.dialect.specs.Outgoing.{Outgoing}
+use Rattle.dialect.specs.declared.content.Content.TheVariants.{TestRequest}
+use Rattle.dialect.specs.declared.outgoing.Outgoing.{Outgoing}
 use Rattle.exchange_core.specs.declared.exchange_fault.ExchangeFault.{ExchangeFault}
 use Rattle.exchange_core.specs.Acceptance.{Intake, HasAccepted, MayWrite, May, IsLast}
 use Rattle.exchange_core.specs.Acceptance as rules

@@ -5,7 +5,9 @@ use Rattle.std.proofs.lemmas.Option.{same_Some}
 use Rattle.leg.specs.Numbered.{numbered, with_numbered}
 use Rattle.leg.specs.declared.leg.Leg.{Leg}
 use Rattle.dialect.specs.declared.report.ReportKind.{ReportKind}
-use Rattle.dialect.specs.Message.{Content, Message, TestRequest, GapFill, Logout, Order}
+use Rattle.dialect.specs.declared.content.Content.{Content}
+use Rattle.dialect.specs.declared.content.Content.TheVariants.{TestRequest, GapFill, Logout, Order}
+use Rattle.dialect.specs.declared.message.Message.{Message}
 use Rattle.exchange_core.specs.Order.{OrderParts, new_order, view_of}
 use Rattle.exchange_core.specs.Own.{Own, Admin, Reported, Refused}
 use Rattle.exchange_core.specs.Exchange.{LiveConnection, ExchangeParts, Answer, accepted_by, next_report, passed_by, with_connection, logon_answer, logon_taken, due_taken, asks, by_number, take, drop_connection}

@@ -1,6 +1,6 @@
 -- What is done with a message, all in one.
 use Rattle.std.proofs.Common.{ℕ}
-use Rattle.dialect.specs.Message.{Message}
+use Rattle.dialect.specs.declared.message.Message.{Message}
 use Rattle.exchange_core.specs.Exchange.{ExchangeParts, take}
 use Rattle.exchange_core.specs.Keeping.{IsLastLive, IsAnswer}
 use Rattle.exchange_core.proofs.After.{take_after}

@@ -3,7 +3,9 @@ use Rattle.std.proofs.Common.{◌≡◌, ◌==◌, ℕ, ◌+◌, ◌≤◌, ◌<
 use Rattle.std.proofs.lemmas.Bool.{and_parts}
 use Rattle.std.proofs.lemmas.Bool.Decides.{nat_tests}
 use Rattle.dialect.specs.Addressed.{is_for}
-use Rattle.dialect.specs.Message.{Content, Message, Logon}
+use Rattle.dialect.specs.declared.content.Content.{Content}
+use Rattle.dialect.specs.declared.content.Content.TheVariants.{Logon}
+use Rattle.dialect.specs.declared.message.Message.{Message}
 use Rattle.exchange_core.specs.Own.{has_numbers, next_own_number}
 use Rattle.exchange_core.specs.Exchange.{LiveConnection, ExchangeParts, Answer, logon_taken, due_taken, has_asked, asks, ahead, by_number, received, heard, comes, take}
 use Rattle.exchange_core.proofs.Entries.{chosen}

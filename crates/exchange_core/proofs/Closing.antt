@@ -1,6 +1,9 @@
 -- What the end of a connection and a Logout leave.
 use Rattle.std.proofs.Common.{◌≡◌, ◌==◌, ℕ, Bool, true, false, inl, inr, [], Option, Some, None, Ok, Err, refl}
-use Rattle.dialect.specs.Message.{Content, Message, Logon, TestRequest, GapFill, Logout, Order, is_logon}
+use Rattle.dialect.specs.declared.content.Content.{Content}
+use Rattle.dialect.specs.declared.content.Content.TheVariants.{Logon, TestRequest, GapFill, Logout, Order}
+use Rattle.dialect.specs.declared.message.Message.{Message}
+use Rattle.dialect.specs.Message.{is_logon}
 use Rattle.exchange_core.specs.Exchange.{ExchangeParts, Answer, logon_answer, with_connection, due_taken, take}
 use Rattle.exchange_core.specs.Keeping.{IsMarked}
 use Rattle.exchange_core.proofs.Cases.{take_is, after_take_is}

@@ -4,7 +4,9 @@ use Rattle.dialect.specs.declared.report.Report.{Report}
 use Rattle.dialect.specs.declared.report.ReportKind.{ReportKind}
 use Rattle.dialect.specs.declared.report.ReportKind.TheVariants.{New}
 use Rattle.dialect.specs.OrderView.{OrderViewParts}
-use Rattle.dialect.specs.Message.{Content, Message, TestRequest, GapFill, Logout, Order}
+use Rattle.dialect.specs.declared.content.Content.{Content}
+use Rattle.dialect.specs.declared.content.Content.TheVariants.{TestRequest, GapFill, Logout, Order}
+use Rattle.dialect.specs.declared.message.Message.{Message}
 use Rattle.exchange_core.specs.Order.{OrderParts, new_order, view_of}
 use Rattle.exchange_core.specs.Own.{Own, Admin, Reported, Refused, report_count, exec_id}
 use Rattle.exchange_core.specs.Exchange.{ExchangeParts, next_report, logon_answer, with_connection, due_taken, take}

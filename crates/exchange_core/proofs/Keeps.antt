@@ -10,7 +10,9 @@ use Rattle.fix_tags.specs.Config.{IsConfig}
 use Rattle.dialect.specs.FreeText.{IsFreeText}
 use Rattle.dialect.specs.declared.report.ReportKind.{ReportKind}
 use Rattle.dialect.specs.declared.report.ReportKind.TheVariants.{New, Canceled, Rejected}
-use Rattle.dialect.specs.Message.{Content, Message, TestRequest, GapFill, Logout, Order}
+use Rattle.dialect.specs.declared.content.Content.{Content}
+use Rattle.dialect.specs.declared.content.Content.TheVariants.{TestRequest, GapFill, Logout, Order}
+use Rattle.dialect.specs.declared.message.Message.{Message}
 use Rattle.dialect.specs.Report.{IsReportKind}
 use Rattle.dialect.specs.Writable.{IsReportBeside}
 use Rattle.exchange_core.specs.Order.{OrderParts, new_order, view_of}

@@ -3,7 +3,7 @@ use Rattle.std.proofs.Common.{◌≡◌, ℕ, true, List, refl, sym, subst, arit
 use Rattle.std.proofs.lemmas.Bool.Decides.{nat_tests}
 use Rattle.fix_tags.specs.Config.{ConfigParts, IsConfig}
 use Rattle.dialect.specs.FreeText.{IsFreeText}
-use Rattle.dialect.specs.Message.{Message}
+use Rattle.dialect.specs.declared.message.Message.{Message}
 use Rattle.dialect.specs.declared.report.ReportKind.{ReportKind}
 use Rattle.exchange_core.specs.Order.{OrderParts, view_of}
 use Rattle.exchange_core.specs.Own.{Own, Admin, Reported, has_numbers}

@@ -9,8 +9,9 @@ use Rattle.std.proofs.lemmas.Option.{slice_get_within}
 use Rattle.fix_tags.specs.Config.{ConfigParts}
 use Rattle.fix_tags.specs.Range.{range_end, is_range}
 use Rattle.leg.specs.Numbered.{numbered}
-use Rattle.dialect.specs.Message.{Content, GapFill, Reject}
-use Rattle.dialect.specs.Outgoing.{Outgoing}
+use Rattle.dialect.specs.declared.content.Content.{Content}
+use Rattle.dialect.specs.declared.content.Content.TheVariants.{GapFill, Reject}
+use Rattle.dialect.specs.declared.outgoing.Outgoing.{Outgoing}
 use Rattle.exchange_core.specs.Acceptance.{Carried, RuleState, MayWrite}
 use Rattle.exchange_core.specs.Own.{Own, Admin, Reported, Refused, execution_report, again, closing_fill, run_from, resent, resent_answer}
 use Rattle.exchange_core.specs.Keeping.{kept, written_in}

@@ -3,7 +3,9 @@ use Rattle.std.proofs.Common.{◌≡◌, ◌==◌, suc, ℕ, ◌+◌, ◌≤◌,
 use Rattle.std.specs.Option.{option_map}
 use Rattle.std.proofs.lemmas.Bool.Decides.{nat_tests}
 use Rattle.std.proofs.lemmas.Option.{same_Some}
-use Rattle.dialect.specs.Message.{Content, Message, TestRequest, GapFill, Logout, Order}
+use Rattle.dialect.specs.declared.content.Content.{Content}
+use Rattle.dialect.specs.declared.content.Content.TheVariants.{TestRequest, GapFill, Logout, Order}
+use Rattle.dialect.specs.declared.message.Message.{Message}
 use Rattle.exchange_core.specs.Own.{next_own_number}
 use Rattle.exchange_core.specs.Exchange.{LiveConnection, ExchangeParts, live_connection, passed_by, logon_taken, logon_answer, with_connection, due_taken, asks, take}
 use Rattle.exchange_core.specs.Keeping.{IsLastLive, IsExchangeLater, IsExpectable, IsFillInRange, IsInRange, OwnNumbersFit}

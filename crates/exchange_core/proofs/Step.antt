@@ -4,7 +4,7 @@ use Rattle.std.specs.List.{All}
 use Rattle.std.proofs.lemmas.List.{append-nil, map-append}
 use Rattle.std.proofs.lemmas.List.Elements.{All-nil, All-cons}
 use Rattle.leg.specs.Numbered.{numbered}
-use Rattle.dialect.specs.Message.{Content}
+use Rattle.dialect.specs.declared.content.Content.{Content}
 use Rattle.exchange_core.specs.Acceptance.{Carried, MayMove, MayAnswer, MayRefuse, MayRefuseOther, MayKeep, MaySay, MayWrite, May}
 use Rattle.exchange_core.specs.Own.{Own, Admin, next_own_number}
 use Rattle.exchange_core.specs.Exchange.{ExchangeParts}

@@ -7,8 +7,10 @@ use Rattle.std.proofs.lemmas.List.Elements.{All-nil, All-append}
 use Rattle.leg.specs.declared.leg.Leg.{Leg}
 use Rattle.dialect.specs.declared.fault.DialectFault.{DialectFault}
 use Rattle.dialect.specs.declared.report.ReportKind.TheVariants.{New}
-use Rattle.dialect.specs.Message.{Content, Message, Logon, Heartbeat, TestRequest, ResendRequest, Reject, GapFill, Logout, Order, ExecutionReport}
-use Rattle.dialect.specs.Outgoing.{Outgoing}
+use Rattle.dialect.specs.declared.content.Content.{Content}
+use Rattle.dialect.specs.declared.content.Content.TheVariants.{Logon, Heartbeat, TestRequest, ResendRequest, Reject, GapFill, Logout, Order, ExecutionReport}
+use Rattle.dialect.specs.declared.message.Message.{Message}
+use Rattle.dialect.specs.declared.outgoing.Outgoing.{Outgoing}
 use Rattle.exchange_core.specs.Acceptance.{Carried, Intake, RuleState, IsDue, IsOther, Takes, MayMove, Took, MayWrite, May, IsLast}
 use Rattle.exchange_core.specs.Acceptance as rules
 use Rattle.exchange_core.specs.Order.{OrderParts, new_order, view_of}

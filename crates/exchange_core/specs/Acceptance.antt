@@ -6,7 +6,8 @@ use Rattle.leg.specs.Growing.{Grew}
 use Rattle.leg.specs.LegId.{LegIdParts}
 use Rattle.leg.specs.Numbered.{numbered}
 use Rattle.dialect.specs.declared.fault.DialectFault.{DialectFault}
-use Rattle.dialect.specs.Message.{Content, Logon, Heartbeat, TestRequest, ResendRequest, Reject, GapFill, Reset, Logout, BusinessReject, Order, ExecutionReport}
+use Rattle.dialect.specs.declared.content.Content.{Content}
+use Rattle.dialect.specs.declared.content.Content.TheVariants.{Logon, Heartbeat, TestRequest, ResendRequest, Reject, GapFill, Reset, Logout, BusinessReject, Order, ExecutionReport}
 
 -- a message in its connection, delivered or written
 pub record Carried : Type 0 where

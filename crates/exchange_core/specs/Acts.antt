@@ -4,8 +4,8 @@ use Rattle.std.specs.Option.{ok_or}
 use Rattle.leg.specs.Numbered.{numbered, with_numbered}
 use Rattle.dialect.specs.declared.report.ReportKind.{ReportKind}
 use Rattle.dialect.specs.declared.report.ReportKind.TheVariants.{Trade, Canceled, Rejected, Bust}
-use Rattle.dialect.specs.Message.{TestRequest}
-use Rattle.dialect.specs.Outgoing.{Outgoing}
+use Rattle.dialect.specs.declared.content.Content.TheVariants.{TestRequest}
+use Rattle.dialect.specs.declared.outgoing.Outgoing.{Outgoing}
 use Rattle.exchange_core.specs.declared.exchange_fault.ExchangeFault.{ExchangeFault}
 use Rattle.exchange_core.specs.declared.exchange_fault.ExchangeFault.TheVariants.{NoSuchOrder, TooManyShares, Done, NumbersSpent, NoSuchTrade, NotCancelled}
 use Rattle.exchange_core.specs.Order.{OrderParts, TradeParts, Ending, ByCancel, ByReject, traded, ended_by, busted_at, is_cancelled, view_of}

@@ -7,8 +7,11 @@ use Rattle.dialect.specs.declared.report.Report.{Report}
 use Rattle.dialect.specs.declared.report.ReportKind.{ReportKind}
 use Rattle.dialect.specs.declared.report.ReportKind.TheVariants.{New}
 use Rattle.dialect.specs.Addressed.{message_of, is_for}
-use Rattle.dialect.specs.Message.{Content, Message, Logon, Heartbeat, TestRequest, ResendRequest, Reject, GapFill, Logout, Order}
-use Rattle.dialect.specs.Outgoing.{Outgoing, alone}
+use Rattle.dialect.specs.declared.content.Content.{Content}
+use Rattle.dialect.specs.declared.content.Content.TheVariants.{Logon, Heartbeat, TestRequest, ResendRequest, Reject, GapFill, Logout, Order}
+use Rattle.dialect.specs.declared.message.Message.{Message}
+use Rattle.dialect.specs.declared.outgoing.Outgoing.{Outgoing}
+use Rattle.dialect.specs.Outgoing.{alone}
 use Rattle.exchange_core.specs.Order.{OrderParts, new_order, view_of}
 use Rattle.exchange_core.specs.Own.{Own, Admin, Reported, Refused, next_own_number, has_numbers, next_exec, exec_id, execution_report, resent_answer}
 

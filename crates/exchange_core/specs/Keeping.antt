@@ -1,8 +1,10 @@
 -- The exchange as the rules see it.
 use Rattle.std.specs.Prelude.{◌≡◌, suc, ◌∷◌, ◌⊎◌, ℕ, ◌≤◌, List, [], ◌++◌, length, map, Option, Some, None, Ok, Err}
 use Rattle.leg.specs.Growing.{Grew}
-use Rattle.dialect.specs.Message.{Content, Message, Reject, GapFill, Logout, ExecutionReport}
-use Rattle.dialect.specs.Outgoing.{Outgoing}
+use Rattle.dialect.specs.declared.content.Content.{Content}
+use Rattle.dialect.specs.declared.content.Content.TheVariants.{Reject, GapFill, Logout, ExecutionReport}
+use Rattle.dialect.specs.declared.message.Message.{Message}
+use Rattle.dialect.specs.declared.outgoing.Outgoing.{Outgoing}
 use Rattle.exchange_core.specs.Acceptance.{Carried, Intake, RuleState, LiveIsLast, May}
 use Rattle.exchange_core.specs.Own.{Own, Admin, Reported, Refused, next_own_number, exec_id}
 use Rattle.exchange_core.specs.Exchange.{ExchangeParts, Answer, accepted_by, live_connection}

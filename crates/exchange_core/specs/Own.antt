@@ -5,9 +5,11 @@ use Rattle.fix_tags.specs.Config.{ConfigParts}
 use Rattle.fix_tags.specs.Range.{range_end, is_range}
 use Rattle.dialect.specs.declared.report.Report.{Report}
 use Rattle.dialect.specs.Addressed.{message_of}
-use Rattle.dialect.specs.Message.{Content, Reject, GapFill, ExecutionReport}
+use Rattle.dialect.specs.declared.content.Content.{Content}
+use Rattle.dialect.specs.declared.content.Content.TheVariants.{Reject, GapFill, ExecutionReport}
 use Rattle.dialect.specs.OrderView.{OrderViewParts}
-use Rattle.dialect.specs.Outgoing.{Outgoing, alone}
+use Rattle.dialect.specs.declared.outgoing.Outgoing.{Outgoing}
+use Rattle.dialect.specs.Outgoing.{alone}
 
 -- what an own number was used for: a message of the session, a report with the order as it was then, or the refusal of
 -- a message by its number

@@ -3,9 +3,12 @@ use Rattle.std.specs.Prelude.{ℕ, zero, suc, true, false, List, [], ◌++◌, c
 use Rattle.leg.specs.declared.leg.Leg.{Leg}
 use Rattle.leg.specs.declared.side.Side.TheVariants.{Buy}
 use Rattle.dialect.specs.declared.report.ReportKind.{ReportKind}
-use Rattle.dialect.specs.Message.{Content, Message, Logon, TestRequest, Order, ExecutionReport}
+use Rattle.dialect.specs.declared.content.Content.{Content}
+use Rattle.dialect.specs.declared.content.Content.TheVariants.{Logon, TestRequest, Order, ExecutionReport}
+use Rattle.dialect.specs.declared.message.Message.{Message}
 use Rattle.dialect.specs.OrderView.{OrderViewParts}
-use Rattle.dialect.specs.Outgoing.{Outgoing, alone}
+use Rattle.dialect.specs.declared.outgoing.Outgoing.{Outgoing}
+use Rattle.dialect.specs.Outgoing.{alone}
 use Rattle.exchange_core.specs.Order.{order_id}
 use Rattle.exchange_core.specs.Exchange.{ExchangeParts, Answer, new_exchange, take}
 use Rattle.exchange_core.specs.Acts.{ActAnswer}

@@ -4,7 +4,9 @@ use Rattle.std.specs.List.{AllByRecursion}
 use Rattle.fix_tags.specs.Config.{IsConfig}
 use Rattle.leg.specs.Leg.{IsLeg}
 use Rattle.dialect.specs.FreeText.{IsFreeText}
-use Rattle.dialect.specs.Message.{Content, Message, Logon, TestRequest, Order}
+use Rattle.dialect.specs.declared.content.Content.{Content}
+use Rattle.dialect.specs.declared.content.Content.TheVariants.{Logon, TestRequest, Order}
+use Rattle.dialect.specs.declared.message.Message.{Message}
 use Rattle.dialect.specs.Writable.{IsReference, IsReportBeside}
 use Rattle.exchange_core.specs.Order.{OrderParts, TradeParts}
 use Rattle.exchange_core.specs.Own.{Own, Admin, Reported, Refused}

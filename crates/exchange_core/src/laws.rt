@@ -1,7 +1,9 @@
 //! What follows from the definitions: each law is the contract of a function that does nothing.
 
 ghost use Rattle.std.specs.Prelude.{◌≡◌, ◌+◌, ◌++◌, ◌≤◌, ℕ, false, List, [], Option, None, Some, All, IfOk};
-ghost use Rattle.dialect.specs.Message.{Content, Message, is_logon};
+ghost use Rattle.dialect.specs.declared.content.Content.{Content};
+ghost use Rattle.dialect.specs.declared.message.Message.{Message};
+ghost use Rattle.dialect.specs.Message.{is_logon};
 ghost use Rattle.fix_tags.specs.Config.{ConfigParts, IsConfig};
 ghost use Rattle.leg.specs.Growing.{Grew};
 ghost use Rattle.leg.specs.declared.leg.Leg.{Leg};

@@ -1,7 +1,7 @@
 //! Worked rows: each is the contract of a function that does nothing, and is proved by computing it.
 
 ghost use Rattle.std.specs.Prelude.{◌≡◌, false, [], ◌∷◌, ◌++◌, codes, Some, None, Ok, Err, map, length};
-ghost use Rattle.dialect.specs.Message.{Logon, Heartbeat, TestRequest, ResendRequest, Reject, GapFill, Logout, Order};
+ghost use Rattle.dialect.specs.declared.content.Content.TheVariants.{Logon, Heartbeat, TestRequest, ResendRequest, Reject, GapFill, Logout, Order};
 ghost use Rattle.dialect.specs.declared.fault.DialectFault.TheVariants.{NotMarked};
 ghost use Rattle.dialect.specs.declared.report.ReportKind.TheVariants.{New, Trade, Canceled, Rejected, Bust};
 ghost use Rattle.exchange_core.specs.declared.exchange_fault.ExchangeFault.TheVariants.{NoSuchOrder, TooManyShares, Done, NumbersSpent, NoSuchTrade, NotCancelled};

@@ -11,7 +11,7 @@ use Rattle.fix_tags.specs.Stamp.{StampParts}
 use Rattle.fix_tags.specs.declared.body.Body.TheVariants.{App}
 use Rattle.fix_tags.specs.declared.envelope.Envelope.{Envelope}
 use Rattle.fix_tags.proofs.AppFits.{app_not_refused}
-use Rattle.fix_tags.proofs.StreamBack.{unrefused_reads_back}
+use Rattle.fix_tags.proofs.StreamBack.{unrefused_fits, unrefused_reads_back}
 
 -- an application message with at most 3,000 bytes of fields is refused under no header
 pub application_messages_fit : (e : Envelope) (s : StampParts) (kind : List ℕ) (fields : List Tagged)
@@ -19,6 +19,11 @@ pub application_messages_fit : (e : Envelope) (s : StampParts) (kind : List ℕ)
     → is_app_kind kind ≡ true → are_app_fields fields ≡ true → length (fields_text fields) ≤ 3000
     → IsCompId e.sender → IsCompId e.target → is_message_number e.number ≡ true → envelope_refusal e s ≡ None
 application_messages_fit = app_not_refused
+
+-- a message that isn't refused takes no more room than the longest frame
+pub written_messages_are_short : (e : Envelope) (s : StampParts) → envelope_refusal e s ≡ None
+    → length (frame_text (envelope_fields e s)) ≤ 4120
+written_messages_are_short = unrefused_fits
 
 -- a message that isn't refused is read back from its frame, whatever follows the frame
 pub written_messages_read_back : (e : Envelope) (s : StampParts) → envelope_refusal e s ≡ None → IsCompId e.sender

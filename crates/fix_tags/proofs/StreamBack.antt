@@ -3,6 +3,7 @@ use Rattle.std.proofs.Common.{◌≡◌, ℕ, ◌≤◌, Bool, true, false, cond
 use Rattle.std.proofs.lemmas.Bool.Decides.{nat_tests}
 use Rattle.fix_text.specs.Frame.{frame_text}
 use Rattle.fix_text.specs.Text.{fields_text}
+use Rattle.fix_text.proofs.Lengths.{frames_are_short}
 use Rattle.fix_text.proofs.Rewritten.{next_begins}
 use Rattle.fix_tags.specs.CompId.{IsCompId}
 use Rattle.fix_tags.specs.Message.{field_fault, envelope_fields, is_too_long, envelope_refusal}
@@ -36,6 +37,18 @@ not_long : (long : Bool) → cond long (Some TooLong) None ≡ None → long ≡
 not_long false none = refl
 not_long true none = cc
 
+-- the fields of a message that isn't refused aren't too long
+unrefused_is_short : (e : Envelope) (s : StampParts) → envelope_refusal e s ≡ None → is_too_long e s ≡ false
+unrefused_is_short e s none =
+    not_long (is_too_long e s) (or_then-second (field_fault e) (cond (is_too_long e s) (Some TooLong) None) none)
+
+-- so its frame has room in the longest one
+pub unrefused_fits : (e : Envelope) (s : StampParts) → envelope_refusal e s ≡ None
+    → length (frame_text (envelope_fields e s)) ≤ 4120
+unrefused_fits e s none =
+    let short = short_enough (length (fields_text (envelope_fields e s))) (unrefused_is_short e s none) in
+    frames_are_short (envelope_fields e s) short
+
 -- a message that isn't refused
 pub unrefused_reads_back : (e : Envelope) (s : StampParts) → envelope_refusal e s ≡ None → IsCompId e.sender
     → IsCompId e.target
@@ -43,5 +56,4 @@ pub unrefused_reads_back : (e : Envelope) (s : StampParts) → envelope_refusal 
 unrefused_reads_back e s none sender target =
     let too_long : Option WriteFault = cond (is_too_long e s) (Some TooLong) None in
     let faultless = or_then-first (field_fault e) too_long none in
-    let short = not_long (is_too_long e s) (or_then-second (field_fault e) too_long none) in
-    reads_back e s sender target faultless short
+    reads_back e s sender target faultless (unrefused_is_short e s none)

@@ -128,7 +128,8 @@ length-comp_id text h = grind (arith, nat_tests)
 pub length-decimal : (k n : ℕ) → 0 < k → n < 10 ^ k → n < 2 ^ 64 → length (decimal n) ≤ k
 length-decimal k n some below small = length-decimal-le k n some below small
 
-length-point_and : (ds : List ℕ) → length (point_and ds) ≤ 1 + length ds
+-- a point and these digits, or nothing
+pub length-point_and : (ds : List ℕ) → length (point_and ds) ≤ 1 + length ds
 length-point_and [] = omega arith
 length-point_and (d ∷ ds) = omega arith
 
@@ -136,7 +137,7 @@ length-without_by : (b : Bool) (d : ℕ) (ds : List ℕ) → length (without_las
 length-without_by true d ds h = omega arith
 length-without_by false d ds h = omega arith
 
-length-without_last_zeros : (ds : List ℕ) → length (without_last_zeros ds) ≤ length ds
+pub length-without_last_zeros : (ds : List ℕ) → length (without_last_zeros ds) ≤ length ds
 length-without_last_zeros [] = omega arith
 length-without_last_zeros (d ∷ ds) = length-without_by (all_zeros (d ∷ ds)) d ds (length-without_last_zeros ds)
 

@@ -2,11 +2,7 @@
 use Rattle.std.specs.Prelude.{ℕ, ◌+◌, ◌/◌, ◌%◌, List, [], ◌∷◌, Bool, ◌&&◌, Option, Some, None, ◌==◌, nat_le, if◌then◌else◌}
 use Rattle.std.specs.Char.{is_ascii_digit}
 use Rattle.std.specs.List.{list_all}
-use Rattle.fix_text.specs.Grammar.{number_after}
-
--- the number that digits write
-abbrev pub digits_number : List ℕ → ℕ
-digits_number digits = number_after 0 digits
+pub use Rattle.fix_text.specs.Grammar.{digits_number}
 
 -- the digits that a text begins with
 abbrev pub leading_digits : List ℕ → List ℕ

@@ -67,5 +67,6 @@ stamp_with _ _ _ _ _ _ _ = None
 unfoldable pub stamp_read : List ℕ → Option StampParts
 stamp_read text =
     if has_separators text
-    then stamp_with (number_at text 0 4) (number_at text 4 2) (number_at text 6 2) (number_at text 9 2) (number_at text 12 2) (number_at text 15 2) (milli_of text)
+    then stamp_with (number_at text 0 4) (number_at text 4 2) (number_at text 6 2) (number_at text 9 2)
+    (number_at text 12 2) (number_at text 15 2) (milli_of text)
     else None

@@ -3,7 +3,7 @@ ghost use Rattle.std.specs.Prelude.{true, ◌≡◌};
 ghost use Rattle.fix_tags.specs.Config.{IsConfig, config_of};
 
 use crate::comp_id::CompId;
-use crate::limits::MESSAGE_NUMBER;
+use crate::limits::MAX_MESSAGE_NUMBER;
 use std::marker::Model;
 
 /// The longest heartbeat interval, in seconds: an hour.
@@ -13,7 +13,7 @@ const MAX_INTERVAL: u64 = 3_600;
 const MIN_NUMBER_LIMIT: u64 = 16;
 
 /// The greatest one.
-const MAX_NUMBER_LIMIT: u64 = MESSAGE_NUMBER.greatest + 1;
+const MAX_NUMBER_LIMIT: u64 = MAX_MESSAGE_NUMBER + 1;
 
 /// The two ends of a session, how often it is heard from, and how far its numbers go (FIX 4.4 Volume 2).
 #[derive(Debug, Drop)]

@@ -21,6 +21,7 @@ ghost use Rattle.fix_tags.specs.Stamp.{StampParts, IsStamp, stamp_text, stamp_re
 
 use crate::comp_id::CompId;
 use crate::stamp::Stamp;
+use fix_text::MAX_FRAME;
 
 /// A number up to 999,999,999,999 that was written is read back.
 pub fn number_reads_back(number: u64)
@@ -68,6 +69,12 @@ pub fn application_messages_fit()
     ensures { (e : Envelope) (s : StampParts) (kind : List ℕ) (fields : List Tagged) → e.body ≡ App kind fields →
         is_app_kind kind ≡ true → are_app_fields fields ≡ true → length (fields_text fields) ≤ 3000 →
         IsCompId e.sender → IsCompId e.target → is_message_number e.number ≡ true → envelope_refusal e s ≡ None }
+{}
+
+/// A message that isn't refused takes at most `MAX_FRAME` bytes, so a buffer with that much room left takes any.
+pub fn written_messages_are_short()
+    ensures { (e : Envelope) (s : StampParts) → envelope_refusal e s ≡ None →
+        length (frame_text (envelope_fields e s)) ≤ MAX_FRAME }
 {}
 
 /// A message that isn't refused is read back from its frame, whatever follows the frame.

@@ -33,6 +33,7 @@ pub use comp_id::{CompId, is_comp_id};
 pub use config::Config;
 pub use envelope::{Envelope, EnvelopeRef};
 pub use flag::{read_flag, write_flag};
+pub use limits::MAX_MESSAGE_NUMBER;
 pub use number::{read_number, write_number};
 pub use price::{
     PriceText, price_four_text, price_short_text, read_price, write_price_four, write_price_short,

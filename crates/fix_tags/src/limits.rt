@@ -19,10 +19,13 @@ impl NumberRange {
     }
 }
 
+/// The greatest MsgSeqNum (34) of a message, so that the number after it has nine digits too.
+pub const MAX_MESSAGE_NUMBER: u64 = 999_999_998;
+
 /// MsgSeqNum (34).
 pub(crate) const MESSAGE_NUMBER: NumberRange = NumberRange {
     least: 1,
-    greatest: 999_999_998,
+    greatest: MAX_MESSAGE_NUMBER,
 };
 
 /// A number that another message has or may get: 7, 16, 36 and 45.

@@ -10,7 +10,7 @@ use Rattle.std.proofs.lemmas.Fmt.{decimal-digits_value}
 use Rattle.fix_text.specs.Tagged.{Tagged}
 use Rattle.fix_text.specs.Text.{field_text, fields_text, holds_soh}
 use Rattle.fix_text.specs.Frame.{three_digits}
-use Rattle.fix_text.specs.Grammar.{number_after, number_of, IsCheck, IsField, AreFields}
+use Rattle.fix_text.specs.Grammar.{number_after, digits_number, IsCheck, IsField, AreFields}
 use Rattle.fix_text.specs.Reading.{field_from, field_of, with_byte, with_field, parts_of, fields_of_parts, fields_of}
 use Rattle.fix_text.proofs.Readers.{chosen, digit_range}
 use Rattle.fix_text.proofs.Rewritten.{own}
@@ -115,7 +115,7 @@ field_takes tag (byte ∷ bytes) field fits e =
     ]
 
 -- digits of which the first isn't 0 are the written number
-digits_are : (digits : List ℕ) → IsTrue (all_ascii_digits digits) → 48 < get_or digits 0 0 → number_of digits ≤ 999999 → decimal (number_of digits) ≡ digits
+digits_are : (digits : List ℕ) → IsTrue (all_ascii_digits digits) → 48 < get_or digits 0 0 → digits_number digits ≤ 999999 → decimal (digits_number digits) ≡ digits
 digits_are [] each first bound = absurd (omega (arith, first))
 digits_are (d ∷ digits) each first bound = decimal-digits_value own (d ∷ digits) each (omega arith) (λ zero_is. absurd (omega (arith, zero_is, first))) (omega (arith, bound))
 

@@ -4,7 +4,7 @@ use Rattle.std.proofs.lemmas.List.{length-append, length-replicate}
 use Rattle.fix_text.specs.Then.{◌>>=◌}
 use Rattle.fix_text.specs.declared.parse.Stop.{Stop}
 use Rattle.fix_text.specs.declared.parse.Stop.TheVariants.{Short, Differs}
-use Rattle.fix_text.specs.Grammar.{number_of, IsLength, IsCheck, EndsInSoh, IsFrame, opening, header_of, trailer_of}
+use Rattle.fix_text.specs.Grammar.{digits_number, IsLength, IsCheck, EndsInSoh, IsFrame, opening, header_of, trailer_of}
 use Rattle.fix_text.specs.Reading.{literal_at, length_at, body_at, trailer_at, frame_at, WholeParts}
 use Rattle.fix_text.proofs.Readers.{literal_takes, length_takes, body_takes, length_step, body_step, end_step, frame_takes, frame_again, is_length_from, Completes, Spelled}
 use Rattle.fix_text.proofs.Prefixes.{bind_err, ok_differs, literal_more, literal_stays, literal_completes, length_more, length_stays, length_completes, body_more, body_stays, body_completes}
@@ -72,7 +72,7 @@ pub record CompletesFrame (bytes : List ℕ) : Type 0 where
   pub is_check : IsCheck check number
 
 -- the digits that end what is made up
-zeros_are : IsCheck (48 ∷ 48 ∷ 48 ∷ []) (number_of (48 ∷ 48 ∷ 48 ∷ []))
+zeros_are : IsCheck (48 ∷ 48 ∷ 48 ∷ []) (digits_number (48 ∷ 48 ∷ 48 ∷ []))
 zeros_are = three_is 0 0 0 (omega arith) (omega arith) (omega arith)
 
 body_step_completes : (bytes digits : List ℕ) (size : ℕ × List ℕ) → Completes 6 0 size.0 digits → body_step bytes size ≡ Err Short → CompletesFrame (digits ++ 1 ∷ size.1)

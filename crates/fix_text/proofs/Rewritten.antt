@@ -12,7 +12,7 @@ use Rattle.std.proofs.lemmas.Fmt.{digits_decimal, digits_value-decimal, first_de
 use Rattle.fix_text.specs.Tagged.{Tagged}
 use Rattle.fix_text.specs.Text.{field_text, fields_text, holds_soh, is_writable_tag, is_writable_value, begins_with_type, has_writable_tags, has_writable_values}
 use Rattle.fix_text.specs.Frame.{three_digits, header_text, trailer_text, frame_text}
-use Rattle.fix_text.specs.Grammar.{number_after, number_of, header_of, trailer_of, IsLength, IsCheck, EndsInSoh, IsField, AreFields}
+use Rattle.fix_text.specs.Grammar.{number_after, digits_number, header_of, trailer_of, IsLength, IsCheck, EndsInSoh, IsField, AreFields}
 use Rattle.fix_text.specs.Reading.{WholeParts, Stream, field_from, field_of, fields_of, parts_of, fields_of_parts, with_field, if_typed, typed_fields, valid_fields, frame_at, at_frame, at_place, next_read, BeginsWritten}
 use Rattle.fix_text.proofs.Readers.{number_after-ge, digit_range, digit_is, frame_again}
 use Rattle.fix_text.proofs.FieldLists.{fields_of-part}
@@ -27,7 +27,7 @@ own = numerals_by_fold _ tells_all_ascii_digits number_after (search rules)
 pub decimal_digits : (n : ℕ) → n < 2 ^ 64 → IsTrue (all_ascii_digits (decimal n))
 decimal_digits n h = digits_decimal own n h
 
-pub decimal_number : (n : ℕ) → n < 2 ^ 64 → number_of (decimal n) ≡ n
+pub decimal_number : (n : ℕ) → n < 2 ^ 64 → digits_number (decimal n) ≡ n
 decimal_number n h = digits_value-decimal own n h
 
 -- digits are no SOH
@@ -61,7 +61,7 @@ field_from-digits n (d ∷ digits) value h positive bound =
     rw (other, split.0, more, fits) (field_from-digits (10 * n + (d - 48)) digits value split.1 (omega arith) bound)
 
 -- digits of which the first isn't 0
-field_of-digits : (digits value : List ℕ) → IsTrue (all_ascii_digits digits) → 0 < length digits → 48 < get_or digits 0 0 → number_of digits ≤ 999999 → field_of (digits ++ 61 ∷ value) ≡ Some (record { tag = number_of digits; value = value })
+field_of-digits : (digits value : List ℕ) → IsTrue (all_ascii_digits digits) → 0 < length digits → 48 < get_or digits 0 0 → digits_number digits ≤ 999999 → field_of (digits ++ 61 ∷ value) ≡ Some (record { tag = digits_number digits; value = value })
 unfolding field_from
 field_of-digits [] value h some first bound = absurd (omega arith)
 field_of-digits (d ∷ digits) value h some first bound =

@@ -6,7 +6,7 @@ use Rattle.std.proofs.lemmas.List.{length-append}
 use Rattle.fix_text.specs.Then.{◌>>=◌}
 use Rattle.fix_text.specs.declared.parse.Stop.{Stop}
 use Rattle.fix_text.specs.declared.parse.Stop.TheVariants.{Short, Differs}
-use Rattle.fix_text.specs.Grammar.{number_of, IsCheck, trailer_of}
+use Rattle.fix_text.specs.Grammar.{digits_number, IsCheck, trailer_of}
 use Rattle.fix_text.specs.Reading.{literal_at, digit_at, trailer_at}
 use Rattle.fix_text.proofs.Readers.{literal_takes, digit_takes, first_step, second_step, third_step, last_step, digit_is}
 use Rattle.fix_text.proofs.Prefixes.{bind_err, ok_differs, literal_more, literal_stays, literal_completes, digit_more, digit_stays, digit_short}
@@ -60,7 +60,7 @@ pub record CompletesDigits (before : List ℕ) (bytes : List ℕ) : Type 0 where
   pub number : ℕ
   pub is_check : IsCheck (before ++ digits) number
 
-pub three_is : (a b c : ℕ) → a ≤ 9 → b ≤ 9 → c ≤ 9 → IsCheck ((48 + a) ∷ (48 + b) ∷ (48 + c) ∷ []) (number_of ((48 + a) ∷ (48 + b) ∷ (48 + c) ∷ []))
+pub three_is : (a b c : ℕ) → a ≤ 9 → b ≤ 9 → c ≤ 9 → IsCheck ((48 + a) ∷ (48 + b) ∷ (48 + c) ∷ []) (digits_number ((48 + a) ∷ (48 + b) ∷ (48 + c) ∷ []))
 three_is a b c ha hb hc = record { three = refl; each = and_from _ _ (digit_is a ha) (and_from _ _ (digit_is b hb) (and_from _ _ (digit_is c hc) refl)); value = refl }
 
 last_completes : (a b : ℕ) (c : ℕ × List ℕ) → a ≤ 9 → b ≤ 9 → c.0 ≤ 9 → last_step a b c ≡ Err Short → CompletesDigits ((48 + a) ∷ (48 + b) ∷ (48 + c.0) ∷ []) c.1

@@ -22,7 +22,8 @@ abbrev pub Ends : Option (List Tagged) → List ℕ → List ℕ → Type 0
 Ends (Some fields) bytes rest = (text : List ℕ) × Takes (Given text fields) bytes rest
 Ends None bytes rest = (bytes ≡ rest) × IsBeginning bytes
 
--- the next valid frame of a stream: what stands before it is no valid frame, and is passed and counted; with no such frame the stream is passed up to the beginning of one
+-- the next valid frame of a stream: what stands before it is no valid frame, and is passed and counted; with no such
+-- frame the stream is passed up to the beginning of one
 pub record IsNext (old : Stream) (new : NextFrame) : Type 0 where
   pub before : List Pass
   pub middle : List ℕ

@@ -11,8 +11,8 @@ number_after n [] = n
 number_after n (digit ∷ digits) = number_after (10 * n + (digit - 48)) digits
 
 -- the number that decimal digits write
-abbrev pub number_of : List ℕ → ℕ
-number_of digits = number_after 0 digits
+abbrev pub digits_number : List ℕ → ℕ
+digits_number digits = number_after 0 digits
 
 -- `8=FIX.4.4|9=`, with `|` for SOH
 abbrev pub opening : List ℕ
@@ -30,7 +30,7 @@ trailer_of check = codes "10=" ++ (check ++ 1 ∷ [])
 pub record IsLength (digits : List ℕ) (n : ℕ) : Type 0 where
   pub few : length digits ≤ 6
   pub each : IsTrue (all_ascii_digits digits)
-  pub value : number_of digits ≡ n
+  pub value : digits_number digits ≡ n
   pub positive : 0 < n
   pub bound : n ≤ 4096
 
@@ -43,7 +43,7 @@ pub record EndsInSoh (bytes : List ℕ) : Type 0 where
 pub record IsCheck (digits : List ℕ) (n : ℕ) : Type 0 where
   pub three : length digits ≡ 3
   pub each : IsTrue (all_ascii_digits digits)
-  pub value : number_of digits ≡ n
+  pub value : digits_number digits ≡ n
 
 -- a frame, valid or not: the header, a body of the length that it says, whose last byte is SOH, and the trailer
 pub record IsFrame (bytes : List ℕ) : Type 0 where
@@ -67,10 +67,12 @@ abbrev pub AreFields : List Tagged → Type 0
 AreFields [] = Unit {0}
 AreFields (field ∷ fields) = IsField field × AreFields fields
 
--- a valid frame of these fields: they are its body, the first is MsgType (35), and the trailer has the sum of all bytes before it modulo 256
+-- a valid frame of these fields: they are its body, the first is MsgType (35), and the trailer has the sum of all bytes
+-- before it modulo 256
 pub record IsValidFrame (bytes : List ℕ) (fields : List Tagged) : Type 0 where
   pub digits : List ℕ
-  pub bytes_are : bytes ≡ (header_of digits ++ fields_text fields) ++ trailer_of (three_digits (sum (header_of digits ++ fields_text fields) % 256))
+  pub bytes_are : bytes ≡ (header_of digits ++ fields_text fields)
+      ++ trailer_of (three_digits (sum (header_of digits ++ fields_text fields) % 256))
   pub length_is : IsLength digits (length (fields_text fields))
   pub typed : IsTrue (begins_with_type fields)
   pub fields_are : AreFields fields
@@ -102,7 +104,8 @@ pub data Pass : Type 0 where
 -- so bytes are passed, and these are left: a byte alone only where no frame begins and none can
 abbrev pub Takes : Pass → List ℕ → List ℕ → Type 0
 Takes (Given text fields) bytes rest = (bytes ≡ text ++ rest) × IsValidFrame text fields
-Takes (Garbled text) bytes rest = (bytes ≡ text ++ rest) × IsFrame text × ((fields : List Tagged) → IsValidFrame text fields → ⊥)
+Takes (Garbled text) bytes rest = (bytes ≡ text ++ rest) × IsFrame text
+    × ((fields : List Tagged) → IsValidFrame text fields → ⊥)
 Takes (Skipped byte) bytes rest = (bytes ≡ byte ∷ rest) × (BeginsWithFrame bytes → ⊥) × (IsBeginning bytes → ⊥)
 
 -- so bytes are passed one after the other

@@ -1,4 +1,5 @@
--- How a stream of bytes is read: what stands at a place, and what a call of the reader gives (FIX 4.4 Volume 2, "Message structure").
+-- How a stream of bytes is read: what stands at a place, and what a call of the reader gives (FIX 4.4 Volume 2,
+-- "Message structure").
 use Rattle.std.specs.Prelude.{◌≡◌, ◌≤◌, IsTrue, ℕ, zero, suc, ◌+◌, ◌-◌, ◌*◌, ◌^◌, ◌%◌, ◌&&◌, ◌||◌, List, [], ◌∷◌, ◌++◌, length, take, drop, slice_index, sum, min, codes, Option, Some, None, option_map, option_and_then, Result, Ok, Err, nat_lt, nat_le, ◌==◌, if◌then◌else◌}
 use Rattle.std.specs.Char.{is_ascii_digit}
 use Rattle.fix_text.specs.Then.{◌>>=◌}
@@ -20,12 +21,14 @@ unfoldable pub digit_at : List ℕ → Result (ℕ × List ℕ) Stop
 digit_at [] = Err Short
 digit_at (byte ∷ bytes) = if is_ascii_digit byte then Ok (byte - 48, bytes) else Err Differs
 
--- BodyLength (9) up to its SOH, and what follows it: the digits so far have the value n, and at most `left` may still come
+-- BodyLength (9) up to its SOH, and what follows it: the digits so far have the value n, and at most `left` may still
+-- come
 unfoldable pub length_at : ℕ → ℕ → List ℕ → Result (ℕ × List ℕ) Stop
 length_at left n [] = if nat_le n 4096 && (nat_lt 0 n || nat_lt 0 left) then Err Short else Err Differs
 length_at left n (byte ∷ bytes) =
     if byte == 1 then (if nat_lt 0 n && nat_le n 4096 then Ok (n, bytes) else Err Differs)
-    else (if is_ascii_digit byte && nat_lt 0 left && nat_le n 4096 then length_at (left - 1) (10 * n + (byte - 48)) bytes else Err Differs)
+    else (if is_ascii_digit byte && nat_lt 0 left && nat_le n 4096
+    then length_at (left - 1) (10 * n + (byte - 48)) bytes else Err Differs)
 
 -- n bytes of which the last is SOH, and what follows them
 unfoldable pub body_at : ℕ → List ℕ → Result (List ℕ × List ℕ) Stop
@@ -109,7 +112,8 @@ typed_fields body = option_and_then if_typed (fields_of body)
 unfoldable pub valid_fields : WholeParts → Option (List Tagged)
 valid_fields frame = if sum frame.before % 256 == frame.check then typed_fields frame.body else None
 
--- a stream as its reader sees it: the bytes fed and not yet passed, how many bytes were passed one by one, and how many frames were passed whole and not given
+-- a stream as its reader sees it: the bytes fed and not yet passed, how many bytes were passed one by one, and how many
+-- frames were passed whole and not given
 pub record Stream : Type 0 where
   pub rest : List ℕ
   pub skipped : ℕ
@@ -152,7 +156,8 @@ unfoldable pub read_on : ℕ → Stream → NextFrame
 read_on zero stream = record { frame = None; stream = stream }
 read_on (suc turns) stream = at_place (read_on turns) stream (frame_at stream.rest)
 
--- the fields of the next valid frame, or None where more bytes are needed, and the stream after it: each turn passes a byte at least
+-- the fields of the next valid frame, or None where more bytes are needed, and the stream after it: each turn passes a
+-- byte at least
 unfoldable pub next_read : Stream → NextFrame
 next_read stream = read_on (length stream.rest) stream
 

@@ -8,6 +8,8 @@ ghost use Rattle.fix_text.specs.Reading.{Stream, NextFrame, frame_at, next_read}
 ghost use Rattle.fix_text.specs.Deciding.{Decides, IsNext};
 ghost use Rattle.fix_text.specs.Calls.{Called, CallsLead, new_stream, bytes_fed, frames_given, AreFirst};
 
+use crate::write::MAX_FRAME;
+
 /// Bytes begin with a frame, or are less than one that more bytes may make whole, or neither; never two of these. The
 /// reading decides which.
 pub fn places_are_decided()
@@ -26,6 +28,11 @@ pub fn frames_are_determined()
 pub fn written_is_valid()
     ensures { (fields : List Tagged) → IsTrue (has_writable_tags fields) → IsTrue (has_writable_values fields)
         → length (fields_text fields) ≤ 4096 → IsValidFrame (frame_text fields) fields }
+{}
+
+/// No frame that is written is longer than `MAX_FRAME`, so a buffer with that much room left takes any.
+pub fn written_frames_are_short()
+    ensures { (fields : List Tagged) → length (fields_text fields) ≤ 4096 → length (frame_text fields) ≤ MAX_FRAME }
 {}
 
 /// What is written is read again: a stream that begins with a written frame gives its fields first, skips nothing and

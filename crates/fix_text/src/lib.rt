@@ -29,7 +29,7 @@ pub use place::Place;
 pub use reader::FrameReader;
 pub use reader_fault::ReaderFault;
 pub use refusal::{MAX_BODY, can_write_tag, can_write_value};
-pub use write::{write_frame, write_frame_parts, write_writable_parts};
+pub use write::{MAX_FRAME, write_frame, write_frame_parts, write_writable_parts};
 
 #[cfg(test)]
 mod tests;

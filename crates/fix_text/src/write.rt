@@ -20,6 +20,9 @@ const SOH: u8 = 1;
 /// The bytes of a trailer.
 const TRAILER_LEN: usize = 7;
 
+/// The bytes of the longest frame that is written.
+pub const MAX_FRAME: usize = 4_120;
+
 /// The length of a frame whose body is of this length.
 fn frame_length(body: usize) -> usize
     requires { body ≤ 4096 }

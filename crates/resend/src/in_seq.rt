@@ -4,10 +4,8 @@ ghost use Rattle.std.specs.Prelude.{◌≡◌, ◌≤◌, ◌<◌, ◌+◌};
 ghost use Rattle.resend.specs.Judging.{judged};
 
 use crate::Judged;
+use fix_tags::MAX_MESSAGE_NUMBER;
 use std::marker::Model;
-
-/// The greatest number that a message may have.
-pub const MAX_NUMBER: u64 = 999_999_998;
 
 /// The number that is expected next of the other end, from 1 to one above the greatest.
 #[derive(Clone, Copy, Debug, PartialEq, Eq)]
@@ -63,7 +61,7 @@ impl InSeq {
 
     /// The message expected was taken.
     pub fn advance(&mut self)
-        requires { self.old ≤ MAX_NUMBER }
+        requires { self.old ≤ MAX_MESSAGE_NUMBER }
         ensures { self.new ≡ self.old + 1 }
     {
         self.expected += 1;
@@ -72,7 +70,7 @@ impl InSeq {
     /// The messages below `number` are not sent again, and `number` is the next.
     pub fn fill_to(&mut self, number: u64)
         requires above { self.old < number }
-        requires below { number ≤ MAX_NUMBER + 1 }
+        requires below { number ≤ MAX_MESSAGE_NUMBER + 1 }
         ensures { self.new ≡ number }
     {
         self.expected = number;

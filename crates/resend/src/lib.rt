@@ -12,7 +12,7 @@ mod out_log;
 mod sent;
 
 pub use gap_fill::GapFill;
-pub use in_seq::{InSeq, MAX_NUMBER};
+pub use in_seq::InSeq;
 pub use judged::Judged;
 pub use laws::{
     a_number_is_due_where_it_is_expected, later_logs_follow_one_another, settling_leaves_no_doubt,

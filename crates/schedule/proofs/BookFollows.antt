@@ -11,12 +11,12 @@ use Rattle.share_ledger.specs.Entries.{opened, order_of}
 use Rattle.sweep_release.proofs.Venues.{left-new_desk}
 use Rattle.schedule.specs.declared.event.Event.{Event}
 use Rattle.schedule.specs.World.{World, VenueParts, venue_in, given, opening}
-use Rattle.schedule.specs.Happening.{happens, happen}
+use Rattle.schedule.specs.Happening.{happens}
 use Rattle.schedule.specs.Growing.{IsWorldLater}
 use Rattle.schedule.proofs.Books.{event_books}
 use Rattle.schedule.proofs.Happened.{event_is_later}
 use Rattle.schedule.proofs.Lines.{event_advances}
-use Rattle.schedule.proofs.RunsSafely.{IsSafe, safe_after}
+use Rattle.schedule.proofs.RunsSafely.{IsSafe}
 use Rattle.schedule.proofs.LegNumbers.{has_order}
 use Rattle.schedule.proofs.BookWithdraws.{HasWithdrawn, HasMoved, no_notes}
 use Rattle.schedule.proofs.GoneLegs.{IsGone, no_note, gone_after}
@@ -77,18 +77,14 @@ follows_by w after safe safe_after later stay sweeps asks follows = record {
       ];
 }
 
-pub follows_run : (events : List Event) (w : World) → IsSafe w → BookFollows w → IsSafe (happen events w)
-    × BookFollows (happen events w)
-follows_run [] w safe follows = (safe, follows)
-follows_run (e ∷ events) w safe follows =
+pub follows_event : (w : World) (e : Event) → IsSafe w → IsSafe (happens w e) → BookFollows w
+    → BookFollows (happens w e)
+follows_event w e safe safe_after follows =
     let after = happens w e in
     let advances = event_advances w e in
     let later = event_is_later w e in
-    let next = safe_after w after advances safe in
-    follows_run events after next
-    (follows_by w after safe next later (gone_after w after safe next advances later)
-    (event_books w e follows.sweeps).follows
-    (event_asks w safe e advances next) follows)
+    follows_by w after safe safe_after later (gone_after w after safe safe_after advances later)
+    (event_books w e follows.sweeps).follows (event_asks w safe e advances safe_after) follows
 
 -- in the opening world no leg has left
 pub follows_opening : (next : List Bool) (max_number : ℕ) → BookFollows (opening next max_number)

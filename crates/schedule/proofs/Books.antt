@@ -82,7 +82,7 @@ withdrawn_replay : (b : BookParts) (ids : List LegIdParts) → withdrawn_in b id
 withdrawn_replay b [] = refl
 withdrawn_replay b (id ∷ ids) = withdrawn_replay (withdraw b id).1 ids
 
-withdrawn_opened : (b : BookParts) (ids : List LegIdParts) → opened (withdrawn_in b ids).entries ≡ opened b.entries
+pub withdrawn_opened : (b : BookParts) (ids : List LegIdParts) → opened (withdrawn_in b ids).entries ≡ opened b.entries
 withdrawn_opened b [] = refl
 withdrawn_opened b (id ∷ ids) = withdrawn_opened (withdraw b id).1 ids ∙ opened_withdraw b id
 

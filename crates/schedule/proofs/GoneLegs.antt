@@ -23,15 +23,16 @@ use Rattle.schedule.specs.Growing.{IsWorldLater}
 use Rattle.schedule.specs.LineOf.{line_at}
 use Rattle.venue_line.specs.Line.{Line, LineStep}
 use Rattle.venue_line.specs.LineTheorem.{IsWithdrawnLeg}
+use Rattle.venue_line.proofs.ForGood.{gone_stays}
 use Rattle.venue_line.proofs.LineGives.{line_holds}
 use Rattle.schedule.proofs.ReportedLegs.{IsNumberOf, made_on}
 use Rattle.schedule.proofs.Lines.{Advances}
 use Rattle.schedule.proofs.RunsSafely.{IsSafe}
 use Rattle.schedule.proofs.OrderHolds.{holds_by}
 use Rattle.schedule.proofs.LegNumbers.{one_venue, one_ordinal}
-use Rattle.schedule.proofs.PastLines.{IsPast, past-refl, step_past}
+use Rattle.venue_line.proofs.PastLines.{IsPast, past-refl, step_past}
 use Rattle.schedule.proofs.NamedLegs.{IsNowWithdrawn}
-use Rattle.schedule.proofs.LegsGone.{gone_stays, gone_since}
+use Rattle.schedule.proofs.LegsGone.{gone_since}
 
 -- the leg of this number was withdrawn
 pub record IsGone (w : World) (id : LegIdParts) : Type 0 where
@@ -45,7 +46,7 @@ pub record IsGone (w : World) (id : LegIdParts) : Type 0 where
   pub gone : IsWithdrawnLeg (line_at w.desk v venue) ordinal
 
 -- the report that a note is
-given_report : (count : ℕ) (reports : List Report) (n : Note)
+pub given_report : (count : ℕ) (reports : List Report) (n : Note)
     → Contains (map (λ report. note.Report report) (take count reports)) n
     → (report : Report) × Contains reports report × (n ≡ note.Report report)
 given_report zero [] n there = absurd (let h = there.1 in omega arith)
@@ -58,7 +59,7 @@ given_report (suc k) (x ∷ reports) n (suc j, low, is) =
     (rest.0, Contains-append_right (x ∷ []) reports rest.0 rest.1, rest.2)
 
 -- the ordinal of an accepted leg
-ordinal_of : (legs : List Leg) (ordinals : List ℕ) (f : ℕ → Option Leg) (leg : Leg)
+pub ordinal_of : (legs : List Leg) (ordinals : List ℕ) (f : ℕ → Option Leg) (leg : Leg)
     → map (λ x. Some x) legs ≡ map f ordinals → Contains legs leg
     → (ordinal : ℕ) × Contains ordinals ordinal × (f ordinal ≡ Some leg)
 ordinal_of [] ordinals f leg same there = absurd (let h = there.1 in omega arith)

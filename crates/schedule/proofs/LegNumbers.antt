@@ -25,6 +25,7 @@ record ComesFrom (v number place : ℕ) (legs : List Routed) (leg : Leg) : Type 
   place_is : leg.id.place ≡ place + at
   there : slice_get legs at ≡ Some routed
   venue : routed.venue ≡ v
+  terms : leg.terms ≡ routed.terms
 
 one_more : (v number place : ℕ) (first : Routed) (legs : List Routed) (leg : Leg)
     → ComesFrom v number (suc place) legs leg
@@ -36,6 +37,7 @@ one_more v number place first legs leg c = record {
   place_is = (let p = c.place_is in omega arith);
   there = c.there;
   venue = c.venue;
+  terms = c.terms;
 }
 
 comes_by : (b : Bool) (v number place k : ℕ) (first : Routed) (legs : List Routed) (leg : Leg) → (first.venue == v) ≡ b
@@ -58,6 +60,7 @@ comes_by true v number place zero first legs leg test more is =
       place_is = (let p = ap (λ (l : Leg). l.id.place) (sym same) in omega arith);
       there = refl;
       venue = (let t = test in grind (arith, nat_tests));
+      terms = ap (λ (l : Leg). l.terms) (sym same);
     }
 
 comes_from : (v number place : ℕ) (legs : List Routed) (k : ℕ) (leg : Leg)
@@ -106,10 +109,11 @@ ordered v number (legs ∷ sweeps) k leg is =
     ]
 
 -- the order of a leg that was released to a venue
-pub record HasOrder (v : ℕ) (sweeps : List (List Routed)) (id : LegIdParts) : Type 0 where
+pub record HasOrder (v : ℕ) (sweeps : List (List Routed)) (leg : Leg) : Type 0 where
   pub routed : Routed
-  pub order : option_and_then (numbered id.place) (numbered id.sweep sweeps) ≡ Some routed
+  pub order : option_and_then (numbered leg.id.place) (numbered leg.id.sweep sweeps) ≡ Some routed
   pub venue : routed.venue ≡ v
+  pub terms : leg.terms ≡ routed.terms
 
 order_by : (sweeps : List (List Routed)) (sweep place at in_sweep : ℕ) (legs : List Routed) (routed : Routed)
     → sweep ≡ suc at → place ≡ suc in_sweep
@@ -119,7 +123,7 @@ order_by sweeps sweep place at in_sweep legs routed sweep_is place_is there with
     rw (sweep_is, place_is, there) within
 
 pub has_order : (v : ℕ) (sweeps : List (List Routed)) (ordinal : ℕ) (leg : Leg)
-    → numbered ordinal (released v sweeps) ≡ Some leg → HasOrder v sweeps leg.id
+    → numbered ordinal (released v sweeps) ≡ Some leg → HasOrder v sweeps leg
 has_order v sweeps zero leg is = absurd cc
 has_order v sweeps (suc k) leg is =
     let o = ordered v 1 sweeps k leg is in
@@ -131,6 +135,7 @@ has_order v sweeps (suc k) leg is =
           order_by sweeps leg.id.sweep leg.id.place o.at o.from.at o.legs o.from.routed sweep_is place_is
           o.there o.from.there;
       venue = o.from.venue;
+      terms = o.from.terms;
     }
 
 -- a leg's number is of one venue

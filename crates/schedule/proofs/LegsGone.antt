@@ -1,6 +1,5 @@
 -- Which legs of a line are withdrawn after a step: those that were, those that left and weren't sent, and those that
--- were
--- in doubt and are named as withdrawn.
+-- were in doubt and are named as withdrawn.
 use Rattle.std.proofs.Common.{◌≡◌, ◌<◌, ◌⊎◌, ℕ, Option, Some, None, refl, sym, ap, ◌∙◌, inl, inr, arith}
 use Rattle.std.proofs.lemmas.Bool.{cases_lt}
 use Rattle.leg.specs.LegId.{LegIdParts}
@@ -15,71 +14,10 @@ use Rattle.venue_line.specs.Line.{Line}
 use Rattle.venue_line.specs.Copies.{IsLegAt}
 use Rattle.venue_line.specs.LineInvariant.{LineInvariant}
 use Rattle.venue_line.specs.LineTheorem.{IsWithdrawnLeg}
+use Rattle.venue_line.proofs.ForGood.{state_is}
 use Rattle.venue_line.proofs.LegStates.{found, has_state}
-use Rattle.schedule.proofs.PastLines.{IsPast}
+use Rattle.venue_line.proofs.PastLines.{IsPast}
 use Rattle.schedule.proofs.NamedLegs.{IsNowWithdrawn}
-
--- a leg's ordinal has one number, and so one state
-pub state_is : (w : Line) → LineInvariant w → (number : ℕ) (leg : SentLeg) → IsLegAt w.session.log number leg
-    → leg_state w.session leg.ordinal ≡ Some leg.state
-state_is w i number leg at = by_state (leg_state w.session leg.ordinal) refl
-  where
-    by_state : (state : Option LegState) → leg_state w.session leg.ordinal ≡ state
-        → leg_state w.session leg.ordinal ≡ Some leg.state
-    by_state None is = absurd (has_state w.session.log number leg at is)
-    by_state (Some state) is =
-        let f = found w.session.log leg.ordinal state is in
-        let same : number ≡ f.number =
-        elim (cases_lt number f.number) [
-          | inl low ↦ absurd (let rise = i.copies.numbering number f.number leg f.leg at f.there low in let e =
-              f.ordinal_is in omega arith)
-          | inr high ↦
-              elim (cases_lt f.number number) [
-                | inl below ↦ absurd (let rise = i.copies.numbering f.number number f.leg leg f.there at below in
-                    let e = f.ordinal_is in omega arith)
-                | inr above ↦ omega arith
-              ]
-        ] in
-        let both : Some (Sent leg) ≡ Some (Sent f.leg) = sym at ∙ (ap (λ k. numbered k w.session.log) same ∙ f.there) in
-        let one : leg ≡ f.leg = cc in
-        is ∙ ap Some (sym f.state_is ∙ ap (λ (l : SentLeg). l.state) (sym one))
-
-withdrawn_later : (old new : LegState) → MayBecome old new → old ≡ Withdrawn → new ≡ Withdrawn
-withdrawn_later old new (inl same) gone = same ∙ gone
-withdrawn_later old new (inr (doubt, settled)) gone = absurd (let e = sym doubt ∙ gone in cc)
-
--- a leg that is withdrawn stays so
-pub gone_stays : (a b : Line) → IsPast a b → LineInvariant b → (ordinal : ℕ) → IsWithdrawnLeg a ordinal
-    → IsWithdrawnLeg b ordinal
-gone_stays a b past i ordinal is =
-    record {
-      from = is.from;
-      left = (let h = past.left in let l = is.left in omega arith);
-      gone = elim is.gone [
-        | inl none ↦ inl (unsent none (leg_state b.session ordinal) refl)
-        | inr gone ↦
-            inr (still gone)
-      ];
-    }
-  where
-    unsent : leg_state a.session ordinal ≡ None → (state : Option LegState) → leg_state b.session ordinal ≡ state
-        → leg_state b.session ordinal ≡ None
-    unsent none None now = now
-    unsent none (Some state) now =
-        let f = found b.session.log ordinal state now in
-        elim (past.back f.number f.leg f.there) [
-          | inl (was, at, same, id) ↦
-              absurd (has_state a.session.log f.number was at
-              (ap (λ o. state_of o a.session.log) (sym same ∙ f.ordinal_is) ∙ none))
-          | inr above ↦ absurd (let l = is.left in let e = f.ordinal_is in omega arith)
-        ]
-
-    still : leg_state a.session ordinal ≡ Some Withdrawn → leg_state b.session ordinal ≡ Some Withdrawn
-    still gone =
-        let f = found a.session.log ordinal Withdrawn gone in
-        let l = past.later.sent f.number f.leg f.there in
-        let state = withdrawn_later f.leg.state l.0.state l.2.state f.state_is in
-        sym (ap (leg_state b.session) (l.2.ordinal ∙ f.ordinal_is)) ∙ (state_is b i f.number l.0 l.1 ∙ ap Some state)
 
 -- how a withdrawn leg came to be so
 pub record IsNewlyGone (a b : Line) (ordinal : ℕ) : Type 0 where

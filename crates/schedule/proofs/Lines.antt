@@ -49,7 +49,7 @@ use Rattle.schedule.specs.Happening.{with_venue, in_connection, messages_of, ses
 use Rattle.venue_line.specs.Line.{Line, LineStep, IsCallOf}
 use Rattle.venue_line.specs.Line as line
 use Rattle.schedule.specs.LineOf.{frame_carried, line_at}
-use Rattle.schedule.proofs.ReportedLegs.{IsOrderly, take_orderly, act_orderly}
+use Rattle.schedule.proofs.Orderly.{IsOrderly, take_orderly, act_orderly, drop_orderly}
 use Rattle.schedule.proofs.Grown.{slice_get-set_other, length-slice_set}
 use Rattle.venue_line.proofs.Kept.{numbered_contains}
 use Rattle.venue_line.proofs.LineGives.{contains_map}
@@ -259,8 +259,8 @@ module _ (w : World) (v : ℕ) (venue : VenueParts) (there : venue_in w v ≡ So
   to_exchange_step number (Some frame) is_there =
       (let a = take venue.exchange frame.connection frame.message in
       at_venue_step _ (exchange_wrote frame.connection a.0 a.1 venue) refl refl
-      (λ read c. take_orderly venue.exchange frame.connection frame.message
-      (λ fault is. read (frame_carried frame) fault (contains_map frame_carried venue.to_exchange frame (numbered_contains number venue.to_exchange frame is_there)) is) c)
+      (λ read c. take_orderly venue.exchange c frame.connection frame.message
+      (λ fault is. read (frame_carried frame) fault (contains_map frame_carried venue.to_exchange frame (numbered_contains number venue.to_exchange frame is_there)) is))
       (λ sound.
       let answer = take_answers venue.exchange frame.connection frame.message sound in
       inr (line.exchanges (Some (frame_carried frame)) (rule_state a.1) (map (written_in frame.connection) a.0)
@@ -323,7 +323,7 @@ module _ (w : World) (v : ℕ) (venue : VenueParts) (there : venue_in w v ≡ So
   exchange_break_step : Advances w (with_venue w v (record venue { exchange = drop_connection venue.exchange }))
   exchange_break_step =
       at_venue_step _ (record venue { exchange = drop_connection venue.exchange }) refl refl
-      (λ read c. record { clean = c.clean; on = c.on })
+      (λ read c. drop_orderly venue.exchange c)
       (λ sound.
       inr (line.exchanges None (rule_state (drop_connection venue.exchange)) [] tt (drop_keeps venue.exchange)
       (let e = append-nil (map frame_carried venue.from_exchange) in rw e refl)))
@@ -403,7 +403,7 @@ event_advances w (event.ToExchange v frame) = at_found w _ (venue_in w v) (λ ve
 event_advances w (event.ToDispatcher v frame) = at_found w _ (venue_in w v) (λ venue there. to_dispatcher_step w v venue there frame (numbered frame venue.from_exchange) refl)
 event_advances w (event.Break v) = at_found w _ (venue_in w v) (λ venue there. break_step w v venue there)
 event_advances w (event.ExchangeBreak v) = at_found w _ (venue_in w v) (λ venue there. exchange_break_step w v venue there)
-event_advances w (event.Act v act) = at_found w _ (venue_in w v) (λ venue there. acted_step w v venue there (act_of act venue.exchange) (act_keeps act venue.exchange) (act_orderly act venue.exchange))
+event_advances w (event.Act v act) = at_found w _ (venue_in w v) (λ venue there. acted_step w v venue there (act_of act venue.exchange) (act_keeps act venue.exchange) (λ c. act_orderly venue.exchange c act))
 event_advances w (event.Quiet v) = at_found w _ (venue_in w v) (λ venue there. quiet_step w v venue there)
 event_advances w (event.Silent v) = at_found w _ (venue_in w v) (λ venue there. silent_step w v venue there)
 event_advances w (event.Close v) = at_found w _ (venue_in w v) (λ venue there. closed_step w v venue there (close venue.session) refl)

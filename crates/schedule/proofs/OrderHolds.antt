@@ -20,6 +20,7 @@ use Rattle.venue_line.specs.Line.{Line}
 use Rattle.schedule.specs.LineOf.{line_at}
 use Rattle.venue_line.specs.LineInvariant.{LineInvariant}
 use Rattle.venue_line.specs.LineTheorem.{IsWithdrawnLeg, LineHolds}
+use Rattle.venue_line.proofs.LegStates.{found}
 use Rattle.venue_line.proofs.LineGives.{line_holds}
 use Rattle.schedule.proofs.RunsSafely.{IsSafe, safe_run, safe_opening}
 
@@ -81,11 +82,24 @@ module _ (w : World) (v : ℕ) (venue : VenueParts) (there : venue_in w v ≡ So
       state_is n ∙ (state_left_by (length (released_to w v)) (venue_at w.desk v).left n (leg_state venue.session (suc n)) is.left i.copies.left_released
       ∙ ap Some (back_is (leg_state venue.session (suc n)) is.gone))
 
-  sent_as : (ordinal : ℕ) (state : LegState) → (state ≡ Queued → ⊥) → (state ≡ Withdrawn → ⊥) → state_of w v ordinal ≡ Some state → leg_state venue.session ordinal ≡ Some state
+  pub sent_as : (ordinal : ℕ) (state : LegState) → (state ≡ Queued → ⊥) → (state ≡ Withdrawn → ⊥) → state_of w v ordinal ≡ Some state → leg_state venue.session ordinal ≡ Some state
   sent_as zero state not_queued not_gone is = absurd cc
   sent_as (suc n) state not_queued not_gone is =
       let t = told (length (released_to w v)) (venue_at w.desk v).left n (leg_state venue.session (suc n)) state not_queued (sym (state_is n) ∙ is) in
       some_is (leg_state venue.session (suc n)) state not_gone t.is
+
+  pub sent_of : (ordinal : ℕ) (state : LegState) → leg_state venue.session ordinal ≡ Some state
+      → state_of w v ordinal ≡ Some state
+  sent_of zero state is =
+      let f = found venue.session.log 0 state is in
+      absurd (let l = (i.copies.sent_left f.number f.leg f.there).0 in let e = f.ordinal_is in omega arith)
+  sent_of (suc n) state is =
+      let f = found venue.session.log (suc n) state is in
+      let low : suc n ≤ (venue_at w.desk v).left =
+      (let l = (i.copies.sent_left f.number f.leg f.there).1 in let e = f.ordinal_is in omega arith) in
+      state_is n
+      ∙ (state_left_by (length (released_to w v)) (venue_at w.desk v).left n (leg_state venue.session (suc n)) low
+      i.copies.left_released ∙ ap (λ sent. Some (state_left sent)) is)
 
   holds : LineHolds line
   holds = line_holds line i g

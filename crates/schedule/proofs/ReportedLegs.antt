@@ -1,12 +1,9 @@
 -- Each report of our exchange is on a leg that it accepted.
 use Rattle.std.proofs.Common.{◌≡◌, ◌==◌, ℕ, zero, suc, Bool, true, false, List, [], ◌∷◌, ◌++◌, map, Option, Some, None, Ok, Err, refl, sym, ap, subst, ◌∙◌, arith}
-use Rattle.std.specs.Prelude.{slice_get, slice_set}
 use Rattle.std.specs.List.{Contains}
 use Rattle.std.proofs.lemmas.List.{map-append}
 use Rattle.std.proofs.lemmas.List.Elements.{Contains-append_left, Contains-push}
-use Rattle.std.proofs.lemmas.Option.{same_Some}
 use Rattle.leg.specs.LegId.{LegIdParts}
-use Rattle.leg.specs.Numbered.{numbered, with_numbered}
 use Rattle.leg.specs.declared.leg.Leg.{Leg}
 use Rattle.dialect.specs.declared.report.Report.{Report}
 use Rattle.dialect.specs.declared.report.ReportKind.{ReportKind}
@@ -17,6 +14,7 @@ use Rattle.exchange_core.specs.Order.{OrderParts, new_order}
 use Rattle.exchange_core.specs.Own.{Own, Admin, Reported, Refused, next_exec}
 use Rattle.exchange_core.specs.Exchange.{ExchangeParts, accepted_by, logon_answer, with_connection, due_taken, take}
 use Rattle.exchange_core.specs.Acts.{reported}
+use Rattle.exchange_core.proofs.After.{legs_kept}
 use Rattle.exchange_core.proofs.Cases.{after_take_is}
 use Rattle.exchange_core.proofs.ActsReport.{AnyPx, IsReported, same_leg, trade_is, cancel_rest_is, reject_is, bust_is, test_is}
 use Rattle.schedule.specs.declared.act.Act.{Act}
@@ -25,7 +23,6 @@ use Rattle.schedule.specs.World.{reports_in}
 use Rattle.schedule.specs.Happening.{act_of}
 use Rattle.venue_line.proofs.Kept.{numbered_contains}
 use Rattle.venue_line.proofs.LineGives.{contains_map}
-use Rattle.schedule.proofs.Clean.{IsClean, IsRead, take_clean, act_clean}
 
 -- one of these legs has this number
 pub record IsNumberOf (legs : List Leg) (id : LegIdParts) : Type 0 where
@@ -86,27 +83,12 @@ logon_on x connection number heart (Some next) due on = on-append (accepted_by x
 logon_on x connection number heart None true on = on-append (accepted_by x) x.own (Admin ∷ []) on tt
 logon_on x connection number heart None false on = on-append (accepted_by x) x.own (Admin ∷ Admin ∷ []) on tt
 
-take_on : (x : ExchangeParts) (connection : ℕ) (m : Message) → ReportsOn x → ReportsOn (take x connection m).1
+pub take_on : (x : ExchangeParts) (connection : ℕ) (m : Message) → ReportsOn x → ReportsOn (take x connection m).1
 take_on x connection m on =
     after_take_is x connection m ReportsOn on
     (λ heart next room newer. logon_on x connection m.number heart next (m.number == x.expected) on)
     (λ room due. due_on x m.content on)
     (λ live room is. on-append (accepted_by x) x.own (Admin ∷ []) on tt)
-
--- an order that changes keeps its leg
-legs_set : (orders : List OrderParts) (k : ℕ) (old new : OrderParts) → slice_get orders k ≡ Some old → new.leg ≡ old.leg
-    → map (λ (o : OrderParts). o.leg) (slice_set orders k new) ≡ map (λ (o : OrderParts). o.leg) orders
-legs_set [] k old new is same = absurd cc
-legs_set (o ∷ orders) zero old new is same =
-    ap (λ l. l ∷ map (λ (x : OrderParts). x.leg) orders)
-    (same ∙ ap (λ (x : OrderParts). x.leg) (sym (same_Some o old is)))
-legs_set (o ∷ orders) (suc k) old new is same = ap (λ l. o.leg ∷ l) (legs_set orders k old new is same)
-
-legs_same : (orders : List OrderParts) (place : ℕ) (old new : OrderParts) → numbered place orders ≡ Some old
-    → new.leg ≡ old.leg
-    → map (λ (o : OrderParts). o.leg) (with_numbered place new orders) ≡ map (λ (o : OrderParts). o.leg) orders
-legs_same orders zero old new is same = absurd cc
-legs_same orders (suc k) old new is same = legs_set orders k old new is same
 
 reported_on : (x : ExchangeParts) (place : ℕ) (old new : OrderParts) (kind : ReportKind)
     → IsReported AnyPx x place old new kind → ReportsOn x
@@ -114,13 +96,13 @@ reported_on : (x : ExchangeParts) (place : ℕ) (old new : OrderParts) (kind : R
 reported_on x place old new kind is on =
     let leg : new.leg ≡ old.leg = same_leg AnyPx (next_exec x.own) old new kind is.change in
     let all : accepted_by (reported x place new kind).1 ≡ accepted_by x =
-    legs_same x.orders place old new is.there leg in
+    legs_kept x.orders place old new is.there leg in
     let known = contains_map (λ (o : OrderParts). o.leg) x.orders old (numbered_contains place x.orders old is.there) in
     subst (λ legs. AreOn legs (reported x place new kind).1.own) (sym all)
     (on-append (accepted_by x) x.own _ on
     (record { leg = old.leg; there = known; same = ap (λ (l : Leg). l.id) (sym leg) }, tt))
 
-act_on : (a : Act) (x : ExchangeParts) → ReportsOn x → ReportsOn (act_of a x).1
+pub act_on : (a : Act) (x : ExchangeParts) → ReportsOn x → ReportsOn (act_of a x).1
 act_on (act.Trade order shares px) x on =
     trade_is AnyPx x ReportsOn on (λ place old new kind is. reported_on x place old new kind is on) order shares px tt
 act_on (act.CancelRest order) x on =
@@ -130,19 +112,6 @@ act_on (act.Reject order) x on =
 act_on (act.Bust order which) x on =
     bust_is AnyPx x ReportsOn on (λ place old new kind is. reported_on x place old new kind is on) order which
 act_on act.Test x on = test_is x ReportsOn on (λ left. on-append (accepted_by x) x.own (Admin ∷ []) on tt)
-
--- no order was refused, and each report is on an accepted leg
-pub record IsOrderly (x : ExchangeParts) : Type 0 where
-  pub clean : IsClean x.own
-  pub on : AreOn (accepted_by x) x.own
-
-pub take_orderly : (x : ExchangeParts) (connection : ℕ) (m : Message) → IsRead m.content → IsOrderly x
-    → IsOrderly (take x connection m).1
-take_orderly x connection m read o =
-    record { clean = take_clean x connection m read o.clean; on = take_on x connection m o.on }
-
-pub act_orderly : (a : Act) (x : ExchangeParts) → IsOrderly x → IsOrderly (act_of a x).1
-act_orderly a x o = record { clean = act_clean a x o.clean; on = act_on a x o.on }
 
 -- the leg of each report that was made
 pub made_on : (legs : List Leg) (own : List Own) (report : Report) → AreOn legs own → Contains (reports_in own) report

@@ -6,12 +6,12 @@ use Rattle.std.proofs.lemmas.Option.{same_Some, slice_get-map, slice_get_within}
 use Rattle.sweep_release.proofs.Venues.{left-new_desk}
 use Rattle.sweep_release.specs.Desk.{new_desk}
 use Rattle.schedule.specs.declared.event.Event.{Event}
-use Rattle.schedule.specs.World.{World, VenueParts, venue_in, opening, new_venue, session_config}
+use Rattle.schedule.specs.World.{World, VenueParts, venue_in, opening, new_venue, session_config, exchange_config}
 use Rattle.schedule.specs.Happening.{happens, happen}
 use Rattle.venue_line.specs.Line.{Line}
 use Rattle.schedule.specs.LineOf.{line_at}
 use Rattle.venue_line.proofs.GivenSteps.{Whole, whole_new, whole_step}
-use Rattle.schedule.proofs.ReportedLegs.{IsOrderly}
+use Rattle.schedule.proofs.Orderly.{IsOrderly, new_orderly}
 use Rattle.schedule.proofs.Lines.{Steps, Advances, event_advances}
 
 -- desk and world have the same venues, and each line is as the invariant says
@@ -49,15 +49,16 @@ new_at next max_number v venue (Some has_next) is made small =
     (let e = left-new_desk (length next) v in rw e (whole_new (session_config max_number has_next) small)) in
     subst (λ x. Whole (line_at (new_desk (length next)) v x)) same start
 
-new_orderly : (max_number : ℕ) (venue : VenueParts) (found : Option Bool) → option_map (new_venue max_number) found ≡ Some venue
+orderly_at : (max_number : ℕ) (venue : VenueParts) (found : Option Bool) → option_map (new_venue max_number) found ≡ Some venue
     → IsOrderly venue.exchange
-new_orderly max_number venue None made = absurd cc
-new_orderly max_number venue (Some has_next) made =
-    subst (λ (x : VenueParts). IsOrderly x.exchange) (same_Some _ venue made) (record { clean = tt; on = tt })
+orderly_at max_number venue None made = absurd cc
+orderly_at max_number venue (Some has_next) made =
+    subst (λ (x : VenueParts). IsOrderly x.exchange) (same_Some _ venue made)
+    (new_orderly exchange_config (omega arith) (omega arith))
 
 pub safe_opening : (next : List Bool) (max_number : ℕ) → max_number ≤ 999999999 → IsSafe (opening next max_number)
 safe_opening next max_number small = record {
   desks = length-replicate (length next) _ ∙ sym (length-map next (new_venue max_number));
   lines = λ v venue there. new_at next max_number v venue (slice_get next v) refl (sym (slice_get-map (new_venue max_number) next v) ∙ there) small;
-  orderly = λ v venue there. new_orderly max_number venue (slice_get next v) (sym (slice_get-map (new_venue max_number) next v) ∙ there);
+  orderly = λ v venue there. orderly_at max_number venue (slice_get next v) (sym (slice_get-map (new_venue max_number) next v) ∙ there);
 }

@@ -166,7 +166,7 @@ module _ (w : World) (safe : IsSafe w) where
           (ap (is_same_leg id) g.same ∙ is_same_leg-refl id)
 
   -- the book has a leg as withdrawn where its venue's withdrawn legs have its number
-  booked_is : BookFollows w → (number place : ℕ) (legs : List Routed) (routed : Routed)
+  pub booked_is : BookFollows w → (number place : ℕ) (legs : List Routed) (routed : Routed)
       → numbered number w.desk.sweeps ≡ Some legs → numbered place legs ≡ Some routed
       → is_withdrawn (record { sweep = number; place = place }) w.book.entries
       ≡ list_any (is_same_leg (record { sweep = number; place = place })) (withdrawn_ids w routed.venue)

@@ -40,13 +40,13 @@ use Rattle.schedule.specs.World.{World, VenueParts, Frame, venue_in, given}
 use Rattle.schedule.specs.Happening.{with_venue, session_wrote, is_session_up, desk_and_book, released_world, dropped_world, sent_world, taken_world, session_turn, to_dispatcher, withdrawn_in, noted, act_of, takes, happens}
 use Rattle.schedule.specs.LineOf.{line_at}
 use Rattle.venue_line.specs.LineInvariant.{LineInvariant}
+use Rattle.venue_line.proofs.ForGood.{state_is}
 use Rattle.venue_line.proofs.LegStates.{found}
 use Rattle.schedule.proofs.Grown.{grew-refl}
 use Rattle.schedule.proofs.DeskKeeps.{keeps-refl, leave_first_keeps}
 use Rattle.schedule.proofs.Lines.{set_same, numbered-drop}
 use Rattle.schedule.proofs.RunsSafely.{IsSafe}
 use Rattle.schedule.proofs.NamedLegs.{IsNowWithdrawn, named_since, since_named}
-use Rattle.schedule.proofs.LegsGone.{state_is}
 use Rattle.schedule.proofs.GoneLegs.{IsGone, gone_before}
 use Rattle.schedule.proofs.BookWithdraws.{HasWithdrawn, HasMoved, all_stay, only_those, those_are, gone_booked, gone_opened, moved_opened, moved_booked}
 use Rattle.schedule.proofs.Asking.{Asked, none_in, asks_nothing, asked-refl, grew_none, grew_by, changes_one, gone_at}

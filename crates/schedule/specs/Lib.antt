@@ -8,3 +8,4 @@ pub mod Script
 pub mod LineOf
 pub mod OrderHalf
 pub mod SweepSums
+pub mod ForGood

@@ -7,6 +7,7 @@ ghost use Rattle.schedule.specs.Happening.{happens, happen};
 ghost use Rattle.schedule.specs.OrderHalf.{TheVenueTheorem};
 ghost use Rattle.schedule.specs.SweepSums.{TheSums};
 ghost use Rattle.schedule.specs.SweepTheorem.{TheSweepTheorem};
+ghost use Rattle.schedule.specs.ForGood.{WhatIsSettledStays};
 ghost use Rattle.schedule.specs.Growing.{named, IsUntouched, IsWorldLater};
 
 /// An event changes the venue that it names alone, and a release none: the others stay as they were, with their gates
@@ -39,7 +40,14 @@ pub fn sums_hold_whatever_happens()
 {}
 
 /// The sweep theorem: after every list of events what was said of each venue holds, and the parts of each sweep add up
-/// to its legs, of which those that were withdrawn are the withdrawn part.
+/// to its legs. Each part is the sum of what the share rule makes of each leg, from exactly the notes given on it and
+/// from whether it was withdrawn, and the withdrawn part is that of the legs that were withdrawn.
 pub fn the_sweep_theorem_holds()
     ensures { TheSweepTheorem }
+{}
+
+/// For good: over every further list of events a leg that is withdrawn stays so, and is never accepted, whichever old copy
+/// is delivered; and a leg that is taken stays so.
+pub fn what_is_settled_stays_settled()
+    ensures { WhatIsSettledStays }
 {}

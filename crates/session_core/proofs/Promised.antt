@@ -4,8 +4,8 @@ use Rattle.std.specs.Prelude.{IfOk}
 use Rattle.std.proofs.lemmas.Bool.Decides.{nat_tests}
 use Rattle.leg.specs.declared.leg.Leg.{Leg}
 use Rattle.leg.specs.Leg.{IsLeg}
-use Rattle.dialect.specs.Message.{Message}
-use Rattle.dialect.specs.Message.Content.{Logon, Heartbeat, Order}
+use Rattle.dialect.specs.declared.message.Message.{Message}
+use Rattle.dialect.specs.declared.content.Content.TheVariants.{Logon, Heartbeat, Order}
 use Rattle.dialect.specs.Outgoing.{alone}
 use Rattle.dialect.specs.Writable.{IsNext, IsWritable}
 use Rattle.resend.specs.Log.{last_ordinal}

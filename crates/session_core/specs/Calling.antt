@@ -3,8 +3,8 @@ use Rattle.std.specs.Prelude.{ℕ, ◌+◌, true, false, [], ◌∷◌, ◌++◌
 use Rattle.leg.specs.declared.leg.Leg.{Leg}
 use Rattle.leg.specs.declared.leg_state.LegState.TheVariants.{Doubt}
 use Rattle.dialect.specs.Addressed.{message_of}
-use Rattle.dialect.specs.Message.{Message}
-use Rattle.dialect.specs.Message.Content.{Logon, Heartbeat, Order}
+use Rattle.dialect.specs.declared.message.Message.{Message}
+use Rattle.dialect.specs.declared.content.Content.TheVariants.{Logon, Heartbeat, Order}
 use Rattle.resend.specs.Log.{SentLeg, last_ordinal}
 use Rattle.resend.specs.Log.Entry.{Sent}
 use Rattle.session_core.specs.declared.phase.Phase.{Phase}

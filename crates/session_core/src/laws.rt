@@ -4,7 +4,7 @@ ghost use Rattle.std.specs.Prelude.{◌≡◌, ℕ, None, Err, IfOk};
 ghost use Rattle.fix_tags.specs.Config.{ConfigParts, IsConfig};
 ghost use Rattle.leg.specs.Leg.{IsLeg};
 ghost use Rattle.leg.specs.declared.leg.Leg.{Leg as ALeg};
-ghost use Rattle.dialect.specs.Message.{Message as AMessage};
+ghost use Rattle.dialect.specs.declared.message.Message.{Message as AMessage};
 ghost use Rattle.dialect.specs.Outgoing.{alone};
 ghost use Rattle.dialect.specs.Writable.{IsWritable};
 ghost use Rattle.session_core.specs.declared.phase.Phase.TheVariants as phase;

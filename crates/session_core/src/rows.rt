@@ -3,7 +3,7 @@
 ghost use Rattle.std.specs.Prelude.{◌≡◌, ◌∷◌, [], codes, Some, None, Ok, Err, true, false};
 ghost use Rattle.dialect.specs.declared.fault.DialectFault.TheVariants.{NotMarked};
 ghost use Rattle.dialect.specs.declared.note.Note.TheVariants as note;
-ghost use Rattle.dialect.specs.Message.Content.{Logon, Heartbeat, TestRequest, ResendRequest, Reject, GapFill, Reset, Logout, BusinessReject, Order, ExecutionReport, Other};
+ghost use Rattle.dialect.specs.declared.content.Content.TheVariants.{Logon, Heartbeat, TestRequest, ResendRequest, Reject, GapFill, Reset, Logout, BusinessReject, Order, ExecutionReport, Other};
 ghost use Rattle.leg.specs.declared.leg_state.LegState.TheVariants.{Doubt, Taken, Withdrawn};
 ghost use Rattle.session_core.specs.declared.ended.Ended.TheVariants as ended;
 ghost use Rattle.session_core.specs.declared.phase.Phase.TheVariants as phase;

@@ -21,3 +21,5 @@ pub mod GivenLater
 pub mod GivenKept
 pub mod GivenExchanged
 pub mod GivenSteps
+pub mod PastLines
+pub mod ForGood

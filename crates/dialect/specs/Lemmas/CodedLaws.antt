@@ -32,7 +32,8 @@ unfolding coded_id_of
 id_back id range =
     let parts = parts_again id in
     ap₂ (λ xs ys. fixed_id_of 16 16 xs ys) parts.0 parts.1
-    ∙ fixed_id_of-digits 16 16 id (omega arith) (omega arith) range (omega (arith, range.sweep_high)) (omega (arith, range.place_high))
+    ∙ fixed_id_of-digits 16 16 id (omega arith) (omega arith) range (omega (arith, range.sweep_high))
+    (omega (arith, range.place_high))
 
 id_says : (text : List ℕ) (id : LegIdParts) → coded_id_of text ≡ Some id → IsLegId id × (text ≡ coded_id_text id)
 unfolding coded_id_of coded_id_text
@@ -41,15 +42,18 @@ id_says text id e =
     (is.in_range, sym (take-append-drop 16 text) ∙ ap₂ (λ xs ys. xs ++ ys) (sym is.sweep_is) (sym is.place_is))
 
 no_soh : (width n : ℕ) → NoSoh (digits 16 width n)
-no_soh width n = λ k d within. let byte = digits_bytes 16 width n (omega arith) (omega arith) k d within in λ e. omega arith
+no_soh width n = λ k d within. let byte = digits_bytes 16 width n (omega arith) (omega arith) k d within in
+    λ e. omega arith
 
 short_id : (id : LegIdParts) → IsLegId id → IsShortValue (coded_id_text id)
 unfolding coded_id_text
 short_id id range =
     let front = digits 16 16 id.sweep in
     let back = digits 16 2 id.place in
-    let whole : length (front ++ back) ≡ 18 = length-append front back ∙ ap₂ (λ m n. m + n) (length-digits 16 16 id.sweep) (length-digits 16 2 id.place) in
-    short_value (front ++ back) (omega (arith, whole)) (omega (arith, whole)) (All-append IsNotSoh front back (no_soh 16 id.sweep) (no_soh 2 id.place))
+    let whole : length (front ++ back) ≡ 18 = length-append front back
+    ∙ ap₂ (λ m n. m + n) (length-digits 16 16 id.sweep) (length-digits 16 2 id.place) in
+    short_value (front ++ back) (omega (arith, whole)) (omega (arith, whole))
+    (All-append IsNotSoh front back (no_soh 16 id.sweep) (no_soh 2 id.place))
 
 mark_read : (fields : List Tagged) → value_of fields 9001 ≡ Some (codes "Y")
     → has_value (is_text (codes "Y")) fields 9001 ≡ true

@@ -22,7 +22,8 @@ pub digits_bytes : (base width n : ℕ) → 2 ≤ base → base ≤ 16 → All I
 digits_bytes base zero n low high = All-nil IsDigitByte
 digits_bytes base (suc width) n low high =
     let small : n % base < base = mod-lt n (omega arith) in
-    All-append IsDigitByte (digits base width (n / base)) (digit (n % base) ∷ []) (digits_bytes base width (n / base) low high)
+    All-append IsDigitByte (digits base width (n / base)) (digit (n % base) ∷ [])
+    (digits_bytes base width (n / base) low high)
     (All-cons IsDigitByte (digit (n % base)) [] (digit_byte (n % base) (omega arith)) (All-nil IsDigitByte))
 
 pub length-digits : (base width n : ℕ) → length (digits base width n) ≡ width
@@ -52,7 +53,8 @@ number_after-digits base (suc width) n back low high none =
     let small : last < base = mod-lt n (omega arith) in
     ap (number_after base 0) (append_assoc (digits base width (n / base)) (digit last ∷ []) back)
     ∙ number_after-digits base width (n / base) (digit last ∷ back) low high none
-    ∙ ap (λ o. option_and_then (λ d. number_after base (n / base * base + d) back) o) (digit_in-digit base last high small)
+    ∙ ap (λ o. option_and_then (λ d. number_after base (n / base * base + d) back) o)
+    (digit_in-digit base last high small)
     ∙ ap (λ m. number_after base m back) (div-add-mod' n base)
 
 -- what is read is what is written
@@ -64,7 +66,9 @@ number_after-Some base width whole n m [] low high is e =
 number_after-Some base width whole n m (c ∷ text) low high is e =
     option_and_then_some _ (digit_in base c) m e (λ d read more.
     let last = digit_in-Some base c d high read in
-    let split : digits base (suc width) (n * base + d) ≡ digits base width n ++ c ∷ [] = ap₂ (λ q r. digits base width q ++ digit r ∷ []) (div-mul-add n base d last.0) (mod-mul-add n base d last.0) ∙ ap (λ x. digits base width n ++ x ∷ []) last.1 in
+    let split : digits base (suc width) (n * base + d) ≡ digits base width n ++ c ∷ [] =
+    ap₂ (λ q r. digits base width q ++ digit r ∷ []) (div-mul-add n base d last.0) (mod-mul-add n base d last.0)
+    ∙ ap (λ x. digits base width n ++ x ∷ []) last.1 in
     number_after-Some base (suc width) whole (n * base + d) m text low high (omega arith) more
     ∙ ap (λ xs. xs ++ text) split
     ∙ append_assoc (digits base width n) (c ∷ []) text)
@@ -74,8 +78,15 @@ pub fixed_of-digits : (base width greatest n : ℕ) → 2 ≤ base → base ≤ 
     → rest_of base width n ≡ 0 → fixed_of base width greatest (digits base width n) ≡ Some n
 unfolding fixed_of
 fixed_of-digits base width greatest n low high from to none =
-    let read : number_after base 0 (digits base width n) ≡ Some n = ap (number_after base 0) (sym (append-nil (digits base width n))) ∙ number_after-digits base width n [] low high none in
-    rw (eq-eqb (length (digits base width n)) width (length-digits base width n), read, le-leb n greatest to, le-leb 1 n from) refl
+    let read : number_after base 0 (digits base width n) ≡ Some n =
+    ap (number_after base 0) (sym (append-nil (digits base width n)))
+    ∙ number_after-digits base width n [] low high none in
+    rw (
+      eq-eqb (length (digits base width n)) width (length-digits base width n),
+      read,
+      le-leb n greatest to,
+      le-leb 1 n from,
+    ) refl
 
 -- what is known of a text that is read as a number
 pub record IsFixed (base width greatest : ℕ) (text : List ℕ) (n : ℕ) : Type 0 where

@@ -135,8 +135,10 @@ looks s leg stamp laws =
       side = behind_mark s id rest 54 refl apart.1.1.1.1.0;
       root = behind_mark s id rest 55 refl apart.1.1.1.1.1.0 ∙ value_of-before 55 symbol last refl;
       suffix = behind_mark s id rest 65 refl apart.1.1.1.1.1.1.0 ∙ value_of-before 65 symbol last refl;
-      immediate = behind_mark s id rest 59 refl apart.1.1.1.1.1.1.1.0 ∙ value_of-behind 59 symbol last (symbol_has_no 59 symbol refl tags);
-      time = behind_mark s id rest 60 refl apart.1.1.1.1.1.1.1.1.0 ∙ value_of-behind 60 symbol last (symbol_has_no 60 symbol refl tags);
+      immediate = behind_mark s id rest 59 refl apart.1.1.1.1.1.1.1.0
+          ∙ value_of-behind 59 symbol last (symbol_has_no 59 symbol refl tags);
+      time = behind_mark s id rest 60 refl apart.1.1.1.1.1.1.1.1.0
+          ∙ value_of-behind 60 symbol last (symbol_has_no 60 symbol refl tags);
     }
 
 -- what is written is read back
@@ -147,7 +149,8 @@ reads_back s leg stamp fields laws range found =
     let terms = range.terms in
     let limit : Limit = record { shares = leg.terms.shares; price = leg.terms.price; side = leg.terms.side } in
     let says = laws.price_reads_back leg.terms.price terms.price in
-    let limited = limit_in-written fields limit (s.price_text leg.terms.price) terms.shares says found.shares found.limit found.price found.side in
+    let limited = limit_in-written fields limit
+    (s.price_text leg.terms.price) terms.shares says found.shares found.limit found.price found.side in
     let symbol = laws.symbol_reads_back leg.terms.symbol fields terms.symbol found.root found.suffix in
     let timed = immediate_in-written fields _ found.immediate found.time in
     rw (found.id, laws.id_reads_back leg.id range.id, laws.mark_is_read fields found.mark, limited, symbol, timed) refl
@@ -201,9 +204,12 @@ fits : (s : SpellingParts) (leg : Leg) (stamp : StampParts) → IsSpelling s →
     → FitsMessage (order_fields s leg stamp)
 fits s leg stamp laws range =
     let symbol = s.symbol_fields leg.terms.symbol in
-    let last : AllByRecursion IsShortField (immediate_fields stamp) = (short_field 59 _ refl (short_byte 51 (λ e. omega arith)), (short_field 60 _ refl (short_stamp stamp), tt)) in
-    let back = AllByRecursion-append IsShortField symbol (immediate_fields stamp) (laws.symbol_short leg.terms.symbol range.terms.symbol) last in
-    let all = AllByRecursion-append IsShortField (order_front s leg) (symbol ++ immediate_fields stamp) (short_front s leg laws range) back in
+    let last : AllByRecursion IsShortField (immediate_fields stamp) =
+    (short_field 59 _ refl (short_byte 51 (λ e. omega arith)), (short_field 60 _ refl (short_stamp stamp), tt)) in
+    let back = AllByRecursion-append IsShortField symbol (immediate_fields stamp)
+    (laws.symbol_short leg.terms.symbol range.terms.symbol) last in
+    let all = AllByRecursion-append IsShortField (order_front s leg) (symbol ++ immediate_fields stamp)
+    (short_front s leg laws range) back in
     let few = length-symbol symbol (laws.symbol_tags leg.terms.symbol) in
     FitsMessage-short (order_fields s leg stamp) all (omega (arith, few, length-append symbol (immediate_fields stamp)))
 

@@ -16,7 +16,11 @@ no_letter n small = λ k d within. let digit = digits_of_decimal n small k d wit
 
 numbers_of-joined : (id : LegIdParts) → IsLegId id → numbers_of (decimal id.sweep ++ 76 ∷ decimal id.place) ≡ Some id
 numbers_of-joined id range =
-    rw (parts_round-joined 76 (decimal id.sweep) (decimal id.place) (no_letter id.sweep (omega arith)), ordinal_of-decimal 999_999_999_999 id.sweep range.sweep_low range.sweep_high (omega arith), ordinal_of-decimal 32 id.place range.place_low range.place_high (omega arith)) refl
+    rw (
+      parts_round-joined 76 (decimal id.sweep) (decimal id.place) (no_letter id.sweep (omega arith)),
+      ordinal_of-decimal 999_999_999_999 id.sweep range.sweep_low range.sweep_high (omega arith),
+      ordinal_of-decimal 32 id.place range.place_low range.place_high (omega arith),
+    ) refl
 
 -- what is written is read back
 pub plain_id_of-text : (id : LegIdParts) → IsLegId id → plain_id_of (leg_id_text id) ≡ Some id
@@ -42,8 +46,10 @@ numbers_of-Some text id e =
     let front = ordinal_of-Some 999_999_999_999 parts.0 sweep first in
     let back = ordinal_of-Some 32 parts.1 place second in
     let joined = parts_round-Some 76 text parts round in
-    let same : decimal sweep ++ 76 ∷ decimal place ≡ text = ap₂ (λ xs ys. xs ++ 76 ∷ ys) front.text_is back.text_is ∙ sym joined in
-    let range : IsLegId (record { sweep = sweep; place = place }) = record { sweep_low = front.low; sweep_high = front.high; place_low = back.low; place_high = back.high } in
+    let same : decimal sweep ++ 76 ∷ decimal place ≡ text =
+    ap₂ (λ xs ys. xs ++ 76 ∷ ys) front.text_is back.text_is ∙ sym joined in
+    let range : IsLegId (record { sweep = sweep; place = place }) =
+    record { sweep_low = front.low; sweep_high = front.high; place_low = back.low; place_high = back.high } in
     subst (IsNumbers text) (same_Some _ _ e3) (record { in_range = range; text_is = same }))))
 
 chosen : (b : Bool) (o : Option LegIdParts) (id : LegIdParts) → cond b o None ≡ Some id → (b ≡ true) × (o ≡ Some id)
@@ -58,5 +64,6 @@ plain_id_of-Some [] id e = cc
 plain_id_of-Some (c ∷ cs) id e =
     let parts = chosen (c == 83) (numbers_of cs) id e in
     let numbers = numbers_of-Some cs id parts.1 in
-    let spelled : leg_id_text id ≡ 83 ∷ rest_text id = ap (λ text. 83 ∷ text) (append_assoc (decimal id.sweep) (codes "L") (decimal id.place)) in
+    let spelled : leg_id_text id ≡ 83 ∷ rest_text id =
+    ap (λ text. 83 ∷ text) (append_assoc (decimal id.sweep) (codes "L") (decimal id.place)) in
     (numbers.in_range, sym (spelled ∙ ap₂ (λ x xs. x ∷ xs) (sym (eqb-true c 83 parts.0)) numbers.text_is))

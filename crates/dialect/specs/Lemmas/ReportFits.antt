@@ -60,7 +60,8 @@ narrow_field f small short = record {
 
 short_report_field : (tag : ℕ) (value : List ℕ) → (is_writable_tag tag && not (is_header_tag tag)) ≡ true → tag ≤ 999
     → IsShortValue value → IsReportField (field tag value)
-short_report_field tag value own small short = narrow_field (field tag value) small (record { tag = own; value = short })
+short_report_field tag value own small short =
+    narrow_field (field tag value) small (record { tag = own; value = short })
 
 narrow_fields : (fields : List Tagged) → AllByRecursion (λ tag. tag ≤ 999) (map (λ f. f.tag) fields)
     → AllByRecursion IsShortField fields → AreReportFields fields
@@ -73,8 +74,10 @@ record AreSymbolTags (tags : List ℕ) : Type 0 where
   small : AllByRecursion (λ tag. tag ≤ 999) tags
 
 are_symbol_tags : (tags : List ℕ) → (tags ≡ 55 ∷ []) ⊎ (tags ≡ 55 ∷ 65 ∷ []) → AreSymbolTags tags
-are_symbol_tags tags (inl joined) = subst AreSymbolTags (sym joined) (record { few = omega arith; small = (omega arith, tt) })
-are_symbol_tags tags (inr parted) = subst AreSymbolTags (sym parted) (record { few = omega arith; small = (omega arith, (omega arith, tt)) })
+are_symbol_tags tags (inl joined) =
+    subst AreSymbolTags (sym joined) (record { few = omega arith; small = (omega arith, tt) })
+are_symbol_tags tags (inr parted) =
+    subst AreSymbolTags (sym parted) (record { few = omega arith; small = (omega arith, (omega arith, tt)) })
 
 exec_type_short : (kind : ReportKind) → IsShortValue (exec_type_text kind)
 exec_type_short New = record { writable = refl; short = omega arith }
@@ -140,7 +143,8 @@ event_fit s law report view range view_range =
       (free_field 17 64 report.exec refl (omega arith) (omega arith) range.exec, tt),
     ) in
     let cancelled = cancelled_fit report.kind range.kind in
-    AreReportFields-append (front ++ cancelled_fields report.kind) _ (AreReportFields-append front _ front_fit cancelled.fit) (
+    AreReportFields-append (front ++ cancelled_fields report.kind) _
+    (AreReportFields-append front _ front_fit cancelled.fit) (
       short_report_field 150 _ refl (omega arith) (exec_type_short report.kind),
       (
         short_report_field 39 _ refl (omega arith) (ord_status_short report.kind view.leaves),
@@ -152,7 +156,8 @@ amounts_fit : (report : Report) (view : OrderViewParts) → IsReport report → 
     → AreReportFields (amount_fields report view)
 amounts_fit report view range view_range =
     let front : List Tagged = field 54 _ ∷ [] in
-    let front_fit : AreReportFields front = (short_report_field 54 _ refl (omega arith) (short_side view.leg.terms.side), tt) in
+    let front_fit : AreReportFields front =
+    (short_report_field 54 _ refl (omega arith) (short_side view.leg.terms.side), tt) in
     let fill = fill_fit report.kind range.kind in
     let shares = view_range.leg.terms.shares.high in
     let within = view_range.within in
@@ -171,12 +176,19 @@ written_fits s law report view range view_range =
     let event = event_fields s report view in
     let amounts = amount_fields report view in
     let tags = are_symbol_tags _ (law.symbol_tags symbol) in
-    let symbol_fit = narrow_fields (s.symbol_fields symbol) tags.small (law.symbol_short symbol view_range.leg.terms.symbol) in
-    let fit = AreReportFields-append (event ++ s.symbol_fields symbol) amounts (AreReportFields-append event (s.symbol_fields symbol) (event_fit s law report view range view_range) symbol_fit) (amounts_fit report view range view_range) in
+    let symbol_fit =
+    narrow_fields (s.symbol_fields symbol) tags.small (law.symbol_short symbol view_range.leg.terms.symbol) in
+    let named =
+    AreReportFields-append event (s.symbol_fields symbol) (event_fit s law report view range view_range)
+    symbol_fit in
+    let fit =
+    AreReportFields-append (event ++ s.symbol_fields symbol) amounts named
+    (amounts_fit report view range view_range) in
     let cancelled_few = (cancelled_fit report.kind range.kind).few in
     let fill_few = (fill_fit report.kind range.kind).few in
     let symbol_few = length-map (s.symbol_fields symbol) (λ f. f.tag) in
-    let few : length (report_fields s report view) ≤ 14 = simp length-append (omega (arith, cancelled_few, fill_few, symbol_few, tags.few)) in
+    let few : length (report_fields s report view) ≤ 14 =
+    simp length-append (omega (arith, cancelled_few, fill_few, symbol_few, tags.few)) in
     FitsMessage-within 3 64 (report_fields s report view) fit (omega arith)
 
 -- a report can be written into a message, in at most 1,000 bytes

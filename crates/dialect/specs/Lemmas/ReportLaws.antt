@@ -106,32 +106,39 @@ module _ (s : SpellingParts) (law : IsSpelling s) (id : LegIdParts) (exec : List
   view_said (Trade fill) = record {
     order_id = refl;
     status = refl;
-    cum = value_of-behind_symbol s law view.leg.terms.symbol 14 (amount_fields (report_of id exec (Trade fill)) view) refl;
-    leaves = value_of-behind_symbol s law view.leg.terms.symbol 151 (amount_fields (report_of id exec (Trade fill)) view) refl;
+    cum = value_of-behind_symbol s law view.leg.terms.symbol 14
+        (amount_fields (report_of id exec (Trade fill)) view) refl;
+    leaves = value_of-behind_symbol s law view.leg.terms.symbol 151
+        (amount_fields (report_of id exec (Trade fill)) view) refl;
   }
   view_said Canceled = record {
     order_id = refl;
     status = refl;
     cum = value_of-behind_symbol s law view.leg.terms.symbol 14 (amount_fields (report_of id exec Canceled) view) refl;
-    leaves = value_of-behind_symbol s law view.leg.terms.symbol 151 (amount_fields (report_of id exec Canceled) view) refl;
+    leaves =
+        value_of-behind_symbol s law view.leg.terms.symbol 151 (amount_fields (report_of id exec Canceled) view) refl;
   }
   view_said Rejected = record {
     order_id = refl;
     status = refl;
     cum = value_of-behind_symbol s law view.leg.terms.symbol 14 (amount_fields (report_of id exec Rejected) view) refl;
-    leaves = value_of-behind_symbol s law view.leg.terms.symbol 151 (amount_fields (report_of id exec Rejected) view) refl;
+    leaves =
+        value_of-behind_symbol s law view.leg.terms.symbol 151 (amount_fields (report_of id exec Rejected) view) refl;
   }
   view_said Expired = record {
     order_id = refl;
     status = refl;
     cum = value_of-behind_symbol s law view.leg.terms.symbol 14 (amount_fields (report_of id exec Expired) view) refl;
-    leaves = value_of-behind_symbol s law view.leg.terms.symbol 151 (amount_fields (report_of id exec Expired) view) refl;
+    leaves =
+        value_of-behind_symbol s law view.leg.terms.symbol 151 (amount_fields (report_of id exec Expired) view) refl;
   }
   view_said (Bust cancelled_id) = record {
     order_id = refl;
     status = refl;
-    cum = value_of-behind_symbol s law view.leg.terms.symbol 14 (amount_fields (report_of id exec (Bust cancelled_id)) view) refl;
-    leaves = value_of-behind_symbol s law view.leg.terms.symbol 151 (amount_fields (report_of id exec (Bust cancelled_id)) view) refl;
+    cum = value_of-behind_symbol s law view.leg.terms.symbol 14
+        (amount_fields (report_of id exec (Bust cancelled_id)) view) refl;
+    leaves = value_of-behind_symbol s law view.leg.terms.symbol 151
+        (amount_fields (report_of id exec (Bust cancelled_id)) view) refl;
   }
 
 pub report_said : (s : SpellingParts) (report : Report) (view : OrderViewParts) (fields : List Tagged) → IsSpelling s

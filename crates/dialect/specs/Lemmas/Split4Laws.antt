@@ -29,23 +29,29 @@ use Rattle.dialect.specs.Split4.{split4, split4_id_text, split4_id_of, suffix_fi
 
 -- a leg's number
 no_dash : (width n : ℕ) → HasNo 45 (digits 10 width n)
-no_dash width n = λ k d within. let byte = digits_bytes 10 width n (omega arith) (omega arith) k d within in grind (arith, nat_tests)
+no_dash width n = λ k d within. let byte = digits_bytes 10 width n (omega arith) (omega arith) k d within in
+    grind (arith, nat_tests)
 
 id_back : (id : LegIdParts) → IsLegId id → split4_id_of (split4_id_text id) ≡ Some id
 unfolding split4_id_of split4_id_text
 id_back id range =
     rw (parts_round-joined 45 (digits 10 12 id.sweep) (digits 10 2 id.place) (no_dash 12 id.sweep))
-    (fixed_id_of-digits 10 12 id (omega arith) (omega arith) range (omega (arith, range.sweep_high)) (omega (arith, range.place_high)))
+    (fixed_id_of-digits 10 12 id (omega arith) (omega arith) range (omega (arith, range.sweep_high))
+    (omega (arith, range.place_high)))
 
 id_says : (text : List ℕ) (id : LegIdParts) → split4_id_of text ≡ Some id → IsLegId id × (text ≡ split4_id_text id)
 unfolding split4_id_of split4_id_text
 id_says text id e =
     option_and_then_some _ (parts_round 45 text) id e (λ parts round read.
-    let is = fixed_id_of-Some 10 12 parts.0 parts.1 id (omega arith) (omega arith) read in
-    (is.in_range, parts_round-Some 45 text parts round ∙ ap₂ (λ xs ys. xs ++ 45 ∷ ys) (sym is.sweep_is) (sym is.place_is)))
+    let is = fixed_id_of-Some 10 12 parts.0 parts.1 id (omega arith) (omega arith) read in (
+      is.in_range,
+      parts_round-Some 45 text parts round
+          ∙ ap₂ (λ xs ys. xs ++ 45 ∷ ys) (sym is.sweep_is) (sym is.place_is),
+    ))
 
 no_soh : (width n : ℕ) → NoSoh (digits 10 width n)
-no_soh width n = λ k d within. let byte = digits_bytes 10 width n (omega arith) (omega arith) k d within in λ e. omega arith
+no_soh width n = λ k d within. let byte = digits_bytes 10 width n (omega arith) (omega arith) k d within in
+    λ e. omega arith
 
 short_id : (id : LegIdParts) → IsLegId id → IsShortValue (split4_id_text id)
 unfolding split4_id_text
@@ -53,8 +59,10 @@ short_id id range =
     let front = digits 10 12 id.sweep in
     let back = digits 10 2 id.place in
     let whole = length-append front (45 ∷ back) in
-    short_value (split4_id_text id) (omega (arith, whole)) (omega (arith, whole, length-digits 10 12 id.sweep, length-digits 10 2 id.place))
-    (All-append IsNotSoh front (45 ∷ back) (no_soh 12 id.sweep) (All-cons IsNotSoh 45 back (λ e. omega arith) (no_soh 2 id.place)))
+    short_value (split4_id_text id) (omega (arith, whole))
+    (omega (arith, whole, length-digits 10 12 id.sweep, length-digits 10 2 id.place))
+    (All-append IsNotSoh front (45 ∷ back) (no_soh 12 id.sweep)
+    (All-cons IsNotSoh 45 back (λ e. omega arith) (no_soh 2 id.place)))
 
 -- a symbol in two fields
 tags_by : (root suffix : List ℕ)
@@ -71,15 +79,18 @@ short_suffix (c ∷ cs) letters few =
 
 short_symbol : (symbol : SymbolParts) → IsSymbol symbol → AllByRecursion IsShortField (split4_symbol_fields symbol)
 short_symbol symbol range =
-    let root = range.root in
-    (short_field 55 _ refl (short_letters symbol.root root.letters root.some root.short), short_suffix symbol.suffix range.suffix.letters range.suffix.short)
+    let root = range.root in (
+      short_field 55 _ refl (short_letters symbol.root root.letters root.some root.short),
+      short_suffix symbol.suffix range.suffix.letters range.suffix.short,
+    )
 
 -- the root alone is a symbol
 root_back : (symbol : SymbolParts) → IsSymbol symbol
     → root_of symbol.root ≡ Some (record { root = symbol.root; suffix = [] })
 root_back symbol range =
     let alone : SymbolParts = record { root = symbol.root; suffix = [] } in
-    let in_range : IsSymbol alone = record { root = range.root; suffix = record { short = omega arith; letters = All-nil IsLetter } } in
+    let in_range : IsSymbol alone =
+    record { root = range.root; suffix = record { short = omega arith; letters = All-nil IsLetter } } in
     ap result_ok (symbol_of-parts alone in_range)
 
 suffix_back : (root suffix : List ℕ) → IsSymbol (record { root = root; suffix = suffix })
@@ -123,7 +134,8 @@ unfolding split4_symbol_in
 symbol_says symbol fields e =
     step _ (required_as root_of fields 55) symbol e (λ alone first more.
     let read = required_as-Ok root_of fields 55 alone first in
-    symbol_says_by fields read.text alone symbol (value_of fields 65) read.there (was_ok _ alone read.reads_as) refl more)
+    symbol_says_by fields read.text alone symbol (value_of fields 65) read.there
+    (was_ok _ alone read.reads_as) refl more)
 
 pub split4_is_spelling : IsSpelling split4
 split4_is_spelling = record {

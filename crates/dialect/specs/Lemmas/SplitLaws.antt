@@ -29,13 +29,16 @@ pub parts_round-joined : (byte : ℕ) (front back : List ℕ) → HasNo byte fro
     → parts_round byte (front ++ byte ∷ back) ≡ Some (front, back)
 parts_round-joined byte front back none =
     let here = place byte front back none in
-    let inside = lt-ltb (length front) (length (front ++ byte ∷ back)) (omega (arith, length-append front (byte ∷ back))) in
+    let inside =
+    lt-ltb (length front) (length (front ++ byte ∷ back)) (omega (arith, length-append front (byte ∷ back))) in
     rw (here, inside, take-append_seam front (byte ∷ back), drop-append-add front (byte ∷ back) 1) refl
 
 -- where the byte is nowhere
 pub parts_round-none : (byte : ℕ) (text : List ℕ) → HasNo byte text → parts_round byte text ≡ None
 parts_round-none byte text none =
-    let here : position_or_len (λ c. c == byte) text ≡ length text = position_or_len_is (λ c. c == byte) text (length text) 0 (omega arith) (λ k below. none k 0 below) (λ inside. absurd (omega arith)) in
+    let here : position_or_len (λ c. c == byte) text ≡ length text =
+    position_or_len_is (λ c. c == byte) text (length text) 0 (omega arith) (λ k below. none k 0 below)
+    (λ inside. absurd (omega arith)) in
     let outside = le-ltb (length text) (length text) (omega arith) in
     rw (here, outside) refl
 
@@ -51,6 +54,8 @@ parts_round-Some byte text parts e =
     let test = chosen _ _ (position_or_len (λ c. c == byte) text) parts e in
     let inside = ltb-true _ _ test.0 in
     let joined = split_at_first (λ c. c == byte) text 0 inside in
-    let is : get_or text (position_or_len (λ c. c == byte) text) 0 ≡ byte = eqb-true _ _ (passes_at_first (λ c. c == byte) text 0 inside) in
-    let whole : text ≡ before_first (λ c. c == byte) text ++ byte ∷ after_first (λ c. c == byte) text = rw is at joined in
+    let is : get_or text (position_or_len (λ c. c == byte) text) 0 ≡ byte =
+    eqb-true _ _ (passes_at_first (λ c. c == byte) text 0 inside) in
+    let whole : text ≡ before_first (λ c. c == byte) text ++ byte ∷ after_first (λ c. c == byte) text =
+    rw is at joined in
     subst (λ (p : List ℕ × List ℕ). text ≡ p.0 ++ byte ∷ p.1) test.1 whole

@@ -32,7 +32,8 @@ pub joined_symbol_of-text : (separator : ℕ) (symbol : SymbolParts) → separat
     → joined_symbol_of separator (joined_text separator symbol) ≡ Some symbol
 unfolding joined_symbol_of
 joined_symbol_of-text separator symbol low range =
-    joined_by separator symbol.root symbol.suffix symbol (no_separator separator symbol.root low range.root.letters) (symbol_of-parts symbol range)
+    joined_by separator symbol.root symbol.suffix symbol (no_separator separator symbol.root low range.root.letters)
+    (symbol_of-parts symbol range)
 
 -- in the one field of a symbol
 pub joined_symbol_back : (separator : ℕ) (symbol : SymbolParts) (fields : List Tagged) → separator < 65

@@ -44,12 +44,15 @@ id_free c (inr (inr digit)) = λ e. omega arith
 pub short_id : (id : LegIdParts) → IsLegId id → IsShortValue (leg_id_text id)
 short_id id range =
     let bytes = leg_id_bytes id range in
-    short_value (leg_id_text id) (simp length-append (omega arith)) (omega (arith, length-leg_id_text id range)) (λ k d within. id_free _ (bytes k d within))
+    short_value (leg_id_text id) (simp length-append (omega arith)) (omega (arith, length-leg_id_text id range))
+    (λ k d within. id_free _ (bytes k d within))
 
 -- a count of shares, which may be none
 pub short_count : (count : ℕ) → count ≤ 1_000_000 → IsShortValue (decimal count)
 short_count count high =
-    short_value (decimal count) (nonempty-decimal count (omega arith)) (omega (arith, length-decimal 7 count (omega arith) (omega arith) (omega arith))) (All-from_recursion IsNotSoh _ (HasNoDelimiter-decimal count (omega arith)))
+    short_value (decimal count) (nonempty-decimal count (omega arith))
+    (omega (arith, length-decimal 7 count (omega arith) (omega arith) (omega arith)))
+    (All-from_recursion IsNotSoh _ (HasNoDelimiter-decimal count (omega arith)))
 
 -- the number of shares
 pub short_shares : (shares : ℕ) → IsShares shares → IsShortValue (decimal shares)
@@ -58,12 +61,16 @@ short_shares shares range = short_count shares range.high
 -- a price in the short form
 pub short_price : (price : ℕ) → IsPrice price → IsShortValue (price_short price)
 short_price price range =
-    short_value (price_short price) (nonempty-price_short price (omega arith)) (omega (arith, length-price_short price range.high)) (All-from_recursion IsNotSoh _ (HasNoDelimiter-price_short price (omega arith)))
+    short_value (price_short price) (nonempty-price_short price (omega arith))
+    (omega (arith, length-price_short price range.high))
+    (All-from_recursion IsNotSoh _ (HasNoDelimiter-price_short price (omega arith)))
 
 -- a price with four decimals
 pub short_price_four : (price : ℕ) → IsPrice price → IsShortValue (price_four price)
 short_price_four price range =
-    short_value (price_four price) (nonempty-price_four price (omega arith)) (omega (arith, length-price_four price range.high)) (All-from_recursion IsNotSoh _ (HasNoDelimiter-price_four price (omega arith)))
+    short_value (price_four price) (nonempty-price_four price (omega arith))
+    (omega (arith, length-price_four price range.high))
+    (All-from_recursion IsNotSoh _ (HasNoDelimiter-price_four price (omega arith)))
 
 pub short_side : (side : Side) → IsShortValue (side_text side)
 short_side Buy = record { writable = refl; short = omega arith }
@@ -83,7 +90,8 @@ pub short_symbol : (separator : ℕ) (symbol : SymbolParts) → separator ≢ 1 
 short_symbol separator symbol free range =
     let long = length-joined_text separator symbol range in
     let bytes = symbol_bytes separator symbol range in
-    short_value (joined_text separator symbol) (omega (arith, long.some)) (omega (arith, long.short)) (λ k d within. letter_free separator _ free (bytes k d within))
+    short_value (joined_text separator symbol) (omega (arith, long.some)) (omega (arith, long.short))
+    (λ k d within. letter_free separator _ free (bytes k d within))
 
 -- letters A to Z, up to 6 of them
 pub short_letters : (text : List ℕ) → All IsLetter text → 1 ≤ length text → length text ≤ 6 → IsShortValue text
@@ -92,4 +100,5 @@ short_letters text letters some few =
 
 pub short_stamp : (stamp : StampParts) → IsShortValue (stamp_text stamp)
 short_stamp stamp =
-    short_value (stamp_text stamp) (omega (arith, length-stamp_text stamp)) (omega (arith, length-stamp_text stamp)) (All-from_recursion IsNotSoh _ (HasNoDelimiter-stamp_text stamp))
+    short_value (stamp_text stamp) (omega (arith, length-stamp_text stamp)) (omega (arith, length-stamp_text stamp))
+    (All-from_recursion IsNotSoh _ (HasNoDelimiter-stamp_text stamp))

@@ -1,69 +1,48 @@
 //! The way of an order: from a leg to the bytes of a frame, and back.
-ghost use Rattle.std.specs.Prelude.{◌≡◌, ℕ, List, Some, None, IfOk};
-ghost use Rattle.fix_text.specs.Frame.{frame_text};
+ghost use Rattle.std.specs.Prelude.{◌≡◌, ℕ, List, Some, IfOk};
 ghost use Rattle.fix_text.specs.FrameFields.{fields_in};
 ghost use Rattle.fix_text.specs.Reading.{next_read};
 ghost use Rattle.fix_text.specs.Tagged.{value_of};
-ghost use Rattle.fix_tags.specs.Message.{envelope_fields, envelope_refusal};
 ghost use Rattle.leg.specs.declared.leg.Leg.{Leg};
 ghost use Rattle.dispatch_main.specs.Header.{HeaderParts};
-ghost use Rattle.dispatch_main.specs.OrderFrame.{order_envelope, stream_of, IsOrderFrame, is_order_kind, order_in, ReadsOrder, GivesLeg};
+ghost use Rattle.dispatch_main.specs.OrderFrame.{stream_of, IsOrderFrame, is_order_kind, order_in, ReadsOrder, GivesLeg};
 
 use crate::order::header::Header;
 use crate::order::order_fault::OrderFault;
-use dialect::{Dialect, ORDER_KIND, SpellFault};
-use fix_tags::{
-    Body, BodyRef, Envelope, EnvelopeRef, ReadFault, Stamp, Text, WriteFault, read_envelope,
-    write_envelope,
-};
-use fix_text::{Field, Fields, Frame, FrameReader};
+use crate::order::room::OrderRoom;
+use dialect::Dialect;
+use fix_tags::{Body, BodyRef, EnvelopeRef, ReadFault, read_envelope, write_envelope};
+use fix_text::{Fields, Frame, FrameReader};
 use leg::Leg;
 use std::alloc::{AllocError, Global};
 
 /// MsgType.
 const MSG_TYPE: u32 = 35;
 
-/// The message of an order's fields under a header, sent once.
-fn message_of(alloc: Global, header: Header, order: Vec<Field>) -> Result<Envelope, AllocError>
-    ensures { IfOk result (λ e. e ≡ order_envelope header order.items) }
-{
-    let kind = Text::from_slice(alloc, ORDER_KIND)?;
-    let fields = Fields::new(order);
-    Ok(header.message(Body::App { kind, fields }))
-}
-
-/// The frame of a message that has no fault.
-fn frame_of(alloc: Global, message: &Envelope, at: &Stamp) -> Result<Vec<u8>, AllocError>
-    requires { envelope_refusal message.now at.now ≡ None }
-    ensures { IfOk result (λ frame. frame.items ≡ frame_text (envelope_fields message.now at.now)) }
-{
-    let mut frame = Vec::new(alloc);
-    match write_envelope(message, at, &mut frame) {
-        Ok(()) => Ok(frame),
-        Err(WriteFault::OutOfMemory) => Err(AllocError),
-        Err(_) => unreachable!(),
-    }
-}
-
-/// The leg as the frame of an order, in this dialect. The only refusal is want of memory.
+/// The leg as the frame of an order, in this dialect. It takes no memory but the room that it is given, so nothing is
+/// refused.
 pub fn write_order_frame<D: Dialect>(
     alloc: Global,
     dialect: &D,
     leg: &Leg,
     header: Header,
-) -> Result<Vec<u8>, AllocError>
-    ensures { IfOk result (λ frame. IsOrderFrame
-        (record { IsOrder = D.IsOrder dialect.now; IsReport = D.IsReport dialect.now }) leg.now header frame.items) }
+    room: OrderRoom,
+) -> Vec<u8>
+    ensures { IsOrderFrame
+        (record { IsOrder = D.IsOrder dialect.now; IsReport = D.IsReport dialect.now }) leg.now header result.items }
 {
     leg.in_range();
     let at = header.at();
-    let mut fields = Vec::new(alloc);
-    match dialect.write_order(alloc, leg, &at, &mut fields) {
-        Ok(()) => {}
-        Err(SpellFault::OutOfMemory) => return Err(AllocError),
-    }
-    let message = message_of(alloc, header, fields)?;
-    frame_of(alloc, &message, &at)
+    let OrderRoom {
+        kind,
+        mut fields,
+        mut frame,
+    } = room;
+    dialect.write_order(alloc, leg, &at, &mut fields).unwrap();
+    let fields = Fields::new(fields);
+    let message = header.message(Body::App { kind, fields });
+    write_envelope(&message, &at, &mut frame).unwrap();
+    frame
 }
 
 /// The leg of a message, if it is an order.

@@ -2,11 +2,8 @@
 ghost use Rattle.std.specs.Prelude.{◌≡◌, ◌≤◌, false};
 ghost use Rattle.dispatch_main.specs.Header.{IsHeader};
 
-use fix_tags::{Body, CompId, Envelope, Stamp};
+use fix_tags::{Body, CompId, Envelope, MAX_MESSAGE_NUMBER, Stamp};
 use std::marker::Model;
-
-/// The greatest MsgSeqNum (34).
-pub const MAX_NUMBER: u64 = 999_999_998;
 
 /// What the header of an order says: who sends it to whom, under which number, and when.
 #[derive(Debug, Drop)]
@@ -31,7 +28,7 @@ impl Header {
     /// The header of these parts, with MsgSeqNum (34) from 1 to 999,999,998.
     pub fn new(from: CompId, to: CompId, number: u64, at: Stamp) -> Header
         requires low { 1 ≤ number }
-        requires high { number ≤ MAX_NUMBER }
+        requires high { number ≤ MAX_MESSAGE_NUMBER }
         ensures { result ≡ record { from = from; to = to; number = number; at = at } }
     {
         Header {

@@ -5,11 +5,11 @@ ghost use Rattle.dialect.specs.JoinedSymbol.{joined_symbol_of};
 ghost use Rattle.dispatch_main.specs.Request.{given, number_up_to, side_named, full_stamp, request_of};
 
 use crate::fault::ProgramFault;
-use crate::order::header::{Header, MAX_NUMBER};
+use crate::order::header::Header;
 use crate::order::option::OrderOption;
 use crate::order::options::Options;
 use dialect::read_symbol;
-use fix_tags::{CompId, Stamp, read_number, read_stamp};
+use fix_tags::{CompId, MAX_MESSAGE_NUMBER, Stamp, read_number, read_stamp};
 use leg::{Leg, LegId, MAX_PLACE, MAX_PRICE, MAX_SHARES, MAX_SWEEP, Side, Symbol, Terms};
 
 /// The length of a written time stamp.
@@ -76,7 +76,7 @@ impl Request {
         let side = side_of(options.side)?;
         let shares = number_of(options.shares, OrderOption::Shares, MAX_SHARES)?;
         let price = number_of(options.price, OrderOption::Price, MAX_PRICE)?;
-        let number = number_of(options.number, OrderOption::Number, MAX_NUMBER)?;
+        let number = number_of(options.number, OrderOption::Number, MAX_MESSAGE_NUMBER)?;
         let from = comp_id_of(options.from, OrderOption::From)?;
         let to = comp_id_of(options.to, OrderOption::To)?;
         let at = stamp_of(options.at)?;
