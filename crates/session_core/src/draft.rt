@@ -16,7 +16,7 @@ use crate::session::Session;
 use crate::standing::Standing;
 use arrayvec::ArrayVec;
 use dialect::{FreeText, MAX_ID, Note};
-use resend::{GapFill, MAX_NUMBER};
+use resend::{GapFill, MAX_MESSAGE_NUMBER};
 
 /// The most messages that a call writes.
 const MAX_LINES: usize = 4;
@@ -194,7 +194,7 @@ impl Draft {
 
     /// The message received is counted.
     pub fn count(&mut self)
-        requires { self.old.standing.expected ≤ MAX_NUMBER }
+        requires { self.old.standing.expected ≤ MAX_MESSAGE_NUMBER }
         ensures turn { (s : SessionParts) → drafted s self.new ≡ counts (drafted s self.old) }
         ensures lines { self.new.lines ≡ self.old.lines }
     {
@@ -203,7 +203,7 @@ impl Draft {
 
     /// The message received is counted, where it is due and the connection goes on.
     pub fn count_if(&mut self, due: bool)
-        requires { due ≡ true → self.old.standing.expected ≤ MAX_NUMBER }
+        requires { due ≡ true → self.old.standing.expected ≤ MAX_MESSAGE_NUMBER }
         ensures turn { (s : SessionParts) → drafted s self.new ≡ counts_if due (drafted s self.old) }
         ensures lines { self.new.lines ≡ self.old.lines }
     {

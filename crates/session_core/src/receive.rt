@@ -19,7 +19,8 @@ use crate::phase::Phase;
 use crate::session::Session;
 use crate::standing::Standing;
 use dialect::{Content, DialectFault, FreeText, MAX_ID, Message, Note, Report};
-use resend::{GapFill, Judged, MAX_NUMBER};
+use fix_tags::MAX_MESSAGE_NUMBER;
+use resend::{GapFill, Judged};
 
 /// Nothing is done.
 fn nothing(at: Standing) -> Draft
@@ -95,7 +96,7 @@ impl Session {
     /// A Logon.
     fn logon(&self, at: Standing, due: bool, next: Option<u64>) -> Draft
         requires logon { at.logon_number ≤ 999999999 }
-        requires due { due ≡ true → at.expected ≤ MAX_NUMBER }
+        requires due { due ≡ true → at.expected ≤ MAX_MESSAGE_NUMBER }
         ensures turn { drafted self.now result ≡ logon_row due (standing_at self.now at) next }
         ensures room { length result.lines.items ≤ 3 }
     {
@@ -146,7 +147,7 @@ impl Session {
 
     /// A ResendRequest.
     fn resend(&self, at: Standing, due: bool, begin: u64, last: u64) -> Draft
-        requires { due ≡ true → at.expected ≤ MAX_NUMBER }
+        requires { due ≡ true → at.expected ≤ MAX_MESSAGE_NUMBER }
         ensures turn { drafted self.now result ≡ resend_row due (standing_at self.now at) begin last }
         ensures room { length result.lines.items ≤ 3 }
     {
@@ -202,7 +203,7 @@ impl Session {
 
     /// A TestRequest in its turn.
     fn test(&self, at: Standing, id: &[u8]) -> Draft
-        requires low { at.expected ≤ MAX_NUMBER }
+        requires low { at.expected ≤ MAX_MESSAGE_NUMBER }
         requires id { IsFreeText 64 id.now }
         ensures turn { drafted self.now result ≡ counts (answers_test (standing_at self.now at) id.now) }
         ensures room { length result.lines.items ≤ 1 }
@@ -235,7 +236,7 @@ impl Session {
 
     /// A Reject or a BusinessReject in its turn, of the message under a number.
     fn refused(&self, at: Standing, number: Option<u64>) -> Draft
-        requires { at.expected ≤ MAX_NUMBER }
+        requires { at.expected ≤ MAX_MESSAGE_NUMBER }
         ensures turn { drafted self.now result ≡ refused_row (standing_at self.now at) number }
         ensures room { length result.lines.items ≤ 0 }
     {
@@ -264,7 +265,7 @@ impl Session {
     /// A message under the number that is expected, which is due, or ahead of it.
     fn row(&self, at: Standing, due: bool, number: u64, content: Content<'_>) -> Draft
         requires logon { at.logon_number ≤ 999999999 }
-        requires low { due ≡ true → at.expected ≤ MAX_NUMBER }
+        requires low { due ≡ true → at.expected ≤ MAX_MESSAGE_NUMBER }
         requires due { due ≡ true → number ≡ at.expected }
         requires read { IsReadContent content }
         ensures turn { drafted self.now result ≡ row due (standing_at self.now at) number content.entry }
@@ -305,7 +306,7 @@ impl Session {
 
     /// A Reject or a BusinessReject, of the message under a number.
     fn refused_if(&self, at: Standing, due: bool, number: Option<u64>) -> Draft
-        requires { due ≡ true → at.expected ≤ MAX_NUMBER }
+        requires { due ≡ true → at.expected ≤ MAX_MESSAGE_NUMBER }
         ensures turn { drafted self.now result ≡ in_turn due (standing_at self.now at) (refused_row (standing_at self.now at) number) }
         ensures room { length result.lines.items ≤ 0 }
     {
@@ -413,7 +414,7 @@ fn resets(content: &Content<'_>) -> bool
 
 /// A message of which nothing but its number counts.
 fn counted_if(at: Standing, due: bool) -> Draft
-    requires { due ≡ true → at.expected ≤ MAX_NUMBER }
+    requires { due ≡ true → at.expected ≤ MAX_MESSAGE_NUMBER }
     ensures turn { (s : SessionParts) → drafted s result ≡ in_turn due (standing_at s at) (counts (quietly (standing_at s at))) }
     ensures room { length result.lines.items ≤ 0 }
 {
