@@ -16,7 +16,8 @@ use crate::session::Session;
 use crate::standing::Standing;
 use arrayvec::ArrayVec;
 use dialect::{FreeText, MAX_ID, Note};
-use resend::{GapFill, MAX_MESSAGE_NUMBER};
+use fix_tags::MAX_MESSAGE_NUMBER;
+use resend::GapFill;
 
 /// The most messages that a call writes.
 const MAX_LINES: usize = 4;
