@@ -7,6 +7,7 @@ mod enqueue;
 mod gate;
 mod gate_fault;
 pub mod laws;
+mod placement;
 mod receipt;
 mod refusing;
 mod release_fault;
@@ -18,6 +19,7 @@ pub use desk::Desk;
 pub use desk_entry::DeskEntry;
 pub use gate::Gate;
 pub use gate_fault::GateFault;
+pub use placement::place;
 pub use receipt::Receipt;
 pub use release_fault::ReleaseFault;
 
