@@ -5,7 +5,8 @@ use Rattle.std.proofs.lemmas.List.{take_more, map-append}
 use Rattle.std.specs.Global.{Vec}
 use Rattle.std.specs.Prelude.{Result, Ok, Err}
 use Rattle.resend.specs.declared.log_fault.LogFault.{LogFault}
-use Rattle.resend.specs.declared.log_fault.LogFault.TheVariants.{NumbersSpent}
+use Rattle.resend.specs.declared.log_fault.LogFault.TheVariants.{NumbersSpent, OutOfMemory}
+use Rattle.leg.specs.Answering.{Answers}
 use Rattle.resend.specs.Window.{OutLogParts, push}
 use Rattle.fix_tags.specs.Stamp.{StampParts}
 use Rattle.dialect.specs.declared.message.Message.{Message}
@@ -107,6 +108,23 @@ pushed_entry entry log now r is left =
 pub pushed_admin : (log now : OutLogParts) (r : Result ℕ LogFault) → (r, now) ≡ push Admin log
     → has_number log.max_number log.entries ≡ true → now ≡ record log { entries = log.entries ++ Admin ∷ [] }
 pushed_admin log now r is left = (pushed_entry Admin log now r is left).1
+
+-- where one is left, an entry is added, or memory is wanting and nothing changed
+pub pushed_leg : (entry : Entry) (log now : OutLogParts) (number : ℕ)
+    → Answers OutOfMemory log (push entry log) (Ok number) now → has_number log.max_number log.entries ≡ true
+    → now ≡ record log { entries = log.entries ++ entry ∷ [] }
+unfolding answer_of
+pushed_leg entry log now number is left =
+    (let whole : Answers OutOfMemory log (answer_of entry log true) (Ok number) now =
+    subst (λ (b : Bool). Answers OutOfMemory log (answer_of entry log b) (Ok number) now) left is in whole.1)
+
+pub wanting_leg : (entry : Entry) (log now : OutLogParts) (fault : LogFault)
+    → Answers OutOfMemory log (push entry log) (Err fault) now → has_number log.max_number log.entries ≡ true
+    → now ≡ log
+unfolding answer_of
+wanting_leg entry log now fault is left =
+    (let whole : Answers OutOfMemory log (answer_of entry log true) (Err fault) now =
+    subst (λ (b : Bool). Answers OutOfMemory log (answer_of entry log b) (Err fault) now) left is in whole.1)
 
 pub spent-new : (start before now : OutLogParts) (r : Result ℕ LogFault) (lines : List Line) (i : ℕ) (d : Line)
     → i < length lines → length (logged start.entries lines) + 1 ≤ start.max_number → (get_or lines i d).poss_dup

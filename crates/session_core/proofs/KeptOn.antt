@@ -4,10 +4,11 @@ use Rattle.std.specs.Prelude.{Result, Ok, Err, false}
 use Rattle.fix_tags.specs.Config.{ConfigParts}
 use Rattle.leg.specs.declared.leg.Leg.{Leg}
 use Rattle.resend.specs.declared.log_fault.LogFault.{LogFault}
-use Rattle.resend.specs.declared.log_fault.LogFault.TheVariants.{NumbersSpent, OutOfMemory}
+use Rattle.resend.specs.declared.log_fault.LogFault.TheVariants.{OutOfMemory}
 use Rattle.resend.specs.Log.{has_number, next_to_send, last_ordinal}
 use Rattle.resend.specs.Log.Entry.{Admin, Sent}
-use Rattle.resend.specs.Window.{OutLogParts, push, IsPush}
+use Rattle.leg.specs.Answering.{Answers}
+use Rattle.resend.specs.Window.{OutLogParts, push}
 use Rattle.session_core.specs.declared.phase.Phase.TheVariants.{LoggingOn, Up}
 use Rattle.session_core.specs.declared.standing.Standing.{Standing}
 use Rattle.session_core.specs.declared.draft.Draft.{Draft}
@@ -18,7 +19,7 @@ use Rattle.session_core.specs.Kept.{seen, IsKept}
 use Rattle.session_core.specs.Draft.{drafted}
 use Rattle.session_core.proofs.Sound.{sound-connecting, sound-sending}
 use Rattle.session_core.proofs.Drafted.{next-drafted}
-use Rattle.session_core.proofs.Framing.{pushed_entry, pushed_admin}
+use Rattle.session_core.proofs.Framing.{pushed_admin, pushed_leg, wanting_leg}
 
 -- what was decided on
 pub kept-committed : (max_number : ℕ) (s : SessionParts) (draft : Draft) → IsKept max_number s
@@ -62,21 +63,20 @@ pub kept-logged : (config : ConfigParts) (old now : OutLogParts) (fences : List 
     connection at)
     → at.phase ≡ Up → last_ordinal old.entries < ordinal
     → may_write (seen config old.entries fences connection at) ≡ true
-    → IsPush (Sent (doubted ordinal leg)) old r now
+    → Answers OutOfMemory old (push (Sent (doubted ordinal leg)) old) r now
     → IsKept now.max_number (seen config now.entries fences connection at)
 kept-logged config old now fences connection at ordinal leg (Ok number) kept up above may is =
     (let s : SessionParts = seen config old.entries fences connection at in
     let limit = kept.limit in
     let has : has_number old.max_number old.entries ≡ true = rw limit may in
     let counted = kept.counted in
-    rw (pushed_entry (Sent (doubted ordinal leg)) old now (Ok number) is has).1
+    rw (pushed_leg (Sent (doubted ordinal leg)) old now number is has)
     (record {
       sound = sound-sending s kept.sound ordinal leg up may above;
       limit = limit;
       counted = omega (arith, counted, length-append old.entries (Sent (doubted ordinal leg) ∷ []));
     }))
-kept-logged config old now fences connection at ordinal leg (Err NumbersSpent) kept up above may is =
+kept-logged config old now fences connection at ordinal leg (Err fault) kept up above may is =
     (let limit = kept.limit in
     let has : has_number old.max_number old.entries ≡ true = rw limit may in
-    let wrong = (pushed_entry (Sent (doubted ordinal leg)) old now (Err NumbersSpent) is has).0 in absurd cc)
-kept-logged config old now fences connection at ordinal leg (Err OutOfMemory) kept up above may is = rw is.1 kept
+    rw (wanting_leg (Sent (doubted ordinal leg)) old now fault is has) kept)
