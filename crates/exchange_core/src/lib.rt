@@ -16,3 +16,6 @@ mod trade;
 
 pub use exchange::Exchange;
 pub use exchange_fault::ExchangeFault;
+
+#[cfg(test)]
+mod tests;
