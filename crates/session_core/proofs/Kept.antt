@@ -13,8 +13,8 @@ use Rattle.leg.specs.LegId.{LegIdParts}
 use Rattle.dialect.specs.declared.note.Note.{Note}
 use Rattle.dialect.specs.Addressed.{message_of, is_for}
 use Rattle.dialect.specs.FreeText.{IsFreeText}
-use Rattle.dialect.specs.declared.message.Message.{Message}
 use Rattle.dialect.specs.declared.content.Content.{Content}
+use Rattle.dialect.specs.declared.message.Message.{Message}
 use Rattle.dialect.specs.Message.{is_logon}
 use Rattle.dialect.specs.declared.content.Content.TheVariants.{Logon, Heartbeat, TestRequest, ResendRequest, Reject, GapFill, Reset, Logout, BusinessReject, Order, ExecutionReport, Other}
 use Rattle.dialect.specs.Outgoing.{alone}

@@ -7,8 +7,8 @@ use Rattle.leg.specs.LegId.{LegIdParts}
 use Rattle.leg.specs.declared.leg_state.LegState.TheVariants.{Taken, Withdrawn}
 use Rattle.dialect.specs.declared.note.Note.{Note}
 use Rattle.dialect.specs.Addressed.{is_for}
-use Rattle.dialect.specs.declared.message.Message.{Message}
 use Rattle.dialect.specs.declared.content.Content.{Content}
+use Rattle.dialect.specs.declared.message.Message.{Message}
 use Rattle.dialect.specs.Message.{is_logon}
 use Rattle.dialect.specs.declared.content.Content.TheVariants.{Logon, Heartbeat, TestRequest, ResendRequest, Reject, GapFill, Reset, Logout, BusinessReject, Order, ExecutionReport, Other}
 use Rattle.resend.specs.declared.judged.Judged.{Judged}

@@ -5,8 +5,8 @@ use Rattle.leg.specs.Numbered.{numbered}
 use Rattle.leg.specs.declared.leg.Leg.{Leg}
 use Rattle.leg.specs.Growing.{Grew}
 use Rattle.dialect.specs.Addressed.{message_of}
-use Rattle.dialect.specs.declared.message.Message.{Message}
 use Rattle.dialect.specs.declared.content.Content.{Content}
+use Rattle.dialect.specs.declared.message.Message.{Message}
 use Rattle.dialect.specs.declared.content.Content.TheVariants.{Logon, ResendRequest, GapFill, Order}
 use Rattle.resend.specs.Log.{GapFillParts, last_ordinal}
 use Rattle.resend.specs.Log.Entry.{Sent}

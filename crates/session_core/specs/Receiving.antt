@@ -10,8 +10,8 @@ use Rattle.dialect.specs.declared.note.Note.{Note}
 use Rattle.dialect.specs.declared.note.Note.TheVariants as note
 use Rattle.dialect.specs.declared.report.Report.{Report}
 use Rattle.dialect.specs.Addressed.{is_for}
-use Rattle.dialect.specs.declared.message.Message.{Message}
 use Rattle.dialect.specs.declared.content.Content.{Content}
+use Rattle.dialect.specs.declared.message.Message.{Message}
 use Rattle.dialect.specs.Message.{is_logon}
 use Rattle.dialect.specs.declared.content.Content.TheVariants.{Logon, Heartbeat, TestRequest, ResendRequest, Reject, GapFill, Reset, Logout, BusinessReject, ExecutionReport}
 use Rattle.resend.specs.declared.judged.Judged.{Judged}

@@ -4,8 +4,8 @@ use Rattle.std.specs.List.{AllByRecursion}
 use Rattle.fix_tags.specs.Config.{IsConfig}
 use Rattle.leg.specs.Numbered.{numbered}
 use Rattle.leg.specs.declared.leg_state.LegState.TheVariants.{Queued, Doubt}
-use Rattle.dialect.specs.declared.message.Message.{Message}
 use Rattle.dialect.specs.declared.content.Content.{Content}
+use Rattle.dialect.specs.declared.message.Message.{Message}
 use Rattle.dialect.specs.declared.content.Content.TheVariants.{Logon, TestRequest, GapFill}
 use Rattle.dialect.specs.FreeText.{IsFreeText}
 use Rattle.dialect.specs.Outgoing.{alone}
