@@ -21,7 +21,7 @@ use Rattle.dialect.specs.Writable.{IsReportBeside, IsWritableContent, IsWritable
 use Rattle.exchange_core.specs.declared.exchange_fault.ExchangeFault.{ExchangeFault}
 use Rattle.exchange_core.specs.Order.{OrderParts, ByCancel, ByReject, new_order, view_of}
 use Rattle.exchange_core.specs.Own.{Own, Admin, Reported, Refused, next_own_number, has_numbers, execution_report, again, closing_fill, run_from, resent, resent_answer}
-use Rattle.exchange_core.specs.Exchange.{LiveConnection, ExchangeParts, Answer, next_report, next_execution_report, next_message, request, passed_by, with_connection, logon_answer, logon_taken, due_taken, asks, by_number, resends, received}
+use Rattle.exchange_core.specs.Exchange.{LiveConnection, ExchangeParts, Answer, next_report, next_execution_report, next_message, request, with_connection, logon_answer, due_taken, asks, by_number, resends, received}
 use Rattle.exchange_core.specs.Exchange as exchange
 use Rattle.exchange_core.specs.Acts.{answered, while_live, reported, trade_answer, trade, cancel_rest, reject, bust_answer, bust, end_answer, test_id, tested, test_answer, test}
 use Rattle.exchange_core.specs.Sound.{IsRead, IsReadContent, IsOwnSound, IsSound}

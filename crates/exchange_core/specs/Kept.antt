@@ -2,7 +2,7 @@
 use Rattle.std.specs.Prelude.{◌≡◌, List, [], ◌∷◌}
 use Rattle.dialect.specs.declared.report.Report.{Report}
 use Rattle.exchange_core.specs.declared.exchange.Exchange.TheInside.{Inside}
-use Rattle.exchange_core.specs.Own.{Own, Admin, Reported, Refused}
+use Rattle.exchange_core.specs.Own.{Own, Reported}
 use Rattle.exchange_core.specs.Exchange.{ExchangeParts, accepted_by}
 use Rattle.exchange_core.specs.Sound.{IsSound}
 
