@@ -1,8 +1,6 @@
 -- What an exchange keeps beside its state, and what its soundness says of a part.
 use Rattle.std.proofs.Common.{◌≡◌, ℕ, suc, ◌≤◌, List, [], ◌∷◌, ◌++◌, length, Some, refl, ap}
 use Rattle.leg.specs.Numbered.{numbered}
-use Rattle.dialect.specs.declared.report.Report.{Report}
-use Rattle.dialect.specs.Writable.{IsReference}
 use Rattle.exchange_core.specs.Order.{OrderParts, TradeParts}
 use Rattle.exchange_core.specs.declared.own.Own.{Own}
 use Rattle.exchange_core.specs.declared.own.Own.TheVariants.{Admin, Reported, Refused}

@@ -1,5 +1,5 @@
 -- The report of a plan: the order that it is for, the exchange afterwards, and what its soundness says.
-use Rattle.std.proofs.Common.{◌≡◌, ℕ, zero, suc, ◌+◌, ◌-◌, ◌<◌, ◌≤◌, true, false, nat_le, List, [], ◌∷◌, ◌++◌, length, map, get_or, Option, Some, Result, Ok, Err, IfOk, IsSome, refl, sym, ap, ◌∙◌, subst, arith, length-append}
+use Rattle.std.proofs.Common.{◌≡◌, ℕ, zero, suc, ◌+◌, ◌-◌, ◌≤◌, true, false, nat_le, List, [], ◌∷◌, ◌++◌, length, map, get_or, Option, Some, Result, Ok, Err, IfOk, IsSome, refl, sym, ap, ◌∙◌, subst, arith, length-append}
 use Rattle.std.specs.Prelude.{All, slice_get, slice_set, option_to_list}
 use Rattle.std.specs.Global.{Vec}
 use Rattle.fix_tags.specs.Stamp.{StampParts}
@@ -29,7 +29,7 @@ use Rattle.exchange_core.specs.Frames.{AreFramed, ActGives}
 use Rattle.exchange_core.specs.Acts.{answered, while_live, reported, trade_answer, trade, end_answer, cancel_rest, reject, bust_answer, bust}
 use Rattle.exchange_core.specs.Keeping.{IsAct}
 use Rattle.exchange_core.specs.Kept.{reports_of}
-use Rattle.exchange_core.specs.Plan.{stepped, plan_answer, planned, IsFor, IsFit, after_step}
+use Rattle.exchange_core.specs.Plan.{stepped, plan_answer, IsFit, after_step}
 use Rattle.exchange_core.specs.Sound.{IsOwnSound, IsSound}
 use Rattle.exchange_core.proofs.ActsKeep.{trade_keeps, cancel_rest_keeps, reject_keeps, bust_keeps}
 use Rattle.exchange_core.proofs.Entries.{all_last}

@@ -1,7 +1,5 @@
 -- The TestRequest that an exchange writes.
-use Rattle.std.proofs.Common.{◌≡◌, ℕ, suc, ◌+◌, ◌≤◌, true, List, [], ◌∷◌, Some, Ok, refl, arith}
-use Rattle.std.specs.Prelude.{All}
-use Rattle.std.proofs.lemmas.Bool.Decides.{nat_tests}
+use Rattle.std.proofs.Common.{◌≡◌, ℕ, ◌≤◌, true, List, Some, Ok, refl, arith}
 use Rattle.fix_tags.specs.Stamp.{StampParts}
 use Rattle.dialect.specs.declared.content.Content.TheVariants.{TestRequest}
 use Rattle.dialect.specs.declared.outgoing.Outgoing.{Outgoing}
@@ -12,7 +10,7 @@ use Rattle.exchange_core.specs.Own.{has_numbers, next_own_number}
 use Rattle.exchange_core.specs.declared.live_connection.LiveConnection.{LiveConnection}
 use Rattle.exchange_core.specs.Exchange.{ExchangeParts, next_message}
 use Rattle.exchange_core.specs.Sound.{IsSound}
-use Rattle.exchange_core.proofs.Keeps.{HasNumber, room_for_one}
+use Rattle.exchange_core.proofs.Keeps.{room_for_one}
 use Rattle.exchange_core.proofs.Written.{tested_said}
 use Rattle.exchange_core.proofs.ActsKeep.{test_keeps}
 use Rattle.exchange_core.specs.Keeping.{IsAct}
