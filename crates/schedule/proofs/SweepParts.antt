@@ -12,7 +12,8 @@ use Rattle.leg.specs.declared.leg_state.LegState.{LegState}
 use Rattle.leg.specs.declared.leg_state.LegState.TheVariants.{Queued, Doubt, Taken, Withdrawn}
 use Rattle.leg.specs.declared.sweep.Routed.{Routed}
 use Rattle.share_ledger.specs.Entries.{is_same_leg, is_withdrawn}
-use Rattle.share_ledger.specs.Book.{BookedLeg, booked_from, leg_parts, totals_of}
+use Rattle.share_ledger.specs.declared.booked_leg.BookedLeg.{BookedLeg}
+use Rattle.share_ledger.specs.Book.{booked_from, leg_parts, totals_of}
 use Rattle.share_ledger.proofs.OneMore.{is_same_leg-refl, is_same_leg-true}
 use Rattle.schedule.specs.World.{World, VenueParts, venue_in, released_to, state_of, ids_where, is_withdrawn_leg, withdrawn_ids}
 use Rattle.schedule.specs.SweepTheorem.{IsWithdrawn, withdrawn_of}

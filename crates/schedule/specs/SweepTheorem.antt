@@ -12,7 +12,8 @@ use Rattle.dialect.specs.declared.note.Note.{Note}
 use Rattle.dialect.specs.declared.note.Note.TheVariants as note
 use Rattle.share_ledger.specs.Entries.{sweep_shares, is_same_leg, is_about}
 use Rattle.share_ledger.specs.Shares.{move_of, parts_of}
-use Rattle.share_ledger.specs.Book.{BookedLeg, booked_from, totals_of}
+use Rattle.share_ledger.specs.declared.booked_leg.BookedLeg.{BookedLeg}
+use Rattle.share_ledger.specs.Book.{booked_from, totals_of}
 use Rattle.schedule.specs.declared.event.Event.{Event}
 use Rattle.schedule.specs.World.{World, accepted, released_to, state_of, withdrawn_ids, totals, closed_at, given, made}
 use Rattle.schedule.specs.Happening.{run}

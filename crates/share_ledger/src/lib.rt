@@ -16,6 +16,7 @@ pub use applied::Applied;
 pub use book::Book;
 pub use book_entry::BookEntry;
 pub use book_fault::BookFault;
+pub use booked_leg::BookedLeg;
 
 #[cfg(test)]
 mod tests;
