@@ -1,12 +1,11 @@
 -- A note of a leg that is kept, of the note's venue and not withdrawn.
-use Rattle.std.proofs.Common.{◌≡◌, ◌≢◌, ℕ, ◌<◌, ◌≤◌, inl, inr, Bool, true, false, List, [], ◌∷◌, ◌++◌, length, set, Option, Some, None, Ok, Err, refl, ap, sym, ◌∙◌, subst, arith}
+use Rattle.std.proofs.Common.{◌≡◌, ◌≢◌, ℕ, ◌<◌, inl, inr, false, List, length, set, Some, Ok, Err, refl, ap, sym, ◌∙◌, subst, arith}
 use Rattle.std.specs.Prelude.{option_map, not, nat_eq, nat_lt, Result, is_some, get_or, OnErr}
 use Rattle.std.proofs.lemmas.Bool.{cases_eq, eqb-true, not-false}
 use Rattle.std.proofs.lemmas.List.{get_or_read, get_or-set_same, get_or-set_other, length-set}
 use Rattle.leg.specs.LegId.{LegIdParts}
-use Rattle.leg.specs.Split.{IsSplit, leg_shares, split_cancel_rest}
+use Rattle.leg.specs.Split.{IsSplit, split_cancel_rest}
 use Rattle.leg.specs.declared.sweep.Routed.{Routed}
-use Rattle.dialect.specs.declared.note.Note.{Note}
 use Rattle.dialect.specs.declared.note.Note.TheVariants as note
 use Rattle.dialect.specs.declared.report.Report.{Report}
 use Rattle.share_ledger.specs.declared.applied.Applied.{Applied}
@@ -17,12 +16,12 @@ use Rattle.share_ledger.specs.declared.ledger.Ledger.{Ledger}
 use Rattle.share_ledger.specs.declared.reports.Reports.{Reports}
 use Rattle.share_ledger.specs.Entries.{order_of, is_booked}
 use Rattle.share_ledger.specs.Shares.{Ends, move_of}
-use Rattle.share_ledger.specs.Book.{BookParts, BookedLeg, new_book, written, moves_on, answer_to}
+use Rattle.share_ledger.specs.Book.{BookParts, BookedLeg, written, moves_on, answer_to}
 use Rattle.share_ledger.specs.Reports.{report_at, shares_on, report_after, moved_by}
 use Rattle.share_ledger.specs.Kept.{ledger_seen, booked_leg, standing, ChangesLeg, IsKept, AreTold, IsKeptBook}
 use Rattle.share_ledger.proofs.Told.{IsTold, told-replay}
 use Rattle.share_ledger.proofs.KeptChanged.{sound_kept, order_kept}
-use Rattle.share_ledger.proofs.KeptTold.{told_moved, told_refused}
+use Rattle.share_ledger.proofs.KeptTold.{told_moved}
 use Rattle.share_ledger.proofs.KeptMoved.{Judged, judged, busted_kept, open_answer, changes_moved}
 
 told_kept : (ledger : Ledger) → IsKept ledger → IsTold (ledger_seen ledger)
@@ -37,17 +36,23 @@ wants (Ok x) P p = tt
 wants (Err fault) P p = p
 
 -- the refusal of a leg's order
-module _ (ledger : Ledger) (h : IsKept ledger) (venue : ℕ) (id : LegIdParts) (was : BookedLeg) (kept : option_map (booked_leg (ledger_seen ledger) id) (order_of id ledger.history.items) ≡ Some was) (range : IsSplit was.parts) (of_venue : was.venue ≡ venue) (there : nat_lt 0 was.parts.withdrawn ≡ false) where
+module _ (ledger : Ledger) (h : IsKept ledger) (venue : ℕ) (id : LegIdParts) (was : BookedLeg)
+    (kept : option_map (booked_leg (ledger_seen ledger) id) (order_of id ledger.history.items) ≡ Some was)
+    (range : IsSplit was.parts) (of_venue : was.venue ≡ venue) (there : nat_lt 0 was.parts.withdrawn ≡ false) where
   pub refusal_moves : answer_to (ledger_seen ledger) venue (note.Refused id) ≡ applied.Moved
   refusal_moves =
       let shares = range.shares in
       open_answer (ledger_seen ledger) (sound_kept ledger h) venue id was kept shares.low false Ends of_venue refl there
 
-  pub refusal_changes : (now : BookedLeg) → now.venue ≡ was.venue → now.parts ≡ split_cancel_rest was.parts → ChangesLeg id was now (Moved venue (note.Refused id)) (ledger_seen ledger)
+  pub refusal_changes : (now : BookedLeg) → now.venue ≡ was.venue → now.parts ≡ split_cancel_rest was.parts
+      → ChangesLeg id was now (Moved venue (note.Refused id)) (ledger_seen ledger)
   refusal_changes now venue_is parts =
-      changes_moved (ledger_seen ledger) (sound_kept ledger h) (told_kept ledger h) venue (note.Refused id) id was now refl (λ k. refl) kept refusal_moves venue_is parts
+      changes_moved (ledger_seen ledger) (sound_kept ledger h) (told_kept ledger h) venue
+      (note.Refused id) id was now refl (λ k. refl) kept refusal_moves venue_is parts
 
-reports_at : (all : List Reports) (venue : ℕ) (was now : Reports) → venue < length all → was ≡ get_or all venue was → ((exec : List ℕ) → report_at now exec ≡ report_at was exec) → (v : ℕ) (other : Reports) (exec : List ℕ) → report_at (get_or (set all venue now) v other) exec ≡ report_at (get_or all v other) exec
+reports_at : (all : List Reports) (venue : ℕ) (was now : Reports) → venue < length all → was ≡ get_or all venue was
+    → ((exec : List ℕ) → report_at now exec ≡ report_at was exec) → (v : ℕ) (other : Reports) (exec : List ℕ)
+    → report_at (get_or (set all venue now) v other) exec ≡ report_at (get_or all v other) exec
 reports_at all venue was now there was_is same v other exec =
     elim (cases_eq v venue) [
       | inl here ↦
@@ -60,7 +65,9 @@ reports_at all venue was now there was_is same v other exec =
     ]
 
 -- the same reports, in another order of their table
-pub told_reordered : (all : List Reports) (book : BookParts) (venue : ℕ) (was now : Reports) → AreTold all book → venue < length all → was ≡ get_or all venue was → ((exec : List ℕ) → report_at now exec ≡ report_at was exec) → AreTold (set all venue now) book
+pub told_reordered : (all : List Reports) (book : BookParts) (venue : ℕ) (was now : Reports) → AreTold all book
+    → venue < length all → was ≡ get_or all venue was → ((exec : List ℕ) → report_at now exec ≡ report_at was exec)
+    → AreTold (set all venue now) book
 told_reordered all book venue was now h there was_is same =
     let has = h.has in
     let stands = h.standing_on in
@@ -71,11 +78,16 @@ told_reordered all book venue was now h there was_is same =
           ap is_some (reports_at all venue was now there was_is same v other exec) ∙ has v other exec old_there);
       standing_on = λ v other exec id inside of.
           (let old_there : v < length all = omega (arith, inside, length-set all venue now) in
-          ap (shares_on id) (reports_at all venue was now there was_is same v other exec) ∙ stands v other exec id old_there of);
+          ap (shares_on id) (reports_at all venue was now there was_is same v other exec)
+          ∙ stands v other exec id old_there of);
     }
 
 -- a report on a leg
-module _ (ledger : Ledger) (all : List Reports) (h : IsKeptBook ledger all) (venue : ℕ) (report : Report) (was : BookedLeg) (kept : option_map (booked_leg (ledger_seen ledger) report.id) (order_of report.id ledger.history.items) ≡ Some was) (range : IsSplit was.parts) (of_venue : was.venue ≡ venue) (reports : Reports) (reports_is : reports ≡ get_or all venue reports) (fresh : is_some (report_at reports report.exec) ≡ false) (there : nat_lt 0 was.parts.withdrawn ≡ false) where
+module _ (ledger : Ledger) (all : List Reports) (h : IsKeptBook ledger all) (venue : ℕ) (report : Report)
+    (was : BookedLeg) (kept : option_map (booked_leg (ledger_seen ledger) report.id)
+    (order_of report.id ledger.history.items) ≡ Some was) (range : IsSplit was.parts) (of_venue : was.venue ≡ venue)
+    (reports : Reports) (reports_is : reports ≡ get_or all venue reports)
+    (fresh : is_some (report_at reports report.exec) ≡ false) (there : nat_lt 0 was.parts.withdrawn ≡ false) where
   pub venue_there : venue < length all
   venue_there =
       let sums = h.sums in
@@ -90,7 +102,8 @@ module _ (ledger : Ledger) (all : List Reports) (h : IsKeptBook ledger all) (ven
   free =
       let told = h.told in
       let has = told.has in
-      sym (has venue reports report.exec venue_there) ∙ (ap (λ r. is_some (report_at r report.exec)) (sym reports_is) ∙ fresh)
+      sym (has venue reports report.exec venue_there)
+      ∙ (ap (λ r. is_some (report_at r report.exec)) (sym reports_is) ∙ fresh)
 
   of_order : (routed : Routed) → order_of report.id ledger.history.items ≡ Some routed → routed.venue ≡ venue
   of_order routed found =
@@ -99,33 +112,50 @@ module _ (ledger : Ledger) (all : List Reports) (h : IsKeptBook ledger all) (ven
       let same : it.0 ≡ routed = cc in
       sym (ap (λ r. r.venue) same) ∙ (sym (ap (λ l. l.venue) it.2) ∙ of_venue)
 
-  stands : (exec : List ℕ) → shares_on report.id (report_at reports exec) ≡ standing exec (moves_on report.id (ledger_seen ledger))
+  stands : (exec : List ℕ)
+      → shares_on report.id (report_at reports exec) ≡ standing exec (moves_on report.id (ledger_seen ledger))
   stands exec =
       let told = h.told in
       let standing_on = told.standing_on in
-      ap (λ r. shares_on report.id (report_at r exec)) reports_is ∙ standing_on venue reports exec report.id venue_there of_order
+      ap (λ r. shares_on report.id (report_at r exec)) reports_is
+      ∙ standing_on venue reports exec report.id venue_there of_order
 
   -- what the reports make of the leg is what the definition does
-  pub judged_report : Judged (answer_to (ledger_seen ledger) venue (note.Report report)) (moves_on report.id (ledger_seen ledger)) (move_of (note.Report report)) was (moved_by reports report.id report.kind was)
+  pub judged_report : Judged (answer_to (ledger_seen ledger) venue (note.Report report))
+      (moves_on report.id (ledger_seen ledger)) (move_of (note.Report report)) was
+      (moved_by reports report.id report.kind was)
   judged_report =
       let shares = range.shares in
-      judged (ledger_seen ledger) (sound_kept ledger h.sums) (told_kept ledger h.sums) venue report was kept shares.low of_venue free there reports stands
+      judged (ledger_seen ledger) (sound_kept ledger h.sums)
+      (told_kept ledger h.sums) venue report was kept shares.low of_venue free there reports stands
 
-  pub report_changes : (now : BookedLeg) → moved_by reports report.id report.kind was ≡ Ok now → ChangesLeg report.id was now (Moved venue (note.Report report)) (ledger_seen ledger)
+  pub report_changes : (now : BookedLeg) → moved_by reports report.id report.kind was ≡ Ok now
+      → ChangesLeg report.id was now (Moved venue (note.Report report)) (ledger_seen ledger)
   report_changes now is =
-      let it = subst (Judged (answer_to (ledger_seen ledger) venue (note.Report report)) (moves_on report.id (ledger_seen ledger)) (move_of (note.Report report)) was) is judged_report in
-      changes_moved (ledger_seen ledger) (sound_kept ledger h.sums) (told_kept ledger h.sums) venue (note.Report report) report.id was now refl (λ k. refl) kept it.0 it.1 it.2
+      let it = subst (Judged (answer_to (ledger_seen ledger) venue (note.Report report))
+      (moves_on report.id (ledger_seen ledger)) (move_of (note.Report report)) was) is judged_report in
+      changes_moved (ledger_seen ledger) (sound_kept ledger h.sums) (told_kept ledger h.sums) venue
+      (note.Report report) report.id was now refl (λ k. refl) kept it.0 it.1 it.2
 
-  pub report_moves : (now : BookedLeg) → moved_by reports report.id report.kind was ≡ Ok now → answer_to (ledger_seen ledger) venue (note.Report report) ≡ applied.Moved
+  pub report_moves : (now : BookedLeg) → moved_by reports report.id report.kind was ≡ Ok now
+      → answer_to (ledger_seen ledger) venue (note.Report report) ≡ applied.Moved
   report_moves now is =
-      let it = subst (Judged (answer_to (ledger_seen ledger) venue (note.Report report)) (moves_on report.id (ledger_seen ledger)) (move_of (note.Report report)) was) is judged_report in it.0
+      let it = subst (Judged (answer_to (ledger_seen ledger) venue (note.Report report))
+      (moves_on report.id (ledger_seen ledger)) (move_of (note.Report report)) was) is judged_report in it.0
 
-  pub report_stays : (answer : Applied) → moved_by reports report.id report.kind was ≡ Err answer → (answer_to (ledger_seen ledger) venue (note.Report report) ≡ answer) × (answer ≢ applied.Moved)
-  report_stays answer is = subst (Judged (answer_to (ledger_seen ledger) venue (note.Report report)) (moves_on report.id (ledger_seen ledger)) (move_of (note.Report report)) was) is judged_report
+  pub report_stays : (answer : Applied) → moved_by reports report.id report.kind was ≡ Err answer
+      → (answer_to (ledger_seen ledger) venue (note.Report report) ≡ answer) × (answer ≢ applied.Moved)
+  report_stays answer is = subst
+      (Judged (answer_to (ledger_seen ledger) venue (note.Report report)) (moves_on report.id (ledger_seen ledger))
+      (move_of (note.Report report)) was) is judged_report
 
-  pub told_report : (after : Reports) → ((exec : List ℕ) → report_at after exec ≡ report_after reports report exec) → answer_to (ledger_seen ledger) venue (note.Report report) ≡ applied.Moved → AreTold (set all venue after) (written (Moved venue (note.Report report)) (ledger_seen ledger))
+  pub told_report : (after : Reports) → ((exec : List ℕ) → report_at after exec ≡ report_after reports report exec)
+      → answer_to (ledger_seen ledger) venue (note.Report report) ≡ applied.Moved
+      → AreTold (set all venue after) (written (Moved venue (note.Report report)) (ledger_seen ledger))
   told_report after after_is moved =
       let it = order_kept (ledger_seen ledger) report.id (order_of report.id ledger.history.items) was kept in
       let shares = range.shares in
-      told_moved all (ledger_seen ledger) venue report it.0 h.told venue_there it.1 (of_order it.0 it.1) free (told_kept ledger h.sums) (sound_kept ledger h.sums) reports after reports_is after_is
-      (busted_kept (ledger_seen ledger) (sound_kept ledger h.sums) (told_kept ledger h.sums) venue report was kept shares.low of_venue free there reports stands moved)
+      told_moved all (ledger_seen ledger) venue report it.0 h.told venue_there it.1 (of_order it.0 it.1) free
+      (told_kept ledger h.sums) (sound_kept ledger h.sums) reports after reports_is after_is
+      (busted_kept (ledger_seen ledger) (sound_kept ledger h.sums)
+      (told_kept ledger h.sums) venue report was kept shares.low of_venue free there reports stands moved)

@@ -31,9 +31,11 @@ set-other (y ∷ xs) (suc i) (suc j) x differs = set-other xs i j x (λ e. diffe
 
 pub set-this : {A : Type 0} (xs : List A) (i : ℕ) (x : A) → i < length xs → slice_get (set xs i x) i ≡ Some x
 set-this xs i x there =
-    slice_get-get_or (set xs i x) i x (omega (arith, there, length-set xs i x)) ∙ ap Some (get_or-set_same xs i x x there)
+    slice_get-get_or (set xs i x) i x (omega (arith, there, length-set xs i x))
+    ∙ ap Some (get_or-set_same xs i x x there)
 
-pub push-below : {A : Type 0} (xs : List A) (x : A) (n : ℕ) → n < length xs → slice_get (xs ++ x ∷ []) n ≡ slice_get xs n
+pub push-below : {A : Type 0} (xs : List A) (x : A) (n : ℕ) → n < length xs
+    → slice_get (xs ++ x ∷ []) n ≡ slice_get xs n
 push-below [] x n there = absurd (omega (arith, there))
 push-below (y ∷ xs) x zero there = refl
 push-below (y ∷ xs) x (suc n) there = push-below xs x n (omega (arith, there))
@@ -43,29 +45,39 @@ push-at [] x = refl
 push-at (y ∷ xs) x = push-at xs x
 
 -- a leg of a sweep by its place
-pub booked_from-at : (book : BookParts) (number place : ℕ) (legs : List Routed) (m : ℕ) → slice_get (booked_from book number place legs) m ≡ option_map (booked_leg book (record { sweep = number; place = place + m })) (slice_get legs m)
+pub booked_from-at : (book : BookParts) (number place : ℕ) (legs : List Routed) (m : ℕ)
+    → slice_get (booked_from book number place legs) m ≡ option_map
+    (booked_leg book (record { sweep = number; place = place + m })) (slice_get legs m)
 booked_from-at book number place [] m = refl
 booked_from-at book number place (routed ∷ legs) zero =
-    let same : place ≡ place + 0 = omega arith in ap (λ p. Some (booked_leg book (record { sweep = number; place = p }) routed)) same
+    let same : place ≡ place + 0 = omega arith in
+    ap (λ p. Some (booked_leg book (record { sweep = number; place = p }) routed)) same
 booked_from-at book number place (routed ∷ legs) (suc m) =
     let same : suc place + m ≡ place + suc m = omega arith in
     booked_from-at book number (suc place) legs m
     ∙ ap (λ p. option_map (booked_leg book (record { sweep = number; place = p })) (slice_get legs m)) same
 
 -- one leg changed
-module _ (sweeps : List (Vec BookedLeg)) (i j : ℕ) (legs after : Vec BookedLeg) (was now : BookedLeg) (sweep_is : slice_get sweeps i ≡ Some legs) (leg_is : slice_get legs.items j ≡ Some was) (after_is : after.items ≡ set legs.items j now) where
+module _ (sweeps : List (Vec BookedLeg)) (i j : ℕ) (legs after : Vec BookedLeg) (was now : BookedLeg)
+    (sweep_is : slice_get sweeps i ≡ Some legs) (leg_is : slice_get legs.items j ≡ Some was)
+    (after_is : after.items ≡ set legs.items j now) where
   pub put-this : kept_leg (record { sweep = suc i; place = suc j }) (set sweeps i after) ≡ Some now
   put-this =
-      ap (λ s. option_and_then (λ l. slice_get l.items j) s) (set-this sweeps i after (slice_get_within sweeps i legs sweep_is))
+      ap (λ s. option_and_then (λ l. slice_get l.items j) s)
+      (set-this sweeps i after (slice_get_within sweeps i legs sweep_is))
       ∙ (ap (λ l. slice_get l j) after_is ∙ set-this legs.items j now (slice_get_within legs.items j was leg_is))
 
   put-place : (place : ℕ) → (suc j == place) ≡ false → numbered place after.items ≡ numbered place legs.items
   put-place zero differs = refl
   put-place (suc m) differs =
       ap (λ l. slice_get l m) after_is
-      ∙ set-other legs.items j m now (λ e. (let same : (suc j == suc m) ≡ true = eq-eqb (suc j) (suc m) (ap suc (sym e)) in cc))
+      ∙ set-other legs.items j m now
+      (λ e. (let same : (suc j == suc m) ≡ true = eq-eqb (suc j) (suc m) (ap suc (sym e)) in cc))
 
-  pub put-other : (sweep place : ℕ) → is_same_leg (record { sweep = suc i; place = suc j }) (record { sweep = sweep; place = place }) ≡ false → kept_leg (record { sweep = sweep; place = place }) (set sweeps i after) ≡ kept_leg (record { sweep = sweep; place = place }) sweeps
+  pub put-other : (sweep place : ℕ)
+      → is_same_leg (record { sweep = suc i; place = suc j }) (record { sweep = sweep; place = place }) ≡ false
+      → kept_leg (record { sweep = sweep; place = place }) (set sweeps i after) ≡ kept_leg
+      (record { sweep = sweep; place = place }) sweeps
   put-other zero place differs = refl
   put-other (suc n) place differs =
       elim (cases_eq n i) [
@@ -73,7 +85,8 @@ module _ (sweeps : List (Vec BookedLeg)) (i j : ℕ) (legs after : Vec BookedLeg
             (let sweep_same : (suc i == suc n) ≡ true = eq-eqb (suc i) (suc n) (ap suc (sym same)) in
             let place_differs : (suc j == place) ≡ false = sym (ap (λ b. b && (suc j == place)) sweep_same) ∙ differs in
             let there = slice_get_within sweeps i legs sweep_is in
-            let now_here : slice_get (set sweeps i after) n ≡ Some after = ap (slice_get (set sweeps i after)) same ∙ set-this sweeps i after there in
+            let now_here : slice_get (set sweeps i after) n ≡ Some after = ap (slice_get (set sweeps i after)) same
+            ∙ set-this sweeps i after there in
             let was_here : slice_get sweeps n ≡ Some legs = ap (slice_get sweeps) same ∙ sweep_is in
             ap (option_and_then (λ l. numbered place l.items)) now_here
             ∙ (put-place place place_differs ∙ ap (option_and_then (λ l. numbered place l.items)) (sym was_here)))
@@ -90,9 +103,11 @@ module _ (sweeps : List (Vec BookedLeg)) (i j : ℕ) (legs after : Vec BookedLeg
       omega (arith, outer, inner, sweep_was, leg_was, items)
 
 -- a kept leg counts in each sum
-pub due_counts : (sweeps : List (Vec BookedLeg)) (i j : ℕ) (legs : Vec BookedLeg) (was : BookedLeg) → slice_get sweeps i ≡ Some legs → slice_get legs.items j ≡ Some was → legs_due was ≤ sum_over legs_due sweeps
+pub due_counts : (sweeps : List (Vec BookedLeg)) (i j : ℕ) (legs : Vec BookedLeg) (was : BookedLeg)
+    → slice_get sweeps i ≡ Some legs → slice_get legs.items j ≡ Some was → legs_due was ≤ sum_over legs_due sweeps
 due_counts sweeps i j legs was sweep_is leg_is =
-    let outer = get_or-le-sum_by (λ l. sum_by legs_due l.items) sweeps i legs (slice_get_within sweeps i legs sweep_is) in
+    let outer = get_or-le-sum_by (λ l. sum_by legs_due l.items) sweeps i legs
+    (slice_get_within sweeps i legs sweep_is) in
     let inner = get_or-le-sum_by legs_due legs.items j was (slice_get_within legs.items j was leg_is) in
     let sweep_was = ap (λ l. sum_by legs_due l.items) (get_or_from_slice_get sweeps i legs legs sweep_is) in
     let leg_was = ap legs_due (get_or_from_slice_get legs.items j was was leg_is) in

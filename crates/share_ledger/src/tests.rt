@@ -106,6 +106,7 @@ fn trades_that_move_and_that_do_not(rt: HostRuntime) -> Result<(), Fail> {
         book.withdraw(LegId::new(1, 1)),
         Err(BookFault::AlreadyMoved)
     );
+    Ok(())
 }
 
 #[test]
@@ -134,6 +135,7 @@ fn busted_shares_stay_busted(rt: HostRuntime) -> Result<(), Fail> {
         })
     );
     assert_eq!(rt; book.venue_resolved(venue(0)?), 60);
+    Ok(())
 }
 
 #[test]
@@ -157,6 +159,7 @@ fn a_bust_names_a_trade_of_its_leg(rt: HostRuntime) -> Result<(), Fail> {
             still_open: 140
         })
     );
+    Ok(())
 }
 
 #[test]
@@ -203,6 +206,7 @@ fn an_end_cancels_what_is_open(rt: HostRuntime) -> Result<(), Fail> {
             still_open: 0
         })
     );
+    Ok(())
 }
 
 #[test]
@@ -236,6 +240,7 @@ fn strays_change_nothing(rt: HostRuntime) -> Result<(), Fail> {
         })
     );
     assert_eq!(rt; book.venue_resolved(venue(1)?), 0);
+    Ok(())
 }
 
 #[test]
@@ -255,6 +260,7 @@ fn sweeps_that_are_not_opened(rt: HostRuntime) -> Result<(), Fail> {
     assert_eq!(rt; book.totals(0), None);
     assert_eq!(rt; book.totals(1), None);
     assert_eq!(rt; book.history().len(), 0);
+    Ok(())
 }
 
 #[test]
@@ -285,6 +291,7 @@ fn the_greatest_sweep_is_opened(rt: HostRuntime) -> Result<(), Fail> {
     );
     assert_eq!(rt; book.venue_resolved(venue(0)?), 32_000_000);
     assert_eq!(rt; book.history().len(), 33);
+    Ok(())
 }
 
 #[test]
@@ -305,4 +312,5 @@ fn two_venues_have_ids_of_their_own(rt: HostRuntime) -> Result<(), Fail> {
     assert_eq!(rt; book.apply(venue(1)?, &second), Ok(Applied::Duplicate));
     assert_eq!(rt; book.venue_resolved(venue(0)?), 4);
     assert_eq!(rt; book.venue_resolved(venue(1)?), 5);
+    Ok(())
 }

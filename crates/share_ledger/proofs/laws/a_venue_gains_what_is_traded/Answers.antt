@@ -5,7 +5,8 @@ pub returns-clause-trade : goal.returns-clause-trade
 returns-clause-trade c = resolved-trade
 
 pub returns-clause-bust : goal.returns-clause-bust
-returns-clause-bust c venues entries venue id exec cancelled_id = resolved-bust venues entries venue id exec cancelled_id
+returns-clause-bust c venues entries venue id exec cancelled_id = resolved-bust venues entries venue id exec
+    cancelled_id
 
 pub returns-clause-first : goal.returns-clause-first
 returns-clause-first c = resolved-new

@@ -1,6 +1,5 @@
-use Rattle.std.proofs.Common.{◌≡◌, get_or, set, Ok, refl, ap, sym, ◌∙◌, subst, arith}
+use Rattle.std.proofs.Common.{◌≡◌, get_or, set, Ok, refl, ap, sym, ◌∙◌, subst}
 use Rattle.dialect.specs.declared.note.Note.TheVariants as note
-use Rattle.dialect.specs.declared.report.Report.{Report}
 use Rattle.share_ledger.specs.declared.applied.Applied.TheVariants as applied
 use Rattle.share_ledger.specs.declared.book_entry.BookEntry.TheVariants.{Moved}
 use Rattle.share_ledger.specs.Book.{written, answer_to}
@@ -14,12 +13,18 @@ returns-in-Err-clause-answer c =
     let old = c.self.inside in
     let kept = sym c.leg.ensures.value ∙ c.in-Some.is in
     let at = c.from.ensures ∙ c.number.ensures.value in
-    let reports_is = c.index_mut-reports.ensures.value ∙ ap (λ n. get_or old.reports.items n c.index_mut-reports.result.now) at in
+    let reports_is = c.index_mut-reports.ensures.value
+    ∙ ap (λ n. get_or old.reports.items n c.index_mut-reports.result.now) at in
     let fresh = sym c.has.ensures ∙ c.if-has.false in
     let there = sym c.is_withdrawn.ensures.value ∙ c.if-is_withdrawn.false in
-    let it = report_stays old.ledger old.reports.items c.self.invariant c.args.venue c.args.report.now c.in-Some.was kept c.in-Some.ensures.in_range (same_venue c.in-Some.was.venue c.args.venue (sym c.ne.ensures ∙ c.if-ne.false)) c.index_mut-reports.result.now reports_is fresh there c.in-Err.answer (sym c.moved.ensures ∙ c.in-Err.is) in
-    subst (λ b. ApplyAnswers b c.args.venue (note.Report c.args.report.now) (Ok c.in-Err.answer) (ledger_seen old.ledger)) c.self.view_is
-    (answers_same (ledger_seen old.ledger) c.args.venue (note.Report c.args.report.now) c.in-Err.answer (ledger_seen old.ledger) it.0 it.1 refl)
+    let it = report_stays old.ledger old.reports.items c.self.invariant c.args.venue c.args.report.now c.in-Some.was
+    kept c.in-Some.ensures.in_range
+    (same_venue c.in-Some.was.venue c.args.venue (sym c.ne.ensures ∙ c.if-ne.false)) c.index_mut-reports.result.now
+    reports_is fresh there c.in-Err.answer (sym c.moved.ensures ∙ c.in-Err.is) in
+    subst (λ b. ApplyAnswers b c.args.venue (note.Report c.args.report.now) (Ok c.in-Err.answer)
+    (ledger_seen old.ledger)) c.self.view_is
+    (answers_same (ledger_seen old.ledger) c.args.venue (note.Report c.args.report.now) c.in-Err.answer
+    (ledger_seen old.ledger) it.0 it.1 refl)
 
 pub invariant_of-self-in_err-reserve : goal.invariant_of-self-in_err-reserve
 invariant_of-self-in_err-reserve c =
@@ -30,13 +35,18 @@ invariant_of-self-in_err-reserve c =
     let reports_is = c.index_mut-reports.ensures.value ∙ ap (λ n. get_or old.reports.items n reports) at in
     let fresh = sym c.has.ensures ∙ c.if-has.false in
     let there = sym c.is_withdrawn.ensures.value ∙ c.if-is_withdrawn.false in
-    let inside = venue_there old.ledger old.reports.items c.self.invariant c.args.venue c.args.report.now c.in-Some.was kept c.in-Some.ensures.in_range (same_venue c.in-Some.was.venue c.args.venue (sym c.ne.ensures ∙ c.if-ne.false)) reports reports_is fresh there in
+    let inside = venue_there old.ledger old.reports.items c.self.invariant c.args.venue c.args.report.now c.in-Some.was
+    kept c.in-Some.ensures.in_range
+    (same_venue c.in-Some.was.venue c.args.venue (sym c.ne.ensures ∙ c.if-ne.false)) reports reports_is fresh
+    there in
     record {
       sums = c.reserve.ensures.kept;
       told =
           subst (λ b. AreTold (set old.reports.items c.from.result reports) b) (sym c.reserve.ensures.seen)
           (subst (λ n. AreTold (set old.reports.items n reports) (ledger_seen old.ledger)) (sym at)
-          (told_reordered old.reports.items (ledger_seen old.ledger) c.args.venue reports reports c.self.invariant.told inside reports_is (λ exec. refl)));
+          (told_reordered old.reports.items
+          (ledger_seen old.ledger) c.args.venue reports reports c.self.invariant.told inside reports_is
+          (λ exec. refl)));
     }
 
 pub returns-in_err-reserve-clause-wanting : goal.returns-in_err-reserve-clause-wanting
@@ -48,8 +58,12 @@ returns-in_err-reserve-clause-wanting c =
     let reports_is = c.index_mut-reports.ensures.value ∙ ap (λ n. get_or old.reports.items n reports) at in
     let fresh = sym c.has.ensures ∙ c.if-has.false in
     let there = sym c.is_withdrawn.ensures.value ∙ c.if-is_withdrawn.false in
-    let moved = report_moves old.ledger old.reports.items c.self.invariant c.args.venue c.args.report.now c.in-Some.was kept c.in-Some.ensures.in_range (same_venue c.in-Some.was.venue c.args.venue (sym c.ne.ensures ∙ c.if-ne.false)) reports reports_is fresh there c.in-Ok.now (sym c.moved.ensures ∙ c.in-Ok.is) in
-    wants _ _ (subst (λ b. answer_to b c.args.venue (note.Report c.args.report.now) ≡ applied.Moved) c.self.view_is moved)
+    let moved = report_moves old.ledger old.reports.items c.self.invariant c.args.venue c.args.report.now c.in-Some.was
+    kept c.in-Some.ensures.in_range
+    (same_venue c.in-Some.was.venue c.args.venue (sym c.ne.ensures ∙ c.if-ne.false)) reports reports_is fresh there
+    c.in-Ok.now (sym c.moved.ensures ∙ c.in-Ok.is) in
+    wants _ _ (subst (λ b. answer_to b c.args.venue (note.Report c.args.report.now) ≡ applied.Moved) c.self.view_is
+    moved)
 
 pub invariant_of-self-in_err-book : goal.invariant_of-self-in_err-book
 invariant_of-self-in_err-book c =
@@ -60,13 +74,18 @@ invariant_of-self-in_err-book c =
     let reports_is = c.index_mut-reports.ensures.value ∙ ap (λ n. get_or old.reports.items n reports) at in
     let fresh = sym c.has.ensures ∙ c.if-has.false in
     let there = sym c.is_withdrawn.ensures.value ∙ c.if-is_withdrawn.false in
-    let inside = venue_there old.ledger old.reports.items c.self.invariant c.args.venue c.args.report.now c.in-Some.was kept c.in-Some.ensures.in_range (same_venue c.in-Some.was.venue c.args.venue (sym c.ne.ensures ∙ c.if-ne.false)) reports reports_is fresh there in
+    let inside = venue_there old.ledger old.reports.items c.self.invariant c.args.venue c.args.report.now c.in-Some.was
+    kept c.in-Some.ensures.in_range
+    (same_venue c.in-Some.was.venue c.args.venue (sym c.ne.ensures ∙ c.if-ne.false)) reports reports_is fresh
+    there in
     record {
       sums = c.reserve.ensures.kept;
       told =
           subst (λ b. AreTold (set old.reports.items c.from.result c.book.new.self) b) (sym c.reserve.ensures.seen)
           (subst (λ n. AreTold (set old.reports.items n c.book.new.self) (ledger_seen old.ledger)) (sym at)
-          (told_reordered old.reports.items (ledger_seen old.ledger) c.args.venue reports c.book.new.self c.self.invariant.told inside reports_is c.in_err-book.ensures.err));
+          (told_reordered old.reports.items
+          (ledger_seen old.ledger) c.args.venue reports c.book.new.self c.self.invariant.told inside reports_is
+          c.in_err-book.ensures.err));
     }
 
 pub returns-in_err-book-clause-wanting : goal.returns-in_err-book-clause-wanting
@@ -78,8 +97,12 @@ returns-in_err-book-clause-wanting c =
     let reports_is = c.index_mut-reports.ensures.value ∙ ap (λ n. get_or old.reports.items n reports) at in
     let fresh = sym c.has.ensures ∙ c.if-has.false in
     let there = sym c.is_withdrawn.ensures.value ∙ c.if-is_withdrawn.false in
-    let moved = report_moves old.ledger old.reports.items c.self.invariant c.args.venue c.args.report.now c.in-Some.was kept c.in-Some.ensures.in_range (same_venue c.in-Some.was.venue c.args.venue (sym c.ne.ensures ∙ c.if-ne.false)) reports reports_is fresh there c.in-Ok.now (sym c.moved.ensures ∙ c.in-Ok.is) in
-    wants _ _ (subst (λ b. answer_to b c.args.venue (note.Report c.args.report.now) ≡ applied.Moved) c.self.view_is moved)
+    let moved = report_moves old.ledger old.reports.items c.self.invariant c.args.venue c.args.report.now c.in-Some.was
+    kept c.in-Some.ensures.in_range
+    (same_venue c.in-Some.was.venue c.args.venue (sym c.ne.ensures ∙ c.if-ne.false)) reports reports_is fresh there
+    c.in-Ok.now (sym c.moved.ensures ∙ c.in-Ok.is) in
+    wants _ _ (subst (λ b. answer_to b c.args.venue (note.Report c.args.report.now) ≡ applied.Moved) c.self.view_is
+    moved)
 
 pub settle-requires-clause-change : goal.settle-requires-clause-change
 settle-requires-clause-change c =
@@ -91,9 +114,14 @@ settle-requires-clause-change c =
     let fresh = sym c.has.ensures ∙ c.if-has.false in
     let there = sym c.is_withdrawn.ensures.value ∙ c.if-is_withdrawn.false in
     let copy = c.copy_of.ensures in
-    let change = report_changes old.ledger old.reports.items c.self.invariant c.args.venue c.args.report.now c.in-Some.was kept c.in-Some.ensures.in_range (same_venue c.in-Some.was.venue c.args.venue (sym c.ne.ensures ∙ c.if-ne.false)) reports reports_is fresh there c.in-Ok.now (sym c.moved.ensures ∙ c.in-Ok.is) in
-    subst (λ r. ChangesLeg c.args.report.now.id c.in-Some.was c.in-Ok.now (Moved c.args.venue (note.Report r)) (ledger_seen c.reserve.new.self)) (sym copy)
-    (subst (ChangesLeg c.args.report.now.id c.in-Some.was c.in-Ok.now (Moved c.args.venue (note.Report c.args.report.now))) (sym c.reserve.ensures.seen) change)
+    let change = report_changes old.ledger old.reports.items c.self.invariant c.args.venue c.args.report.now
+    c.in-Some.was kept c.in-Some.ensures.in_range
+    (same_venue c.in-Some.was.venue c.args.venue (sym c.ne.ensures ∙ c.if-ne.false)) reports reports_is fresh there
+    c.in-Ok.now (sym c.moved.ensures ∙ c.in-Ok.is) in
+    subst (λ r. ChangesLeg c.args.report.now.id c.in-Some.was c.in-Ok.now (Moved c.args.venue (note.Report r))
+    (ledger_seen c.reserve.new.self)) (sym copy)
+    (subst (ChangesLeg c.args.report.now.id c.in-Some.was c.in-Ok.now
+    (Moved c.args.venue (note.Report c.args.report.now))) (sym c.reserve.ensures.seen) change)
 
 pub invariant_of-self-2 : goal.invariant_of-self-2
 invariant_of-self-2 c =
@@ -105,14 +133,22 @@ invariant_of-self-2 c =
     let fresh = sym c.has.ensures ∙ c.if-has.false in
     let there = sym c.is_withdrawn.ensures.value ∙ c.if-is_withdrawn.false in
     let copy = c.copy_of.ensures in
-    let moved = report_moves old.ledger old.reports.items c.self.invariant c.args.venue c.args.report.now c.in-Some.was kept c.in-Some.ensures.in_range (same_venue c.in-Some.was.venue c.args.venue (sym c.ne.ensures ∙ c.if-ne.false)) reports reports_is fresh there c.in-Ok.now (sym c.moved.ensures ∙ c.in-Ok.is) in
-    let seen = c.settle.ensures.seen ∙ (λ n. written (Moved c.args.venue (note.Report (copy n))) (c.reserve.ensures.seen n)) in
+    let moved = report_moves old.ledger old.reports.items c.self.invariant c.args.venue c.args.report.now c.in-Some.was
+    kept c.in-Some.ensures.in_range
+    (same_venue c.in-Some.was.venue c.args.venue (sym c.ne.ensures ∙ c.if-ne.false)) reports reports_is fresh there
+    c.in-Ok.now (sym c.moved.ensures ∙ c.in-Ok.is) in
+    let seen = c.settle.ensures.seen
+    ∙ (λ n. written (Moved c.args.venue (note.Report (copy n))) (c.reserve.ensures.seen n)) in
     record {
       sums = c.settle.ensures.kept;
       told =
           subst (λ b. AreTold (set old.reports.items c.from.result c.book.new.self) b) (sym seen)
-          (subst (λ n. AreTold (set old.reports.items n c.book.new.self) (written (Moved c.args.venue (note.Report c.args.report.now)) (ledger_seen old.ledger))) (sym at)
-          (told_report old.ledger old.reports.items c.self.invariant c.args.venue c.args.report.now c.in-Some.was kept c.in-Some.ensures.in_range (same_venue c.in-Some.was.venue c.args.venue (sym c.ne.ensures ∙ c.if-ne.false)) reports reports_is fresh there c.book.new.self c.in_ok-book.ensures.ok moved));
+          (subst (λ n. AreTold (set old.reports.items n c.book.new.self)
+          (written (Moved c.args.venue (note.Report c.args.report.now)) (ledger_seen old.ledger))) (sym at)
+          (told_report old.ledger old.reports.items c.self.invariant c.args.venue c.args.report.now c.in-Some.was kept
+          c.in-Some.ensures.in_range
+          (same_venue c.in-Some.was.venue c.args.venue (sym c.ne.ensures ∙ c.if-ne.false)) reports reports_is fresh
+          there c.book.new.self c.in_ok-book.ensures.ok moved));
     }
 
 pub returns-clause-answer : goal.returns-clause-answer
@@ -125,7 +161,13 @@ returns-clause-answer c =
     let fresh = sym c.has.ensures ∙ c.if-has.false in
     let there = sym c.is_withdrawn.ensures.value ∙ c.if-is_withdrawn.false in
     let copy = c.copy_of.ensures in
-    let moved = report_moves old.ledger old.reports.items c.self.invariant c.args.venue c.args.report.now c.in-Some.was kept c.in-Some.ensures.in_range (same_venue c.in-Some.was.venue c.args.venue (sym c.ne.ensures ∙ c.if-ne.false)) reports reports_is fresh there c.in-Ok.now (sym c.moved.ensures ∙ c.in-Ok.is) in
-    let seen = c.settle.ensures.seen ∙ (λ n. written (Moved c.args.venue (note.Report (copy n))) (c.reserve.ensures.seen n)) in
-    subst (λ b. ApplyAnswers b c.args.venue (note.Report c.args.report.now) (Ok applied.Moved) (ledger_seen c.settle.new.self)) c.self.view_is
-    (answers_moved (ledger_seen old.ledger) c.args.venue (note.Report c.args.report.now) (ledger_seen c.settle.new.self) moved seen)
+    let moved = report_moves old.ledger old.reports.items c.self.invariant c.args.venue c.args.report.now c.in-Some.was
+    kept c.in-Some.ensures.in_range
+    (same_venue c.in-Some.was.venue c.args.venue (sym c.ne.ensures ∙ c.if-ne.false)) reports reports_is fresh there
+    c.in-Ok.now (sym c.moved.ensures ∙ c.in-Ok.is) in
+    let seen = c.settle.ensures.seen
+    ∙ (λ n. written (Moved c.args.venue (note.Report (copy n))) (c.reserve.ensures.seen n)) in
+    subst (λ b. ApplyAnswers b c.args.venue (note.Report c.args.report.now) (Ok applied.Moved)
+    (ledger_seen c.settle.new.self)) c.self.view_is
+    (answers_moved (ledger_seen old.ledger) c.args.venue (note.Report c.args.report.now)
+    (ledger_seen c.settle.new.self) moved seen)

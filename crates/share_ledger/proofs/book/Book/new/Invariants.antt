@@ -1,4 +1,4 @@
-use Rattle.std.proofs.Common.{◌≡◌, ◌≤◌, ℕ, List, length, None}
+use Rattle.std.proofs.Common.{◌≡◌, ◌≤◌, ℕ, List, None}
 use Rattle.std.specs.List.{All}
 use Rattle.std.specs.Prelude.{vec_capacity, vec_len}
 use Rattle.share_ledger.specs.Reports.{report_at}

@@ -1,4 +1,3 @@
-use Rattle.std.proofs.Common.{ap, sym, subst}
 use Rattle.share_ledger.specs.Book.{open_sweep}
 use Rattle.share_ledger.specs.Kept.{ledger_seen}
 use Rattle.share_ledger.proofs.KeptTold.{told_open, told_answers}
@@ -12,6 +11,7 @@ invariant_of-self c =
     record {
       sums = c.open_sweep.ensures.kept;
       told =
-          told_answers old.reports.items before (open_sweep before c.args.number legs) c.open_sweep.result (ledger_seen c.open_sweep.new.self) c.open_sweep.ensures.answer
+          told_answers old.reports.items before (open_sweep before c.args.number legs) c.open_sweep.result
+          (ledger_seen c.open_sweep.new.self) c.open_sweep.ensures.answer
           c.self.invariant.told (told_open old.reports.items before c.args.number legs c.self.invariant.told);
     }

@@ -8,5 +8,6 @@ invariant_of-self c =
     let old = c.self.inside in
     record {
       sums = c.withdraw.ensures.kept;
-      told = subst (AreTold old.reports.items) (sym (ap (λ r. r.1) c.withdraw.ensures.answer)) (told_withdraw old.reports.items (ledger_seen old.ledger) c.args.id c.self.invariant.told);
+      told = subst (AreTold old.reports.items) (sym (ap (λ r. r.1) c.withdraw.ensures.answer))
+          (told_withdraw old.reports.items (ledger_seen old.ledger) c.args.id c.self.invariant.told);
     }

@@ -17,9 +17,16 @@ returns-clause-kept c =
     } in
     let copy = c.new-copy.ensures ∙ c.in_ok-copied.ensures in
     let due = c.requires.kept.due in
-    kept_opened old legs c.in_ok-open.open c.requires.kept (sym c.is_fit.ensures ∙ c.if-not-is_fit.false) c.in_ok-open.ensures new refl
+    kept_opened old legs c.in_ok-open.open c.requires.kept
+    (sym c.is_fit.ensures ∙ c.if-not-is_fit.false) c.in_ok-open.ensures new refl
     (c.push_reserved.ensures.items ∙ ap (λ l. l ++ c.in_ok-open.open ∷ []) c.in_ok-reserve-2.ensures.items)
     (ap (λ n. old.shares + n) c.shares_of.ensures.value)
     refl
     (c.push_reserved-2.ensures.items ∙ (λ n. c.in_ok-reserve.ensures.items n ++ Opened (record { legs = copy n }) ∷ []))
-    (omega (arith, c.push_reserved-2.ensures.len, c.push_reserved-2.ensures.capacity, c.in_ok-reserve.ensures.len, c.in_ok-reserve.ensures.ok))
+    (omega (
+      arith,
+      c.push_reserved-2.ensures.len,
+      c.push_reserved-2.ensures.capacity,
+      c.in_ok-reserve.ensures.len,
+      c.in_ok-reserve.ensures.ok,
+    ))

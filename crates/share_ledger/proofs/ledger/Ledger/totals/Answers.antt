@@ -14,7 +14,8 @@ totals_of-requires c =
     let same = c.deref.ensures.value in
     let long = ap length same in
     let there = ltb-true (c.args.number - 1) _ (sym lookup.0) in
-    let here = slice_get_read sweeps _ (c.args.number - 1) c.in_ok-legs.legs.now refl (omega (arith, there, long)) (lookup.1 ∙ ap (λ l. get_or l (c.args.number - 1) c.in_ok-legs.legs.now) same) in
+    let here = slice_get_read sweeps _ (c.args.number - 1) c.in_ok-legs.legs.now refl (omega (arith, there, long))
+    (lookup.1 ∙ ap (λ l. get_or l (c.args.number - 1) c.in_ok-legs.legs.now) same) in
     let few = short (suc (c.args.number - 1)) c.in_ok-legs.legs.now here in
     let items = ap length c.as_slice.ensures.value in
     omega (arith, few, items)
@@ -26,7 +27,8 @@ returns c =
     let same = c.deref.ensures.value in
     let long = ap length same in
     let there = ltb-true (c.args.number - 1) _ (sym lookup.0) in
-    let here = slice_get_read sweeps _ (c.args.number - 1) c.in_ok-legs.legs.now refl (omega (arith, there, long)) (lookup.1 ∙ ap (λ l. get_or l (c.args.number - 1) c.in_ok-legs.legs.now) same) in
+    let here = slice_get_read sweeps _ (c.args.number - 1) c.in_ok-legs.legs.now refl (omega (arith, there, long))
+    (lookup.1 ∙ ap (λ l. get_or l (c.args.number - 1) c.in_ok-legs.legs.now) same) in
     let number : suc (c.args.number - 1) ≡ c.args.number = omega (arith, c.if-number-eq0.false) in
     ap Some (c.totals_of.ensures ∙ ap totals_of c.as_slice.ensures.value)
     ∙ (sym (totals_kept c.args.self.now c.requires.kept (c.args.number - 1) c.in_ok-legs.legs.now here)
