@@ -1,5 +1,5 @@
 -- What a resend request is answered with, case by case.
-use Rattle.std.proofs.Common.{◌≡◌, ◌≢◌, ◌<◌, ◌≤◌, ◌+◌, ◌==◌, ◌&&◌, ◌||◌, min, ℕ, Bool, true, false, nat_le, List, length, Some, None, inl, inr, refl, if◌then◌else◌, arith}
+use Rattle.std.proofs.Common.{◌≡◌, ◌≢◌, ◌<◌, ◌≤◌, ◌+◌, ◌==◌, ◌&&◌, min, ℕ, Bool, true, false, nat_le, List, length, Some, None, inl, inr, refl, if◌then◌else◌, arith}
 use Rattle.std.proofs.lemmas.Bool.{cases_lt, eq-eqb}
 use Rattle.std.proofs.lemmas.Bool.Decides.{nat_tests}
 use Rattle.fix_tags.specs.Range.{range_end, is_range}

@@ -1,5 +1,5 @@
 -- What becomes of the runs where a leg more is settled.
-use Rattle.std.proofs.Common.{◌≡◌, ◌≢◌, ◌<◌, ◌≤◌, ◌+◌, ◌==◌, ℕ, zero, suc, Bool, true, false, ◌&&◌, nat_lt, List, [], ◌∷◌, length, get_or, set, ◌++◌, refl, sym, ap, ◌∙◌, if◌then◌else◌, arith}
+use Rattle.std.proofs.Common.{◌≡◌, ◌<◌, ◌≤◌, ◌+◌, ◌==◌, ℕ, zero, suc, Bool, true, false, ◌&&◌, nat_lt, List, [], ◌∷◌, length, get_or, set, ◌++◌, refl, sym, ap, ◌∙◌, if◌then◌else◌, arith}
 use Rattle.std.specs.List.{insert, remove}
 use Rattle.std.specs.List.Sorted.{IsNonDecreasingBy}
 use Rattle.std.proofs.lemmas.Bool.{and_parts, eqb-true}
@@ -8,7 +8,7 @@ use Rattle.leg.specs.declared.leg_state.LegState.{LegState}
 use Rattle.leg.specs.declared.leg_state.LegState.TheVariants.{Queued, Doubt, Taken, Withdrawn}
 use Rattle.resend.specs.declared.run.Run.{Run}
 use Rattle.resend.specs.Kept.{leading}
-use Rattle.resend.specs.Runs.{are_alike, goes_on, joined_to, joined}
+use Rattle.resend.specs.Runs.{are_alike, goes_on, joined_to}
 use Rattle.resend.specs.KeptRuns.{added, added_all, joined_at, EndBy, Rise, IsNotInto, AreApart, AreRuns}
 
 abbrev pub merged : Run → Run → Run

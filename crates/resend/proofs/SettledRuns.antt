@@ -1,9 +1,8 @@
 -- What the runs of the settled legs are where legs in doubt are settled.
-use Rattle.std.proofs.Common.{◌≡◌, ◌≢◌, ◌<◌, ◌≤◌, ◌+◌, ◌==◌, ℕ, zero, suc, Bool, true, false, ◌&&◌, nat_lt, nat_le, List, [], ◌∷◌, ◌++◌, length, take, drop, refl, sym, ap, ◌∙◌, if◌then◌else◌, arith}
+use Rattle.std.proofs.Common.{◌≡◌, ◌≢◌, ◌<◌, ◌≤◌, ◌+◌, ℕ, Bool, true, false, ◌&&◌, nat_lt, nat_le, List, [], ◌∷◌, ◌++◌, take, drop, refl, sym, ap, ◌∙◌, if◌then◌else◌, arith}
 use Rattle.std.specs.Prelude.{map}
 use Rattle.std.proofs.lemmas.Bool.Decides.{nat_tests}
 use Rattle.leg.specs.declared.leg_state.LegState.{LegState}
-use Rattle.leg.specs.declared.leg_state.LegState.TheVariants.{Taken, Withdrawn}
 use Rattle.resend.specs.declared.logged_leg.LoggedLeg.{LoggedLeg}
 use Rattle.resend.specs.declared.run.Run.{Run}
 use Rattle.resend.specs.declared.sent.Sent.{Sent}

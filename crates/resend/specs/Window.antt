@@ -1,5 +1,5 @@
 -- The log as one value, what its calls answer, and the legs in doubt that it lends.
-use Rattle.std.specs.Prelude.{◌≡◌, ℕ, List, [], ◌∷◌, Result, if◌then◌else◌}
+use Rattle.std.specs.Prelude.{ℕ, List, [], ◌∷◌, Result, if◌then◌else◌}
 use Rattle.resend.specs.declared.log_fault.LogFault.{LogFault}
 use Rattle.resend.specs.declared.sent.Sent.{Sent}
 use Rattle.resend.specs.Log.{SentLeg, Entry, spend, sent_legs, is_doubt}

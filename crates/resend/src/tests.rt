@@ -89,6 +89,80 @@ fn legs_are_taken_below_a_number_and_withdrawn_from_it_on(rt: HostRuntime) {
     }
 }
 
+/// A run of settled legs.
+fn run(first_number: u64, first_ordinal: u64, count: u64, state: LegState) -> Run {
+    Run {
+        first_number,
+        first_ordinal,
+        count,
+        state,
+    }
+}
+
+#[test]
+fn settled_legs_stand_in_runs(rt: HostRuntime) {
+    for first in [true, false] {
+        let mut log = settled_log(rt.alloc(), 16);
+        for place in 1..8 {
+            assert_eq!(rt; send(&mut log, place), Some(Ok(u64::from(place) + 2)));
+        }
+        assert_eq!(rt; log.runs().len(), 0);
+        if first {
+            log.take_below(5);
+            log.give_up_from(5);
+        } else {
+            log.give_up_from(5);
+            log.take_below(5);
+        }
+        let runs = [
+            run(3, 1, 2, LegState::Taken),
+            run(5, 3, 5, LegState::Withdrawn),
+        ];
+        assert_eq!(rt; log.runs(), runs.as_slice());
+    }
+}
+
+#[test]
+fn a_run_ends_at_an_administrative_number_and_at_a_leg_that_was_dropped(rt: HostRuntime) {
+    let mut log = settled_log(rt.alloc(), 16);
+    assert_eq!(rt; send(&mut log, 1), Some(Ok(3)));
+    assert_eq!(rt; send(&mut log, 2), Some(Ok(4)));
+    assert_eq!(rt; log.push_admin(), Ok(5));
+    assert_eq!(rt; send(&mut log, 3), Some(Ok(6)));
+    assert_eq!(rt; send(&mut log, 5), Some(Ok(7)));
+    log.take_below(6);
+    assert_eq!(rt; log.runs(), [run(3, 1, 2, LegState::Taken)].as_slice());
+    log.take_below(8);
+    let runs = [
+        run(3, 1, 2, LegState::Taken),
+        run(6, 3, 1, LegState::Taken),
+        run(7, 5, 1, LegState::Taken),
+    ];
+    assert_eq!(rt; log.runs(), runs.as_slice());
+}
+
+#[test]
+fn a_leg_that_is_settled_between_runs_joins_them(rt: HostRuntime) {
+    let mut log = settled_log(rt.alloc(), 16);
+    for place in 1..4 {
+        assert_eq!(rt; send(&mut log, place), Some(Ok(u64::from(place) + 2)));
+    }
+    log.give_up_from(5);
+    assert_eq!(rt; log.runs(), [run(5, 3, 1, LegState::Withdrawn)].as_slice());
+    log.take_below(4);
+    let apart = [
+        run(3, 1, 1, LegState::Taken),
+        run(5, 3, 1, LegState::Withdrawn),
+    ];
+    assert_eq!(rt; log.runs(), apart.as_slice());
+    log.give_up_from(4);
+    let joined = [
+        run(3, 1, 1, LegState::Taken),
+        run(4, 2, 2, LegState::Withdrawn),
+    ];
+    assert_eq!(rt; log.runs(), joined.as_slice());
+}
+
 #[test]
 fn resend_requests_are_answered_by_gap_fills(rt: HostRuntime) {
     // How many numbers were sent, the range asked for, the top, and the fill.

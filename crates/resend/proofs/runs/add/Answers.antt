@@ -1,4 +1,4 @@
-use Rattle.std.proofs.Common.{◌≡◌, ◌<◌, ◌≤◌, ◌+◌, ◌-◌, suc, nat_lt, List, length, sym, ap, ◌∙◌, arith}
+use Rattle.std.proofs.Common.{◌<◌, ◌-◌, nat_lt, List, length, ap, ◌∙◌, arith}
 use Rattle.std.specs.List.{insert}
 use Rattle.resend.specs.declared.run.Run.{Run}
 use Rattle.resend.specs.KeptRuns.{joined_at}

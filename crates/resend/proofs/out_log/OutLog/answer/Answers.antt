@@ -1,6 +1,5 @@
 use Rattle.std.proofs.Common.{◌≡◌, ◌∙◌, sym, arith}
 use Rattle.fix_tags.specs.Range.{range_end}
-use Rattle.resend.specs.Kept.{entries}
 use Rattle.resend.proofs.Kept.{length-entries}
 use Rattle.resend.proofs.Fills.{asks_to_the_end, asks_to_a_number, fill-low, fill-unasked, fill-above, fill-range}
 use Rattle.resend.proofs.out_log.OutLog.answer.Goals as goal

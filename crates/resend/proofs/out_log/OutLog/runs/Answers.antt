@@ -1,5 +1,4 @@
-use Rattle.std.proofs.Common.{sym, ap, ◌∙◌}
-use Rattle.resend.specs.Runs.{singles, joined}
+use Rattle.std.proofs.Common.{◌∙◌}
 use Rattle.resend.proofs.Kept.{sent_legs-entries}
 use Rattle.resend.proofs.out_log.OutLog.runs.Goals as goal
 
