@@ -32,3 +32,6 @@ pub use rows::{
 pub use session::Session;
 pub use session_fault::SessionFault;
 pub use step::{Frames, LegIds, Step};
+
+#[cfg(test)]
+mod tests;
