@@ -19,3 +19,6 @@ pub mod Counted
 pub mod Kept
 pub mod Reporting
 pub mod Testing
+pub mod Deciding
+pub mod Writing
+pub mod Resending
