@@ -21,4 +21,5 @@ pub mod Reporting
 pub mod Testing
 pub mod Deciding
 pub mod Writing
+pub mod Accepting
 pub mod Resending

@@ -1,6 +1,7 @@
 //! What an exchange does with the messages it gets.
 
 ghost use Rattle.std.specs.Prelude.{◌≡◌, ℕ, List, OnOk, OnErr, All};
+ghost use Rattle.fix_tags.specs.Range.{range_end, is_range};
 ghost use Rattle.dialect.specs.Message.{seen};
 ghost use Rattle.dialect.specs.Writable.{IsWritable};
 ghost use Rattle.exchange_core.specs.Exchange.{order_taken, take};
@@ -61,19 +62,13 @@ impl Exchange {
         let Some(asked) = asked else {
             return Ok(());
         };
-        let used = self.own.len() as u64;
-        if asked.begin < 1 || asked.begin > used {
+        let count = self.own.len() as u64;
+        if !asks_for_some(count, asked) {
             return Ok(());
         }
-        if asked.last != 0 && asked.last < asked.begin {
-            return Ok(());
-        }
-        let end = if asked.last == 0 {
-            used
-        } else {
-            used.min(asked.last)
-        };
-        let own = &self.own.as_slice()[asked.begin as usize - 1..end as usize];
+        let end = last_asked(count, asked.last);
+        let own = &self.own.as_slice()[..end as usize];
+        let own = &own[asked.begin as usize - 1..];
         resend(
             alloc,
             dialect,
@@ -249,4 +244,18 @@ fn use_numbers(own: &mut Vec<Own>, used: Used) -> Result<(), AllocError>
         }
     }
     Ok(())
+}
+
+/// Whether these are numbers of so many that were used.
+fn asks_for_some(count: u64, asked: Asked) -> bool
+    ensures { result ≡ is_range count asked.begin asked.last }
+{
+    (asked.begin >= 1 && asked.begin <= count) && (asked.last == 0 || asked.begin <= asked.last)
+}
+
+/// The last of so many numbers that is asked for: 0 stands for all of them.
+fn last_asked(count: u64, last: u64) -> u64
+    ensures { result ≡ range_end count last }
+{
+    if last == 0 { count } else { count.min(last) }
 }
