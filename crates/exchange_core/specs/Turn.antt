@@ -14,7 +14,8 @@ use Rattle.exchange_core.specs.declared.turn.Used.{Used}
 use Rattle.exchange_core.specs.declared.turn.Used.TheVariants as used
 use Rattle.exchange_core.specs.declared.turn.Asked.{Asked}
 use Rattle.exchange_core.specs.declared.turn.Decision.{Decision}
-use Rattle.exchange_core.specs.Own.{Own, next_own_number, resent_answer}
+use Rattle.exchange_core.specs.declared.own.Own.{Own}
+use Rattle.exchange_core.specs.Own.{next_own_number, resent_answer}
 use Rattle.exchange_core.specs.declared.own.Own.TheVariants.{Admin, Refused}
 use Rattle.exchange_core.specs.Exchange.{ExchangeParts, Answer, next_message, order_taken}
 
