@@ -1,5 +1,7 @@
 -- An order that is accepted, and what is sent again.
-use Rattle.std.proofs.Common.{◌≡◌, ℕ, suc, ◌+◌, ◌-◌, ◌≤◌, true, false, List, [], ◌∷◌, ◌++◌, map, ap, drop, take, length, None, refl, arith, length-append}
+use Rattle.std.proofs.Common.{◌≡◌, ℕ, suc, ◌+◌, ◌-◌, ◌≤◌, true, false, List, [], ◌∷◌, ◌++◌, map, sym, ap, drop, take, length, All, None, refl, subst, arith, length-append, length-drop}
+use Rattle.std.proofs.lemmas.List.{take_all}
+use Rattle.dialect.specs.Writable.{IsWritable}
 use Rattle.fix_tags.specs.Config.{ConfigParts}
 use Rattle.fix_tags.specs.Range.{range_end, is_range}
 use Rattle.leg.specs.declared.leg.Leg.{Leg}
@@ -26,6 +28,16 @@ accepted_exec x leg sound =
 -- what is sent again for a range of numbers that were used
 pub resent_range : (config : ConfigParts) (own : List Own) (begin last : ℕ) → is_range (length own) begin last ≡ true → resent_answer config own begin last ≡ resent config None begin (drop (begin - 1) (take (range_end (length own) last) own))
 resent_range config own begin last is = rw is refl
+
+-- what is cut out of the own numbers for it can be written
+pub range_writable : (config : ConfigParts) (own : List Own) (begin last end : ℕ) → is_range (length own) begin last ≡ true → end ≡ range_end (length own) last → All IsWritable (resent_answer config own begin last) → All IsWritable (resent config None begin (take (length (take end own) - (begin - 1)) (drop (begin - 1) (take end own))))
+range_writable config own begin last end is end_is all =
+    let cut : List Own = take end own in
+    let whole : take (length cut - (begin - 1)) (drop (begin - 1) cut) ≡ drop (begin - 1) cut =
+    take_all (length cut - (begin - 1)) (drop (begin - 1) cut) (omega (arith, length-drop (begin - 1) cut)) in
+    subst (λ l. All IsWritable (resent config None begin l)) (sym whole)
+    (subst (λ e. All IsWritable (resent config None begin (drop (begin - 1) (take e own)))) (sym end_is)
+    (subst (λ l. All IsWritable l) (resent_range config own begin last is) all))
 
 -- the report of an order that is accepted
 pub accepted_out : (x : ExchangeParts) (leg : Leg) (number place : ℕ) (report : Report) (order : OrderParts) (view : OrderViewParts) → number ≡ next_own_number x.own → place ≡ suc (length x.orders) → report ≡ next_report x (new_order leg) New → order ≡ new_order leg → view ≡ view_of place order → execution_report x.config number false report view ≡ next_execution_report x (suc (length x.orders)) (new_order leg) New

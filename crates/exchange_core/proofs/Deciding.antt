@@ -1,5 +1,5 @@
 -- What a message that is no Logon, and one that is no resend request, come to.
-use Rattle.std.proofs.Common.{◌≡◌, ℕ, Bool, [], Option, Ok, Err, true, refl}
+use Rattle.std.proofs.Common.{◌≡◌, ℕ, Bool, [], Option, true, refl}
 use Rattle.dialect.specs.declared.content.Content.{Content}
 use Rattle.dialect.specs.declared.content.Content.TheVariants.{Logon, Heartbeat, TestRequest, ResendRequest, Reject, GapFill, Reset, Logout, BusinessReject, Order, ExecutionReport, Other}
 use Rattle.dialect.specs.declared.message.Message.{Message}

@@ -23,3 +23,5 @@ pub mod Deciding
 pub mod Writing
 pub mod Accepting
 pub mod Resending
+pub mod Taking
+pub mod Turning

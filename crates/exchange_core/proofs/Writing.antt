@@ -1,5 +1,5 @@
 -- Frames behind one another.
-use Rattle.std.proofs.Common.{◌≡◌, ℕ, suc, arith, All, List, [], ◌∷◌, ◌++◌, refl, sym, ap, ◌∙◌, append_assoc}
+use Rattle.std.proofs.Common.{◌≡◌, ℕ, suc, arith, All, List, [], ◌∷◌, ◌++◌, sym, ap, ◌∙◌, append_assoc}
 use Rattle.std.proofs.lemmas.List.{append-nil}
 use Rattle.std.proofs.lemmas.List.Elements.{All-nil, All-cons}
 use Rattle.dialect.specs.Writable.{IsWritable}
@@ -44,3 +44,6 @@ writable_front (x ∷ xs) ys all = All-cons IsWritable x xs (all 0 x (omega arit
 pub writable_back : (xs ys : List Outgoing) → All IsWritable (xs ++ ys) → All IsWritable ys
 writable_back [] ys all = all
 writable_back (x ∷ xs) ys all = writable_back xs ys (λ k d inside. all (suc k) d (omega (arith, inside)))
+
+pub writable_last : (xs : List Outgoing) (out : Outgoing) → All IsWritable (xs ++ out ∷ []) → IsWritable out
+writable_last xs out all = writable_first out [] (writable_back xs (out ∷ []) all)

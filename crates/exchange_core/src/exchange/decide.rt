@@ -5,6 +5,7 @@ ghost use Rattle.dialect.specs.Addressed.{is_for};
 ghost use Rattle.dialect.specs.declared.content.Content.TheVariants.{Logon};
 ghost use Rattle.exchange_core.specs.Exchange.{ExchangeParts, passed_by, logon_taken, due_taken, has_asked, by_number, resends, heard, take};
 ghost use Rattle.exchange_core.specs.declared.turn.Deed.TheVariants.{Nothing, Turn as Turned};
+ghost use Rattle.exchange_core.specs.Sound.{IsSound};
 ghost use Rattle.exchange_core.specs.Turn.{turn_answer, deed_answer, asked_answer, decided};
 
 use super::Exchange;
@@ -16,7 +17,8 @@ impl Exchange {
     /// What is to be done with a message in a connection. With fewer than two own numbers left nothing is.
     #[tactic(auto, using(crate::proofs::Deciding::comes_heard))]
     pub(super) fn decide<'a>(&self, connection: u64, message: Message<'a>) -> Decision<'a>
-        ensures { take self.now connection message.entry ≡ decided self.now result }
+        ensures answer { take self.now connection message.entry ≡ decided self.now result }
+        ensures sound { IsSound self.now }
     {
         if !self.is_from_peer(&message) || !self.has_numbers(2) {
             return ignored();
@@ -31,7 +33,8 @@ impl Exchange {
 
     /// Whether a message is from the peer to this end.
     fn is_from_peer(&self, message: &Message<'_>) -> bool
-        ensures { result ≡ is_for self.now.config message.now }
+        ensures value { result ≡ is_for self.now.config message.now }
+        ensures sound { IsSound self.now }
     {
         message.from.as_bytes() == self.config.peer().as_bytes()
             && message.to.as_bytes() == self.config.me().as_bytes()

@@ -1,11 +1,12 @@
 //! What an exchange does with the messages it gets.
 
-ghost use Rattle.std.specs.Prelude.{◌≡◌, ℕ, List, OnOk, OnErr, All};
+ghost use Rattle.std.specs.Prelude.{◌≡◌, List, OnOk, OnErr, All};
 ghost use Rattle.fix_tags.specs.Range.{range_end, is_range};
 ghost use Rattle.dialect.specs.Message.{seen};
 ghost use Rattle.dialect.specs.Writable.{IsWritable};
 ghost use Rattle.exchange_core.specs.Exchange.{order_taken, take};
 ghost use Rattle.exchange_core.specs.Frames.{TakeGives, Writes};
+ghost use Rattle.exchange_core.specs.Keeping.{IsAnswer};
 ghost use Rattle.exchange_core.specs.Sound.{IsRead, IsSound};
 ghost use Rattle.exchange_core.specs.Turn.{turn_answer, turn_written, turn_own, used_own, used_for, asked_answer, deed_answer};
 ghost use Rattle.exchange_core.specs.declared.own.Own.{Own as OwnUse};
@@ -26,7 +27,8 @@ use std::alloc::{AllocError, Global};
 
 impl Exchange {
     /// A message comes in a connection. It gives the frames of what is written, in order. The only refusal is want of
-    /// memory, X04.
+    /// memory, X04: the message is then to be handed in again.
+    #[tactic(auto, using(crate::proofs::Taking::take_allowed))]
     pub fn take<D: Dialect>(
         &mut self,
         alloc: Global,
@@ -36,7 +38,8 @@ impl Exchange {
         stamp: &Stamp,
     ) -> Result<Vec<Vec<u8>>, ExchangeFault>
         requires { IsRead (seen (record { order = D.order_read dialect.now; report = D.report_read dialect.now }) envelope.now) }
-        ensures { TakeGives (record { IsOrder = D.IsOrder dialect.now; IsReport = D.IsReport dialect.now }) stamp.now self.old (take self.old connection (seen (record { order = D.order_read dialect.now; report = D.report_read dialect.now }) envelope.now)) result self.new }
+        ensures gives { TakeGives (record { IsOrder = D.IsOrder dialect.now; IsReport = D.IsReport dialect.now }) stamp.now self.old (take self.old connection (seen (record { order = D.order_read dialect.now; report = D.report_read dialect.now }) envelope.now)) result self.new }
+        ensures allowed { IsAnswer self.old connection (seen (record { order = D.order_read dialect.now; report = D.report_read dialect.now }) envelope.now) (take self.old connection (seen (record { order = D.order_read dialect.now; report = D.report_read dialect.now }) envelope.now)) }
     {
         let message = see(dialect, envelope);
         let decision = self.decide(connection, message);
@@ -92,8 +95,8 @@ impl Exchange {
     ) -> Result<(), AllocError>
         requires writable { All IsWritable (deed_answer self.old deed).0 }
         requires sound { IsSound (deed_answer self.old deed).1 }
-        ensures written { OnOk result (Writes (record { IsOrder = D.IsOrder dialect.now; IsReport = D.IsReport dialect.now }) stamp.now (deed_answer self.old deed).0 frames.old.items frames.new.items) }
-        ensures ok { OnOk result (self.new ≡ (deed_answer self.old deed).1) }
+        ensures written { OnOk result (Writes (record { IsOrder = D.IsOrder dialect.now; IsReport = D.IsReport dialect.now }) stamp.now (deed_answer self.old deed.entry).0 frames.old.items frames.new.items) }
+        ensures ok { OnOk result (self.new ≡ (deed_answer self.old deed.entry).1) }
         ensures err { OnErr result (self.new ≡ self.old) }
     {
         match deed {
@@ -151,8 +154,8 @@ impl Exchange {
     ) -> Result<(), AllocError>
         requires writable { All IsWritable (turn_answer self.old turn).0 }
         requires sound { IsSound (turn_answer self.old turn).1 }
-        ensures written { OnOk result (Writes (record { IsOrder = D.IsOrder dialect.now; IsReport = D.IsReport dialect.now }) stamp.now (turn_answer self.old turn).0 frames.old.items frames.new.items) }
-        ensures ok { OnOk result (self.new ≡ (turn_answer self.old turn).1) }
+        ensures written { OnOk result (Writes (record { IsOrder = D.IsOrder dialect.now; IsReport = D.IsReport dialect.now }) stamp.now (turn_answer self.old turn.entry).0 frames.old.items frames.new.items) }
+        ensures ok { OnOk result (self.new ≡ (turn_answer self.old turn.entry).1) }
         ensures err { OnErr result (self.new ≡ self.old) }
     {
         let Turn {
@@ -183,8 +186,8 @@ impl Exchange {
         stamp: &Stamp,
         frames: &mut Vec<Vec<u8>>,
     ) -> Result<(), AllocError>
-        requires { All IsWritable (turn_written self.entry.now expected says.entry) }
-        ensures { OnOk result (Writes (record { IsOrder = D.IsOrder dialect.now; IsReport = D.IsReport dialect.now }) stamp.now (turn_written self.entry.now expected says.entry) frames.old.items frames.new.items) }
+        requires { All IsWritable (turn_written self.now expected says) }
+        ensures { OnOk result (Writes (record { IsOrder = D.IsOrder dialect.now; IsReport = D.IsReport dialect.now }) stamp.now (turn_written self.now expected says.entry) frames.old.items frames.new.items) }
     {
         let number = self.own.len() as u64 + 1;
         match says {
