@@ -28,3 +28,16 @@ reports_silent [] = refl
 reports_silent (Admin ∷ own) = reports_silent own
 reports_silent (Reported report view ∷ own) = ap (λ l. report ∷ l) (reports_silent own)
 reports_silent (Refused number ∷ own) = reports_silent own
+
+-- neither are two, nor a refusal
+pub reports_silent_two : (own : List Own) → reports_of (own ++ Admin ∷ Admin ∷ []) ≡ reports_of own
+reports_silent_two [] = refl
+reports_silent_two (Admin ∷ own) = reports_silent_two own
+reports_silent_two (Reported report view ∷ own) = ap (λ l. report ∷ l) (reports_silent_two own)
+reports_silent_two (Refused number ∷ own) = reports_silent_two own
+
+pub reports_refused : (own : List Own) (refused : ℕ) → reports_of (own ++ Refused refused ∷ []) ≡ reports_of own
+reports_refused [] refused = refl
+reports_refused (Admin ∷ own) refused = reports_refused own refused
+reports_refused (Reported report view ∷ own) refused = ap (λ l. report ∷ l) (reports_refused own refused)
+reports_refused (Refused number ∷ own) refused = reports_refused own refused

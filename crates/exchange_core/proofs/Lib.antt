@@ -19,3 +19,9 @@ pub mod Counted
 pub mod Kept
 pub mod Reporting
 pub mod Testing
+pub mod Deciding
+pub mod Writing
+pub mod Accepting
+pub mod Resending
+pub mod Taking
+pub mod Turning

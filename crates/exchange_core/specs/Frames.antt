@@ -1,12 +1,12 @@
 -- What a call gives: frames, each of one message.
-use Rattle.std.specs.Prelude.{◌≡◌, ℕ, List, [], ◌∷◌, Option, option_to_list, Result, Ok, Err}
+use Rattle.std.specs.Prelude.{◌≡◌, ℕ, List, [], ◌∷◌, ◌++◌, Option, option_to_list, Result, Ok, Err}
 use Rattle.std.specs.Global.{Vec}
 use Rattle.fix_tags.specs.Stamp.{StampParts}
 use Rattle.dialect.specs.Framed.{Writers, IsFramed}
 use Rattle.dialect.specs.declared.outgoing.Outgoing.{Outgoing}
 use Rattle.exchange_core.specs.declared.exchange_fault.ExchangeFault.{ExchangeFault}
 use Rattle.exchange_core.specs.declared.exchange_fault.ExchangeFault.TheVariants.{OutOfMemory}
-use Rattle.exchange_core.specs.Exchange.{ExchangeParts}
+use Rattle.exchange_core.specs.Exchange.{ExchangeParts, Answer}
 use Rattle.exchange_core.specs.Acts.{ActAnswer}
 
 -- the frames of a session's own messages are the same in every dialect: they are those in one that writes no orders
@@ -32,3 +32,18 @@ ActGives w stamp before (Err fault, after) answer now = (answer ≡ Err fault) �
 ActGives w stamp before (Ok written, after) (Ok frame) now =
     AreFramed w stamp written (option_to_list frame) × (now ≡ after)
 ActGives w stamp before (Ok written, after) (Err fault) now = (fault ≡ OutOfMemory) × (now ≡ before)
+
+-- the frames of these messages were put behind the others
+pub record Writes (w : Writers) (stamp : StampParts) (written : List Outgoing) (old new : List (Vec ℕ)) : Type 0 where
+  pub frames : List (Vec ℕ)
+  pub added : new ≡ old ++ frames
+  pub framed : AreFramed w stamp written frames
+
+-- what a message that comes is answered with
+abbrev pub TakeResult : Type 0
+TakeResult = Result (Vec (Vec ℕ)) ExchangeFault
+
+-- what is given for it: the frames of what is written; or want of memory, and the exchange as it was
+abbrev pub TakeGives : Writers → StampParts → ExchangeParts → Answer → TakeResult → ExchangeParts → Type 0
+TakeGives w stamp before (written, after) (Ok frames) now = AreFramed w stamp written frames.items × (now ≡ after)
+TakeGives w stamp before (written, after) (Err fault) now = (fault ≡ OutOfMemory) × (now ≡ before)

@@ -9,4 +9,6 @@ pub mod Sound
 pub mod Kept
 pub mod Plan
 pub mod Frames
+pub mod Turn
+pub mod Resending
 pub mod Rows

@@ -5,7 +5,9 @@ ghost use Rattle.exchange_core.specs.Exchange.{new_exchange, accepted_by, drop_c
 ghost use Rattle.exchange_core.specs.Kept.{reports_of};
 
 mod acts;
+mod decide;
 mod plans;
+mod take;
 
 use crate::live_connection::LiveConnection;
 use crate::order::Order;

@@ -10,9 +10,12 @@ mod numbered_id;
 mod order;
 mod own;
 mod plan;
+mod resend;
 pub mod rows;
 mod to_peer;
 mod trade;
+mod turn;
+mod write;
 
 pub use ending::Ending;
 pub use exchange::Exchange;

@@ -1,13 +1,15 @@
 //! An order that was accepted.
 
-ghost use Rattle.std.specs.Prelude.{◌≡◌, ◌≤◌, length, OnOk, OnErr};
+ghost use Rattle.std.specs.Prelude.{◌≡◌, ◌+◌, ◌≤◌, length, OnOk, OnErr};
 ghost use Rattle.leg.specs.Numbered.{numbered};
-ghost use Rattle.exchange_core.specs.Order.{new_order};
+ghost use Rattle.exchange_core.specs.Order.{new_order, view_of};
 ghost use Rattle.exchange_core.specs.Plan.{stepped, IsPlaced};
 
 use crate::ending::Ending;
+use crate::numbered_id::id_of_order;
 use crate::plan::OrderStep;
 use crate::trade::Trade;
+use dialect::OrderView;
 use leg::{Leg, Split};
 use std::alloc::{AllocError, Global};
 use std::marker::Model;
@@ -53,6 +55,22 @@ impl Order {
         ensures { result ≡ self.now.leg }
     {
         self.leg.clone().unwrap()
+    }
+
+    /// The order as its exchange sees it, at this place among those accepted.
+    pub(crate) fn view(&self, place: u64) -> OrderView
+        requires place { place ≤ 999999999 }
+        requires within { self.now.split.filled + self.now.split.still_open ≤ self.now.leg.terms.shares }
+        ensures { result ≡ view_of place self.now }
+    {
+        let split = self.split;
+        OrderView::new(
+            self.leg(),
+            id_of_order(place),
+            split.filled(),
+            split.still_open(),
+        )
+        .unwrap()
     }
 
     /// What became of its shares.

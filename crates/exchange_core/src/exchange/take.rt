@@ -1,0 +1,264 @@
+//! What an exchange does with the messages it gets.
+
+ghost use Rattle.std.specs.Prelude.{◌≡◌, List, OnOk, OnErr, All};
+ghost use Rattle.fix_tags.specs.Range.{range_end, is_range};
+ghost use Rattle.dialect.specs.Message.{seen};
+ghost use Rattle.dialect.specs.Writable.{IsWritable};
+ghost use Rattle.exchange_core.specs.Exchange.{order_taken, take};
+ghost use Rattle.exchange_core.specs.Frames.{TakeGives, Writes};
+ghost use Rattle.exchange_core.specs.Keeping.{IsAnswer};
+ghost use Rattle.exchange_core.specs.Sound.{IsRead, IsSound};
+ghost use Rattle.exchange_core.specs.Turn.{turn_answer, turn_written, turn_own, used_own, used_for, asked_answer, deed_answer};
+ghost use Rattle.exchange_core.specs.declared.own.Own.{Own as OwnUse};
+
+use super::Exchange;
+use crate::ExchangeFault;
+use crate::numbered_id::id_of_report;
+use crate::order::Order;
+use crate::own::Own;
+use crate::resend::resend;
+use crate::to_peer::{report_to_peer, to_peer};
+use crate::turn::{Asked, Deed, Says, Turn, Used};
+use crate::write::write;
+use dialect::{Content, Dialect, Report, ReportKind, see};
+use fix_tags::{EnvelopeRef, Stamp};
+use leg::Leg;
+use std::alloc::{AllocError, Global};
+
+impl Exchange {
+    /// A message comes in a connection. It gives the frames of what is written, in order. The only refusal is want of
+    /// memory, X04: the message is then to be handed in again.
+    #[tactic(auto, using(crate::proofs::Taking::take_allowed))]
+    pub fn take<D: Dialect>(
+        &mut self,
+        alloc: Global,
+        dialect: &D,
+        connection: u64,
+        envelope: &EnvelopeRef<'_>,
+        stamp: &Stamp,
+    ) -> Result<Vec<Vec<u8>>, ExchangeFault>
+        requires { IsRead (seen (record { order = D.order_read dialect.now; report = D.report_read dialect.now }) envelope.now) }
+        ensures gives { TakeGives (record { IsOrder = D.IsOrder dialect.now; IsReport = D.IsReport dialect.now }) stamp.now self.old (take self.old connection (seen (record { order = D.order_read dialect.now; report = D.report_read dialect.now }) envelope.now)) result self.new }
+        ensures allowed { IsAnswer self.old connection (seen (record { order = D.order_read dialect.now; report = D.report_read dialect.now }) envelope.now) (take self.old connection (seen (record { order = D.order_read dialect.now; report = D.report_read dialect.now }) envelope.now)) }
+    {
+        let message = see(dialect, envelope);
+        let decision = self.decide(connection, message);
+        let mut frames = Vec::new(alloc);
+        self.send_again(alloc, dialect, decision.asked, stamp, &mut frames)?;
+        self.carry_out(alloc, dialect, decision.deed, stamp, &mut frames)?;
+        Ok(frames)
+    }
+
+    /// Sends again what was asked for.
+    #[tactic(auto, using(crate::proofs::Writing::writes_none))]
+    fn send_again<D: Dialect>(
+        &self,
+        alloc: Global,
+        dialect: &D,
+        asked: Option<Asked>,
+        stamp: &Stamp,
+        frames: &mut Vec<Vec<u8>>,
+    ) -> Result<(), AllocError>
+        requires { All IsWritable (asked_answer self.now asked) }
+        ensures { OnOk result (Writes (record { IsOrder = D.IsOrder dialect.now; IsReport = D.IsReport dialect.now }) stamp.now (asked_answer self.now asked) frames.old.items frames.new.items) }
+    {
+        let Some(asked) = asked else {
+            return Ok(());
+        };
+        let count = self.own.len() as u64;
+        if !asks_for_some(count, asked) {
+            return Ok(());
+        }
+        let end = last_asked(count, asked.last);
+        let own = &self.own.as_slice()[..end as usize];
+        let own = &own[asked.begin as usize - 1..];
+        resend(
+            alloc,
+            dialect,
+            &self.config,
+            asked.begin,
+            own,
+            stamp,
+            frames,
+        )
+    }
+
+    /// Carries out what was decided.
+    #[tactic(auto, using(crate::proofs::Writing::writes_none))]
+    fn carry_out<D: Dialect>(
+        &mut self,
+        alloc: Global,
+        dialect: &D,
+        deed: Deed<'_>,
+        stamp: &Stamp,
+        frames: &mut Vec<Vec<u8>>,
+    ) -> Result<(), AllocError>
+        requires writable { All IsWritable (deed_answer self.old deed).0 }
+        requires sound { IsSound (deed_answer self.old deed).1 }
+        ensures written { OnOk result (Writes (record { IsOrder = D.IsOrder dialect.now; IsReport = D.IsReport dialect.now }) stamp.now (deed_answer self.old deed.entry).0 frames.old.items frames.new.items) }
+        ensures ok { OnOk result (self.new ≡ (deed_answer self.old deed.entry).1) }
+        ensures err { OnErr result (self.new ≡ self.old) }
+    {
+        match deed {
+            Deed::Nothing => Ok(()),
+            Deed::Accept(leg) => self.accept(alloc, dialect, leg, stamp, frames),
+            Deed::Turn(turn) => self.turn(alloc, dialect, turn, stamp, frames),
+        }
+    }
+
+    /// Accepts the order of a leg, and reports it as new.
+    fn accept<D: Dialect>(
+        &mut self,
+        alloc: Global,
+        dialect: &D,
+        leg: Leg,
+        stamp: &Stamp,
+        frames: &mut Vec<Vec<u8>>,
+    ) -> Result<(), AllocError>
+        requires writable { All IsWritable (order_taken self.old leg).0 }
+        requires sound { IsSound (order_taken self.old leg).1 }
+        ensures written { OnOk result (Writes (record { IsOrder = D.IsOrder dialect.now; IsReport = D.IsReport dialect.now }) stamp.now (order_taken self.old leg).0 frames.old.items frames.new.items) }
+        ensures ok { OnOk result (self.new ≡ (order_taken self.old leg).1) }
+        ensures err { OnErr result (self.new ≡ self.old) }
+    {
+        let report = Report {
+            id: leg.id,
+            exec: id_of_report(self.next_count()),
+            kind: ReportKind::New,
+        };
+        let order = Order::new(alloc, leg);
+        let view = order.view(self.orders.len() as u64 + 1);
+        let number = self.own.len() as u64 + 1;
+        let outgoing = report_to_peer(&self.config, number, false, &report, &view);
+        write(alloc, dialect, stamp, &outgoing, frames)?;
+        self.orders.reserve(1)?;
+        self.accepted.reserve(1)?;
+        self.own.reserve(1)?;
+        self.reports.reserve(1)?;
+        self.expected += 1;
+        self.accepted.push_reserved(order.leg());
+        self.orders.push_reserved(order);
+        self.reports.push_reserved(report.clone().unwrap());
+        self.own.push_reserved(Own::Reported { report, view });
+        Ok(())
+    }
+
+    /// Writes what a turn says, and stands as it says.
+    fn turn<D: Dialect>(
+        &mut self,
+        alloc: Global,
+        dialect: &D,
+        turn: Turn<'_>,
+        stamp: &Stamp,
+        frames: &mut Vec<Vec<u8>>,
+    ) -> Result<(), AllocError>
+        requires writable { All IsWritable (turn_answer self.old turn).0 }
+        requires sound { IsSound (turn_answer self.old turn).1 }
+        ensures written { OnOk result (Writes (record { IsOrder = D.IsOrder dialect.now; IsReport = D.IsReport dialect.now }) stamp.now (turn_answer self.old turn.entry).0 frames.old.items frames.new.items) }
+        ensures ok { OnOk result (self.new ≡ (turn_answer self.old turn.entry).1) }
+        ensures err { OnErr result (self.new ≡ self.old) }
+    {
+        let Turn {
+            expected,
+            live,
+            last,
+            closed_at,
+            says,
+        } = turn;
+        let used = used_by(&says);
+        self.say(alloc, dialect, expected, says, stamp, frames)?;
+        use_numbers(&mut self.own, used)?;
+        self.expected = expected;
+        self.live = live;
+        self.last = last;
+        self.closed_at = closed_at;
+        Ok(())
+    }
+
+    /// Writes what is said, where this number is expected afterwards.
+    #[tactic(auto, using(crate::proofs::Writing::writes_none, crate::proofs::Writing::writes_both, crate::proofs::Writing::writable_first, crate::proofs::Writing::writable_second))]
+    fn say<'a, D: Dialect>(
+        &'a self,
+        alloc: Global,
+        dialect: &D,
+        expected: u64,
+        says: Says<'a>,
+        stamp: &Stamp,
+        frames: &mut Vec<Vec<u8>>,
+    ) -> Result<(), AllocError>
+        requires { All IsWritable (turn_written self.now expected says) }
+        ensures { OnOk result (Writes (record { IsOrder = D.IsOrder dialect.now; IsReport = D.IsReport dialect.now }) stamp.now (turn_written self.now expected says.entry) frames.old.items frames.new.items) }
+    {
+        let number = self.own.len() as u64 + 1;
+        match says {
+            Says::Nothing => Ok(()),
+            Says::One(content) => {
+                let outgoing = to_peer(&self.config, number, false, content);
+                write(alloc, dialect, stamp, &outgoing, frames)
+            }
+            Says::OneAndRequest(content) => {
+                let outgoing = to_peer(&self.config, number, false, content);
+                write(alloc, dialect, stamp, &outgoing, frames)?;
+                let request = Content::ResendRequest {
+                    begin: expected,
+                    last: 0,
+                };
+                let outgoing = to_peer(&self.config, number + 1, false, request);
+                write(alloc, dialect, stamp, &outgoing, frames)
+            }
+        }
+    }
+}
+
+/// What the own numbers of what is said are used for.
+fn used_by(says: &Says<'_>) -> Used
+    ensures { (own : List OwnUse) → used_own own result ≡ turn_own own says.now }
+{
+    match says {
+        Says::Nothing => Used::Nothing,
+        Says::One(content) => Used::One(use_of(content)),
+        Says::OneAndRequest(_) => Used::Two,
+    }
+}
+
+/// What an own number is used for, by what is said under it.
+#[tactic(auto, using(crate::proofs::Deciding::used_admin))]
+fn use_of(content: &Content<'_>) -> Own
+    ensures { result ≡ used_for content.now }
+{
+    match content {
+        Content::Reject { number } => Own::Refused { number: *number },
+        _ => Own::Admin,
+    }
+}
+
+/// Uses the next own numbers. Want of memory leaves them as they were.
+fn use_numbers(own: &mut Vec<Own>, used: Used) -> Result<(), AllocError>
+    ensures ok { OnOk result (own.new.items ≡ used_own own.old.items used) }
+    ensures err { OnErr result (own.new.items ≡ own.old.items) }
+{
+    own.reserve(2)?;
+    match used {
+        Used::Nothing => {}
+        Used::One(entry) => own.push_reserved(entry),
+        Used::Two => {
+            own.push_reserved(Own::Admin);
+            own.push_reserved(Own::Admin);
+        }
+    }
+    Ok(())
+}
+
+/// Whether these are numbers of so many that were used.
+fn asks_for_some(count: u64, asked: Asked) -> bool
+    ensures { result ≡ is_range count asked.begin asked.last }
+{
+    (asked.begin >= 1 && asked.begin <= count) && (asked.last == 0 || asked.begin <= asked.last)
+}
+
+/// The last of so many numbers that is asked for: 0 stands for all of them.
+fn last_asked(count: u64, last: u64) -> u64
+    ensures { result ≡ range_end count last }
+{
+    if last == 0 { count } else { count.min(last) }
+}

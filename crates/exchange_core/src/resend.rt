@@ -1,0 +1,103 @@
+//! What own numbers were used for is sent again.
+
+ghost use Rattle.std.specs.Prelude.{◌≡◌, ◌+◌, ◌≤◌, None, OnOk, IfOk, All, length};
+ghost use Rattle.dialect.specs.Writable.{IsWritable};
+ghost use Rattle.exchange_core.specs.Frames.{Writes};
+ghost use Rattle.exchange_core.specs.Own.{closing_fill, resent};
+ghost use Rattle.exchange_core.specs.Resending.{resent_one, run_after};
+
+use crate::own::Own;
+use crate::to_peer::{report_to_peer, to_peer};
+use crate::write::write;
+use dialect::{Content, Dialect};
+use fix_tags::{Config, Stamp};
+use std::alloc::{AllocError, Global};
+
+/// Sends again what these own numbers were used for, of which the first is this one: each report and refusal under its
+/// number, and each run of the others by one gap fill.
+pub(crate) fn resend<D: Dialect>(
+    alloc: Global,
+    dialect: &D,
+    config: &Config,
+    begin: u64,
+    own: &[Own],
+    stamp: &Stamp,
+    frames: &mut Vec<Vec<u8>>,
+) -> Result<(), AllocError>
+    requires writable { All IsWritable (resent config.now None begin own.now) }
+    requires small { begin + length own.now ≤ 1000000000 }
+    ensures { OnOk result (Writes (record { IsOrder = D.IsOrder dialect.now; IsReport = D.IsReport dialect.now })
+        stamp.now (resent config.now None begin own.now) frames.old.items frames.new.items) }
+{
+    let mut run = None;
+    let mut number = begin;
+    for entry in own {
+        run = resend_one(alloc, dialect, config, run, number, entry, stamp, frames)?;
+        number += 1;
+    }
+    close_run(alloc, dialect, config, run, number, stamp, frames)
+}
+
+/// Sends again what one own number was used for, and gives the first number of the run that is open behind it.
+#[tactic(auto, using(crate::proofs::Writing::writes_none, crate::proofs::Writing::writes_both, crate::proofs::Writing::writable_front, crate::proofs::Writing::writable_back, crate::proofs::Writing::writable_first))]
+fn resend_one<D: Dialect>(
+    alloc: Global,
+    dialect: &D,
+    config: &Config,
+    run: Option<u64>,
+    number: u64,
+    entry: &Own,
+    stamp: &Stamp,
+    frames: &mut Vec<Vec<u8>>,
+) -> Result<Option<u64>, AllocError>
+    requires { All IsWritable (resent_one config.now run number entry.now) }
+    ensures written { OnOk result (Writes
+        (record { IsOrder = D.IsOrder dialect.now; IsReport = D.IsReport dialect.now }) stamp.now
+        (resent_one config.now run number entry.now) frames.old.items frames.new.items) }
+    ensures run { IfOk result (λ after. after ≡ run_after run number entry.now) }
+{
+    match entry {
+        Own::Admin => match run {
+            None => Ok(Some(number)),
+            Some(first) => Ok(Some(first)),
+        },
+        Own::Reported { report, view } => {
+            close_run(alloc, dialect, config, run, number, stamp, frames)?;
+            let outgoing = report_to_peer(config, number, true, report, view);
+            write(alloc, dialect, stamp, &outgoing, frames)?;
+            Ok(None)
+        }
+        Own::Refused { number: refused } => {
+            close_run(alloc, dialect, config, run, number, stamp, frames)?;
+            let content = Content::Reject { number: *refused };
+            let outgoing = to_peer(config, number, true, content);
+            write(alloc, dialect, stamp, &outgoing, frames)?;
+            Ok(None)
+        }
+    }
+}
+
+/// Closes an open run of numbers that aren't sent again, by a gap fill to this number.
+#[tactic(auto, using(crate::proofs::Writing::writes_none, crate::proofs::Writing::writable_first))]
+fn close_run<D: Dialect>(
+    alloc: Global,
+    dialect: &D,
+    config: &Config,
+    run: Option<u64>,
+    number: u64,
+    stamp: &Stamp,
+    frames: &mut Vec<Vec<u8>>,
+) -> Result<(), AllocError>
+    requires { All IsWritable (closing_fill config.now run number) }
+    ensures { OnOk result (Writes (record { IsOrder = D.IsOrder dialect.now; IsReport = D.IsReport dialect.now })
+        stamp.now (closing_fill config.now run number) frames.old.items frames.new.items) }
+{
+    match run {
+        None => Ok(()),
+        Some(first) => {
+            let content = Content::GapFill { new_number: number };
+            let outgoing = to_peer(config, first, true, content);
+            write(alloc, dialect, stamp, &outgoing, frames)
+        }
+    }
+}
