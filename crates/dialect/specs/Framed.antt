@@ -1,5 +1,5 @@
 -- A message as the bytes of one frame, in a dialect, and as what a stream that begins with it reads as.
-use Rattle.std.specs.Prelude.{◌≡◌, ℕ, false, List, Option, Some, None, Result, Ok, Err, codes}
+use Rattle.std.specs.Prelude.{◌≡◌, ℕ, false, List, [], ◌∷◌, Option, Some, None, Result, Ok, Err, codes}
 use Rattle.fix_text.specs.Tagged.{Tagged}
 use Rattle.fix_text.specs.Frame.{frame_text}
 use Rattle.fix_text.specs.Reading.{Stream, next_read}
@@ -66,6 +66,13 @@ pub record IsFramed (w : Writers) (stamp : StampParts) (out : Outgoing) (bytes :
   pub says : Body
   pub is_body : IsBody w stamp out.beside out.message.content says
   pub written : bytes ≡ frame_text (envelope_fields (envelope_of out.message says) stamp)
+
+-- the frames are those of these messages, one each and in order, each written at this moment
+abbrev pub AreFramed : Writers → StampParts → List Outgoing → List (List ℕ) → Type 0
+AreFramed w stamp [] [] = Unit {0}
+AreFramed w stamp [] (bytes ∷ frames) = ⊥
+AreFramed w stamp (out ∷ written) [] = ⊥
+AreFramed w stamp (out ∷ written) (bytes ∷ frames) = IsFramed w stamp out bytes × AreFramed w stamp written frames
 
 -- the next frame of a stream is read as this message, and then the rest follows
 pub record IsReadAs (read : Readers) (stream : Stream) (rest : List ℕ) (m : Message) : Type 0 where

@@ -1,5 +1,8 @@
 //! A message as it is written.
 
+ghost use Rattle.std.specs.Prelude.{◌≡◌};
+ghost use Rattle.dialect.specs.Outgoing.{alone};
+
 use crate::message::Message;
 use crate::order_view::OrderView;
 
@@ -9,4 +12,16 @@ use crate::order_view::OrderView;
 pub struct Outgoing<'a> {
     pub message: Message<'a>,
     pub beside: Option<OrderView>,
+}
+
+impl<'a> Outgoing<'a> {
+    /// A message that has nothing beside it.
+    pub fn alone(message: Message<'a>) -> Outgoing<'a>
+        ensures { result ≡ alone message.entry }
+    {
+        Outgoing {
+            message,
+            beside: None,
+        }
+    }
 }
