@@ -7,3 +7,4 @@ pub mod PlainIdLength
 pub mod ReportReading
 pub mod FrameBack
 pub mod PriceLength
+pub mod ReadRanges

@@ -1,5 +1,5 @@
 -- Reading and writing one field, with its fault.
-use Rattle.std.specs.Prelude.{ℕ, Bool, true, false, not, ◌==◌, List, ◌++◌, ◌≡◌, Option, Some, Result, Ok, Err}
+use Rattle.std.specs.Prelude.{ℕ, Bool, false, not, ◌==◌, List, ◌++◌, ◌≡◌, Option, Some, Result}
 use Rattle.std.specs.List.{AllByRecursion, list_all}
 use Rattle.std.specs.Option.{ok_or, option_map_or}
 use Rattle.std.specs.Str.{bytes_eq}

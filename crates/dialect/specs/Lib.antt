@@ -27,5 +27,6 @@ pub mod Addressed
 pub mod Outgoing
 pub mod ReportReading
 pub mod Writable
+pub mod Read
 pub mod Framed
 pub mod Lemmas

@@ -12,7 +12,7 @@ use std::alloc::Global;
 /// on it (ExecutionReport) in those of kind `8`, without those of the header. What is written for a leg or a report is
 /// a relation, what is read from fields a function, and the laws join the two.
 pub trait Dialect {
-    ghost use Rattle.std.specs.Prelude.{◌≡◌, ◌+◌, ◌<◌, List, Some, Result, Ok, OnOk, OnErr, vec_len, vec_capacity};
+    ghost use Rattle.std.specs.Prelude.{◌≡◌, ◌+◌, ◌<◌, List, Some, Result, Ok, IfOk, OnOk, OnErr, vec_len, vec_capacity};
     ghost use Rattle.fix_text.specs.Tagged.{Tagged, value_of};
     ghost use Rattle.fix_tags.specs.Stamp.{StampParts, IsStamp, stamp_text};
     ghost use Rattle.leg.specs.declared.leg.Leg.{Leg};
@@ -55,7 +55,8 @@ pub trait Dialect {
     /// Reads an order. Faults are tried in the written order of the fields, and the first one is answered. Of a tag
     /// that stands several times the first counts, and tags that an order doesn't have are passed over.
     fn read_order(&self, fields: &[FieldRef<'_>]) -> Result<Leg, DialectFault>
-        ensures value { result ≡ order_read self.now fields.now };
+        ensures value { result ≡ order_read self.now fields.now }
+        ensures in_range { IfOk result IsLeg };
 
     /// Appends the fields of a report, beside what its exchange knows of the order. V05 leaves the list as it was.
     fn write_report(
@@ -74,7 +75,8 @@ pub trait Dialect {
     /// 19 of a bust, and the first one is answered. Of a tag that stands several times the first counts, and the other
     /// tags are passed over.
     fn read_report(&self, fields: &[FieldRef<'_>]) -> Result<Report, DialectFault>
-        ensures value { result ≡ report_read self.now fields.now };
+        ensures value { result ≡ report_read self.now fields.now }
+        ensures in_range { IfOk result IsInRange };
 
     // There is an order for every leg and stamp in range.
     ghost order_exists: { (d : Self) (leg : Leg) (stamp : StampParts) → IsLeg leg → IsStamp stamp →

@@ -2,6 +2,7 @@
 
 ghost use Rattle.std.specs.Prelude.{◌≡◌, ◌+◌, ◌<◌, ◌≤◌, ◌++◌, IfOk, IfSome, OnOk, OnErr, length, vec_len, vec_capacity};
 ghost use Rattle.fix_tags.specs.Price.{price_of};
+ghost use Rattle.leg.specs.Leg.{IsLeg};
 ghost use Rattle.leg.specs.Terms.{IsShares, IsPrice};
 ghost use Rattle.dialect.specs.Fields.{required_as, IsGrown};
 ghost use Rattle.dialect.specs.Limit.{order_shares_of, limit_order_in, side_of, limit_in, limit_fields, leg_of, side_text, IsInRange};
@@ -111,10 +112,14 @@ pub(crate) fn read_limit(fields: &[FieldRef<'_>]) -> Result<Limit, DialectFault>
 /// The leg of an order whose parts were read.
 pub(crate) fn leg_of(id: LegId, symbol: Symbol, limit: Limit) -> Leg
     requires { IsInRange limit }
-    ensures { result ≡ leg_of id symbol limit }
+    ensures value { result ≡ leg_of id symbol limit }
+    ensures in_range { IsLeg result }
 {
     let terms = Terms::new(symbol, limit.side, limit.shares, limit.price).unwrap();
-    Leg { id, terms }
+    let leg = Leg { id, terms };
+    // That the leg is in range is known once it was read.
+    leg.in_range();
+    leg
 }
 
 pub(crate) fn side_text(side: Side) -> &'static [u8]

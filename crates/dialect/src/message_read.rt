@@ -1,6 +1,8 @@
 //! An envelope is read as a message.
 ghost use Rattle.std.specs.Prelude.{◌≡◌};
 ghost use Rattle.fix_tags.specs.Lent.{body_of};
+ghost use Rattle.fix_tags.specs.Readable.{HaveNoSoh, IsReadableBody};
+ghost use Rattle.dialect.specs.Read.{IsRead, IsReadContent};
 ghost use Rattle.dialect.specs.Message.{Readers, application, content_of, seen};
 
 use crate::content::Content;
@@ -12,8 +14,9 @@ use fix_text::FieldRef;
 
 /// What an application message of one kind says.
 fn application<D: Dialect>(dialect: &D, kind: &[u8], fields: &[FieldRef<'_>]) -> Content<'static>
-    ensures { result ≡ application
+    ensures value { result ≡ application
         (record { order = D.order_read dialect.now; report = D.report_read dialect.now }) kind.now fields.now }
+    ensures in_range { IsReadContent result }
 {
     match kind {
         [b'D'] => Content::Order(dialect.read_order(fields)),
@@ -22,10 +25,14 @@ fn application<D: Dialect>(dialect: &D, kind: &[u8], fields: &[FieldRef<'_>]) ->
     }
 }
 
-/// What a body says.
+/// What a body says that was read from a frame.
+#[tactic(auto, using(crate::proofs::ReadRanges::free_text, crate::proofs::ReadRanges::test_id, crate::proofs::ReadRanges::next_number, crate::proofs::ReadRanges::refused_number))]
 fn content_of<'a, D: Dialect>(dialect: &D, body: &BodyRef<'a>) -> Content<'a>
-    ensures { result ≡ content_of
+    requires range { IsReadableBody (body_of body.now) }
+    requires no_soh { HaveNoSoh (body_of body.now) }
+    ensures value { result ≡ content_of
         (record { order = D.order_read dialect.now; report = D.report_read dialect.now }) (body_of body.now) }
+    ensures in_range { IsReadContent result }
 {
     match body {
         BodyRef::Logon { heart, reset, next } => Content::Logon {
@@ -60,8 +67,9 @@ fn content_of<'a, D: Dialect>(dialect: &D, body: &BodyRef<'a>) -> Content<'a>
 /// The message that an envelope is, in this dialect. It takes no memory. An order or a report that the dialect refuses
 /// is a message all the same, with the dialect's fault in it.
 pub fn see<'a, D: Dialect>(dialect: &D, envelope: &EnvelopeRef<'a>) -> Message<'a>
-    ensures { result ≡ seen
+    ensures value { result ≡ seen
         (record { order = D.order_read dialect.now; report = D.report_read dialect.now }) envelope.now }
+    ensures in_range { IsRead result }
 {
     Message {
         from: TextRef::new(envelope.sender()),

@@ -1,6 +1,7 @@
 //! An order is written and read, in any spelling.
 
-ghost use Rattle.std.specs.Prelude.{◌≡◌, ◌+◌, ◌<◌, ◌++◌, OnOk, OnErr, vec_len, vec_capacity};
+ghost use Rattle.std.specs.Prelude.{◌≡◌, ◌+◌, ◌<◌, ◌++◌, IfOk, OnOk, OnErr, vec_len, vec_capacity};
+ghost use Rattle.leg.specs.Leg.{IsLeg};
 ghost use Rattle.dialect.specs.Dialect.{Appends};
 ghost use Rattle.dialect.specs.Fields.{required_as, IsGrown};
 ghost use Rattle.dialect.specs.Order.{IsOrderOf, order_fields, order_read_of};
@@ -37,7 +38,8 @@ pub(crate) fn read_order<S: Spelling>(
     spelling: &S,
     fields: &[FieldRef<'_>],
 ) -> Result<Leg, DialectFault>
-    ensures { result ≡ order_read_of (S.spelling spelling.now) fields.now }
+    ensures value { result ≡ order_read_of (S.spelling spelling.now) fields.now }
+    ensures in_range { IfOk result IsLeg }
 {
     let id = id_in(spelling, fields)?;
     if !spelling.is_marked(fields) {

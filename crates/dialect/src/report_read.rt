@@ -5,6 +5,7 @@ ghost use Rattle.leg.specs.Terms.{IsShares};
 ghost use Rattle.dialect.specs.Fields.{required_as};
 ghost use Rattle.dialect.specs.FreeText.{free_text_of};
 ghost use Rattle.dialect.specs.Limit.{order_shares_of};
+ghost use Rattle.dialect.specs.Report.{IsReport};
 ghost use Rattle.dialect.specs.ReportRead.{fill_in, trade_in, bust_in, kind_of_byte, kind_in, report_read_of};
 
 use crate::fault::DialectFault;
@@ -95,10 +96,14 @@ pub(crate) fn read_report<S: Spelling>(
     spelling: &S,
     fields: &[FieldRef<'_>],
 ) -> Result<Report, DialectFault>
-    ensures { result ≡ report_read_of (S.spelling spelling.now) fields.now }
+    ensures value { result ≡ report_read_of (S.spelling spelling.now) fields.now }
+    ensures in_range { IfOk result IsReport }
 {
     let id = id_in(spelling, fields)?;
     let exec = exec_id_in(fields, EXEC_ID)?;
     let kind = kind_in(fields)?;
-    Ok(Report { id, exec, kind })
+    let report = Report { id, exec, kind };
+    // That the report is in range is known once it was read.
+    report.in_range();
+    Ok(report)
 }

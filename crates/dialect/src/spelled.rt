@@ -15,11 +15,13 @@ use std::alloc::Global;
 
 impl<S: Spelling> Dialect for S {
     ghost use Rattle.std.specs.Prelude.{◌≡◌, ◌+◌, ◌<◌, refl, IfOk, OnOk, OnErr, vec_len, vec_capacity};
+    ghost use Rattle.leg.specs.Leg.{IsLeg};
     ghost use Rattle.dialect.specs.Dialect.{Appends};
     ghost use Rattle.dialect.specs.Lemmas.OrderLaws.{order_back, order_marked, order_timed, order_short};
     ghost use Rattle.dialect.specs.Lemmas.ReportFits.{report_short};
     ghost use Rattle.dialect.specs.Lemmas.ReportLaws.{report_back, report_said};
     ghost use Rattle.dialect.specs.Order.{IsOrderOf, IsReadingOf, order_fields, order_read_of};
+    ghost use Rattle.dialect.specs.Report.{IsReport as IsInRange};
     ghost use Rattle.dialect.specs.ReportFields.{IsReportOf, report_fields};
     ghost use Rattle.dialect.specs.ReportRead.{report_read_of};
     ghost use Rattle.dialect.specs.ReportReading.{IsReportReadingOf};
@@ -51,6 +53,7 @@ impl<S: Spelling> Dialect for S {
 
     fn read_order(&self, fields: &[FieldRef<'_>]) -> Result<Leg, DialectFault>
         ensures value { result ≡ order_read_of (S.spelling self.now) fields.now }
+        ensures in_range { IfOk result IsLeg }
         ensures says { IfOk result (λ leg. IsReadingOf (S.spelling self.now) leg fields.now) }
     {
         read_order(self, fields)
@@ -73,6 +76,7 @@ impl<S: Spelling> Dialect for S {
 
     fn read_report(&self, fields: &[FieldRef<'_>]) -> Result<Report, DialectFault>
         ensures value { result ≡ report_read_of (S.spelling self.now) fields.now }
+        ensures in_range { IfOk result IsInRange }
         ensures says { IfOk result (λ report. IsReportReadingOf (S.spelling self.now) report fields.now) }
     {
         read_report(self, fields)

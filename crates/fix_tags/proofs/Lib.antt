@@ -14,6 +14,7 @@ pub mod ReadBack
 pub mod Said
 pub mod Spelled
 pub mod Readings
+pub mod Received
 pub mod Steps
 pub mod StreamBack
 pub mod ValueFaults

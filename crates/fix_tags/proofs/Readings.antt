@@ -29,7 +29,7 @@ heart_from n is = grind (arith, nat_tests)
 next_from : (n : ℕ) → is_next_number n ≡ true → IsNextNumber n
 next_from n is = (grind (arith, nat_tests), grind (arith, nat_tests))
 
-message_number_from : (n : ℕ) → is_message_number n ≡ true → (1 ≤ n) × (n ≤ 999999998)
+pub message_number_from : (n : ℕ) → is_message_number n ≡ true → (1 ≤ n) × (n ≤ 999999998)
 message_number_from n is = (grind (arith, nat_tests), grind (arith, nat_tests))
 
 next_if_any : (next : Option ℕ) → IfAny is_next_number next → IfSome next IsNextNumber
@@ -41,10 +41,10 @@ reference_if_any (Some n) is = reference_from n is
 reference_if_any None is = tt
 
 -- what is known of a body that was read under this kind
-record IsBody (text : List ℕ) (fields : List Tagged) (body : Body) : Type 0 where
-  kind : text ≡ kind_of body
-  says : SaysBody fields body
-  range : IsReadableBody body
+pub record IsBody (text : List ℕ) (fields : List Tagged) (body : Body) : Type 0 where
+  pub kind : text ≡ kind_of body
+  pub says : SaysBody fields body
+  pub range : IsReadableBody body
 
 is_body : (text : List ℕ) (fields : List Tagged) (read body : Body) → IsBody text fields read
     → ◌≡◌ {A = Result Body TagFault} (Ok read) (Ok body) → IsBody text fields body
@@ -171,7 +171,7 @@ body_of_byte_is c fields body short e =
     let other : is_session_byte c ≡ false = rw (n65, n48, n49, n50, n51, n52, n53, n106) refl in
     app_is (c ∷ []) fields body short other e7) e6) e5) e4) e3) e2) e1) e0) e
 
-body_is : (kind : List ℕ) (fields : List Tagged) (body : Body) → IsShortText 8 kind → body_read kind fields ≡ Ok body
+pub body_is : (kind : List ℕ) (fields : List Tagged) (body : Body) → IsShortText 8 kind → body_read kind fields ≡ Ok body
     → IsBody kind fields body
 body_is [] fields body short e = app_is [] fields body short refl e
 body_is (c ∷ []) fields body short e = body_of_byte_is c fields body short e

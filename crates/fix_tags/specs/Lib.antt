@@ -3,6 +3,7 @@ pub mod CompId
 pub mod Config
 pub mod Digits
 pub mod Flag
+pub mod Header
 pub mod Lent
 pub mod Message
 pub mod Number

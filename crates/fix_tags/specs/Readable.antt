@@ -1,6 +1,7 @@
 -- The ranges of a message that was read (FIX 4.4 Volume 2).
 use Rattle.std.specs.Prelude.{ℕ, ◌≡◌, ◌≤◌, List, length, IfSome, IsTrue, false}
 use Rattle.std.specs.List.{list_all}
+use Rattle.fix_text.specs.Text.{holds_soh, have_no_soh}
 use Rattle.fix_tags.specs.App.{is_app_tag}
 use Rattle.fix_tags.specs.CompId.{IsCompId}
 use Rattle.fix_tags.specs.Message.{is_session_kind}
@@ -41,3 +42,19 @@ pub record IsReadable (e : Envelope) : Type 0 where
   pub number_from : 1 ≤ e.number
   pub number : e.number ≤ 999_999_998
   pub body : IsReadableBody e.body
+
+-- a text without SOH, which ends each field
+abbrev pub HasNoSoh : List ℕ → Type 0
+HasNoSoh text = holds_soh text ≡ false
+
+-- no text of a body holds SOH
+abbrev pub HaveNoSoh : Body → Type 0
+HaveNoSoh (Heartbeat id) = IfSome id HasNoSoh
+HaveNoSoh (TestRequest id) = HasNoSoh id
+HaveNoSoh (App kind fields) = HasNoSoh kind × IsTrue (have_no_soh fields)
+HaveNoSoh _ = Unit {0}
+
+-- what is known of a message that was read from a frame
+pub record IsRead (e : Envelope) : Type 0 where
+  pub in_range : IsReadable e
+  pub no_soh : HaveNoSoh e.body

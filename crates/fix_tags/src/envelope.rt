@@ -39,14 +39,18 @@ impl<'a> Model for EnvelopeRef<'a> {
     ghost Value = { Envelope };
 
     ghost use Rattle.fix_tags.specs.Lent.{body_of};
+    ghost use Rattle.fix_tags.specs.Readable.{IsRead};
 
     ghost view = { λ e. record { sender = e.sender.now; target = e.target.now; number = e.number; poss_dup = e.poss_dup; poss_resend = e.poss_resend; body = body_of e.body } };
+
+    ghost invariant = { λ e. IsRead (record { sender = e.sender.now; target = e.target.now; number = e.number; poss_dup = e.poss_dup; poss_resend = e.poss_resend; body = body_of e.body }) };
 }
 
 impl<'a> EnvelopeRef<'a> {
     ghost use Rattle.fix_tags.specs.Lent.{body_of};
+    ghost use Rattle.fix_tags.specs.Readable.{IsRead};
 
-    /// The message of these parts, of which the comp ids are 1 to 16 printable bytes.
+    /// The message of these parts, as they were read from a frame.
     pub(crate) fn new(
         sender: &'a [u8],
         target: &'a [u8],
@@ -55,6 +59,7 @@ impl<'a> EnvelopeRef<'a> {
         poss_resend: bool,
         body: BodyRef<'a>,
     ) -> EnvelopeRef<'a>
+        requires { IsRead (record { sender = sender.now; target = target.now; number = number; poss_dup = poss_dup; poss_resend = poss_resend; body = body_of body }) }
         ensures { result ≡ record { sender = sender.entry.now; target = target.entry.now; number = number; poss_dup = poss_dup; poss_resend = poss_resend; body = body_of body.entry } }
     {
         EnvelopeRef {
@@ -104,7 +109,8 @@ impl<'a> EnvelopeRef<'a> {
 
     /// What the message says, which its MsgType (35) gave.
     pub fn body(&self) -> &BodyRef<'a>
-        ensures { body_of result.now ≡ self.now.body }
+        ensures value { body_of result.now ≡ self.now.body }
+        ensures in_range { IsRead self.now }
     {
         &self.body
     }

@@ -2,7 +2,8 @@
 ghost use Rattle.std.specs.Prelude.{true, false, ◌≡◌, IfOk};
 ghost use Rattle.fix_text.specs.FrameFields.{fields_in};
 ghost use Rattle.fix_tags.specs.Message.{is_session_kind};
-ghost use Rattle.fix_tags.specs.Readable.{IsReadable};
+ghost use Rattle.fix_tags.specs.Readable.{HaveNoSoh, IsReadable};
+ghost use Rattle.fix_tags.specs.Header.{IsHeader};
 ghost use Rattle.fix_tags.specs.Reading.{Gives, ReadsEnvelope, message_read, envelope_read};
 ghost use Rattle.fix_tags.specs.Says.{IsReadingOf};
 
@@ -32,7 +33,8 @@ struct Header<'a> {
 
 /// A message of the session. It takes no memory.
 fn session_message<'a>(header: Header<'a>, frame: &Frame<'a>) -> Result<EnvelopeRef<'a>, TagFault>
-    requires { is_session_kind header.kind.now ≡ true }
+    requires kind { is_session_kind header.kind.now ≡ true }
+    requires header { IsHeader header.kind.now header.sender.now header.target.now header.number (fields_in frame.now) }
     ensures { Gives (λ e. e) result (message_read header.entry.kind.now header.entry.sender.now header.entry.target.now header.entry.number (fields_in frame.now)) }
 {
     let poss_dup = flag_at(frame, POSS_DUP_FLAG)?;
@@ -57,7 +59,8 @@ fn app_message<'a>(
     header: Header<'a>,
     frame: &Frame<'a>,
 ) -> Result<EnvelopeRef<'a>, ReadFault>
-    requires { is_session_kind header.kind.now ≡ false }
+    requires kind { is_session_kind header.kind.now ≡ false }
+    requires header { IsHeader header.kind.now header.sender.now header.target.now header.number (fields_in frame.now) }
     ensures { ReadsEnvelope result (message_read header.entry.kind.now header.entry.sender.now header.entry.target.now header.entry.number (fields_in frame.now)) }
 {
     let Ok(found) = gather(alloc, *frame) else {
@@ -92,6 +95,7 @@ fn app_message<'a>(
 pub fn read_envelope<'a>(alloc: Global, frame: &Frame<'a>) -> Result<EnvelopeRef<'a>, ReadFault>
     ensures read { ReadsEnvelope result (envelope_read (fields_in frame.now)) }
     ensures in_range { IfOk result (λ e. IsReadable e) }
+    ensures no_soh { IfOk result (λ e. HaveNoSoh e.body) }
     ensures says { IfOk result (λ e. IsReadingOf e (fields_in frame.now)) }
 {
     let kind = text_at(frame, MSG_TYPE, MAX_KIND)?;

@@ -19,3 +19,4 @@ pub mod NextFrames
 pub mod Streams
 pub mod Lent
 pub mod Replays
+pub mod NoSoh

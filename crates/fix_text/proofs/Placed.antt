@@ -1,7 +1,8 @@
 -- The places of fields in a text, as a loop finds them one after the other.
 use Rattle.std.proofs.Common.{◌≡◌, ℕ, ◌+◌, ◌-◌, ◌*◌, ◌<◌, ◌≤◌, Bool, true, false, cond, eqb, ltb, leb, List, [], ◌∷◌, ◌++◌, length, get_or, take, drop, map, Option, Some, None, Result, Ok, Err, inl, inr, refl, sym, ap, subst, ◌∙◌, arith, append_assoc}
-use Rattle.std.specs.Prelude.{IsTrue, ◌&&◌, ◌||◌, IfSome, OnErr, slice_range, is_some, is_ok, is_err, slice_get}
+use Rattle.std.specs.Prelude.{IsTrue, not, ◌&&◌, ◌||◌, IfSome, OnErr, slice_range, is_some, is_ok, is_err, slice_get}
 use Rattle.std.specs.Char.{is_ascii_digit}
+use Rattle.std.proofs.lemmas.Bool.Decides.{nat_tests}
 use Rattle.std.proofs.lemmas.Bool.{and_from, or_parts, eq-eqb, ne_eqb}
 use Rattle.std.proofs.lemmas.List.{length-append, length-take-le, length-drop, take-append-drop, drop-map, drop_more, length-map, map-append, take_more}
 use Rattle.std.proofs.lemmas.Option.{slice_get_within, get_or_from_slice_get}
@@ -9,11 +10,13 @@ use Rattle.std.proofs.lemmas.List.Folds.{list_all-append}
 use Rattle.fix_text.specs.declared.place.Place.{Place}
 use Rattle.fix_text.specs.Tagged.{Tagged, value_of}
 use Rattle.fix_text.specs.Reading.{field_from, field_of, fields_of, with_field}
+use Rattle.fix_text.specs.Text.{holds_soh}
 use Rattle.fix_text.specs.Placing.{AreMore, AreWithin, field_at, fields_at, is_within}
 use Rattle.fix_text.proofs.Readers.{chosen}
 use Rattle.fix_text.proofs.FieldLists.{with_front, fields_of-part, reads_one}
 use Rattle.fix_text.proofs.Places.{part_found}
 use Rattle.fix_text.proofs.Parts.{IsPart}
+use Rattle.fix_text.proofs.FieldTexts.{field_of-takes}
 
 some_is : (x y : Tagged) → ◌≡◌ {A = Option Tagged} (Some x) (Some y) → x ≡ y
 some_is x y e = cc
@@ -49,6 +52,17 @@ value_lies text at end field ordered within is =
     let front = length-append (take at text) behind.0 in
     let taken = length-take-le at text (omega arith) in
     (omega (arith, long, split), part_found text (take at text ++ behind.0) field.value back _ _ same (omega (arith, front, taken, long, split)) (omega (arith, long, split)))
+
+-- so its place is within the text, and has no SOH in it where the part has none
+pub is_place : (text : List ℕ) (at end tag : ℕ) (field : Tagged) → at ≤ end → end ≤ length text → holds_soh (slice_range text at end) ≡ false → Some field ≡ field_of (slice_range text at end)
+    → IsTrue (is_within text (record { tag = tag; start = end - length field.value; end = end }))
+is_place text at end tag field ordered within part is =
+    let lies = value_lies text at end field ordered within is in
+    let takes = field_of-takes (slice_range text at end) field part (sym is) in
+    let clean : not (holds_soh (slice_range text (end - length field.value) end)) ≡ true = ap (λ (value : List ℕ). not (holds_soh value)) lies.1 ∙ ap not takes.1.value in
+    let starts : leb (end - length field.value) end ≡ true = grind (arith, nat_tests) in
+    let ends : leb end (length text) ≡ true = grind (arith, nat_tests) in
+    rw (starts, ends, clean) refl
 
 -- ---- a turn of the loop
 

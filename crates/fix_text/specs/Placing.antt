@@ -1,8 +1,9 @@
 -- Where the fields of a text lie in it.
-use Rattle.std.specs.Prelude.{◌≡◌, ℕ, ◌<◌, Bool, true, false, ◌&&◌, IsTrue, List, map, length, slice_range, nat_le, Option, Some, None}
+use Rattle.std.specs.Prelude.{◌≡◌, ℕ, ◌<◌, Bool, true, false, ◌&&◌, not, IsTrue, List, map, length, slice_range, nat_le, Option, Some, None}
 use Rattle.std.specs.List.{list_all}
 use Rattle.fix_text.specs.declared.place.Place.{Place}
 use Rattle.fix_text.specs.Tagged.{Tagged}
+use Rattle.fix_text.specs.Text.{holds_soh}
 
 -- the field of a place
 abbrev pub field_at : List ℕ → Place → Tagged
@@ -12,9 +13,11 @@ field_at text place = record { tag = place.tag; value = slice_range text place.s
 abbrev pub fields_at : List ℕ → List Place → List Tagged
 fields_at text places = map (field_at text) places
 
--- whether a place lies within the text
+-- whether a place lies within the text, and within a field of it: no SOH is there
 abbrev pub is_within : List ℕ → Place → Bool
-is_within text place = nat_le place.start place.end && nat_le place.end (length text)
+is_within text place =
+    nat_le place.start place.end && nat_le place.end (length text)
+    && not (holds_soh (slice_range text place.start place.end))
 
 -- each place does
 abbrev pub AreWithin : List ℕ → List Place → Type 0

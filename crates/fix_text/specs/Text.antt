@@ -36,3 +36,7 @@ has_writable_tags fields = begins_with_type fields && list_all (λ field. is_wri
 -- the values of a frame's body: each can be written
 abbrev pub has_writable_values : List Tagged → Bool
 has_writable_values fields = list_all (λ field. is_writable_value field.value) fields
+
+-- no value holds SOH
+abbrev pub have_no_soh : List Tagged → Bool
+have_no_soh fields = list_all (λ field. not (holds_soh field.value)) fields

@@ -1,8 +1,9 @@
 //! The fields of a text, by their places in it.
-ghost use Rattle.std.specs.Prelude.{◌≡◌, ◌≤◌, None, IfOk, IfSome, IsOkUnless, IsTrue, OnErr, length, slice_range, vec_capacity, if◌then◌else◌};
+ghost use Rattle.std.specs.Prelude.{◌≡◌, ◌≤◌, false, None, IfOk, IfSome, IsOkUnless, IsTrue, OnErr, length, slice_range, vec_capacity, if◌then◌else◌};
 ghost use Rattle.std.specs.Option.{option_map};
 ghost use Rattle.fix_text.specs.Reading.{field_of, fields_of, typed_fields, valid_fields};
 ghost use Rattle.fix_text.specs.Placing.{AreMore, ArePlaced, field_at, is_within};
+ghost use Rattle.fix_text.specs.Text.{holds_soh};
 
 use crate::checksum::sum256;
 use crate::field::FieldRef;
@@ -61,10 +62,11 @@ fn is_typed(body: &[u8]) -> bool
     body.starts_with(b"35=")
 }
 
-/// The place of the field that takes up this part of a text.
+/// The place of the field that takes up this part of a text, which has no SOH in it.
 fn place_of(text: &[u8], at: usize, end: usize) -> Option<Place>
     requires ordered { at ≤ end }
     requires within { end ≤ length text.now }
+    requires part { holds_soh (slice_range text.now at end) ≡ false }
     ensures field { option_map (field_at text.now) result ≡ field_of (slice_range text.now at end) }
     ensures within { IfSome result (λ place. IsTrue (is_within text.now place)) }
 {

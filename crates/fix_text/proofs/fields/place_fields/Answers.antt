@@ -21,6 +21,11 @@ place_of-requires-clause-within c =
     let part = first_part c.args.text.now c.loop-end.at c.in-Some.end _ loop.within (loop.left ∙ c.in-Some.ensures.steps) in
     omega (arith, part.0.within)
 
+pub place_of-requires-clause-part : goal.place_of-requires-clause-part
+place_of-requires-clause-part c =
+    let loop = c.loop-end.invariant in
+    (first_part c.args.text.now c.loop-end.at c.in-Some.end _ loop.within (loop.left ∙ c.in-Some.ensures.steps)).0.whole
+
 pub overflow_add-at : goal.overflow_add-at
 overflow_add-at c =
     let loop = c.loop-end.invariant in
