@@ -2,6 +2,7 @@
 
 mod days;
 mod limits;
+mod orders;
 mod rules;
 mod support;
 
@@ -9,7 +10,8 @@ use std::test::Fail;
 
 #[test]
 fn worked_days(rt: HostRuntime) -> Result<(), Fail> {
-    days::play_days(&rt, rt.alloc())
+    days::play_days(&rt, rt.alloc())?;
+    orders::play_orders(&rt, rt.alloc())
 }
 
 #[test]

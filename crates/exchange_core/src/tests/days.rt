@@ -239,6 +239,18 @@ const LOGGED_OUT: &[Row] = &[
     (Test, Ok(&[]), 6),
 ];
 
+/// The exchange asks for a sign of life: an unasked Heartbeat comes first, and then the answer.
+const ASKED: &[Row] = &[
+    (Test, Ok(&[Sent("1", 3, "112=X3|", 52, 153)]), 3),
+    (Comes(1, Sent("0", 3, "", 45, 61)), Ok(&[]), 4),
+    (Comes(1, Sent("0", 4, "112=X3|", 52, 153)), Ok(&[]), 5),
+    (
+        Comes(1, Sent("1", 5, "112=F5|", 52, 139)),
+        Ok(&[Sent("0", 4, "112=F5|", 52, 137)]),
+        6,
+    ),
+];
+
 /// What is left of a day: how many orders were accepted and how many reports made, and the mark of the close.
 type Left = (usize, usize, Option<usize>);
 
@@ -250,6 +262,7 @@ const DAYS: &[(&[Row], Left)] = &[
     (SENT_AGAIN, (2, 2, None)),
     (KEPT, (1, 3, None)),
     (LOGGED_OUT, (1, 1, Some(1))),
+    (ASKED, (0, 0, None)),
 ];
 
 /// What an exchange was left with.

@@ -164,7 +164,7 @@ fn listed(
 }
 
 /// Hands the exchange the message of a frame, shown with `|` for SOH.
-fn takes(
+pub(super) fn takes(
     rt: &impl Abort,
     alloc: Global,
     exchange: &mut Exchange,
@@ -214,7 +214,8 @@ fn text_of(alloc: Global, from: &str, to: &str, shown: Shown) -> Result<String, 
             "8=FIX.4.4|9={length}|35={kind}|49={from}|56={to}|34={number}|52={moment}|{body}10={sum:03}|"
         ),
         Again(kind, number, body, length, sum) => format!(in alloc;
-            "8=FIX.4.4|9={length}|35={kind}|49={from}|56={to}|34={number}|43=Y|52={moment}|122={moment}|{body}10={sum:03}|"
+            "8=FIX.4.4|9={length}|35={kind}|49={from}|56={to}|34={number}|43=Y|52={moment}|122={moment}|{body}\
+             10={sum:03}|"
         ),
     }
 }
@@ -228,8 +229,19 @@ fn are_shown(
 ) -> Result<(), Fail> {
     assert_eq!(rt; frames.len(), shown.len(), "{shown:?}");
     for (frame, shown) in frames.into_iter().zip(shown) {
-        let text = String::from_utf8(frame)?.replace(alloc, "\x01", "|")?;
-        assert_eq!(rt; text, text_of(alloc, "B", "A", *shown)?);
+        is_written(rt, alloc, frame, &text_of(alloc, "B", "A", *shown)?)?;
     }
+    Ok(())
+}
+
+/// A frame is this text, with `|` for SOH.
+pub(super) fn is_written(
+    rt: &impl Abort,
+    alloc: Global,
+    frame: Vec<u8>,
+    shown: &str,
+) -> Result<(), Fail> {
+    let text = String::from_utf8(frame)?.replace(alloc, "\x01", "|")?;
+    assert_eq!(rt; text.as_str(), shown);
     Ok(())
 }
