@@ -2,6 +2,7 @@
 use Rattle.std.proofs.Common.{◌≡◌, ◌==◌, ◌⊎◌, inl, inr, ℕ, ◌+◌, ◌-◌, ◌≤◌, Bool, true, false, not, nat_le, List, [], ◌∷◌, ◌++◌, Option, Some, None, Result, Ok, Err, IfOk, refl, sym, ap, ◌∙◌, if◌then◌else◌, arith}
 use Rattle.std.specs.Option.{ok_or}
 use Rattle.std.proofs.lemmas.Bool.Decides.{nat_tests}
+use Rattle.fix_text.specs.Then.{◌>>=◌, unless}
 use Rattle.leg.specs.declared.fault.LegFault.{LegFault}
 use Rattle.leg.specs.declared.fault.LegFault.TheVariants.{Overfill, NotFilled}
 use Rattle.leg.specs.Numbered.{numbered, with_numbered}
@@ -16,7 +17,7 @@ use Rattle.exchange_core.specs.Order.{OrderParts, TradeParts, moved, traded, end
 use Rattle.exchange_core.specs.Own.{has_numbers, next_exec, exec_id}
 use Rattle.exchange_core.specs.declared.live_connection.LiveConnection.{LiveConnection}
 use Rattle.exchange_core.specs.Exchange.{ExchangeParts, Answer}
-use Rattle.exchange_core.specs.Acts.{answered, ◌>>=◌, refused_if, reported, order_at, still_going, not_busted, trade_at, number_left, trade_answer, trade, end_answer, cancel_rest, reject, bust_answer, bust, tested, test_answer, test}
+use Rattle.exchange_core.specs.Acts.{answered, reported, order_at, still_going, not_busted, trade_at, number_left, trade_answer, trade, end_answer, cancel_rest, reject, bust_answer, bust, tested, test_answer, test}
 
 -- one refusal after the other
 pub each : {A B : Type 0} (P : B → Type 0) (r : Result A ExchangeFault) (f : A → Result B ExchangeFault) → ((a : A) → r ≡ Ok a → IfOk (f a) P) → IfOk (r >>= f) P
@@ -24,12 +25,12 @@ each P (Ok a) f holds = holds a refl
 each P (Err fault) f holds = tt
 
 -- what was not refused
-pub not_refused : (b : Bool) (fault : ExchangeFault) (u : Unit {0}) → refused_if b fault ≡ Ok u → b ≡ false
+pub not_refused : (b : Bool) (fault : ExchangeFault) (u : Unit {0}) → unless (not b) fault ≡ Ok u → b ≡ false
 not_refused true fault u ok = cc
 not_refused false fault u ok = refl
 
 -- a number was left
-pub left_by : (b : Bool) (u : Unit {0}) → refused_if (not b) NumbersSpent ≡ Ok u → b ≡ true
+pub left_by : (b : Bool) (u : Unit {0}) → unless b NumbersSpent ≡ Ok u → b ≡ true
 left_by true u ok = refl
 left_by false u ok = cc
 
@@ -102,7 +103,7 @@ module _ (IsPx : List ℕ → Type 0) (x : ExchangeParts) (P : Answer → Type 0
   trade_reports place shares px is_px =
       each P (order_at x place) _
       (λ order is. each P (still_going order) _
-      (λ going _. each P (refused_if (shares == 0) TooManyShares) _
+      (λ going _. each P (unless (not (shares == 0)) TooManyShares) _
       (λ some ok. each P (traded order shares (next_exec x.own)) _
       (λ after fits. each P (number_left x) _
       (λ number left.
@@ -134,7 +135,7 @@ module _ (IsPx : List ℕ → Type 0) (x : ExchangeParts) (P : Answer → Type 0
   pub bust_reports : (place which : ℕ) → IfOk (bust_answer x place which) P
   bust_reports place which =
       each P (order_at x place) _
-      (λ order is. each P (refused_if (not (is_cancelled order.ended)) NotCancelled) _
+      (λ order is. each P (unless (is_cancelled order.ended) NotCancelled) _
       (λ cancelled _. each P (trade_at order which) _
       (λ trade ok. each P (busted_at which trade order) _
       (λ after fits. each P (number_left x) _

@@ -3,7 +3,7 @@ use Rattle.std.proofs.Common.{◌≡◌, ℕ, zero, suc, ◌+◌, ◌-◌, ◌�
 use Rattle.std.specs.Prelude.{All, slice_get, slice_set, option_to_list}
 use Rattle.std.specs.Global.{Vec}
 use Rattle.fix_tags.specs.Stamp.{StampParts}
-use Rattle.dialect.specs.Framed.{Writers}
+use Rattle.dialect.specs.Framed.{Writers, AreFramed}
 use Rattle.std.proofs.lemmas.Bool.Decides.{nat_tests}
 use Rattle.std.proofs.lemmas.Option.{slice_get_within, get_or_from_slice_get}
 use Rattle.leg.specs.declared.leg.Leg.{Leg}
@@ -25,7 +25,7 @@ use Rattle.exchange_core.specs.declared.own.Own.{Own}
 use Rattle.exchange_core.specs.declared.own.Own.TheVariants.{Admin, Reported, Refused}
 use Rattle.exchange_core.specs.Own.{next_own_number, next_exec, exec_id, execution_report}
 use Rattle.exchange_core.specs.Exchange.{ExchangeParts, Answer, next_report}
-use Rattle.exchange_core.specs.Frames.{AreFramed, ActGives}
+use Rattle.exchange_core.specs.Frames.{bytes_of, ActGives}
 use Rattle.exchange_core.specs.Acts.{answered, while_live, reported, trade_answer, trade, end_answer, cancel_rest, reject, bust_answer, bust}
 use Rattle.exchange_core.specs.Keeping.{IsAct}
 use Rattle.exchange_core.specs.Kept.{reports_of}
@@ -175,14 +175,14 @@ within_view x place split step order kind made =
     subst (λ (v : OrderViewParts). v.cum + v.leaves ≤ v.leg.terms.shares) (view_stepped place split step order) made.beside.view_in_range.within
 
 -- the report of a plan was written and kept
-pub report_given : (w : Writers) (stamp : StampParts) (x : ExchangeParts) (place : ℕ) (plan : Plan) (order : OrderParts) (frame : Option (Vec ℕ)) (now : ExchangeParts) (report : Report) (view : OrderViewParts) → numbered place x.orders ≡ Some order → report ≡ report_on x order plan.kind → view ≡ view_at place order plan.split → AreFramed w stamp (while_live x.live (execution_report x.config (next_own_number x.own) false report view ∷ [])) (option_to_list frame) → now ≡ after_step x place plan.split plan.step (Reported report view) → ActGives w stamp x (answered x (plan_answer x place plan)) (Ok frame) now
+pub report_given : (w : Writers) (stamp : StampParts) (x : ExchangeParts) (place : ℕ) (plan : Plan) (order : OrderParts) (frame : Option (Vec ℕ)) (now : ExchangeParts) (report : Report) (view : OrderViewParts) → numbered place x.orders ≡ Some order → report ≡ report_on x order plan.kind → view ≡ view_at place order plan.split → AreFramed w stamp (while_live x.live (execution_report x.config (next_own_number x.own) false report view ∷ [])) (bytes_of (option_to_list frame)) → now ≡ after_step x place plan.split plan.step (Reported report view) → ActGives w stamp x (answered x (plan_answer x place plan)) (Ok frame) now
 report_given w stamp x place plan order frame now report view there report_is view_is framed now_is =
     let after : OrderParts = stepped plan.split plan.step order in
     let report_same : report ≡ next_report x after plan.kind = report_is ∙ sym (report_stepped x plan.split plan.step order plan.kind) in
     let view_same : view ≡ view_of place after = view_is ∙ sym (view_stepped place plan.split plan.step order) in
     let entry : Reported report view ≡ Reported (next_report x after plan.kind) (view_of place after) = cc (report_same, view_same) in
     subst (λ r. ActGives w stamp x (answered x r) (Ok frame) now) (sym (plan_is x place plan order there)) (
-      subst (λ r. AreFramed w stamp (while_live x.live (execution_report x.config (next_own_number x.own) false r (view_of place after) ∷ [])) (option_to_list frame)) report_same
-          (subst (λ v. AreFramed w stamp (while_live x.live (execution_report x.config (next_own_number x.own) false report v ∷ [])) (option_to_list frame)) view_same framed),
+      subst (λ r. AreFramed w stamp (while_live x.live (execution_report x.config (next_own_number x.own) false r (view_of place after) ∷ [])) (bytes_of (option_to_list frame))) report_same
+          (subst (λ v. AreFramed w stamp (while_live x.live (execution_report x.config (next_own_number x.own) false report v ∷ [])) (bytes_of (option_to_list frame))) view_same framed),
       now_is ∙ after_is x place plan order (Reported report view) there entry,
     )

@@ -3,12 +3,12 @@ use Rattle.std.proofs.Common.{◌≡◌, ℕ, List, [], ◌++◌, Ok, sym, ap, �
 use Rattle.std.specs.List.{All}
 use Rattle.std.specs.Global.{Vec}
 use Rattle.fix_tags.specs.Stamp.{StampParts}
-use Rattle.dialect.specs.Framed.{Writers}
+use Rattle.dialect.specs.Framed.{Writers, AreFramed}
 use Rattle.dialect.specs.Writable.{IsWritable}
 use Rattle.dialect.specs.declared.message.Message.{Message}
 use Rattle.exchange_core.specs.declared.turn.Decision.{Decision}
 use Rattle.exchange_core.specs.Exchange.{ExchangeParts, Answer, take}
-use Rattle.exchange_core.specs.Frames.{AreFramed, Writes, TakeGives}
+use Rattle.exchange_core.specs.Frames.{bytes_of, Writes, TakeGives}
 use Rattle.exchange_core.specs.Keeping.{IsAnswer}
 use Rattle.exchange_core.specs.Sound.{IsRead, IsSound}
 use Rattle.exchange_core.specs.Turn.{asked_answer, deed_answer, decided}
@@ -43,4 +43,4 @@ taken_gives w stamp x connection m said d start between frames after same is emp
     let both = writes_both w stamp (asked_answer x d.asked) (deed_answer x d.deed).0 start between frames.items first second in
     subst (λ (n : Message). TakeGives w stamp x (take x connection n) (Ok frames) after) same
     (subst (λ (a : Answer). TakeGives w stamp x a (Ok frames) after) (sym is)
-    (subst (AreFramed w stamp (asked_answer x d.asked ++ (deed_answer x d.deed).0)) (sym (both.added ∙ ap (λ l. l ++ both.frames) empty)) both.framed, now))
+    (subst (λ l. AreFramed w stamp (asked_answer x d.asked ++ (deed_answer x d.deed).0) (bytes_of l)) (sym (both.added ∙ ap (λ l. l ++ both.frames) empty)) both.framed, now))

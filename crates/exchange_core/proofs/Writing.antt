@@ -5,12 +5,12 @@ use Rattle.std.proofs.lemmas.List.Elements.{All-nil, All-cons}
 use Rattle.dialect.specs.Writable.{IsWritable}
 use Rattle.std.specs.Global.{Vec}
 use Rattle.fix_tags.specs.Stamp.{StampParts}
-use Rattle.dialect.specs.Framed.{Writers, IsFramed}
+use Rattle.dialect.specs.Framed.{Writers, IsFramed, AreFramed}
 use Rattle.dialect.specs.declared.outgoing.Outgoing.{Outgoing}
-use Rattle.exchange_core.specs.Frames.{AreFramed, Writes}
+use Rattle.exchange_core.specs.Frames.{bytes_of, Writes}
 
 -- frames of two lists of messages, one behind the other
-pub framed_both : (w : Writers) (stamp : StampParts) (first second : List Outgoing) (a b : List (Vec ℕ)) → AreFramed w stamp first a → AreFramed w stamp second b → AreFramed w stamp (first ++ second) (a ++ b)
+pub framed_both : (w : Writers) (stamp : StampParts) (first second : List Outgoing) (a b : List (Vec ℕ)) → AreFramed w stamp first (bytes_of a) → AreFramed w stamp second (bytes_of b) → AreFramed w stamp (first ++ second) (bytes_of (a ++ b))
 framed_both w stamp [] second [] b one two = two
 framed_both w stamp [] second (frame ∷ a) b one two = absurd one
 framed_both w stamp (out ∷ first) second [] b one two = absurd one

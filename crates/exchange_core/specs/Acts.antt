@@ -1,6 +1,7 @@
 -- What an exchange does by itself (FIX 4.4 Volume 4, ExecutionReport; Volume 2, "Test Request").
-use Rattle.std.specs.Prelude.{ℕ, Bool, true, false, not, List, [], ◌∷◌, ◌++◌, codes, decimal, Option, Some, None, Result, Ok, Err, ◌==◌, if◌then◌else◌}
+use Rattle.std.specs.Prelude.{ℕ, not, List, [], ◌∷◌, ◌++◌, codes, decimal, Option, Some, None, Result, Ok, Err, ◌==◌, if◌then◌else◌}
 use Rattle.std.specs.Option.{ok_or}
+use Rattle.fix_text.specs.Then.{◌>>=◌, unless}
 use Rattle.leg.specs.Numbered.{numbered, with_numbered}
 use Rattle.dialect.specs.declared.report.ReportKind.{ReportKind}
 use Rattle.dialect.specs.declared.report.ReportKind.TheVariants.{Trade, Canceled, Rejected, Bust}
@@ -26,17 +27,6 @@ abbrev pub answered : ExchangeParts → Result Answer ExchangeFault → ActAnswe
 answered x (Ok answer) = (Ok answer.0, answer.1)
 answered x (Err fault) = (Err fault, x)
 
--- the next step, where this one is not refused
-infixl 10 ◌>>=◌
-abbrev pub ◌>>=◌ : {A B : Type 0} → Result A ExchangeFault → (A → Result B ExchangeFault) → Result B ExchangeFault
-(Ok x) >>= f = f x
-(Err fault) >>= f = Err fault
-
--- refused where a test holds
-abbrev pub refused_if : Bool → ExchangeFault → Result (Unit {0}) ExchangeFault
-refused_if true fault = Err fault
-refused_if false fault = Ok tt
-
 -- an act writes only while a connection is live
 abbrev pub while_live : Option LiveConnection → List Outgoing → List Outgoing
 while_live None messages = []
@@ -56,7 +46,7 @@ order_at x place = ok_or (numbered place x.orders) NoSuchOrder
 
 -- refused unless something of the order is open
 abbrev pub still_going : OrderParts → Result (Unit {0}) ExchangeFault
-still_going order = refused_if (order.split.still_open == 0) Done
+still_going order = unless (not (order.split.still_open == 0)) Done
 
 -- a trade of an order at a place, counted from 1, that is not busted
 abbrev pub not_busted : TradeParts → Result TradeParts ExchangeFault
@@ -67,14 +57,14 @@ trade_at order place = ok_or (numbered place order.trades) NoSuchTrade >>= not_b
 
 -- refused unless a number is left
 abbrev pub number_left : ExchangeParts → Result (Unit {0}) ExchangeFault
-number_left x = refused_if (not (has_numbers 1 x.config x.own)) NumbersSpent
+number_left x = unless (has_numbers 1 x.config x.own) NumbersSpent
 
 -- open shares of the order at a place are traded at a price
 abbrev pub trade_answer : ExchangeParts → ℕ → ℕ → List ℕ → Result Answer ExchangeFault
 trade_answer x place shares px = do
   order ← order_at x place
   going ← still_going order
-  some ← refused_if (shares == 0) TooManyShares
+  some ← unless (not (shares == 0)) TooManyShares
   after ← traded order shares (next_exec x.own)
   number ← number_left x
   Ok (reported x place after (Trade (record { shares = shares; px = px })))
@@ -100,7 +90,7 @@ reject x place = answered x (end_answer x place ByReject Rejected)
 abbrev pub bust_answer : ExchangeParts → ℕ → ℕ → Result Answer ExchangeFault
 bust_answer x place which = do
   order ← order_at x place
-  cancelled ← refused_if (not (is_cancelled order.ended)) NotCancelled
+  cancelled ← unless (is_cancelled order.ended) NotCancelled
   trade ← trade_at order which
   after ← busted_at which trade order
   number ← number_left x

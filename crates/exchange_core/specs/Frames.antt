@@ -1,8 +1,8 @@
 -- What a call gives: frames, each of one message.
-use Rattle.std.specs.Prelude.{◌≡◌, ℕ, List, [], ◌∷◌, ◌++◌, Option, option_to_list, Result, Ok, Err}
+use Rattle.std.specs.Prelude.{◌≡◌, ℕ, List, ◌++◌, map, Option, option_to_list, Result, Ok, Err}
 use Rattle.std.specs.Global.{Vec}
 use Rattle.fix_tags.specs.Stamp.{StampParts}
-use Rattle.dialect.specs.Framed.{Writers, IsFramed}
+use Rattle.dialect.specs.Framed.{Writers, AreFramed}
 use Rattle.dialect.specs.declared.outgoing.Outgoing.{Outgoing}
 use Rattle.exchange_core.specs.declared.exchange_fault.ExchangeFault.{ExchangeFault}
 use Rattle.exchange_core.specs.declared.exchange_fault.ExchangeFault.TheVariants.{OutOfMemory}
@@ -14,12 +14,9 @@ use Rattle.exchange_core.specs.Acts.{ActAnswer}
 abbrev pub no_dialect : Writers
 no_dialect = record { IsOrder = λ leg stamp fields. ⊥; IsReport = λ report view fields. ⊥ }
 
--- the frames are those of these messages, in order, each written at this moment
-abbrev pub AreFramed : Writers → StampParts → List Outgoing → List (Vec ℕ) → Type 0
-AreFramed w stamp [] [] = Unit {0}
-AreFramed w stamp (out ∷ written) (frame ∷ frames) =
-    IsFramed w stamp out frame.items × AreFramed w stamp written frames
-AreFramed w stamp written frames = ⊥
+-- the bytes of each frame
+abbrev pub bytes_of : List (Vec ℕ) → List (List ℕ)
+bytes_of frames = map (λ (frame : Vec ℕ). frame.items) frames
 
 -- what an act answers: a frame, if something is written
 abbrev pub ActResult : Type 0
@@ -30,14 +27,14 @@ ActResult = Result (Option (Vec ℕ)) ExchangeFault
 abbrev pub ActGives : Writers → StampParts → ExchangeParts → ActAnswer → ActResult → ExchangeParts → Type 0
 ActGives w stamp before (Err fault, after) answer now = (answer ≡ Err fault) × (now ≡ after)
 ActGives w stamp before (Ok written, after) (Ok frame) now =
-    AreFramed w stamp written (option_to_list frame) × (now ≡ after)
+    AreFramed w stamp written (bytes_of (option_to_list frame)) × (now ≡ after)
 ActGives w stamp before (Ok written, after) (Err fault) now = (fault ≡ OutOfMemory) × (now ≡ before)
 
 -- the frames of these messages were put behind the others
 pub record Writes (w : Writers) (stamp : StampParts) (written : List Outgoing) (old new : List (Vec ℕ)) : Type 0 where
   pub frames : List (Vec ℕ)
   pub added : new ≡ old ++ frames
-  pub framed : AreFramed w stamp written frames
+  pub framed : AreFramed w stamp written (bytes_of frames)
 
 -- what a message that comes is answered with
 abbrev pub TakeResult : Type 0
@@ -45,5 +42,6 @@ TakeResult = Result (Vec (Vec ℕ)) ExchangeFault
 
 -- what is given for it: the frames of what is written; or want of memory, and the exchange as it was
 abbrev pub TakeGives : Writers → StampParts → ExchangeParts → Answer → TakeResult → ExchangeParts → Type 0
-TakeGives w stamp before (written, after) (Ok frames) now = AreFramed w stamp written frames.items × (now ≡ after)
+TakeGives w stamp before (written, after) (Ok frames) now =
+    AreFramed w stamp written (bytes_of frames.items) × (now ≡ after)
 TakeGives w stamp before (written, after) (Err fault) now = (fault ≡ OutOfMemory) × (now ≡ before)

@@ -1,6 +1,7 @@
 -- How a plan changes an order, and what is then reported.
 use Rattle.std.specs.Prelude.{◌≡◌, ℕ, ◌≤◌, List, [], ◌∷◌, ◌++◌, length, Some, Result, Ok, Err, All}
 use Rattle.std.specs.Option.{option_map_or}
+use Rattle.fix_text.specs.Then.{◌>>=◌}
 use Rattle.leg.specs.Numbered.{numbered, with_numbered}
 use Rattle.leg.specs.Split.{SplitParts}
 use Rattle.dialect.specs.Writable.{IsWritable}
@@ -11,7 +12,7 @@ use Rattle.exchange_core.specs.declared.exchange_fault.ExchangeFault.{ExchangeFa
 use Rattle.exchange_core.specs.Order.{OrderParts}
 use Rattle.exchange_core.specs.declared.own.Own.{Own}
 use Rattle.exchange_core.specs.Exchange.{ExchangeParts, Answer}
-use Rattle.exchange_core.specs.Acts.{◌>>=◌, order_at, reported}
+use Rattle.exchange_core.specs.Acts.{order_at, reported}
 use Rattle.exchange_core.specs.Sound.{IsSound}
 
 -- an order after a step, with these shares

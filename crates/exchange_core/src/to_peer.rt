@@ -5,23 +5,10 @@ ghost use Rattle.dialect.specs.Addressed.{message_of};
 ghost use Rattle.dialect.specs.Outgoing.{alone};
 ghost use Rattle.exchange_core.specs.Own.{execution_report};
 
-use dialect::{Content, Message, OrderView, Outgoing, Report, TextRef};
+use dialect::{Content, Message, OrderView, Outgoing, Report};
 use fix_tags::Config;
 
-/// A message to the peer under a number, marked where the peer may have seen it before.
-fn message<'a>(config: &'a Config, number: u64, poss_dup: bool, content: Content<'a>) -> Message<'a>
-    ensures { result ≡ message_of config.entry.now number poss_dup content.entry }
-{
-    Message {
-        from: TextRef::new(config.me().as_bytes()),
-        to: TextRef::new(config.peer().as_bytes()),
-        number,
-        poss_dup,
-        content,
-    }
-}
-
-/// A message with nothing beside it.
+/// A message to the peer under a number, marked where the peer may have seen it before, with nothing beside it.
 pub(crate) fn to_peer<'a>(
     config: &'a Config,
     number: u64,
@@ -30,10 +17,7 @@ pub(crate) fn to_peer<'a>(
 ) -> Outgoing<'a>
     ensures { result ≡ alone (message_of config.entry.now number poss_dup content.entry) }
 {
-    Outgoing {
-        message: message(config, number, poss_dup, content),
-        beside: None,
-    }
+    Outgoing::alone(Message::to_peer(config, number, poss_dup, content))
 }
 
 /// A report, and beside it the order as it was then. Neither of the copies takes memory.
@@ -48,7 +32,7 @@ pub(crate) fn report_to_peer<'a>(
 {
     let content = Content::ExecutionReport(Ok(report.clone().unwrap()));
     Outgoing {
-        message: message(config, number, poss_dup, content),
+        message: Message::to_peer(config, number, poss_dup, content),
         beside: Some(view.clone().unwrap()),
     }
 }

@@ -1,11 +1,12 @@
 //! What an exchange does by itself.
 
 ghost use Rattle.std.specs.Prelude.{◌≡◌, [], ◌∷◌, false, IfOk, OnErr, OnOk, All, option_to_list};
+ghost use Rattle.dialect.specs.Framed.{AreFramed};
 ghost use Rattle.dialect.specs.Writable.{IsWritable};
 ghost use Rattle.exchange_core.specs.declared.own.Own.TheVariants.{Reported};
 ghost use Rattle.exchange_core.specs.Own.{next_own_number, execution_report};
 ghost use Rattle.exchange_core.specs.Acts.{while_live, answered, trade, cancel_rest, reject, bust, test};
-ghost use Rattle.exchange_core.specs.Frames.{AreFramed, ActGives, no_dialect};
+ghost use Rattle.exchange_core.specs.Frames.{ActGives, bytes_of, no_dialect};
 ghost use Rattle.exchange_core.specs.Keeping.{IsAct};
 ghost use Rattle.exchange_core.specs.Plan.{plan_answer, IsFor, IsFit, after_step};
 ghost use Rattle.exchange_core.specs.Sound.{IsSound};
@@ -167,7 +168,7 @@ impl Exchange {
             (record { IsOrder = D.IsOrder dialect.now; IsReport = D.IsReport dialect.now }) stamp.now
             (while_live self.now.live
             (execution_report self.now.config (next_own_number self.now.own) false report.now view.now ∷ []))
-            (option_to_list frame)) }
+            (bytes_of (option_to_list frame))) }
     {
         if self.live.is_none() {
             return Ok(None);
