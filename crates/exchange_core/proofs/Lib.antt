@@ -25,3 +25,4 @@ pub mod Accepting
 pub mod Resending
 pub mod Taking
 pub mod Turning
+pub mod Read

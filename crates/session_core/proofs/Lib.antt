@@ -10,3 +10,4 @@ pub mod Drafted
 pub mod Framing
 pub mod Decided
 pub mod KeptOn
+pub mod Read

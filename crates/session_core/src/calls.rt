@@ -7,7 +7,6 @@ ghost use Rattle.dialect.specs.Outgoing.{alone};
 ghost use Rattle.session_core.specs.Turn.{quietly};
 ghost use Rattle.session_core.specs.Receiving.{receive};
 ghost use Rattle.session_core.specs.Calling.{answers, asked_to_close, connect, send_leg, quiet, silent, close};
-ghost use Rattle.session_core.specs.Sound.{IsRead};
 ghost use Rattle.session_core.specs.Draft.{drafted, Decides};
 ghost use Rattle.session_core.specs.Given.{IsStep, Gives};
 
@@ -144,7 +143,6 @@ impl Session {
         envelope: &EnvelopeRef<'_>,
         stamp: &Stamp,
     ) -> Result<Step, SessionFault>
-        requires { IsRead (seen (record { order = D.order_read dialect.now; report = D.report_read dialect.now }) envelope.now) }
         ensures { Gives (IsStep (record { IsOrder = D.IsOrder dialect.now; IsReport = D.IsReport dialect.now }) stamp.now) self.old (answers (receive self.old (seen (record { order = D.order_read dialect.now; report = D.report_read dialect.now }) envelope.now))) result self.new }
     {
         let message = see(dialect, envelope);

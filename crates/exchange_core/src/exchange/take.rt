@@ -7,7 +7,7 @@ ghost use Rattle.dialect.specs.Writable.{IsWritable};
 ghost use Rattle.exchange_core.specs.Exchange.{order_taken, take};
 ghost use Rattle.exchange_core.specs.Frames.{TakeGives, Writes};
 ghost use Rattle.exchange_core.specs.Keeping.{IsAnswer};
-ghost use Rattle.exchange_core.specs.Sound.{IsRead, IsSound};
+ghost use Rattle.exchange_core.specs.Sound.{IsSound};
 ghost use Rattle.exchange_core.specs.Turn.{turn_answer, turn_written, turn_own, used_own, used_for, asked_answer, deed_answer};
 ghost use Rattle.exchange_core.specs.declared.own.Own.{Own as OwnUse};
 
@@ -37,7 +37,6 @@ impl Exchange {
         envelope: &EnvelopeRef<'_>,
         stamp: &Stamp,
     ) -> Result<Vec<Vec<u8>>, ExchangeFault>
-        requires { IsRead (seen (record { order = D.order_read dialect.now; report = D.report_read dialect.now }) envelope.now) }
         ensures gives { TakeGives (record { IsOrder = D.IsOrder dialect.now; IsReport = D.IsReport dialect.now }) stamp.now self.old (take self.old connection (seen (record { order = D.order_read dialect.now; report = D.report_read dialect.now }) envelope.now)) result self.new }
         ensures allowed { IsAnswer self.old connection (seen (record { order = D.order_read dialect.now; report = D.report_read dialect.now }) envelope.now) (take self.old connection (seen (record { order = D.order_read dialect.now; report = D.report_read dialect.now }) envelope.now)) }
     {

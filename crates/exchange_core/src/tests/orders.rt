@@ -39,7 +39,7 @@ pub(super) fn play_orders(rt: &impl Abort, alloc: Global) -> Result<(), Fail> {
             "8=FIX.4.4|9={new_length}|35=8|49=B|56=A|34={number}|52={moment}|37=O{leg}|17=E{leg}|150=0|39=0|\
              11=S1L{leg}|55=IBM|54=1|151=1|14=0|6=0|10={new_sum:03}|"
         )?;
-        for frame in takes(rt, alloc, &mut exchange, 1, &order)?? {
+        for frame in takes(alloc, &mut exchange, 1, &order)?? {
             is_written(rt, alloc, frame, &report)?;
         }
     }

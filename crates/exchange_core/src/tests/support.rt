@@ -1,13 +1,10 @@
 //! An exchange as tables play with it: what comes and is done, and what is then written.
 
-ghost use Rattle.std.specs.Prelude.{IsTrue};
-ghost use Rattle.exchange_core.specs.Sound.{IsRead};
-
 use self::Deed::Comes;
 use self::Shown::{Again, Sent};
 use crate::{Exchange, ExchangeFault};
-use dialect::{Content, FreeText, LastPx, MAX_ID, Message, Plain, see};
-use fix_tags::{CompId, Config, MAX_MESSAGE_NUMBER, Stamp, read_envelope};
+use dialect::{LastPx, Plain};
+use fix_tags::{CompId, Config, Stamp, read_envelope};
 use fix_text::FrameReader;
 use std::alloc::{AllocError, Global};
 use std::process::Abort;
@@ -91,7 +88,7 @@ pub(super) fn play(
     rows: &[Row],
 ) -> Result<(), Fail> {
     for (deed, answer, expected) in rows {
-        let given = does(rt, alloc, exchange, *deed)?;
+        let given = does(alloc, exchange, *deed)?;
         let fault = given.as_ref().err().copied();
         assert_eq!(rt; fault, answer.err(), "{deed:?}");
         if let (Ok(frames), Ok(shown)) = (given, answer) {
@@ -112,21 +109,16 @@ pub(super) fn play_alone(rt: &impl Abort, alloc: Global, rows: &[Row]) -> Result
 }
 
 /// What the exchange gives when this is done.
-fn does(
-    rt: &impl Abort,
-    alloc: Global,
-    exchange: &mut Exchange,
-    deed: Deed,
-) -> Result<Given, Fail> {
+fn does(alloc: Global, exchange: &mut Exchange, deed: Deed) -> Result<Given, Fail> {
     let stamp = moment()?;
     match deed {
         Deed::Comes(connection, shown) => {
             let text = text_of(alloc, "A", "B", shown)?;
-            takes(rt, alloc, exchange, connection, &text)
+            takes(alloc, exchange, connection, &text)
         }
         Deed::ComesBetween(from, to, shown) => {
             let text = text_of(alloc, from, to, shown)?;
-            takes(rt, alloc, exchange, 1, &text)
+            takes(alloc, exchange, 1, &text)
         }
         Deed::Trade(place, shares) => {
             let px = LastPx::new(b"10.25").ok_or("a price")?;
@@ -165,7 +157,6 @@ fn listed(
 
 /// Hands the exchange the message of a frame, shown with `|` for SOH.
 pub(super) fn takes(
-    rt: &impl Abort,
     alloc: Global,
     exchange: &mut Exchange,
     connection: u64,
@@ -176,34 +167,7 @@ pub(super) fn takes(
     reader.feed(bytes.as_bytes())?;
     let frame = reader.next()?.ok_or("a frame")?;
     let envelope = read_envelope(alloc, &frame)?;
-    let message = see(&Plain, &envelope);
-    assert!(rt; is_in_range(&message));
     Ok(exchange.take(alloc, &Plain, connection, &envelope, &moment()?))
-}
-
-/// Whether what was read of a message is in range.
-fn is_in_range(message: &Message<'_>) -> bool
-    ensures { IsTrue result → IsRead message.now }
-{
-    message.number <= MAX_MESSAGE_NUMBER
-        && match &message.content {
-            Content::Logon { heart, .. } => *heart <= 999_999,
-            Content::TestRequest { id } => FreeText::<MAX_ID>::new(id.as_bytes()).is_some(),
-            Content::GapFill { new_number } => *new_number <= MAX_MESSAGE_NUMBER + 1,
-            Content::Order(Ok(leg)) => {
-                leg.in_range();
-                true
-            }
-            Content::Order(Err(_)) => true,
-            Content::Heartbeat { .. } => true,
-            Content::ResendRequest { .. } => true,
-            Content::Reject { .. } => true,
-            Content::Reset { .. } => true,
-            Content::Logout => true,
-            Content::BusinessReject { .. } => true,
-            Content::ExecutionReport(_) => true,
-            Content::Other => true,
-        }
 }
 
 /// The text of a frame from one end to the other.

@@ -202,7 +202,7 @@ fn answer(
     match act {
         Act::Hear(text) => {
             let bytes = shown(alloc, text, "B", "A")?;
-            return Ok(Ok(hand(rt, alloc, session, bytes.as_str())?));
+            return Ok(Ok(hand(alloc, session, bytes.as_str())?));
         }
         Act::Quiet => return Ok(session.quiet(&Plain, &now)),
         Act::Silent => return Ok(session.silent(&Plain, &now)),

@@ -1,11 +1,8 @@
 //! Messages between A and B as bytes.
 
-ghost use Rattle.std.specs.Prelude.{IsTrue};
-ghost use Rattle.session_core.specs.Sound.{IsRead};
-
 use crate::{Session, Step};
-use dialect::{Content, FreeText, MAX_ID, Message, Plain, see};
-use fix_tags::{MAX_MESSAGE_NUMBER, ReadFault, Stamp, read_envelope};
+use dialect::Plain;
+use fix_tags::{ReadFault, Stamp, read_envelope};
 use fix_text::{FrameReader, sum256};
 use std::alloc::Global;
 use std::process::Abort;
@@ -51,45 +48,13 @@ pub(super) fn shown(alloc: Global, text: Text, from: &str, to: &str) -> Result<S
     framed(alloc, fields.as_str())
 }
 
-/// Whether what was read of a message is in range.
-fn is_in_range(message: &Message<'_>) -> bool
-    ensures { IsTrue result → IsRead message.now }
-{
-    message.number <= MAX_MESSAGE_NUMBER
-        && match &message.content {
-            Content::Logon {
-                next: Some(next),
-                ..
-            } => 1 <= *next && *next <= MAX_MESSAGE_NUMBER + 1,
-            Content::Logon { next: None, .. } => true,
-            Content::TestRequest { id } => FreeText::<MAX_ID>::new(id.as_bytes()).is_some(),
-            Content::GapFill { new_number } => *new_number <= MAX_MESSAGE_NUMBER + 1,
-            Content::Heartbeat { .. } => true,
-            Content::ResendRequest { .. } => true,
-            Content::Reject { .. } => true,
-            Content::Reset { .. } => true,
-            Content::Logout => true,
-            Content::BusinessReject { .. } => true,
-            Content::Order(_) => true,
-            Content::ExecutionReport(_) => true,
-            Content::Other => true,
-        }
-}
-
 /// Hands the session the message of a frame, shown with `|` for SOH.
-pub(super) fn hand(
-    rt: &impl Abort,
-    alloc: Global,
-    session: &mut Session,
-    shown: &str,
-) -> Result<Step, Fail> {
+pub(super) fn hand(alloc: Global, session: &mut Session, shown: &str) -> Result<Step, Fail> {
     let bytes = shown.replace(alloc, "|", "\x01")?;
     let mut reader = FrameReader::new(alloc);
     reader.feed(bytes.as_bytes())?;
     let frame = reader.next()?.ok_or("a frame")?;
     let envelope = read_envelope(alloc, &frame)?;
-    let message = see(&Plain, &envelope);
-    assert!(rt; is_in_range(&message));
     Ok(session.receive(&Plain, &envelope, &moment()?)?)
 }
 
