@@ -1,25 +1,23 @@
 -- What the kept legs are to the definitions of the log.
-use Rattle.std.proofs.Common.{◌≡◌, ◌<◌, ◌≤◌, ◌+◌, ◌-◌, ◌==◌, ℕ, zero, suc, Bool, true, false, not, nat_lt, nat_le, List, [], ◌∷◌, ◌++◌, length, Some, None, Ok, Err, refl, sym, ap, ◌∙◌, ◌&&◌, if◌then◌else◌, arith, add-one}
-use Rattle.std.specs.Prelude.{slice_get}
+use Rattle.std.proofs.Common.{◌≡◌, ◌<◌, ◌≤◌, ◌+◌, ◌==◌, ℕ, suc, Bool, true, false, not, nat_lt, nat_le, List, [], ◌∷◌, ◌++◌, length, Ok, Err, refl, sym, ap, ◌∙◌, ◌&&◌, if◌then◌else◌, arith, add-one}
 use Rattle.std.proofs.lemmas.Bool.{eq-eqb}
 use Rattle.std.proofs.lemmas.Bool.Decides.{nat_tests}
 use Rattle.leg.specs.LegId.{LegIdParts}
 use Rattle.leg.specs.declared.leg_state.LegState.TheVariants.{Doubt}
 use Rattle.resend.specs.declared.log_fault.LogFault.TheVariants.{NumbersSpent, OutOfMemory}
-use Rattle.resend.specs.declared.logged_leg.LoggedLeg.{LoggedLeg}
 use Rattle.resend.specs.declared.sent.Sent.{Sent}
 use Rattle.resend.specs.Log.{SentLeg, Entry, sent_legs, last_ordinal, is_doubt, doubt_in, doubt_from, is_nonempty, in_doubt}
 use Rattle.resend.specs.Log.Entry.{Admin, Sent as SentEntry}
 use Rattle.resend.specs.Window.{OutLogParts, push, doubts, window}
 use Rattle.leg.specs.Answering.{Answers}
-use Rattle.resend.specs.Kept.{numbered_leg, numbered_legs, filled, entries, IsRising, doubt_legs}
+use Rattle.resend.specs.Kept.{filled, entries, IsRising}
 use Rattle.resend.proofs.Filled.{length-filled, sent_from-filled, filled-more, last_in, last_ordinal-sent}
 
-pub length-entries : (last : ℕ) (legs : List LoggedLeg) → length (entries last legs) ≡ last
-length-entries last legs = length-filled last 0 (numbered_legs legs)
+pub length-entries : (last : ℕ) (legs : List (ℕ × SentLeg)) → length (entries last legs) ≡ last
+length-entries last legs = length-filled last 0 legs
 
-pub sent_legs-entries : (last : ℕ) (legs : List LoggedLeg) → IsRising 0 0 last (numbered_legs legs) → sent_legs (entries last legs) ≡ numbered_legs legs
-sent_legs-entries last legs r = sent_from-filled last 0 0 last (numbered_legs legs) (omega arith) r
+pub sent_legs-entries : (last : ℕ) (legs : List (ℕ × SentLeg)) → IsRising 0 0 last legs → sent_legs (entries last legs) ≡ legs
+sent_legs-entries last legs r = sent_from-filled last 0 0 last legs (omega arith) r
 
 -- a number is spent where one is left
 pub push-ok : (max_number : ℕ) (entry : Entry) (log : List Entry) (last : ℕ) → length log ≡ last → last + 1 < max_number
@@ -56,28 +54,22 @@ append_none : {A : Type 0} → (xs : List A) → xs ++ [] ≡ xs
 append_none [] = refl
 append_none (x ∷ xs) = ap (λ ys. x ∷ ys) (append_none xs)
 
-numbered-append : (legs more : List LoggedLeg) → numbered_legs (legs ++ more) ≡ numbered_legs legs ++ numbered_legs more
-numbered-append [] more = refl
-numbered-append (leg ∷ legs) more = ap (λ (rest : List (ℕ × SentLeg)). numbered_leg leg ∷ rest) (numbered-append legs more)
-
-pub entries-admin : (last : ℕ) (legs : List LoggedLeg) → IsRising 0 0 last (numbered_legs legs) → entries (last + 1) legs ≡ entries last legs ++ Admin ∷ []
+pub entries-admin : (last : ℕ) (legs : List (ℕ × SentLeg)) → IsRising 0 0 last legs → entries (last + 1) legs ≡ entries last legs ++ Admin ∷ []
 entries-admin last legs r =
-    let more = filled-more last 0 0 last 0 0 (numbered_legs legs) [] (omega arith) r tt in
-    rw add-one (ap (λ (all : List (ℕ × SentLeg)). filled (suc last) 0 all) (sym (append_none (numbered_legs legs))) ∙ more)
+    let more = filled-more last 0 0 last 0 0 legs [] (omega arith) r tt in
+    rw add-one (ap (λ (all : List (ℕ × SentLeg)). filled (suc last) 0 all) (sym (append_none legs)) ∙ more)
 
 one_leg : (last : ℕ) (leg : SentLeg) → filled 1 last ((last + 1, leg) ∷ []) ≡ SentEntry leg ∷ []
 one_leg last leg = let is : (last + 1 == suc last) ≡ true = eq-eqb (last + 1) (suc last) (omega arith) in rw is refl
 
-pub entries-leg : (last : ℕ) (legs : List LoggedLeg) (ordinal : ℕ) (id : LegIdParts) → IsRising 0 0 last (numbered_legs legs) → 0 < ordinal
-    → entries (last + 1) (legs ++ record { number = last + 1; ordinal = ordinal; id = id; state = Doubt } ∷ [])
+pub entries-leg : (last : ℕ) (legs : List (ℕ × SentLeg)) (ordinal : ℕ) (id : LegIdParts) → IsRising 0 0 last legs → 0 < ordinal
+    → entries (last + 1) (legs ++ (last + 1, record { ordinal = ordinal; id = id; state = Doubt }) ∷ [])
     ≡ entries last legs ++ SentEntry (record { ordinal = ordinal; id = id; state = Doubt }) ∷ []
 entries-leg last legs ordinal id r above =
-    let leg : LoggedLeg = record { number = last + 1; ordinal = ordinal; id = id; state = Doubt } in
     let kept : SentLeg = record { ordinal = ordinal; id = id; state = Doubt } in
-    let more = filled-more last 0 0 last 0 (last + 1) (numbered_legs legs) ((last + 1, kept) ∷ []) (omega arith) r (omega arith, above, omega arith, tt) in
+    let more = filled-more last 0 0 last 0 (last + 1) legs ((last + 1, kept) ∷ []) (omega arith) r (omega arith, above, omega arith, tt) in
     let next : last + 1 ≡ suc last = add-one last in
-    (ap (λ (n : ℕ). filled n 0 (numbered_legs (legs ++ leg ∷ []))) next
-    ∙ ap (λ (all : List (ℕ × SentLeg)). filled (suc last) 0 all) (numbered-append legs (leg ∷ []))
+    (ap (λ (n : ℕ). filled n 0 (legs ++ (last + 1, kept) ∷ [])) next
     ∙ more ∙ ap (λ (log : List Entry). entries last legs ++ log) (one_leg last kept))
 
 -- the legs stay in order as numbers are spent
@@ -91,47 +83,31 @@ rising-append number ordinal last next [] leg r le lt above = (omega arith, abov
 rising-append number ordinal last next ((at, first) ∷ legs) leg r le lt above =
     (r.0, r.1, omega arith, rising-append at first.ordinal last next legs leg r.3 r.2 lt above)
 
-pub rising-push : (last : ℕ) (legs : List LoggedLeg) (leg : LoggedLeg) → IsRising 0 0 last (numbered_legs legs) → leg.number ≡ last + 1
-    → last_in 0 (numbered_legs legs) < leg.ordinal → IsRising 0 0 (last + 1) (numbered_legs (legs ++ leg ∷ []))
-rising-push last legs leg r is above =
-    let numbers = numbered-append legs (leg ∷ []) in
-    let kept : SentLeg = record { ordinal = leg.ordinal; id = leg.id; state = leg.state } in
-    let with_next : IsRising 0 0 (last + 1) (numbered_legs legs ++ (last + 1, kept) ∷ []) = rising-append 0 0 last (last + 1) (numbered_legs legs) kept r (omega arith) (omega arith) above in
-    rw (numbers, is) with_next
+pub rising-push : (last : ℕ) (legs : List (ℕ × SentLeg)) (leg : SentLeg) → IsRising 0 0 last legs → last_in 0 legs < leg.ordinal
+    → IsRising 0 0 (last + 1) (legs ++ (last + 1, leg) ∷ [])
+rising-push last legs leg r above = rising-append 0 0 last (last + 1) legs leg r (omega arith) (omega arith) above
 
 -- the last ordinal
-pub last_ordinal-entries : (last : ℕ) (legs : List LoggedLeg) → IsRising 0 0 last (numbered_legs legs) → last_ordinal (entries last legs) ≡ last_in 0 (numbered_legs legs)
+pub last_ordinal-entries : (last : ℕ) (legs : List (ℕ × SentLeg)) → IsRising 0 0 last legs → last_ordinal (entries last legs) ≡ last_in 0 legs
 last_ordinal-entries last legs r = last_ordinal-sent 0 1 (entries last legs) ∙ ap (last_in 0) (sent_legs-entries last legs r)
 
-pub last_leg : (ordinal : ℕ) (legs : List LoggedLeg) (leg : LoggedLeg) → Some leg ≡ slice_get legs (length legs - 1) → leg.ordinal ≡ last_in ordinal (numbered_legs legs)
-last_leg ordinal [] leg e = absurd cc
-last_leg ordinal (first ∷ []) leg e = let same : leg ≡ first = cc in ap (λ (l : LoggedLeg). l.ordinal) same
-last_leg ordinal (first ∷ next ∷ legs) leg e =
-    let place : suc (suc (length legs)) - 1 ≡ suc (length legs) = omega arith in
-    let on : suc (length legs) - 1 ≡ length legs = omega arith in
-    last_leg first.ordinal (next ∷ legs) leg (rw on (rw place at e))
+-- it stays where an administrative message is sent, and is that of a leg that is sent
+pub last_ordinal-admin : (last : ℕ) (legs : List (ℕ × SentLeg)) (ordinal : ℕ) → IsRising 0 0 last legs → ordinal ≡ last_ordinal (entries last legs)
+    → ordinal ≡ last_ordinal (entries (last + 1) legs)
+last_ordinal-admin last legs ordinal r is =
+    is ∙ last_ordinal-entries last legs r ∙ sym (last_ordinal-entries (last + 1) legs (rising-later 0 0 last (last + 1) legs (omega arith) r))
 
-some_within : (legs : List LoggedLeg) (place : ℕ) → place < length legs → None ≡ slice_get legs place → ⊥
-some_within [] place lt e = absurd (omega arith)
-some_within (leg ∷ legs) zero lt e = cc
-some_within (leg ∷ legs) (suc place) lt e = some_within legs place (omega arith) e
+last_in-append : (ordinal number : ℕ) (legs : List (ℕ × SentLeg)) (leg : SentLeg) → leg.ordinal ≡ last_in ordinal (legs ++ (number, leg) ∷ [])
+last_in-append ordinal number [] leg = refl
+last_in-append ordinal number ((at, first) ∷ legs) leg = last_in-append first.ordinal number legs leg
 
-pub no_leg : (legs : List LoggedLeg) → None ≡ slice_get legs (length legs - 1) → 0 ≡ last_in 0 (numbered_legs legs)
-no_leg [] e = refl
-no_leg (first ∷ []) e = absurd cc
-no_leg (first ∷ next ∷ legs) e =
-    let place : suc (suc (length legs)) - 1 ≡ suc (length legs) = omega arith in
-    let on : suc (length legs) - 1 ≡ length legs = omega arith in
-    absurd (let e' = rw place at e in some_within (next ∷ legs) (length legs) (omega arith) e')
+pub last_ordinal-leg : (last : ℕ) (legs : List (ℕ × SentLeg)) (leg : SentLeg) → IsRising 0 0 (last + 1) (legs ++ (last + 1, leg) ∷ [])
+    → leg.ordinal ≡ last_ordinal (entries (last + 1) (legs ++ (last + 1, leg) ∷ []))
+last_ordinal-leg last legs leg r = last_in-append 0 (last + 1) legs leg ∙ sym (last_ordinal-entries (last + 1) (legs ++ (last + 1, leg) ∷ []) r)
 
 -- the legs in doubt
-pub doubts-legs : (legs : List LoggedLeg) → doubts (numbered_legs legs) ≡ doubt_legs legs
-doubts-legs [] = refl
-doubts-legs (leg ∷ legs) =
-    ap (λ (rest : List Sent). if is_doubt leg.state then record { number = leg.number; ordinal = leg.ordinal; id = leg.id } ∷ rest else rest) (doubts-legs legs)
-
-pub window-entries : (last : ℕ) (legs : List LoggedLeg) → IsRising 0 0 last (numbered_legs legs) → window (entries last legs) ≡ doubt_legs legs
-window-entries last legs r = ap doubts (sent_legs-entries last legs r) ∙ doubts-legs legs
+pub window-entries : (last : ℕ) (legs : List (ℕ × SentLeg)) → IsRising 0 0 last legs → window (entries last legs) ≡ doubts legs
+window-entries last legs r = ap doubts (sent_legs-entries last legs r)
 
 -- the numbers of legs in doubt, from one on
 abbrev pub ids_from : ℕ → List Sent → List LegIdParts
@@ -144,12 +120,12 @@ doubt_turn false above sent least legs sents is e = e
 doubt_turn true true sent least legs sents is e = rw is (ap (λ (ids : List LegIdParts). sent.id ∷ ids) e)
 doubt_turn true false sent least legs sents is e = rw is e
 
-doubt_in-legs : (least : ℕ) (legs : List LoggedLeg) → doubt_in least (numbered_legs legs) ≡ ids_from least (doubt_legs legs)
+doubt_in-legs : (least : ℕ) (legs : List (ℕ × SentLeg)) → doubt_in least legs ≡ ids_from least (doubts legs)
 doubt_in-legs least [] = refl
-doubt_in-legs least (leg ∷ legs) =
-    doubt_turn (is_doubt leg.state) (nat_le least leg.number) (record { number = leg.number; ordinal = leg.ordinal; id = leg.id }) least _ _ refl (doubt_in-legs least legs)
+doubt_in-legs least ((number, leg) ∷ legs) =
+    doubt_turn (is_doubt leg.state) (nat_le least number) (record { number = number; ordinal = leg.ordinal; id = leg.id }) least _ _ refl (doubt_in-legs least legs)
 
-pub doubt_from-entries : (least last : ℕ) (legs : List LoggedLeg) → IsRising 0 0 last (numbered_legs legs) → doubt_from least (entries last legs) ≡ ids_from least (doubt_legs legs)
+pub doubt_from-entries : (least last : ℕ) (legs : List (ℕ × SentLeg)) → IsRising 0 0 last legs → doubt_from least (entries last legs) ≡ ids_from least (doubts legs)
 doubt_from-entries least last legs r = ap (doubt_in least) (sent_legs-entries last legs r) ∙ doubt_in-legs least legs
 
 some_doubt : (sents : List Sent) → not (length sents == 0) ≡ is_nonempty (ids_from 0 sents)
@@ -158,19 +134,19 @@ some_doubt (sent ∷ sents) =
     let all : nat_le 0 sent.number ≡ true = grind (arith, nat_tests) in
     let some : (suc (length sents) == 0) ≡ false = grind (arith, nat_tests) in rw (all, some) refl
 
-pub in_doubt-entries : (last : ℕ) (legs : List LoggedLeg) → IsRising 0 0 last (numbered_legs legs) → in_doubt (entries last legs) ≡ not (length (doubt_legs legs) == 0)
-in_doubt-entries last legs r = ap is_nonempty (doubt_from-entries 0 last legs r) ∙ sym (some_doubt (doubt_legs legs))
+pub in_doubt-entries : (last : ℕ) (legs : List (ℕ × SentLeg)) → IsRising 0 0 last legs → in_doubt (entries last legs) ≡ not (length (doubts legs) == 0)
+in_doubt-entries last legs r = ap is_nonempty (doubt_from-entries 0 last legs r) ∙ sym (some_doubt (doubts legs))
 
 append_turn : (b : Bool) (sent : Sent) (xs ys more : List Sent) → ys ≡ xs ++ more → (if b then sent ∷ ys else ys) ≡ (if b then sent ∷ xs else xs) ++ more
 append_turn true sent xs ys more e = ap (λ (sents : List Sent). sent ∷ sents) e
 append_turn false sent xs ys more e = e
 
-doubt_legs-append : (legs more : List LoggedLeg) → doubt_legs (legs ++ more) ≡ doubt_legs legs ++ doubt_legs more
-doubt_legs-append [] more = refl
-doubt_legs-append (leg ∷ legs) more =
-    append_turn (is_doubt leg.state) (record { number = leg.number; ordinal = leg.ordinal; id = leg.id }) _ _ _ (doubt_legs-append legs more)
+doubts-append : (legs more : List (ℕ × SentLeg)) → doubts (legs ++ more) ≡ doubts legs ++ doubts more
+doubts-append [] more = refl
+doubts-append ((number, leg) ∷ legs) more =
+    append_turn (is_doubt leg.state) (record { number = number; ordinal = leg.ordinal; id = leg.id }) _ _ _ (doubts-append legs more)
 
-pub doubt_legs-push : (window : List Sent) (legs : List LoggedLeg) (number ordinal : ℕ) (id : LegIdParts) → window ≡ doubt_legs legs
-    → window ++ record { number = number; ordinal = ordinal; id = id } ∷ [] ≡ doubt_legs (legs ++ record { number = number; ordinal = ordinal; id = id; state = Doubt } ∷ [])
-doubt_legs-push window legs number ordinal id e =
-    let more = doubt_legs-append legs (record { number = number; ordinal = ordinal; id = id; state = Doubt } ∷ []) in rw (e, more) refl
+pub doubts-push : (window : List Sent) (legs : List (ℕ × SentLeg)) (number ordinal : ℕ) (id : LegIdParts) → window ≡ doubts legs
+    → window ++ record { number = number; ordinal = ordinal; id = id } ∷ [] ≡ doubts (legs ++ (number, record { ordinal = ordinal; id = id; state = Doubt }) ∷ [])
+doubts-push window legs number ordinal id e =
+    let more = doubts-append legs ((number, record { ordinal = ordinal; id = id; state = Doubt }) ∷ []) in rw (e, more) refl

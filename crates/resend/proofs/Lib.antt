@@ -6,6 +6,8 @@ pub mod Filled
 pub mod Kept
 pub mod Leading
 pub mod Looking
+pub mod Standing
+pub mod Ordinals
 pub mod Settling
 pub mod Fills
 pub mod Joining

@@ -4,38 +4,32 @@ use Rattle.std.specs.Prelude.{slice_get, map}
 use Rattle.std.specs.List.Sorted.{IsNonDecreasingBy}
 use Rattle.std.proofs.lemmas.Bool.Decides.{nat_tests}
 use Rattle.leg.specs.LegId.{LegIdParts}
-use Rattle.leg.specs.declared.leg_state.LegState.{LegState}
-use Rattle.resend.specs.declared.logged_leg.LoggedLeg.{LoggedLeg}
+use Rattle.resend.specs.Window.{doubts}
+use Rattle.resend.specs.declared.numbered_id.NumberedId.{NumberedId}
 use Rattle.resend.specs.declared.sent.Sent.{Sent}
-use Rattle.resend.specs.Log.{leg_at, state_in, state_of, doubt_from, is_doubt}
-use Rattle.resend.specs.Kept.{numbered_legs, entries, IsRising, doubt_legs, leading}
+use Rattle.resend.specs.Log.{SentLeg, leg_at, doubt_from, is_doubt}
+use Rattle.resend.specs.Kept.{entries, IsRising, leading}
 use Rattle.resend.proofs.Filled.{id_at, leg_of-sent}
 use Rattle.resend.proofs.Kept.{sent_legs-entries, ids_from, doubt_from-entries}
 
--- the keys of the legs rise
-pub numbers_above : (number ordinal last : ℕ) (legs : List LoggedLeg) (k : ℕ) (d : LoggedLeg) → IsRising number ordinal last (numbered_legs legs) → k < length legs → number < (get_or legs k d).number
+-- the ids of legs, each with its number
+abbrev pub numbered_ids : List (ℕ × SentLeg) → List NumberedId
+numbered_ids [] = []
+numbered_ids ((number, leg) ∷ legs) = record { number = number; id = leg.id } ∷ numbered_ids legs
+
+-- the numbers rise
+numbers_above : (number ordinal last : ℕ) (legs : List (ℕ × SentLeg)) (k : ℕ) (d : NumberedId) → IsRising number ordinal last legs → k < length (numbered_ids legs)
+    → number < (get_or (numbered_ids legs) k d).number
 numbers_above number ordinal last [] k d r lt = absurd (omega arith)
-numbers_above number ordinal last (leg ∷ legs) zero d r lt = r.0
-numbers_above number ordinal last (leg ∷ legs) (suc k) d r lt = omega (arith, r.0, numbers_above leg.number leg.ordinal last legs k d r.3 (omega arith))
+numbers_above number ordinal last ((at, leg) ∷ legs) zero d r lt = r.0
+numbers_above number ordinal last ((at, leg) ∷ legs) (suc k) d r lt = omega (arith, r.0, numbers_above at leg.ordinal last legs k d r.3 (omega arith))
 
-pub ordinals_above : (number ordinal last : ℕ) (legs : List LoggedLeg) (k : ℕ) (d : LoggedLeg) → IsRising number ordinal last (numbered_legs legs) → k < length legs → ordinal < (get_or legs k d).ordinal
-ordinals_above number ordinal last [] k d r lt = absurd (omega arith)
-ordinals_above number ordinal last (leg ∷ legs) zero d r lt = r.1
-ordinals_above number ordinal last (leg ∷ legs) (suc k) d r lt = omega (arith, r.1, ordinals_above leg.number leg.ordinal last legs k d r.3 (omega arith))
-
-pub numbers_rise : (number ordinal last : ℕ) (legs : List LoggedLeg) → IsRising number ordinal last (numbered_legs legs) → IsNonDecreasingBy (λ (leg : LoggedLeg). leg.number) legs
+pub numbers_rise : (number ordinal last : ℕ) (legs : List (ℕ × SentLeg)) → IsRising number ordinal last legs → IsNonDecreasingBy (λ (numbered : NumberedId). numbered.number) (numbered_ids legs)
 numbers_rise number ordinal last [] r i j d le lt = absurd (omega arith)
-numbers_rise number ordinal last (leg ∷ legs) r zero zero d le lt = omega arith
-numbers_rise number ordinal last (leg ∷ legs) r zero (suc j) d le lt = omega (arith, numbers_above leg.number leg.ordinal last legs j d r.3 (omega arith))
-numbers_rise number ordinal last (leg ∷ legs) r (suc i) zero d le lt = absurd (omega arith)
-numbers_rise number ordinal last (leg ∷ legs) r (suc i) (suc j) d le lt = numbers_rise leg.number leg.ordinal last legs r.3 i j d (omega arith) (omega arith)
-
-pub ordinals_rise : (number ordinal last : ℕ) (legs : List LoggedLeg) → IsRising number ordinal last (numbered_legs legs) → IsNonDecreasingBy (λ (leg : LoggedLeg). leg.ordinal) legs
-ordinals_rise number ordinal last [] r i j d le lt = absurd (omega arith)
-ordinals_rise number ordinal last (leg ∷ legs) r zero zero d le lt = omega arith
-ordinals_rise number ordinal last (leg ∷ legs) r zero (suc j) d le lt = omega (arith, ordinals_above leg.number leg.ordinal last legs j d r.3 (omega arith))
-ordinals_rise number ordinal last (leg ∷ legs) r (suc i) zero d le lt = absurd (omega arith)
-ordinals_rise number ordinal last (leg ∷ legs) r (suc i) (suc j) d le lt = ordinals_rise leg.number leg.ordinal last legs r.3 i j d (omega arith) (omega arith)
+numbers_rise number ordinal last ((at, leg) ∷ legs) r zero zero d le lt = omega arith
+numbers_rise number ordinal last ((at, leg) ∷ legs) r zero (suc j) d le lt = omega (arith, numbers_above at leg.ordinal last legs j d r.3 (omega arith))
+numbers_rise number ordinal last ((at, leg) ∷ legs) r (suc i) zero d le lt = absurd (omega arith)
+numbers_rise number ordinal last ((at, leg) ∷ legs) r (suc i) (suc j) d le lt = numbers_rise at leg.ordinal last legs r.3 i j d (omega arith) (omega arith)
 
 -- so do the numbers of those in doubt
 above_turn : (b : Bool) (number : ℕ) (sent : Sent) (sents : List Sent) (k : ℕ) (d : Sent) → number < sent.number
@@ -45,11 +39,11 @@ above_turn true number sent sents zero d first rest lt = first
 above_turn true number sent sents (suc k) d first rest lt = rest k (omega arith)
 above_turn false number sent sents k d first rest lt = rest k lt
 
-pub doubts_above : (number ordinal last : ℕ) (legs : List LoggedLeg) (k : ℕ) (d : Sent) → IsRising number ordinal last (numbered_legs legs) → k < length (doubt_legs legs) → number < (get_or (doubt_legs legs) k d).number
+doubts_above : (number ordinal last : ℕ) (legs : List (ℕ × SentLeg)) (k : ℕ) (d : Sent) → IsRising number ordinal last legs → k < length (doubts legs) → number < (get_or (doubts legs) k d).number
 doubts_above number ordinal last [] k d r lt = absurd (omega arith)
-doubts_above number ordinal last (leg ∷ legs) k d r lt =
-    above_turn (is_doubt leg.state) number (record { number = leg.number; ordinal = leg.ordinal; id = leg.id }) (doubt_legs legs) k d r.0
-    (λ j less. omega (arith, r.0, doubts_above leg.number leg.ordinal last legs j d r.3 less)) lt
+doubts_above number ordinal last ((at, leg) ∷ legs) k d r lt =
+    above_turn (is_doubt leg.state) number (record { number = at; ordinal = leg.ordinal; id = leg.id }) (doubts legs) k d r.0
+    (λ j less. omega (arith, r.0, doubts_above at leg.ordinal last legs j d r.3 less)) lt
 
 rise_turn : (b : Bool) (sent : Sent) (sents : List Sent) → ((j : ℕ) (d : Sent) → j < length sents → sent.number < (get_or sents j d).number)
     → IsNonDecreasingBy (λ (s : Sent). s.number) sents → (i j : ℕ) (d : Sent) → i ≤ j → j < length (if b then sent ∷ sents else sents)
@@ -60,75 +54,41 @@ rise_turn true sent sents above rest zero (suc j) d le lt = omega (arith, above 
 rise_turn true sent sents above rest (suc i) zero d le lt = absurd (omega arith)
 rise_turn true sent sents above rest (suc i) (suc j) d le lt = rest i j d (omega arith) (omega arith)
 
-pub doubts_rise : (number ordinal last : ℕ) (legs : List LoggedLeg) → IsRising number ordinal last (numbered_legs legs) → IsNonDecreasingBy (λ (sent : Sent). sent.number) (doubt_legs legs)
+pub doubts_rise : (number ordinal last : ℕ) (legs : List (ℕ × SentLeg)) → IsRising number ordinal last legs → IsNonDecreasingBy (λ (sent : Sent). sent.number) (doubts legs)
 doubts_rise number ordinal last [] r = λ i j d le lt. absurd (omega arith)
-doubts_rise number ordinal last (leg ∷ legs) r =
-    rise_turn (is_doubt leg.state) (record { number = leg.number; ordinal = leg.ordinal; id = leg.id }) (doubt_legs legs)
-    (λ j d lt. doubts_above leg.number leg.ordinal last legs j d r.3 lt) (doubts_rise leg.number leg.ordinal last legs r.3)
+doubts_rise number ordinal last ((at, leg) ∷ legs) r =
+    rise_turn (is_doubt leg.state) (record { number = at; ordinal = leg.ordinal; id = leg.id }) (doubts legs)
+    (λ j d lt. doubts_above at leg.ordinal last legs j d r.3 lt) (doubts_rise at leg.ordinal last legs r.3)
 
 -- the leg of a number
-abbrev pub found_id : ℕ → Option LoggedLeg → Option LegIdParts
+abbrev pub found_id : ℕ → Option NumberedId → Option LegIdParts
 found_id number None = None
-found_id number (Some leg) = if leg.number == number then Some leg.id else None
+found_id number (Some numbered) = if numbered.number == number then Some numbered.id else None
 
-no_id : (number low ordinal last : ℕ) (legs : List LoggedLeg) → number ≤ low → IsRising low ordinal last (numbered_legs legs) → id_at number (numbered_legs legs) ≡ None
+no_id : (number low ordinal last : ℕ) (legs : List (ℕ × SentLeg)) → number ≤ low → IsRising low ordinal last legs → id_at number legs ≡ None
 no_id number low ordinal last [] le r = refl
-no_id number low ordinal last (leg ∷ legs) le r =
-    let ne : (leg.number == number) ≡ false = (let lt : number < leg.number = omega (arith, r.0) in grind (arith, nat_tests)) in
-    rw ne (no_id number leg.number leg.ordinal last legs (omega (arith, r.0)) r.3)
+no_id number low ordinal last ((at, leg) ∷ legs) le r =
+    let ne : (at == number) ≡ false = (let lt : number < at = omega (arith, r.0) in grind (arith, nat_tests)) in
+    rw ne (no_id number at leg.ordinal last legs (omega (arith, r.0)) r.3)
 
-id_turn : (b : Bool) (number ordinal last count : ℕ) (leg : LoggedLeg) (legs : List LoggedLeg) → nat_lt leg.number number ≡ b → IsRising leg.number leg.ordinal last (numbered_legs legs)
-    → id_at number (numbered_legs legs) ≡ found_id number (slice_get legs count)
-    → id_at number (numbered_legs (leg ∷ legs)) ≡ found_id number (slice_get (leg ∷ legs) (if b then suc count else 0))
-id_turn true number ordinal last count leg legs is r e =
-    let ne : (leg.number == number) ≡ false = grind (arith, nat_tests, is) in rw ne e
-id_turn false number ordinal last count leg legs is r e =
-    let none = no_id number leg.number leg.ordinal last legs (grind (arith, nat_tests, is)) r in
-    ap (λ (rest : Option LegIdParts). if leg.number == number then Some leg.id else rest) none
+id_turn : (b : Bool) (number at last count : ℕ) (leg : SentLeg) (legs : List (ℕ × SentLeg)) → nat_lt at number ≡ b → IsRising at leg.ordinal last legs
+    → id_at number legs ≡ found_id number (slice_get (numbered_ids legs) count)
+    → id_at number ((at, leg) ∷ legs) ≡ found_id number (slice_get (numbered_ids ((at, leg) ∷ legs)) (if b then suc count else 0))
+id_turn true number at last count leg legs is r e =
+    let ne : (at == number) ≡ false = grind (arith, nat_tests, is) in rw ne e
+id_turn false number at last count leg legs is r e =
+    let none = no_id number at leg.ordinal last legs (grind (arith, nat_tests, is)) r in
+    ap (λ (rest : Option LegIdParts). if at == number then Some leg.id else rest) none
 
-id-leading : (number low ordinal last : ℕ) (legs : List LoggedLeg) → IsRising low ordinal last (numbered_legs legs)
-    → id_at number (numbered_legs legs) ≡ found_id number (slice_get legs (leading (λ (leg : LoggedLeg). nat_lt leg.number number) legs))
+id-leading : (number low ordinal last : ℕ) (legs : List (ℕ × SentLeg)) → IsRising low ordinal last legs
+    → id_at number legs ≡ found_id number (slice_get (numbered_ids legs) (leading (λ (numbered : NumberedId). nat_lt numbered.number number) (numbered_ids legs)))
 id-leading number low ordinal last [] r = refl
-id-leading number low ordinal last (leg ∷ legs) r =
-    id_turn (nat_lt leg.number number) number ordinal last _ leg legs refl r.3 (id-leading number leg.number leg.ordinal last legs r.3)
+id-leading number low ordinal last ((at, leg) ∷ legs) r =
+    id_turn (nat_lt at number) number at last _ leg legs refl r.3 (id-leading number at leg.ordinal last legs r.3)
 
-leg_at-kept : (number last : ℕ) (legs : List LoggedLeg) → IsRising 0 0 last (numbered_legs legs) → leg_at number (entries last legs) ≡ id_at number (numbered_legs legs)
+leg_at-kept : (number last : ℕ) (legs : List (ℕ × SentLeg)) → IsRising 0 0 last legs → leg_at number (entries last legs) ≡ id_at number legs
 leg_at-kept zero last legs r = sym (no_id 0 0 0 last legs (omega arith) r)
 leg_at-kept (suc place) last legs r = leg_of-sent place 1 (suc place) (entries last legs) (omega arith) ∙ ap (id_at (suc place)) (sent_legs-entries last legs r)
-
-pub leg_at-entries : (number last : ℕ) (legs : List LoggedLeg) → IsRising 0 0 last (numbered_legs legs)
-    → leg_at number (entries last legs) ≡ found_id number (slice_get legs (leading (λ (leg : LoggedLeg). nat_lt leg.number number) legs))
-leg_at-entries number last legs r = leg_at-kept number last legs r ∙ id-leading number 0 0 last legs r
-
--- the state of the leg of an ordinal
-abbrev pub found_state : ℕ → Option LoggedLeg → Option LegState
-found_state ordinal None = None
-found_state ordinal (Some leg) = if leg.ordinal == ordinal then Some leg.state else None
-
-no_state : (ordinal number low last : ℕ) (legs : List LoggedLeg) → ordinal ≤ low → IsRising number low last (numbered_legs legs) → state_in ordinal (numbered_legs legs) ≡ None
-no_state ordinal number low last [] le r = refl
-no_state ordinal number low last (leg ∷ legs) le r =
-    let ne : (leg.ordinal == ordinal) ≡ false = (let lt : ordinal < leg.ordinal = omega (arith, r.1) in grind (arith, nat_tests)) in
-    rw ne (no_state ordinal leg.number leg.ordinal last legs (omega (arith, r.1)) r.3)
-
-state_turn : (b : Bool) (ordinal last count : ℕ) (leg : LoggedLeg) (legs : List LoggedLeg) → nat_lt leg.ordinal ordinal ≡ b → IsRising leg.number leg.ordinal last (numbered_legs legs)
-    → state_in ordinal (numbered_legs legs) ≡ found_state ordinal (slice_get legs count)
-    → state_in ordinal (numbered_legs (leg ∷ legs)) ≡ found_state ordinal (slice_get (leg ∷ legs) (if b then suc count else 0))
-state_turn true ordinal last count leg legs is r e =
-    let ne : (leg.ordinal == ordinal) ≡ false = grind (arith, nat_tests, is) in rw ne e
-state_turn false ordinal last count leg legs is r e =
-    let none = no_state ordinal leg.number leg.ordinal last legs (grind (arith, nat_tests, is)) r in
-    ap (λ (rest : Option LegState). if leg.ordinal == ordinal then Some leg.state else rest) none
-
-state-leading : (ordinal number low last : ℕ) (legs : List LoggedLeg) → IsRising number low last (numbered_legs legs)
-    → state_in ordinal (numbered_legs legs) ≡ found_state ordinal (slice_get legs (leading (λ (leg : LoggedLeg). nat_lt leg.ordinal ordinal) legs))
-state-leading ordinal number low last [] r = refl
-state-leading ordinal number low last (leg ∷ legs) r =
-    state_turn (nat_lt leg.ordinal ordinal) ordinal last _ leg legs refl r.3 (state-leading ordinal leg.number leg.ordinal last legs r.3)
-
-pub state_of-entries : (ordinal last : ℕ) (legs : List LoggedLeg) → IsRising 0 0 last (numbered_legs legs)
-    → state_of ordinal (entries last legs) ≡ found_state ordinal (slice_get legs (leading (λ (leg : LoggedLeg). nat_lt leg.ordinal ordinal) legs))
-state_of-entries ordinal last legs r = ap (state_in ordinal) (sent_legs-entries last legs r) ∙ state-leading ordinal 0 0 last legs r
 
 -- the legs in doubt from a number on
 abbrev pub ids : List Sent → List LegIdParts
@@ -157,15 +117,11 @@ ids-leading least (sent ∷ sents) sorted =
     (λ j d lt. sorted 0 (suc j) d (omega arith) (omega arith)) (ids-leading least sents (λ i j d le lt. sorted (suc i) (suc j) d (omega arith) (omega arith)))
 
 -- as the calls find it
-pub leg_at-found : (number last : ℕ) (legs held : List LoggedLeg) (place : ℕ) (found : Option LoggedLeg) → IsRising 0 0 last (numbered_legs legs) → held ≡ legs
-    → place ≡ leading (λ (leg : LoggedLeg). nat_lt leg.number number) held → found ≡ slice_get held place → leg_at number (entries last legs) ≡ found_id number found
-leg_at-found number last legs held place found r e f g = rw (g, f, e) (leg_at-entries number last legs r)
+pub leg_at-found : (number last : ℕ) (legs : List (ℕ × SentLeg)) (ids : List NumberedId) (place : ℕ) (found : Option NumberedId) → IsRising 0 0 last legs → ids ≡ numbered_ids legs
+    → place ≡ leading (λ (numbered : NumberedId). nat_lt numbered.number number) ids → found ≡ slice_get ids place → leg_at number (entries last legs) ≡ found_id number found
+leg_at-found number last legs ids place found r e f g = rw (g, f, e) (leg_at-kept number last legs r ∙ id-leading number 0 0 last legs r)
 
-pub state_of-found : (ordinal last : ℕ) (legs held : List LoggedLeg) (place : ℕ) (found : Option LoggedLeg) → IsRising 0 0 last (numbered_legs legs) → held ≡ legs
-    → place ≡ leading (λ (leg : LoggedLeg). nat_lt leg.ordinal ordinal) held → found ≡ slice_get held place → state_of ordinal (entries last legs) ≡ found_state ordinal found
-state_of-found ordinal last legs held place found r e f g = rw (g, f, e) (state_of-entries ordinal last legs r)
-
-pub doubt_from-found : (least last : ℕ) (legs : List LoggedLeg) (sents : List Sent) (place : ℕ) → IsRising 0 0 last (numbered_legs legs) → sents ≡ doubt_legs legs
+pub doubt_from-found : (least last : ℕ) (legs : List (ℕ × SentLeg)) (sents : List Sent) (place : ℕ) → IsRising 0 0 last legs → sents ≡ doubts legs
     → place ≡ leading (λ (sent : Sent). nat_lt sent.number least) sents → doubt_from least (entries last legs) ≡ ids (drop place sents)
 doubt_from-found least last legs sents place r e f =
     doubt_from-entries least last legs r ∙ ap (ids_from least) (sym e)

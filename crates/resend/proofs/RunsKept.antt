@@ -4,16 +4,13 @@ use Rattle.std.specs.Prelude.{map, All, Result, OnOk, is_err}
 use Rattle.std.proofs.lemmas.List.{length-append, length-take, length-drop}
 use Rattle.leg.specs.declared.leg_state.LegState.{LegState}
 use Rattle.leg.specs.declared.leg_state.LegState.TheVariants.{Taken, Withdrawn}
-use Rattle.resend.specs.declared.logged_leg.LoggedLeg.{LoggedLeg}
 use Rattle.resend.specs.declared.run.Run.{Run}
 use Rattle.resend.specs.declared.sent.Sent.{Sent}
 use Rattle.resend.specs.Log.{SentLeg, is_doubt}
 use Rattle.resend.specs.Window.{doubts}
-use Rattle.resend.specs.Runs.{singles, joined}
-use Rattle.resend.specs.Kept.{numbered_legs, IsRising, doubt_legs, IsKept, leading}
+use Rattle.resend.specs.Kept.{IsRising, IsKept, leading}
 use Rattle.resend.specs.KeptRuns.{added, added_all, AreRuns, HaveRuns}
 use Rattle.resend.proofs.Filled.{settled_legs}
-use Rattle.resend.proofs.Kept.{doubts-legs}
 use Rattle.resend.proofs.SettledRuns.{as_settled, moved_below, moved_from, runs_settled}
 
 -- room that was reserved, and what it is after a leg in doubt more
@@ -31,43 +28,43 @@ end_turn true bound sent sents first rest zero d lt = first
 end_turn true bound sent sents first rest (suc k) d lt = rest k d (omega arith)
 end_turn false bound sent sents first rest k d lt = rest k d lt
 
-doubts_end : (number ordinal last bound : ℕ) (legs : List LoggedLeg) → last < bound → IsRising number ordinal last (numbered_legs legs) → All (λ (s : Sent). s.number < bound) (doubt_legs legs)
+doubts_end : (number ordinal last bound : ℕ) (legs : List (ℕ × SentLeg)) → last < bound → IsRising number ordinal last legs → All (λ (s : Sent). s.number < bound) (doubts legs)
 doubts_end number ordinal last bound [] lt r k d less = absurd (omega arith)
-doubts_end number ordinal last bound (leg ∷ legs) lt r k d less =
-    end_turn (is_doubt leg.state) bound (record { number = leg.number; ordinal = leg.ordinal; id = leg.id }) (doubt_legs legs) (omega (arith, r.2))
-    (doubts_end leg.number leg.ordinal last bound legs lt r.3) k d less
+doubts_end number ordinal last bound ((at, leg) ∷ legs) lt r k d less =
+    end_turn (is_doubt leg.state) bound (record { number = at; ordinal = leg.ordinal; id = leg.id }) (doubts legs) (omega (arith, r.2))
+    (doubts_end at leg.ordinal last bound legs lt r.3) k d less
 
-pub window_ends : (last : ℕ) (legs : List LoggedLeg) (sents : List Sent) → IsKept last legs sents → All (λ (s : Sent). s.number < 18446744073709551615) sents
-window_ends last legs sents kept = rw kept.in_doubt (doubts_end 0 0 last 18446744073709551615 legs kept.fits kept.rising)
+pub window_ends : (last ordinal : ℕ) (legs : List (ℕ × SentLeg)) (sents : List Sent) → IsKept last ordinal legs sents → All (λ (s : Sent). s.number < 18446744073709551615) sents
+window_ends last ordinal legs sents kept = rw kept.in_doubt (doubts_end 0 0 last 18446744073709551615 legs kept.fits kept.rising)
 
-module _ (last : ℕ) (legs now : List LoggedLeg) (sents : List Sent) (runs new : List Run) (len len_now capacity capacity_now : ℕ)
-    (kept : IsKept last legs sents) (have : HaveRuns legs sents runs len capacity) (are : AreRuns new) where
-  window_is : doubts (numbered_legs legs) ≡ sents
-  window_is = doubts-legs legs ∙ sym kept.in_doubt
+module _ (last ordinal : ℕ) (legs : List (ℕ × SentLeg)) (sents : List Sent) (runs new : List Run) (len len_now capacity capacity_now : ℕ)
+    (kept : IsKept last ordinal legs sents) (have : HaveRuns legs sents runs len capacity) (are : AreRuns new) where
+  window_is : doubts legs ≡ sents
+  window_is = sym kept.in_doubt
 
   module _ (number count : ℕ) (count_is : count ≡ leading (λ (s : Sent). nat_lt s.number number) sents) where
     -- the legs in doubt below the number are taken
-    pub have_taken : numbered_legs now ≡ settled_legs (λ n. nat_lt n number) Taken (numbered_legs legs)
-        → new ≡ added_all (map (as_settled Taken) (take count sents)) runs → len_now ≤ len + length (take count sents) → capacity_now ≡ capacity → HaveRuns now (drop count sents) new len_now capacity_now
-    have_taken settled added few same =
+    pub have_taken : new ≡ added_all (map (as_settled Taken) (take count sents)) runs → len_now ≤ len + length (take count sents) → capacity_now ≡ capacity
+        → HaveRuns (settled_legs (λ n. nat_lt n number) Taken legs) (drop count sents) new len_now capacity_now
+    have_taken added few same =
         let part = ap (λ (w : List Sent). map (as_settled Taken) (take (leading (λ (s : Sent). nat_lt s.number number) w) w)) window_is in
-        let moves = moved_below number 0 0 last Taken (numbered_legs legs) kept.rising ∙ part ∙ ap (λ (n : ℕ). map (as_settled Taken) (take n sents)) (sym count_is) in
-        let after = runs_settled (λ n. nat_lt n number) Taken last (numbered_legs legs) _ runs refl kept.rising (sym moves) have.settled in
+        let moves = moved_below number 0 0 last Taken legs kept.rising ∙ part ∙ ap (λ (n : ℕ). map (as_settled Taken) (take n sents)) (sym count_is) in
+        let after = runs_settled (λ n. nat_lt n number) Taken last legs _ runs refl kept.rising (sym moves) have.settled in
         record {
-          settled = added ∙ after ∙ ap (λ (l : List (ℕ × SentLeg)). joined (singles l)) (sym settled);
+          settled = added ∙ after;
           kept = are;
           room = omega (arith, have.room, few, same, length-take count sents, length-drop count sents);
         }
 
     -- those from the number on are withdrawn
-    pub have_given : numbered_legs now ≡ settled_legs (λ n. nat_le number n) Withdrawn (numbered_legs legs)
-        → new ≡ added_all (map (as_settled Withdrawn) (drop count sents)) runs → len_now ≤ len + length (drop count sents) → capacity_now ≡ capacity → HaveRuns now (take count sents) new len_now capacity_now
-    have_given settled added few same =
+    pub have_given : new ≡ added_all (map (as_settled Withdrawn) (drop count sents)) runs → len_now ≤ len + length (drop count sents) → capacity_now ≡ capacity
+        → HaveRuns (settled_legs (λ n. nat_le number n) Withdrawn legs) (take count sents) new len_now capacity_now
+    have_given added few same =
         let part = ap (λ (w : List Sent). map (as_settled Withdrawn) (drop (leading (λ (s : Sent). nat_lt s.number number) w) w)) window_is in
-        let moves = moved_from number 0 0 last Withdrawn (numbered_legs legs) kept.rising ∙ part ∙ ap (λ (n : ℕ). map (as_settled Withdrawn) (drop n sents)) (sym count_is) in
-        let after = runs_settled (λ n. nat_le number n) Withdrawn last (numbered_legs legs) _ runs refl kept.rising (sym moves) have.settled in
+        let moves = moved_from number 0 0 last Withdrawn legs kept.rising ∙ part ∙ ap (λ (n : ℕ). map (as_settled Withdrawn) (drop n sents)) (sym count_is) in
+        let after = runs_settled (λ n. nat_le number n) Withdrawn last legs _ runs refl kept.rising (sym moves) have.settled in
         record {
-          settled = added ∙ after ∙ ap (λ (l : List (ℕ × SentLeg)). joined (singles l)) (sym settled);
+          settled = added ∙ after;
           kept = are;
           room = omega (arith, have.room, few, same, length-take count sents, length-drop count sents);
         }

@@ -1,14 +1,13 @@
 -- What the runs of the settled legs are where legs in doubt are settled.
-use Rattle.std.proofs.Common.{◌≡◌, ◌≢◌, ◌<◌, ◌≤◌, ◌+◌, ℕ, Bool, true, false, ◌&&◌, nat_lt, nat_le, List, [], ◌∷◌, ◌++◌, take, drop, refl, sym, ap, ◌∙◌, if◌then◌else◌, arith}
+use Rattle.std.proofs.Common.{◌≡◌, ◌≢◌, ◌<◌, ◌≤◌, ℕ, Bool, true, false, ◌&&◌, nat_lt, nat_le, List, [], ◌∷◌, ◌++◌, take, drop, refl, sym, ap, ◌∙◌, if◌then◌else◌, arith}
 use Rattle.std.specs.Prelude.{map}
 use Rattle.std.proofs.lemmas.Bool.Decides.{nat_tests}
 use Rattle.leg.specs.declared.leg_state.LegState.{LegState}
-use Rattle.resend.specs.declared.logged_leg.LoggedLeg.{LoggedLeg}
 use Rattle.resend.specs.declared.run.Run.{Run}
 use Rattle.resend.specs.declared.sent.Sent.{Sent}
 use Rattle.resend.specs.Log.{SentLeg, is_doubt, settled_as}
 use Rattle.resend.specs.Window.{doubts}
-use Rattle.resend.specs.Kept.{numbered_legs, IsRising, leading}
+use Rattle.resend.specs.Kept.{IsRising, leading}
 use Rattle.resend.specs.Runs.{single, singles, goes_on, joined_to, joined}
 use Rattle.resend.specs.KeptRuns.{added, added_all}
 use Rattle.resend.proofs.Filled.{settled_legs}
@@ -286,7 +285,7 @@ moved_from number low ordinal last state ((next, leg) ∷ legs) r =
     (λ out. all_moved number next leg.ordinal last state legs (grind (arith, nat_tests, out)) r.3) (moved_from number next leg.ordinal last state legs r.3)
 
 -- a leg in doubt is in no run
-pub singles_doubt : (legs : List LoggedLeg) (leg : LoggedLeg) → is_doubt leg.state ≡ true → singles (numbered_legs (legs ++ leg ∷ [])) ≡ singles (numbered_legs legs)
-singles_doubt [] leg is = rw is refl
-singles_doubt (first ∷ legs) leg is =
-    ap (λ (rest : List Run). if is_doubt first.state then rest else single first.number first.ordinal first.state ∷ rest) (singles_doubt legs leg is)
+pub singles_doubt : (legs : List (ℕ × SentLeg)) (number : ℕ) (leg : SentLeg) → is_doubt leg.state ≡ true → singles (legs ++ (number, leg) ∷ []) ≡ singles legs
+singles_doubt [] number leg is = rw is refl
+singles_doubt ((at, first) ∷ legs) number leg is =
+    ap (λ (rest : List Run). if is_doubt first.state then rest else single at first.ordinal first.state ∷ rest) (singles_doubt legs number leg is)

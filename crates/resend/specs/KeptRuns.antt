@@ -1,9 +1,9 @@
 -- How the runs are kept: where a leg is added to them, and what stays true of them.
-use Rattle.std.specs.Prelude.{◌≡◌, ◌≤◌, ◌+◌, ℕ, zero, suc, false, nat_lt, List, [], ◌∷◌, length, if◌then◌else◌}
+use Rattle.std.specs.Prelude.{◌≡◌, ◌≤◌, ◌+◌, ◌&&◌, ℕ, zero, suc, false, nat_lt, nat_le, List, [], ◌∷◌, length, Option, Some, None, if◌then◌else◌}
+use Rattle.leg.specs.declared.leg_state.LegState.{LegState}
 use Rattle.resend.specs.declared.run.Run.{Run}
-use Rattle.resend.specs.declared.logged_leg.LoggedLeg.{LoggedLeg}
 use Rattle.resend.specs.declared.sent.Sent.{Sent}
-use Rattle.resend.specs.Kept.{numbered_legs}
+use Rattle.resend.specs.Log.{SentLeg}
 use Rattle.resend.specs.Runs.{singles, goes_on, joined_to, joined}
 
 -- a leg, as a run by itself, among the runs
@@ -21,6 +21,18 @@ abbrev pub joined_at : ℕ → List Run → List Run
 joined_at place [] = []
 joined_at zero (run ∷ runs) = joined_to run runs
 joined_at (suc place) (run ∷ runs) = run ∷ joined_at place runs
+
+-- how the leg of an ordinal was settled, if a run has it
+abbrev pub state_among : ℕ → List Run → Option LegState
+state_among ordinal [] = None
+state_among ordinal (run ∷ runs) =
+    if nat_le run.first_ordinal ordinal && nat_lt ordinal (run.first_ordinal + run.count) then Some run.state
+    else state_among ordinal runs
+
+-- each run's ordinals are above those of the runs before it, and from this one on
+abbrev pub Follow : ℕ → List Run → Type 0
+Follow low [] = Unit {0}
+Follow low (run ∷ runs) = (low ≤ run.first_ordinal) × Follow (run.first_ordinal + run.count) runs
 
 -- no run ends above a bound
 abbrev pub EndBy : ℕ → List Run → Type 0
@@ -48,7 +60,7 @@ pub record AreRuns (runs : List Run) : Type 0 where
   pub apart : AreApart runs
 
 -- the runs are those of the legs that are settled, and there is room for a run for each leg in doubt
-pub record HaveRuns (legs : List LoggedLeg) (window : List Sent) (runs : List Run) (len capacity : ℕ) : Type 0 where
-  pub settled : runs ≡ joined (singles (numbered_legs legs))
+pub record HaveRuns (legs : List (ℕ × SentLeg)) (window : List Sent) (runs : List Run) (len capacity : ℕ) : Type 0 where
+  pub settled : runs ≡ joined (singles legs)
   pub kept : AreRuns runs
   pub room : len + length window ≤ capacity

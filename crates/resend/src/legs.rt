@@ -1,29 +1,21 @@
-//! The kept legs: where a number or an ordinal stands among them, and how a part of them is settled.
+//! The kept legs: where a number or an ordinal stands among them, and the parts of the window.
 
-ghost use Rattle.std.specs.Prelude.{◌≡◌, ◌≤◌, ◌<◌, length, slice_index_or, nat_lt, take, drop, map, slice_get, IfOk};
+ghost use Rattle.std.specs.Prelude.{◌≡◌, ◌≤◌, length, nat_lt, take, drop, map, slice_get, IfOk};
 ghost use Rattle.std.specs.List.Sorted.{IsNonDecreasingBy};
-ghost use Rattle.resend.specs.declared.logged_leg.LoggedLeg.{LoggedLeg as Logged};
+ghost use Rattle.resend.specs.declared.numbered_id.NumberedId.{NumberedId as Numbered};
 ghost use Rattle.resend.specs.declared.sent.Sent.{Sent as InDoubt};
-ghost use Rattle.resend.specs.Kept.{leading, settled_leg, settled_part};
+ghost use Rattle.resend.specs.Kept.{leading};
 
-use crate::{LoggedLeg, Sent};
-use leg::{LegId, LegState};
+use crate::{NumberedId, Sent};
+use leg::LegId;
 use std::alloc::{AllocError, Global};
 
 /// How many of the legs have a number below this one.
-pub(crate) fn numbers_below(legs: &[LoggedLeg], number: u64) -> usize
-    requires { IsNonDecreasingBy (λ (leg : Logged). leg.number) legs.now }
-    ensures { result ≡ leading (λ (leg : Logged). nat_lt leg.number number) legs.now }
+pub(crate) fn numbers_below(ids: &[NumberedId], number: u64) -> usize
+    requires { IsNonDecreasingBy (λ (numbered : Numbered). numbered.number) ids.now }
+    ensures { result ≡ leading (λ (numbered : Numbered). nat_lt numbered.number number) ids.now }
 {
-    legs.partition_point(|leg| leg.number < number)
-}
-
-/// How many of the legs have an ordinal below this one.
-pub(crate) fn ordinals_below(legs: &[LoggedLeg], ordinal: u64) -> usize
-    requires { IsNonDecreasingBy (λ (leg : Logged). leg.ordinal) legs.now }
-    ensures { result ≡ leading (λ (leg : Logged). nat_lt leg.ordinal ordinal) legs.now }
-{
-    legs.partition_point(|leg| leg.ordinal < ordinal)
+    ids.partition_point(|numbered| numbered.number < number)
 }
 
 /// How many of the legs in doubt have a number below this one.
@@ -34,11 +26,26 @@ pub(crate) fn doubts_below(window: &[Sent], number: u64) -> usize
     window.partition_point(|sent| sent.number < number)
 }
 
-/// The leg in a place, if there is one.
-pub(crate) fn leg_in(legs: &[LoggedLeg], place: usize) -> Option<LoggedLeg>
-    ensures { result ≡ slice_get legs.now place }
+/// How many of the legs in doubt have an ordinal below this one.
+pub(crate) fn ordinals_below(window: &[Sent], ordinal: u64) -> usize
+    requires { IsNonDecreasingBy (λ (sent : InDoubt). sent.ordinal) window.now }
+    ensures { result ≡ leading (λ (sent : InDoubt). nat_lt sent.ordinal ordinal) window.now }
 {
-    legs.get(place).copied()
+    window.partition_point(|sent| sent.ordinal < ordinal)
+}
+
+/// The leg in a place, if there is one.
+pub(crate) fn id_in(ids: &[NumberedId], place: usize) -> Option<NumberedId>
+    ensures { result ≡ slice_get ids.now place }
+{
+    ids.get(place).copied()
+}
+
+/// The leg in doubt in a place, if there is one.
+pub(crate) fn sent_in(window: &[Sent], place: usize) -> Option<Sent>
+    ensures { result ≡ slice_get window.now place }
+{
+    window.get(place).copied()
 }
 
 /// The legs in doubt before a place.
@@ -57,43 +64,11 @@ pub(crate) fn after(window: &[Sent], place: usize) -> &[Sent]
     &window[place..]
 }
 
-/// The number of the leg in doubt in a place.
-pub(crate) fn number_in(window: &[Sent], place: usize) -> u64
-    requires { place < length window.now }
-    ensures { (d : InDoubt) → result ≡ (slice_index_or window.now place d).number }
-{
-    window[place].number
-}
-
 /// Which legs these are.
 pub(crate) fn ids_of(alloc: Global, sents: &[Sent]) -> Result<Vec<LegId>, AllocError>
     ensures { IfOk result (λ ids. ids.items ≡ map (λ (sent : InDoubt). sent.id) sents.now) }
 {
     sents.iter().map(|sent| sent.id).collect(alloc)
-}
-
-/// A leg after it was settled: one that isn't in doubt stays as it is.
-fn settled(leg: LoggedLeg, state: LegState) -> LoggedLeg
-    ensures { result ≡ settled_leg state leg }
-{
-    match leg.state {
-        LegState::Doubt => LoggedLeg { state, ..leg },
-        LegState::Queued => leg,
-        LegState::Taken => leg,
-        LegState::Withdrawn => leg,
-    }
-}
-
-/// Settles what is in doubt of the legs in these places.
-pub(crate) fn settle(legs: &mut [LoggedLeg], from: usize, to: usize, state: LegState)
-    requires order { from ≤ to }
-    requires within { to ≤ length legs.old }
-    ensures { legs.new ≡ settled_part state from to legs.old }
-{
-    for place in from..to {
-        let leg = settled(legs[place], state);
-        legs[place] = leg;
-    }
 }
 
 /// Takes the first legs out of the window.

@@ -7,7 +7,7 @@ mod judged;
 mod laws;
 mod legs;
 mod log_fault;
-mod logged_leg;
+mod numbered_id;
 mod out_log;
 mod run;
 mod runs;
@@ -22,7 +22,7 @@ pub use laws::{
     what_was_sent_is_filled_and_no_more,
 };
 pub use log_fault::LogFault;
-use logged_leg::LoggedLeg;
+use numbered_id::NumberedId;
 pub use out_log::OutLog;
 pub use run::Run;
 pub use sent::Sent;

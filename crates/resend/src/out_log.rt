@@ -4,37 +4,40 @@ ghost use Rattle.std.specs.Prelude.{◌≡◌, ◌<◌, ◌≤◌, ◌+◌, [], 
 ghost use Rattle.std.specs.Option.{option_map};
 
 use crate::legs::{
-    after, doubts_below, drop_first, ids_of, leg_in, number_in, numbers_below, ordinals_below,
-    settle, up_to,
+    after, doubts_below, drop_first, id_in, ids_of, numbers_below, ordinals_below, sent_in, up_to,
 };
-use crate::runs::add_all;
-use crate::{GapFill, LogFault, LoggedLeg, Run, Sent};
+use crate::runs::{add_all, settled_state};
+use crate::{GapFill, LogFault, NumberedId, Run, Sent};
 use leg::{LegId, LegState};
 use std::alloc::Global;
 use std::marker::Model;
 
-/// What each number sent was spent on. A leg takes memory as it is sent, also what its run will take, and nothing else
-/// does.
+/// What each number sent was spent on. Where a leg stands is said once: one in doubt is in the window, with its ordinal,
+/// and a settled one is in a run, which has the ordinals and the state of all its legs. Of every leg the id is kept with
+/// its number, since ids don't follow one another. All three are in the order of the numbers. A number up to the last
+/// one sent that has no id was spent on an administrative message. A leg takes memory as it is sent, also what its run
+/// will take, and nothing else does.
 #[derive(Drop)]
 pub struct OutLog {
     max_number: u64,
     last: u64,
-    legs: Vec<LoggedLeg>,
+    last_ordinal: u64,
+    ids: Vec<NumberedId>,
     window: Vec<Sent>,
     runs: Vec<Run>,
 }
 
 impl Model for OutLog {
     ghost use Rattle.resend.specs.Window.{OutLogParts};
-    ghost use Rattle.resend.specs.Kept.{entries, IsKept};
+    ghost use Rattle.resend.specs.Kept.{entries, kept_legs, IsKept};
     ghost use Rattle.resend.specs.KeptRuns.{HaveRuns};
     ghost use Rattle.std.specs.Prelude.{vec_len, vec_capacity};
 
     ghost Value = { OutLogParts };
 
-    ghost view = { λ log. record { max_number = log.max_number; entries = entries log.last log.legs.items } };
+    ghost view = { λ log. record { max_number = log.max_number; entries = entries log.last (kept_legs log.ids.items log.window.items log.runs.items) } };
 
-    ghost invariant = { λ log. IsKept log.last log.legs.items log.window.items × HaveRuns log.legs.items log.window.items log.runs.items (vec_len log.runs) (vec_capacity log.runs) };
+    ghost invariant = { λ log. IsKept log.last log.last_ordinal (kept_legs log.ids.items log.window.items log.runs.items) log.window.items × HaveRuns (kept_legs log.ids.items log.window.items log.runs.items) log.window.items log.runs.items (vec_len log.runs) (vec_capacity log.runs) };
 }
 
 impl OutLog {
@@ -51,7 +54,8 @@ impl OutLog {
         OutLog {
             max_number,
             last: 0,
-            legs: Vec::new(alloc),
+            last_ordinal: 0,
+            ids: Vec::new(alloc),
             window: Vec::new(alloc),
             runs: Vec::new(alloc),
         }
@@ -85,7 +89,7 @@ impl OutLog {
         if number >= self.max_number {
             return Err(LogFault::NumbersSpent);
         }
-        if self.legs.reserve(1).is_err() {
+        if self.ids.reserve(1).is_err() {
             return Err(LogFault::OutOfMemory);
         }
         if self.window.reserve(1).is_err() {
@@ -94,18 +98,14 @@ impl OutLog {
         if self.runs.reserve(self.window.len() + 1).is_err() {
             return Err(LogFault::OutOfMemory);
         }
-        self.legs.push_reserved(LoggedLeg {
-            number,
-            ordinal,
-            id,
-            state: LegState::Doubt,
-        });
+        self.ids.push_reserved(NumberedId { number, id });
         self.window.push_reserved(Sent {
             number,
             ordinal,
             id,
         });
         self.last = number;
+        self.last_ordinal = ordinal;
         Ok(number)
     }
 
@@ -134,18 +134,15 @@ impl OutLog {
     pub fn last_ordinal(&self) -> u64
         ensures { result ≡ last_ordinal self.now.entries }
     {
-        match self.legs.last() {
-            Some(leg) => leg.ordinal,
-            None => 0,
-        }
+        self.last_ordinal
     }
 
     /// The leg that was sent under a number.
     pub fn leg_at(&self, number: u64) -> Option<LegId>
         ensures { result ≡ leg_at number self.now.entries }
     {
-        let legs = self.legs.as_slice();
-        match leg_in(legs, numbers_below(legs, number)) {
+        let ids = self.ids.as_slice();
+        match id_in(ids, numbers_below(ids, number)) {
             Some(leg) if leg.number == number => Some(leg.id),
             _ => None,
         }
@@ -155,10 +152,10 @@ impl OutLog {
     pub fn state(&self, ordinal: u64) -> Option<LegState>
         ensures { result ≡ state_of ordinal self.now.entries }
     {
-        let legs = self.legs.as_slice();
-        match leg_in(legs, ordinals_below(legs, ordinal)) {
-            Some(leg) if leg.ordinal == ordinal => Some(leg.state),
-            _ => None,
+        let window = self.window.as_slice();
+        match sent_in(window, ordinals_below(window, ordinal)) {
+            Some(sent) if sent.ordinal == ordinal => Some(LegState::Doubt),
+            _ => settled_state(self.runs.as_slice(), ordinal),
         }
     }
 
@@ -196,15 +193,7 @@ impl OutLog {
     pub fn take_below(&mut self, number: u64)
         ensures { self.new ≡ record self.old { entries = take_below number self.old.entries } }
     {
-        let window = self.window.as_slice();
-        let legs = self.legs.as_slice();
-        let count = doubts_below(window, number);
-        if count == 0 {
-            return;
-        }
-        let from = numbers_below(legs, number_in(window, 0));
-        let to = numbers_below(legs, number);
-        settle(&mut self.legs, from, to, LegState::Taken);
+        let count = doubts_below(self.window.as_slice(), number);
         add_all(
             &mut self.runs,
             up_to(self.window.as_slice(), count),
@@ -217,15 +206,7 @@ impl OutLog {
     pub fn give_up_from(&mut self, number: u64)
         ensures { self.new ≡ record self.old { entries = give_up_from number self.old.entries } }
     {
-        let window = self.window.as_slice();
-        let legs = self.legs.as_slice();
-        let count = doubts_below(window, number);
-        if count == window.len() {
-            return;
-        }
-        let from = numbers_below(legs, number_in(window, count));
-        let to = legs.len();
-        settle(&mut self.legs, from, to, LegState::Withdrawn);
+        let count = doubts_below(self.window.as_slice(), number);
         add_all(
             &mut self.runs,
             after(self.window.as_slice(), count),

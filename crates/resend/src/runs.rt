@@ -1,12 +1,12 @@
-//! The runs of the settled legs: how a leg more is added to them.
+//! The runs of the settled legs: how a leg more is added to them, and how the leg of an ordinal was settled.
 
-ghost use Rattle.std.specs.Prelude.{◌≡◌, ◌≤◌, ◌<◌, ◌+◌, length, map, nat_lt, vec_len, vec_capacity, All};
+ghost use Rattle.std.specs.Prelude.{◌≡◌, ◌≤◌, ◌<◌, ◌+◌, length, map, nat_lt, nat_le, slice_get, vec_len, vec_capacity, All};
 ghost use Rattle.std.specs.List.Sorted.{IsNonDecreasingBy};
 ghost use Rattle.resend.specs.declared.run.Run.{Run as OneRun};
 ghost use Rattle.resend.specs.declared.sent.Sent.{Sent as InDoubt};
 ghost use Rattle.resend.specs.Kept.{leading};
 ghost use Rattle.resend.specs.Runs.{single, are_alike, goes_on};
-ghost use Rattle.resend.specs.KeptRuns.{added, added_all, joined_at, EndBy, AreRuns};
+ghost use Rattle.resend.specs.KeptRuns.{added, added_all, joined_at, state_among, EndBy, Follow, AreRuns};
 
 use crate::{Run, Sent};
 use leg::LegState;
@@ -101,5 +101,38 @@ pub(crate) fn add_all(runs: &mut Vec<Run>, sents: &[Sent], state: LegState)
                 state,
             },
         );
+    }
+}
+
+/// Whether a run ends below an ordinal.
+fn ends_below(run: Run, ordinal: u64) -> bool
+    ensures { result ≡ nat_le (run.first_ordinal + run.count) ordinal }
+{
+    run.first_ordinal <= ordinal && run.count <= ordinal - run.first_ordinal
+}
+
+/// How many of the runs end below an ordinal.
+fn runs_ended(runs: &[Run], ordinal: u64) -> usize
+    requires { IsNonDecreasingBy (λ (run : OneRun). run.first_ordinal + run.count) runs.now }
+    ensures { result ≡ leading (λ (run : OneRun). nat_le (run.first_ordinal + run.count) ordinal) runs.now }
+{
+    runs.partition_point(|run| ends_below(*run, ordinal))
+}
+
+/// The run in a place, if there is one.
+fn run_in(runs: &[Run], place: usize) -> Option<Run>
+    ensures { result ≡ slice_get runs.now place }
+{
+    runs.get(place).copied()
+}
+
+/// How the leg of an ordinal was settled, if it was.
+pub(crate) fn settled_state(runs: &[Run], ordinal: u64) -> Option<LegState>
+    requires { Follow 0 runs.now }
+    ensures { result ≡ state_among ordinal runs.now }
+{
+    match run_in(runs, runs_ended(runs, ordinal)) {
+        Some(run) if run.first_ordinal <= ordinal => Some(run.state),
+        _ => None,
     }
 }

@@ -132,6 +132,17 @@ fn a_run_ends_at_an_administrative_number_and_at_a_leg_that_was_dropped(rt: Host
     assert_eq!(rt; send(&mut log, 5), Some(Ok(7)));
     log.take_below(6);
     assert_eq!(rt; log.runs(), [run(3, 1, 2, LegState::Taken)].as_slice());
+    let states = [
+        (2, Some(LegState::Taken)),
+        (3, Some(LegState::Doubt)),
+        (4, None),
+        (5, Some(LegState::Doubt)),
+    ];
+    for (ordinal, state) in states {
+        assert_eq!(rt; log.state(ordinal), state, "{ordinal}");
+    }
+    assert_eq!(rt; log.leg_at(5), None);
+    assert_eq!(rt; log.leg_at(7), Some(LegId::new(1, 5)));
     log.take_below(8);
     let runs = [
         run(3, 1, 2, LegState::Taken),

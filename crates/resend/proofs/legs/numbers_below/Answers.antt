@@ -1,12 +1,12 @@
 use Rattle.std.proofs.Common.{nat_lt, arith, rules}
 use Rattle.std.proofs.lemmas.List.Sorted.{IsPartitionPoint-from_clause, IsPartitionedBy-ltb}
-use Rattle.resend.specs.declared.logged_leg.LoggedLeg.{LoggedLeg}
+use Rattle.resend.specs.declared.numbered_id.NumberedId.{NumberedId}
 use Rattle.resend.proofs.Leading.{leading-is}
 use Rattle.resend.proofs.legs.numbers_below.Goals as goal
 
 pub returns : goal.returns
 returns c =
-    let test = λ (x : LoggedLeg). nat_lt x.number c.args.number in
-    let parted = IsPartitionedBy-ltb (λ (x : LoggedLeg). x.number) _ c.args.number c.requires in
+    let test = λ (x : NumberedId). nat_lt x.number c.args.number in
+    let parted = IsPartitionedBy-ltb (λ (x : NumberedId). x.number) _ c.args.number c.requires in
     let point = IsPartitionPoint-from_clause test _ _ c.partition_point.ensures.partitioned parted (λ a r q k. search rules) in
     leading-is test _ _ c.partition_point.ensures.bound (λ k d lt. point.0 k d (omega arith) lt) (λ k d le lt. point.1 k d le lt)

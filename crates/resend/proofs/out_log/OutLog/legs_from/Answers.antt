@@ -1,3 +1,4 @@
+use Rattle.resend.specs.Kept.{kept_legs}
 use Rattle.resend.specs.declared.sent.Sent.{Sent}
 use Rattle.std.proofs.Common.{nat_lt, ◌∙◌, arith}
 use Rattle.resend.proofs.Leading.{leading-le}
@@ -13,5 +14,5 @@ after-requires c = omega (arith, leading-le (λ (sent : Sent). nat_lt sent.numbe
 pub returns-in-Ok-clause-ok : goal.returns-in-Ok-clause-ok
 returns-in-Ok-clause-ok c =
     let log = c.self.inside in
-    rw (← c.self.view_is, doubt_from-found c.args.number log.last log.legs.items _ _ c.self.invariant.0.rising (c.as_slice-window.ensures.value ∙ c.self.invariant.0.in_doubt) c.doubts_below-place.ensures)
+    rw (← c.self.view_is, doubt_from-found c.args.number log.last (kept_legs log.ids.items log.window.items log.runs.items) _ _ c.self.invariant.0.rising (c.as_slice-window.ensures.value ∙ c.self.invariant.0.in_doubt) c.doubts_below-place.ensures)
     (rw c.after.ensures at c.in-Ok.ensures)
