@@ -1,7 +1,7 @@
 //! Messages as they are written, and read back.
 
 ghost use Rattle.std.specs.Prelude.{◌≡◌, ◌≤◌, None};
-ghost use Rattle.dialect.specs.Writable.{IsWritable, IsWritableContent};
+ghost use Rattle.dialect.specs.Writable.{IsNext, IsWritable, IsWritableContent};
 
 use super::reports::{bust, leg, report, trade};
 use super::support::buy;
@@ -79,129 +79,100 @@ fn is_written_from_a(
     is_written_as(rt, alloc, &Plain, &outgoing, shown)
 }
 
+/// Frames of a session from A to B, shown with `|` for SOH.
+const LOGON: &str =
+    "8=FIX.4.4|9=57|35=A|49=A|56=B|34=1|52=20240102-14:30:00.000|98=0|108=30|10=104|";
+
+const LOGON_WITH_NEXT: &str =
+    "8=FIX.4.4|9=63|35=A|49=A|56=B|34=1|52=20240102-14:30:00.000|98=0|108=30|789=1|10=124|";
+
+const LOGON_WITH_RESET: &str =
+    "8=FIX.4.4|9=63|35=A|49=A|56=B|34=1|52=20240102-14:30:00.000|98=0|108=30|141=Y|10=146|";
+
+const HEARTBEAT: &str = "8=FIX.4.4|9=45|35=0|49=A|56=B|34=2|52=20240102-14:30:00.000|10=060|";
+
+const HEARTBEAT_WITH_ID: &str =
+    "8=FIX.4.4|9=52|35=0|49=A|56=B|34=3|52=20240102-14:30:00.000|112=F2|10=133|";
+
+const TEST_REQUEST: &str =
+    "8=FIX.4.4|9=52|35=1|49=A|56=B|34=2|52=20240102-14:30:00.000|112=F2|10=133|";
+
+const RESEND_REQUEST: &str =
+    "8=FIX.4.4|9=54|35=2|49=A|56=B|34=5|52=20240102-14:30:00.000|7=3|16=0|10=190|";
+
+const REJECT: &str = "8=FIX.4.4|9=50|35=3|49=A|56=B|34=5|52=20240102-14:30:00.000|45=3|10=024|";
+
+const GAP_FILL: &str =
+    "8=FIX.4.4|9=87|35=4|49=A|56=B|34=4|43=Y|52=20240102-14:30:00.000|122=20240102-14:30:00.000|123=Y|36=8|10=055|";
+
+const RESET: &str =
+    "8=FIX.4.4|9=56|35=4|49=A|56=B|34=5|52=20240102-14:30:00.000|123=N|36=8|10=070|";
+
+const LOGOUT: &str = "8=FIX.4.4|9=45|35=5|49=A|56=B|34=5|52=20240102-14:30:00.000|10=068|";
+
+const BUSINESS_REJECT: &str =
+    "8=FIX.4.4|9=62|35=j|49=A|56=B|34=5|52=20240102-14:30:00.000|45=3|372=D|380=0|10=121|";
+
+const BUSINESS_REJECT_OF_NONE: &str =
+    "8=FIX.4.4|9=57|35=j|49=A|56=B|34=5|52=20240102-14:30:00.000|372=D|380=0|10=163|";
+
+/// A Logon with a heartbeat interval of 30 seconds.
+fn logon_is_written_as(
+    rt: &impl Abort,
+    alloc: Global,
+    reset: bool,
+    next: Option<u64>,
+    shown: &str,
+) -> Result<(), Fail>
+    requires { IsNext next }
+{
+    let heart = 30;
+    let content = Content::Logon { heart, reset, next };
+    is_written_from_a(rt, alloc, 1, false, content, shown)
+}
+
+/// What a session says while it stands.
+fn tests_are_written(rt: &impl Abort, alloc: Global) -> Result<(), Fail> {
+    let alone = Content::Heartbeat { id: None };
+    is_written_from_a(rt, alloc, 2, false, alone, HEARTBEAT)?;
+    let id = Some(TextRef::new(b"F2"));
+    let answer = Content::Heartbeat { id };
+    is_written_from_a(rt, alloc, 3, false, answer, HEARTBEAT_WITH_ID)?;
+    let id = TextRef::new(b"F2");
+    let test = Content::TestRequest { id };
+    is_written_from_a(rt, alloc, 2, false, test, TEST_REQUEST)
+}
+
+/// What a session says of numbers.
+fn numbers_are_written(rt: &impl Abort, alloc: Global) -> Result<(), Fail> {
+    let resend = Content::ResendRequest { begin: 3, last: 0 };
+    is_written_from_a(rt, alloc, 5, false, resend, RESEND_REQUEST)?;
+    let fill = Content::GapFill { new_number: 8 };
+    is_written_from_a(rt, alloc, 4, true, fill, GAP_FILL)?;
+    let reset = Content::Reset { new_number: 8 };
+    is_written_from_a(rt, alloc, 5, false, reset, RESET)
+}
+
+/// How a session refuses a message.
+fn refusals_are_written(rt: &impl Abort, alloc: Global) -> Result<(), Fail> {
+    let reject = Content::Reject { number: 3 };
+    is_written_from_a(rt, alloc, 5, false, reject, REJECT)?;
+    let third = Content::BusinessReject { number: Some(3) };
+    is_written_from_a(rt, alloc, 5, false, third, BUSINESS_REJECT)?;
+    let none = Content::BusinessReject { number: None };
+    is_written_from_a(rt, alloc, 5, false, none, BUSINESS_REJECT_OF_NONE)
+}
+
 #[test]
 fn messages_of_a_session(rt: HostRuntime) -> Result<(), Fail> {
     let alloc = rt.alloc();
-    is_written_from_a(
-        &rt,
-        alloc,
-        1,
-        false,
-        Content::Logon {
-            heart: 30,
-            reset: false,
-            next: None,
-        },
-        "8=FIX.4.4|9=57|35=A|49=A|56=B|34=1|52=20240102-14:30:00.000|98=0|108=30|10=104|",
-    )?;
-    is_written_from_a(
-        &rt,
-        alloc,
-        1,
-        false,
-        Content::Logon {
-            heart: 30,
-            reset: false,
-            next: Some(1),
-        },
-        "8=FIX.4.4|9=63|35=A|49=A|56=B|34=1|52=20240102-14:30:00.000|98=0|108=30|789=1|10=124|",
-    )?;
-    is_written_from_a(
-        &rt,
-        alloc,
-        1,
-        false,
-        Content::Logon {
-            heart: 30,
-            reset: true,
-            next: None,
-        },
-        "8=FIX.4.4|9=63|35=A|49=A|56=B|34=1|52=20240102-14:30:00.000|98=0|108=30|141=Y|10=146|",
-    )?;
-    is_written_from_a(
-        &rt,
-        alloc,
-        2,
-        false,
-        Content::Heartbeat { id: None },
-        "8=FIX.4.4|9=45|35=0|49=A|56=B|34=2|52=20240102-14:30:00.000|10=060|",
-    )?;
-    is_written_from_a(
-        &rt,
-        alloc,
-        3,
-        false,
-        Content::Heartbeat {
-            id: Some(TextRef::new(b"F2")),
-        },
-        "8=FIX.4.4|9=52|35=0|49=A|56=B|34=3|52=20240102-14:30:00.000|112=F2|10=133|",
-    )?;
-    is_written_from_a(
-        &rt,
-        alloc,
-        2,
-        false,
-        Content::TestRequest {
-            id: TextRef::new(b"F2"),
-        },
-        "8=FIX.4.4|9=52|35=1|49=A|56=B|34=2|52=20240102-14:30:00.000|112=F2|10=133|",
-    )?;
-    is_written_from_a(
-        &rt,
-        alloc,
-        5,
-        false,
-        Content::ResendRequest { begin: 3, last: 0 },
-        "8=FIX.4.4|9=54|35=2|49=A|56=B|34=5|52=20240102-14:30:00.000|7=3|16=0|10=190|",
-    )?;
-    is_written_from_a(
-        &rt,
-        alloc,
-        5,
-        false,
-        Content::Reject { number: 3 },
-        "8=FIX.4.4|9=50|35=3|49=A|56=B|34=5|52=20240102-14:30:00.000|45=3|10=024|",
-    )?;
-    is_written_from_a(
-        &rt,
-        alloc,
-        4,
-        true,
-        Content::GapFill { new_number: 8 },
-        "8=FIX.4.4|9=87|35=4|49=A|56=B|34=4|43=Y|52=20240102-14:30:00.000|122=20240102-14:30:00.000|123=Y|36=8|10=055|",
-    )?;
-    is_written_from_a(
-        &rt,
-        alloc,
-        5,
-        false,
-        Content::Reset { new_number: 8 },
-        "8=FIX.4.4|9=56|35=4|49=A|56=B|34=5|52=20240102-14:30:00.000|123=N|36=8|10=070|",
-    )?;
-    is_written_from_a(
-        &rt,
-        alloc,
-        5,
-        false,
-        Content::Logout,
-        "8=FIX.4.4|9=45|35=5|49=A|56=B|34=5|52=20240102-14:30:00.000|10=068|",
-    )?;
-    is_written_from_a(
-        &rt,
-        alloc,
-        5,
-        false,
-        Content::BusinessReject { number: Some(3) },
-        "8=FIX.4.4|9=62|35=j|49=A|56=B|34=5|52=20240102-14:30:00.000|45=3|372=D|380=0|10=121|",
-    )?;
-    is_written_from_a(
-        &rt,
-        alloc,
-        5,
-        false,
-        Content::BusinessReject { number: None },
-        "8=FIX.4.4|9=57|35=j|49=A|56=B|34=5|52=20240102-14:30:00.000|372=D|380=0|10=163|",
-    )
+    logon_is_written_as(&rt, alloc, false, None, LOGON)?;
+    logon_is_written_as(&rt, alloc, false, Some(1), LOGON_WITH_NEXT)?;
+    logon_is_written_as(&rt, alloc, true, None, LOGON_WITH_RESET)?;
+    tests_are_written(&rt, alloc)?;
+    numbers_are_written(&rt, alloc)?;
+    refusals_are_written(&rt, alloc)?;
+    is_written_from_a(&rt, alloc, 5, false, Content::Logout, LOGOUT)
 }
 
 /// The worked order, number 4 from A to B.
