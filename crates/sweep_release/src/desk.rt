@@ -11,10 +11,10 @@ ghost use Rattle.sweep_release.specs.Kept.{released_sweeps, HaveRoom, IsEnqueued
 
 use crate::enqueue::enqueue;
 use crate::refusing::refusal;
-use crate::shares::shares_of;
 use crate::venue::Venue;
 use crate::{DeskEntry, Gate, GateFault, Receipt, ReleaseFault};
 use leg::{PlacedLeg, Sweep, VenueId};
+use share_ledger::shares_of;
 use std::alloc::Global;
 use std::collections::VecDeque;
 use std::marker::Model;

@@ -12,7 +12,6 @@ mod receipt;
 mod refusing;
 mod release_fault;
 pub mod rows;
-mod shares;
 mod venue;
 
 pub use desk::Desk;
