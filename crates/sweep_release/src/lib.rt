@@ -11,6 +11,7 @@ mod placement;
 mod receipt;
 mod refusing;
 mod release_fault;
+mod reserve;
 pub mod rows;
 mod venue;
 
