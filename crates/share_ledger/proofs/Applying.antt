@@ -1,5 +1,5 @@
 -- A note of a leg that is kept, of the note's venue and not withdrawn.
-use Rattle.std.proofs.Common.{◌≡◌, ◌≢◌, ℕ, ◌<◌, inl, inr, false, List, length, set, Some, Ok, Err, refl, ap, sym, ◌∙◌, subst, arith}
+use Rattle.std.proofs.Common.{◌≡◌, ◌≢◌, ℕ, ◌<◌, inl, inr, Bool, false, List, length, set, Option, Some, Ok, Err, refl, ap, sym, ◌∙◌, subst, arith}
 use Rattle.std.specs.Prelude.{option_map, not, nat_eq, nat_lt, Result, is_some, get_or, OnErr}
 use Rattle.std.proofs.lemmas.Bool.{cases_eq, eqb-true, not-false}
 use Rattle.std.proofs.lemmas.List.{get_or_read, get_or-set_same, get_or-set_other, length-set}
@@ -82,20 +82,48 @@ told_reordered all book venue was now h there was_is same =
           ∙ stands v other exec id old_there of);
     }
 
+-- a report that may move a leg: the leg is kept, of the report's venue and not withdrawn, and no report of that id was
+-- booked there
+pub record MayMove (ledger : Ledger) (all : List Reports) (venue : ℕ) (report : Report) (was : BookedLeg)
+    (reports : Reports) : Type 0 where
+  pub kept : option_map (booked_leg (ledger_seen ledger) report.id) (order_of report.id ledger.history.items)
+      ≡ Some was
+  pub range : IsSplit was.parts
+  pub of_venue : was.venue ≡ venue
+  pub reports_are : reports ≡ get_or all venue reports
+  pub fresh : is_some (report_at reports report.exec) ≡ false
+  pub there : nat_lt 0 was.parts.withdrawn ≡ false
+
+-- the same, by what the calls before answered
+pub may_move : {found : Option BookedLeg} {differs has gone : Bool} (ledger : Ledger) (all : List Reports) (venue : ℕ)
+    (report : Report) (was : BookedLeg) (reports : Reports) (at : ℕ)
+    → found ≡ option_map (booked_leg (ledger_seen ledger) report.id) (order_of report.id ledger.history.items)
+    → found ≡ Some was → IsSplit was.parts → differs ≡ not (nat_eq was.venue venue) → differs ≡ false → at ≡ venue
+    → reports ≡ get_or all at reports → has ≡ is_some (report_at reports report.exec) → has ≡ false
+    → gone ≡ nat_lt 0 was.parts.withdrawn → gone ≡ false → MayMove ledger all venue report was reports
+may_move ledger all venue report was reports at found_is found range differs_is differs at_is reports_are has_is has
+    gone_is gone =
+    record {
+      kept = sym found_is ∙ found;
+      range = range;
+      of_venue = same_venue was.venue venue (sym differs_is ∙ differs);
+      reports_are = reports_are ∙ ap (λ n. get_or all n reports) at_is;
+      fresh = sym has_is ∙ has;
+      there = sym gone_is ∙ gone;
+    }
+
 -- a report on a leg
 module _ (ledger : Ledger) (all : List Reports) (h : IsKeptBook ledger all) (venue : ℕ) (report : Report)
-    (was : BookedLeg) (kept : option_map (booked_leg (ledger_seen ledger) report.id)
-    (order_of report.id ledger.history.items) ≡ Some was) (range : IsSplit was.parts) (of_venue : was.venue ≡ venue)
-    (reports : Reports) (reports_is : reports ≡ get_or all venue reports)
-    (fresh : is_some (report_at reports report.exec) ≡ false) (there : nat_lt 0 was.parts.withdrawn ≡ false) where
+    (was : BookedLeg) (reports : Reports) (may : MayMove ledger all venue report was reports) where
   pub venue_there : venue < length all
   venue_there =
       let sums = h.sums in
       let told = h.told in
       let known = sums.known in
       let legs = sums.legs in
-      let inside = known report.id was (legs report.id ∙ kept) in
+      let inside = known report.id was (legs report.id ∙ may.kept) in
       let count = told.count in
+      let of_venue = may.of_venue in
       omega (arith, inside, count, of_venue)
 
   free : is_booked venue report.exec ledger.history.items ≡ false
@@ -103,21 +131,21 @@ module _ (ledger : Ledger) (all : List Reports) (h : IsKeptBook ledger all) (ven
       let told = h.told in
       let has = told.has in
       sym (has venue reports report.exec venue_there)
-      ∙ (ap (λ r. is_some (report_at r report.exec)) (sym reports_is) ∙ fresh)
+      ∙ (ap (λ r. is_some (report_at r report.exec)) (sym may.reports_are) ∙ may.fresh)
 
   of_order : (routed : Routed) → order_of report.id ledger.history.items ≡ Some routed → routed.venue ≡ venue
   of_order routed found =
-      let it = order_kept (ledger_seen ledger) report.id (order_of report.id ledger.history.items) was kept in
+      let it = order_kept (ledger_seen ledger) report.id (order_of report.id ledger.history.items) was may.kept in
       let also = it.1 in
       let same : it.0 ≡ routed = cc in
-      sym (ap (λ r. r.venue) same) ∙ (sym (ap (λ l. l.venue) it.2) ∙ of_venue)
+      sym (ap (λ r. r.venue) same) ∙ (sym (ap (λ l. l.venue) it.2) ∙ may.of_venue)
 
   stands : (exec : List ℕ)
       → shares_on report.id (report_at reports exec) ≡ standing exec (moves_on report.id (ledger_seen ledger))
   stands exec =
       let told = h.told in
       let standing_on = told.standing_on in
-      ap (λ r. shares_on report.id (report_at r exec)) reports_is
+      ap (λ r. shares_on report.id (report_at r exec)) may.reports_are
       ∙ standing_on venue reports exec report.id venue_there of_order
 
   -- what the reports make of the leg is what the definition does
@@ -125,9 +153,9 @@ module _ (ledger : Ledger) (all : List Reports) (h : IsKeptBook ledger all) (ven
       (moves_on report.id (ledger_seen ledger)) (move_of (note.Report report)) was
       (moved_by reports report.id report.kind was)
   judged_report =
-      let shares = range.shares in
+      let shares = may.range.shares in
       judged (ledger_seen ledger) (sound_kept ledger h.sums)
-      (told_kept ledger h.sums) venue report was kept shares.low of_venue free there reports stands
+      (told_kept ledger h.sums) venue report was may.kept shares.low may.of_venue free may.there reports stands
 
   pub report_changes : (now : BookedLeg) → moved_by reports report.id report.kind was ≡ Ok now
       → ChangesLeg report.id was now (Moved venue (note.Report report)) (ledger_seen ledger)
@@ -135,7 +163,7 @@ module _ (ledger : Ledger) (all : List Reports) (h : IsKeptBook ledger all) (ven
       let it = subst (Judged (answer_to (ledger_seen ledger) venue (note.Report report))
       (moves_on report.id (ledger_seen ledger)) (move_of (note.Report report)) was) is judged_report in
       changes_moved (ledger_seen ledger) (sound_kept ledger h.sums) (told_kept ledger h.sums) venue
-      (note.Report report) report.id was now refl (λ k. refl) kept it.0 it.1 it.2
+      (note.Report report) report.id was now refl (λ k. refl) may.kept it.0 it.1 it.2
 
   pub report_moves : (now : BookedLeg) → moved_by reports report.id report.kind was ≡ Ok now
       → answer_to (ledger_seen ledger) venue (note.Report report) ≡ applied.Moved
@@ -153,9 +181,9 @@ module _ (ledger : Ledger) (all : List Reports) (h : IsKeptBook ledger all) (ven
       → answer_to (ledger_seen ledger) venue (note.Report report) ≡ applied.Moved
       → AreTold (set all venue after) (written (Moved venue (note.Report report)) (ledger_seen ledger))
   told_report after after_is moved =
-      let it = order_kept (ledger_seen ledger) report.id (order_of report.id ledger.history.items) was kept in
-      let shares = range.shares in
+      let it = order_kept (ledger_seen ledger) report.id (order_of report.id ledger.history.items) was may.kept in
+      let shares = may.range.shares in
       told_moved all (ledger_seen ledger) venue report it.0 h.told venue_there it.1 (of_order it.0 it.1) free
-      (told_kept ledger h.sums) (sound_kept ledger h.sums) reports after reports_is after_is
+      (told_kept ledger h.sums) (sound_kept ledger h.sums) reports after may.reports_are after_is
       (busted_kept (ledger_seen ledger) (sound_kept ledger h.sums)
-      (told_kept ledger h.sums) venue report was kept shares.low of_venue free there reports stands moved)
+      (told_kept ledger h.sums) venue report was may.kept shares.low may.of_venue free may.there reports stands moved)

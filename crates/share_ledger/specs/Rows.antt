@@ -1,5 +1,5 @@
 -- Examples: a book of one venue, its orders and the reports on them.
-use Rattle.std.specs.Prelude.{ℕ, List, [], ◌∷◌, codes}
+use Rattle.std.specs.Prelude.{ℕ, List, [], ◌∷◌, replicate, codes}
 use Rattle.leg.specs.LegId.{LegIdParts}
 use Rattle.leg.specs.declared.side.Side.TheVariants.{Buy}
 use Rattle.leg.specs.declared.sweep.Routed.{Routed}
@@ -60,9 +60,17 @@ trades_on_two_legs =
     ∷ trade 2 (codes "E4") 1
     ∷ []
 
--- a book of one venue whose first sweep has a leg of 100 shares
+-- a book of one venue whose first sweep has a leg of so many shares
+abbrev pub opened_with : ℕ → BookParts
+opened_with shares = (open_sweep (new_book 1) 1 (order 0 shares ∷ [])).1
+
+-- one of 100 shares
 abbrev pub one_leg : BookParts
-one_leg = (open_sweep (new_book 1) 1 (order 0 100 ∷ [])).1
+one_leg = opened_with 100
+
+-- the greatest sweep
+abbrev pub greatest : List Routed
+greatest = replicate 32 (order 0 1000000)
 
 -- a trade, its bust, the bust again under a new id, the bust of a trade that was never made, and a trade of more shares
 -- than are open

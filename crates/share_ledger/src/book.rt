@@ -5,7 +5,6 @@ ghost use Rattle.leg.specs.Answering.{Answers};
 ghost use Rattle.dialect.specs.declared.note.Note.TheVariants as note;
 ghost use Rattle.share_ledger.specs.Book.{new_book, answer_to, open_sweep, apply, withdraw, totals, venue_resolved};
 
-use crate::copy::copy_of;
 use crate::ledger::Ledger;
 use crate::reports::Reports;
 use crate::{Applied, BookEntry, BookFault};
@@ -19,7 +18,7 @@ use std::marker::Model;
 #[derive(Drop)]
 pub struct Book {
     ledger: Ledger,
-    // The reports booked for each venue.
+    /// The reports booked for each venue.
     reports: Vec<Reports>,
 }
 
@@ -72,7 +71,7 @@ impl Book {
         }
     }
 
-    // Applies a report.
+    /// Applies a report.
     fn apply_report(&mut self, venue: VenueId, report: &Report) -> Result<Applied, BookFault>
         ensures answer { Answers BookFault.OutOfMemory self.old (apply self.old venue (note.Report report.now)) result self.new }
         ensures wanting { OnErr result (answer_to self.old venue (note.Report report.now) ≡ Applied.Moved) }
@@ -96,12 +95,12 @@ impl Book {
         };
         self.ledger.reserve()?;
         reports.book(report)?;
-        let entry = BookEntry::Moved(venue, Note::Report(copy_of(report)));
+        let entry = BookEntry::Moved(venue, Note::Report(report.clone().unwrap()));
         self.ledger.settle(report.id, was, now, entry);
         Ok(Applied::Moved)
     }
 
-    // Applies the refusal of a leg's order.
+    /// Applies the refusal of a leg's order.
     fn apply_refusal(&mut self, venue: VenueId, id: LegId) -> Result<Applied, BookFault>
         ensures answer { Answers BookFault.OutOfMemory self.old (apply self.old venue (note.Refused id)) result self.new }
         ensures wanting { OnErr result (answer_to self.old venue (note.Refused id) ≡ Applied.Moved) }

@@ -5,20 +5,14 @@ ghost use Rattle.std.specs.List.{list_all};
 ghost use Rattle.std.specs.Option.{option_map};
 ghost use Rattle.leg.specs.Answering.{Answers};
 ghost use Rattle.leg.specs.Split.{IsSplit};
-ghost use Rattle.share_ledger.specs.Entries.{sweep_shares, order_of};
+ghost use Rattle.share_ledger.specs.Entries.{order_of};
 ghost use Rattle.share_ledger.specs.Book.{new_book, written, is_fit, next_sweep, open_sweep, withdraw, totals, totals_of, venue_resolved};
 ghost use Rattle.share_ledger.specs.Kept.{IsKept, ChangesLeg, ledger_seen, booked_leg, opened_leg, legs_due};
 
 use crate::booked_leg::BookedLeg;
-use crate::{BookEntry, BookFault};
+use crate::{BookEntry, BookFault, MAX_DAY_SHARES, MAX_LEGS, shares_of};
 use leg::{LegId, Legs, Routed, Split, Sweep, Totals, VenueId};
 use std::alloc::{AllocError, Global};
-
-/// The most legs of a sweep.
-const MAX_LEGS: usize = 32;
-
-/// The most shares that are opened in all.
-const MAX_OPENED_SHARES: u64 = 1_000_000_000_000_000_000;
 
 /// The history of a book, and the sums that are kept beside it, so that no call walks the history.
 #[derive(Drop)]
@@ -108,7 +102,7 @@ impl Ledger {
         if legs.is_empty() || legs.len() > MAX_LEGS {
             return false;
         }
-        are_known(self.resolved.len(), legs) && self.shares + shares_of(legs) <= MAX_OPENED_SHARES
+        are_known(self.resolved.len(), legs) && self.shares + shares_of(legs) <= MAX_DAY_SHARES
     }
 
     /// Writes that a leg is withdrawn, if all its shares are open.
@@ -183,19 +177,6 @@ fn are_known(venues: usize, legs: &[Routed]) -> bool
 {
     legs.iter()
         .all(|routed| usize::from(routed.venue.number()) < venues)
-}
-
-/// The shares of a sweep's legs.
-fn shares_of(legs: &[Routed]) -> u64
-    requires { length legs.now ≤ 32 }
-    ensures value { result ≡ sweep_shares legs.now }
-    ensures few { result ≤ 32000000 }
-{
-    let mut shares = 0;
-    for routed in legs {
-        shares += routed.terms.shares();
-    }
-    shares
 }
 
 /// The legs of a sweep, with all their shares open.

@@ -6,17 +6,20 @@ mod book;
 mod book_entry;
 mod book_fault;
 mod booked_leg;
-mod copy;
 pub mod laws;
 mod ledger;
+mod limits;
 mod reports;
 pub mod rows;
+mod sweep_shares;
 
 pub use applied::Applied;
 pub use book::Book;
 pub use book_entry::BookEntry;
 pub use book_fault::BookFault;
 pub use booked_leg::BookedLeg;
+pub use limits::{MAX_DAY_SHARES, MAX_LEGS};
+pub use sweep_shares::shares_of;
 
 #[cfg(test)]
 mod tests;

@@ -5,7 +5,7 @@ ghost use Rattle.dialect.specs.declared.fault.DialectFault.TheVariants.{NotMarke
 ghost use Rattle.dialect.specs.declared.note.Note.TheVariants as note;
 ghost use Rattle.dialect.specs.declared.report.ReportKind.TheVariants.{New, Canceled, Rejected, Expired};
 ghost use Rattle.share_ledger.specs.Book.{open_sweep, withdraw, apply, totals, venue_resolved};
-ghost use Rattle.share_ledger.specs.Rows.{order, leg, report, trade, bust, applied_all, after_all, two_legs, trades_on_two_legs, one_leg, a_bust};
+ghost use Rattle.share_ledger.specs.Rows.{order, leg, report, trade, bust, applied_all, after_all, two_legs, trades_on_two_legs, opened_with, one_leg, greatest, a_bust};
 
 use crate::{Applied, BookFault};
 
@@ -56,4 +56,10 @@ pub fn sweeps_that_are_not_opened()
     ensures too_many_shares { (open_sweep one_leg 2 (order 0 1000000000000000000 ∷ [])).0 ≡ Err BookFault.Unfit }
     ensures unknown_leg { (withdraw one_leg (leg 2)).0 ≡ Err BookFault.AlreadyMoved }
     ensures unknown_sweep { totals one_leg 2 ≡ None }
+{}
+
+/// The greatest sweep is opened where it makes 10^18 shares in all, and not where it would make one more.
+pub fn a_day_of_shares_is_opened()
+    ensures last { (open_sweep (opened_with 999999999968000000) 2 greatest).0 ≡ Ok tt }
+    ensures one_more { (open_sweep (opened_with 999999999968000001) 2 greatest).0 ≡ Err BookFault.Unfit }
 {}

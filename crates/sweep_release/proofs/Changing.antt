@@ -1,8 +1,8 @@
 -- What the desk keeps, once one venue changed and an entry was written.
-use Rattle.std.proofs.Common.{◌≡◌, Some, None, Ok, Err, true, ℕ, ◌+◌, ◌<◌, ◌≤◌, inl, inr, List, [], ◌∷◌, ◌++◌, length, map, drop, get_or, set, refl, ap, sym, ◌∙◌, subst, arith}
-use Rattle.std.specs.Prelude.{◌==◌, slice_index_or, sum_by, unwrap_or, vec_len, vec_capacity, option_map}
+use Rattle.std.proofs.Common.{◌≡◌, Some, None, Ok, Err, true, ℕ, zero, suc, ◌+◌, ◌<◌, ◌≤◌, inl, inr, List, [], ◌∷◌, ◌++◌, length, map, drop, get_or, set, refl, ap, sym, ◌∙◌, subst, arith}
+use Rattle.std.specs.Prelude.{◌==◌, slice_get, sum_by, unwrap_or, vec_len, vec_capacity, option_map}
 use Rattle.std.proofs.lemmas.Bool.{cases_eq}
-use Rattle.std.proofs.lemmas.List.{append-nil, nil_from_length, length-map, length-set, map-set, set-get_or, get_or-set_same, get_or-set_other}
+use Rattle.std.proofs.lemmas.List.{append-nil, length-drop, length-map, length-set, map-set, set-get_or, get_or-set_same, get_or-set_other}
 use Rattle.std.proofs.lemmas.Option.{slice_get-map, slice_get-get_or}
 use Rattle.std.proofs.lemmas.List.Sums.{sum_by-set, get_or-le-sum_by}
 use Rattle.leg.specs.declared.sweep.Routed.{Routed}
@@ -12,6 +12,7 @@ use Rattle.sweep_release.specs.declared.desk_entry.DeskEntry.TheVariants as entr
 use Rattle.sweep_release.specs.declared.venue.Venue.{Venue}
 use Rattle.leg.specs.Answering.{Answers}
 use Rattle.leg.specs.declared.leg.Leg.{Leg}
+use Rattle.leg.specs.declared.placed_leg.PlacedLeg.{PlacedLeg}
 use Rattle.sweep_release.specs.declared.gate_fault.GateFault.TheVariants.{OutOfMemory}
 use Rattle.sweep_release.specs.declared.gate.Gate.{Gate}
 use Rattle.sweep_release.specs.declared.gate.Gate.TheVariants.{Up, Down, Shut}
@@ -34,19 +35,19 @@ pub no_more_sweeps : (entries more : List DeskEntry) → released_sweeps more �
 no_more_sweeps entries more e =
     released_sweeps-append entries more ∙ (ap (λ l. released_sweeps entries ++ l) e ∙ append-nil (released_sweeps entries))
 
-pub kept-set : (sweeps : List (List Routed)) (venues : List Venue) (i : ℕ) (now : Venue) → ((k : ℕ) (other : Venue) → k < length venues → IsKeptVenue sweeps k (get_or venues k other)) → IsKeptVenue sweeps i now → (k : ℕ) (other : Venue) → k < length (set venues i now) → IsKeptVenue sweeps k (get_or (set venues i now) k other)
-kept-set sweeps venues i now all this k other there =
+pub kept-set : (sweeps : List (List Routed)) (room : ℕ) (venues : List Venue) (i : ℕ) (now : Venue) → ((k : ℕ) (other : Venue) → k < length venues → IsKeptVenue sweeps room k (get_or venues k other)) → IsKeptVenue sweeps room i now → (k : ℕ) (other : Venue) → k < length (set venues i now) → IsKeptVenue sweeps room k (get_or (set venues i now) k other)
+kept-set sweeps room venues i now all this k other there =
     let within : k < length venues = subst (λ n. k < n) (length-set venues i now) there in
     elim (cases_eq k i) [
       | inl same ↦
-          subst (λ n. IsKeptVenue sweeps n (get_or (set venues i now) n other)) (sym same)
-          (subst (IsKeptVenue sweeps i) (sym (get_or-set_same venues i now other (subst (λ n. n < length venues) same within))) this)
-      | inr differs ↦ subst (IsKeptVenue sweeps k) (sym (get_or-set_other venues i k now other differs)) (all k other within)
+          subst (λ n. IsKeptVenue sweeps room n (get_or (set venues i now) n other)) (sym same)
+          (subst (IsKeptVenue sweeps room i) (sym (get_or-set_same venues i now other (subst (λ n. n < length venues) same within))) this)
+      | inr differs ↦ subst (IsKeptVenue sweeps room k) (sym (get_or-set_other venues i k now other differs)) (all k other within)
     ]
 
 -- the desk is kept, where one venue is as it is to be, and entries that release nothing were written into its room
-pub kept-changed : (old new : Inside) (i : ℕ) (now before : Venue) (more : List DeskEntry) → IsKept old → i < length old.venues.items → released_sweeps more ≡ [] → new.venues.items ≡ set old.venues.items i now → new.history.items ≡ old.history.items ++ more → new.sweeps ≡ old.sweeps → new.shares ≡ old.shares → get_or old.venues.items i before ≡ before → new.due + entries_due before ≡ old.due + entries_due now → vec_len new.history + new.due ≤ vec_capacity new.history → IsKeptVenue (released_sweeps old.history.items) i now → IsKept new
-kept-changed old new i now before more h there none venues_are history_is sweeps_are shares_are was due_is room this =
+pub kept-changed : (old new : Inside) (i : ℕ) (now before : Venue) (more : List DeskEntry) → IsKept old → i < length old.venues.items → released_sweeps more ≡ [] → new.venues.items ≡ set old.venues.items i now → new.history.items ≡ old.history.items ++ more → new.sweeps ≡ old.sweeps → new.shares ≡ old.shares → get_or old.venues.items i before ≡ before → new.due + entries_due before ≡ old.due + entries_due now → new.room ≡ old.room → vec_len new.history + new.due + new.room ≤ vec_capacity new.history → IsKeptVenue (released_sweeps old.history.items) old.room i now → IsKept new
+kept-changed old new i now before more h there none venues_are history_is sweeps_are shares_are was due_is room_is room this =
     let all = h.venues in
     let count = h.count in
     let shares = h.shares in
@@ -58,15 +59,16 @@ kept-changed old new i now before more h there none venues_are history_is sweeps
     let sums' : sum_by entries_due (set old.venues.items i now) + entries_due before ≡ sum_by entries_due old.venues.items + entries_due now = subst (λ v. sum_by entries_due (set old.venues.items i now) + entries_due v ≡ sum_by entries_due old.venues.items + entries_due now) was sums in
     let summed : sum_by entries_due new.venues.items ≡ sum_by entries_due (set old.venues.items i now) = ap (sum_by entries_due) venues_are in
     record {
-      venues = subst (λ (vs : List Venue). (k : ℕ) (other : Venue) → k < length vs → IsKeptVenue (released_sweeps new.history.items) k (get_or vs k other)) (sym venues_are)
-          (subst (λ (sweeps : List (List Routed)). (k : ℕ) (other : Venue) → k < length (set old.venues.items i now) → IsKeptVenue sweeps k (get_or (set old.venues.items i now) k other)) (sym same)
-          (kept-set (released_sweeps old.history.items) old.venues.items i now all this));
+      venues = subst (λ (vs : List Venue). (k : ℕ) (other : Venue) → k < length vs → IsKeptVenue (released_sweeps new.history.items) new.room k (get_or vs k other)) (sym venues_are)
+          (subst (λ n. (k : ℕ) (other : Venue) → k < length (set old.venues.items i now) → IsKeptVenue (released_sweeps new.history.items) n k (get_or (set old.venues.items i now) k other)) (sym room_is)
+          (subst (λ (sweeps : List (List Routed)). (k : ℕ) (other : Venue) → k < length (set old.venues.items i now) → IsKeptVenue sweeps old.room k (get_or (set old.venues.items i now) k other)) (sym same)
+          (kept-set (released_sweeps old.history.items) old.room old.venues.items i now all this)));
       count = sweeps_are ∙ (count ∙ ap length (sym same));
       shares = shares_are ∙ (shares ∙ ap (sum_by _) (sym same));
       few = omega (arith, few, sweeps_are);
       bounded = omega (arith, bounded, shares_are);
       due = omega (arith, due, due_is, sums', summed);
-      room = room;
+      spare = room;
     }
 
 -- what is known of a venue that was read at index i
@@ -75,9 +77,9 @@ pub record IsRead (desk : Inside) (seen : KeptDesk) (venue i : ℕ) (before : Ve
   pub there : i < length desk.venues.items
   pub was : get_or desk.venues.items i before ≡ before
   pub seen_as : venue_at seen.desk venue ≡ venue_seen before
-  pub placed : placed_legs seen.desk venue ≡ before.placed.items
+  pub placed : placed_legs seen.desk venue ≡ drop before.left before.released.items
   pub due : entries_due before ≤ desk.due
-  pub kept : IsKeptVenue (released_sweeps desk.history.items) i before
+  pub kept : IsKeptVenue (released_sweeps desk.history.items) desk.room i before
 
 pub venue_at_seen : (desk : Inside) (i : ℕ) (before : Venue) → i < length desk.venues.items → get_or desk.venues.items i before ≡ before → venue_at (desk_seen desk).desk i ≡ venue_seen before
 venue_at_seen desk i before there was =
@@ -92,15 +94,15 @@ read_at desk i before there was h =
     let seen_as = venue_at_seen desk i before within (sym was) in
     let all = h.venues in
     let sum = h.due in
-    let kept : IsKeptVenue (released_sweeps desk.history.items) i before = subst (IsKeptVenue (released_sweeps desk.history.items) i) (sym was) (all i before within) in
-    let queue = kept.queue in
+    let kept : IsKeptVenue (released_sweeps desk.history.items) desk.room i before = subst (IsKeptVenue (released_sweeps desk.history.items) desk.room i) (sym was) (all i before within) in
+    let legs = kept.legs in
     let due : entries_due (get_or desk.venues.items i before) ≤ sum_by entries_due desk.venues.items = get_or-le-sum_by entries_due desk.venues.items i before within in
     record {
       at = refl;
       there = within;
       was = sym was;
       seen_as = seen_as;
-      placed = ap (λ v. drop v.left (released i (released_sweeps desk.history.items))) seen_as ∙ sym queue;
+      placed = ap (λ v. drop v.left (released i (released_sweeps desk.history.items))) seen_as ∙ ap (drop before.left) (sym legs);
       due = subst (λ n. entries_due before ≤ n) (sym sum) (subst (λ v. entries_due v ≤ sum_by entries_due desk.venues.items) (sym was) due);
       kept = kept;
     }
@@ -120,11 +122,11 @@ seen_changed desk seen venue i now items more e at none history_is =
     here ∙ (ap (λ s. with_venue i (venue_seen now) s.desk) e ∙ ap (λ v. with_venue v (venue_seen now) seen.desk) at)
 
 -- the same, where the gate alone changed
-pub seen_turned : (desk : Inside) (seen : KeptDesk) (venue i : ℕ) (before : Venue) (gate : Gate) (items : List DeskEntry) (more : List DeskEntry) → desk_seen desk ≡ seen → IsRead desk seen venue i before → released_sweeps more ≡ [] → items ≡ desk.history.items ++ more → (let after : DeskParts = record { sweeps = released_sweeps items; venues = map venue_seen (set desk.venues.items i (record { gate = gate; left = before.left; placed = before.placed })) } in after ≡ with_gate venue gate seen.desk)
+pub seen_turned : (desk : Inside) (seen : KeptDesk) (venue i : ℕ) (before : Venue) (gate : Gate) (items : List DeskEntry) (more : List DeskEntry) → desk_seen desk ≡ seen → IsRead desk seen venue i before → released_sweeps more ≡ [] → items ≡ desk.history.items ++ more → (let after : DeskParts = record { sweeps = released_sweeps items; venues = map venue_seen (set desk.venues.items i (record { gate = gate; left = before.left; released = before.released })) } in after ≡ with_gate venue gate seen.desk)
 seen_turned desk seen venue i before gate items more e read none history_is =
     let at = read.at in
     let seen_as = read.seen_as in
-    seen_changed desk seen venue i (record { gate = gate; left = before.left; placed = before.placed }) items more e at none history_is
+    seen_changed desk seen venue i (record { gate = gate; left = before.left; released = before.released }) items more e at none history_is
     ∙ ap (λ (v : DeskVenue). with_venue venue (record { gate = gate; left = v.left }) seen.desk) (sym seen_as)
 
 -- the same, where a leg left
@@ -155,15 +157,50 @@ left_first-leg desk venue leg legs e = ap (λ l. (leave_first l desk venue).0) e
 pub left_first-desk : (desk : DeskParts) (venue : ℕ) (leg : Leg) (legs : List Leg) → placed_legs desk venue ≡ leg ∷ legs → (leave desk venue).1 ≡ one_left venue desk
 left_first-desk desk venue leg legs e = ap (λ l. (leave_first l desk venue).1) e
 
--- the next leg, where the queue is read
-pub next_none : (desk : DeskParts) (venue : ℕ) (queue : List Leg) → placed_legs desk venue ≡ queue → length queue ≡ 0 → None ≡ next_leg desk venue
-next_none desk venue queue placed none = sym (left_none-leg desk venue (placed ∙ nil_from_length queue none))
+-- what is behind the first n begins with the leg at n
+first_behind : (n : ℕ) (legs : List Leg) (leg : Leg) → slice_get legs n ≡ Some leg → drop n legs ≡ leg ∷ drop (suc n) legs
+first_behind zero [] leg e = cc
+first_behind (suc n) [] leg e = cc
+first_behind zero (first ∷ legs) leg e = let same : first ≡ leg = cc in ap (λ l. l ∷ legs) same
+first_behind (suc n) (first ∷ legs) leg e = first_behind n legs leg e
 
-pub next_first : (desk : DeskParts) (venue left : ℕ) (queue : List Leg) (first copy : Leg) → (venue_at desk venue).left ≡ left → placed_legs desk venue ≡ queue → first ≡ slice_index_or queue 0 first → copy ≡ first → 0 < length queue → Some (record { ordinal = left + 1; leg = copy }) ≡ next_leg desk venue
-next_first desk venue left [] first copy lefts placed front is some = absurd (omega (arith, some))
-next_first desk venue left (leg ∷ legs) first copy lefts placed front is some =
-    let same : copy ≡ leg = is ∙ front in
-    (λ k. Some (record { ordinal = sym lefts k + 1; leg = same k })) ∙ sym (left_first-leg desk venue leg legs placed)
+none_behind : (n : ℕ) (legs : List Leg) → slice_get legs n ≡ None → drop n legs ≡ []
+none_behind zero [] e = refl
+none_behind (suc n) [] e = refl
+none_behind zero (first ∷ legs) e = cc
+none_behind (suc n) (first ∷ legs) e = none_behind n legs e
+
+-- the next leg, where the released legs are read
+pub next_none : (desk : DeskParts) (venue left : ℕ) (legs : List Leg) → placed_legs desk venue ≡ drop left legs → slice_get legs left ≡ None → None ≡ next_leg desk venue
+next_none desk venue left legs placed none = sym (left_none-leg desk venue (placed ∙ none_behind left legs none))
+
+pub next_first : (desk : DeskParts) (venue left : ℕ) (legs : List Leg) (leg copy : Leg) → (venue_at desk venue).left ≡ left → placed_legs desk venue ≡ drop left legs → slice_get legs left ≡ Some leg → copy ≡ leg → Some (record { ordinal = left + 1; leg = copy }) ≡ next_leg desk venue
+next_first desk venue left legs leg copy lefts placed is same =
+    (λ k. Some (record { ordinal = sym lefts k + 1; leg = same k }))
+    ∙ sym (left_first-leg desk venue leg (drop (suc left) legs) (placed ∙ first_behind left legs leg is))
+
+-- whether a leg leaves is whether there is a next one
+leaves_with : (desk : DeskParts) (venue : ℕ) (placed_leg : PlacedLeg) (legs : List Leg) → (leave_first legs desk venue).0 ≡ Some placed_leg → ((leave_first legs desk venue).1 ≡ one_left venue desk) × (0 < length legs)
+leaves_with desk venue placed_leg [] e = cc
+leaves_with desk venue placed_leg (leg ∷ legs) e = (refl, omega arith)
+
+pub leaves_next : (desk : DeskParts) (venue : ℕ) (placed_leg : PlacedLeg) → next_leg desk venue ≡ Some placed_leg → ((leave desk venue).1 ≡ one_left venue desk) × (0 < placed desk venue)
+leaves_next desk venue placed_leg e = leaves_with desk venue placed_leg (placed_legs desk venue) e
+
+-- then not all legs of the venue that was read left
+pub some_left : (desk : Inside) (seen : KeptDesk) (venue i : ℕ) (before : Venue) (placed_leg : PlacedLeg) → IsRead desk seen venue i before → next_leg seen.desk venue ≡ Some placed_leg → before.left < length before.released.items
+some_left desk seen venue i before placed_leg read e =
+    let some = (leaves_next seen.desk venue placed_leg e).1 in
+    let placed = ap length read.placed in
+    let behind = length-drop before.left before.released.items in
+    omega (arith, some, placed, behind)
+
+stays_without : (desk : DeskParts) (venue : ℕ) (legs : List Leg) → (leave_first legs desk venue).0 ≡ None → (leave_first legs desk venue).1 ≡ desk
+stays_without desk venue [] e = refl
+stays_without desk venue (leg ∷ legs) e = cc
+
+pub stays_next : (desk : DeskParts) (venue : ℕ) → next_leg desk venue ≡ None → (leave desk venue).1 ≡ desk
+stays_next desk venue e = stays_without desk venue (placed_legs desk venue) e
 
 -- what is answered where a gate is put up that is down and drained
 pub raised : (seen now : KeptDesk) (venue : ℕ) → gate_of seen.desk venue ≡ Down → placed seen.desk venue ≡ 0 → now.desk ≡ with_gate venue Up seen.desk → now.history ≡ seen.history ++ entry.Up venue ∷ [] → Answers OutOfMemory (without_room seen) (with_entries (without_room seen) (gate_up_entries seen.desk venue) (gate_up seen.desk venue)) (Ok tt) (without_room now)

@@ -1,7 +1,6 @@
 -- The legs of a sweep join the queues of their venues.
 use Rattle.std.proofs.Common.{◌≡◌, ◌≢◌, ℕ, suc, ◌+◌, ◌<◌, ◌≤◌, inl, inr, Bool, true, false, List, [], ◌∷◌, ◌++◌, length, map, take, drop, get_or, set, refl, ap, sym, ◌∙◌, subst, arith, if◌then◌else◌}
-use Rattle.std.specs.Prelude.{◌==◌, sum_by}
-use Rattle.std.specs.VecDeque.{deque_capacity}
+use Rattle.std.specs.Prelude.{◌==◌, sum_by, vec_len, vec_capacity}
 use Rattle.std.proofs.lemmas.Bool.{cases_eq, eq-eqb}
 use Rattle.std.proofs.lemmas.Bool.Decides.{nat_tests}
 use Rattle.std.proofs.lemmas.List.{append_assoc, append-nil, length-append, length-set, length-take-le, take_more, take-append-drop, take_all, map-set, set-get_or, get_or_default, get_or-set_same, get_or-set_other}
@@ -45,35 +44,35 @@ legs_to-other venue number place routed differs =
     rw test refl
 
 -- a venue whose next leg is to join has room for it
-pub room_for : (number : ℕ) (legs : List Routed) (before after : List Venue) (at : ℕ) (routed : Routed) (venue : Venue) → HaveRoom legs before → IsEnqueued number (take at legs) before after → at < length legs → routed ≡ get_or legs at routed → routed.venue < length before → venue ≡ get_or after routed.venue venue → length venue.placed.items < deque_capacity venue.placed
+pub room_for : (number : ℕ) (legs : List Routed) (before after : List Venue) (at : ℕ) (routed : Routed) (venue : Venue) → HaveRoom legs before → IsEnqueued number (take at legs) before after → at < length legs → routed ≡ get_or legs at routed → routed.venue < length before → venue ≡ get_or after routed.venue venue → vec_len venue.released < vec_capacity venue.released
 room_for number legs before after at routed venue room joined there is known was =
     let k = routed.venue in
     let fits = room.fits k venue known in
     let here = joined.joined k venue known in
-    let queue = here.queue in
-    let cap = here.room in
+    let queue = here.joined in
+    let cap = here.spare in
     let whole : take (at + 1) legs ++ drop (at + 1) legs ≡ legs = take-append-drop (at + 1) legs in
     let counted : length (legs_to k number 1 legs) ≡ count_to k legs = length-legs_to k number 1 legs in
     let split = ap length (ap (legs_to k number 1) (sym whole) ∙ legs_to-append k number 1 (take (at + 1) legs) (drop (at + 1) legs)) in
     let parts = length-append (legs_to k number 1 (take (at + 1) legs)) (legs_to k number (1 + length (take (at + 1) legs)) (drop (at + 1) legs)) in
     let more = ap length (legs_to-more k number legs at routed there is ∙ ap (λ l. legs_to k number 1 (take at legs) ++ l) (legs_to-this k number (at + 1) routed refl)) in
     let one = length-append (legs_to k number 1 (take at legs)) ((let leg : Leg = record { id = record { sweep = number; place = at + 1 }; terms = routed.terms } in leg) ∷ []) in
-    let long = ap length queue ∙ length-append (get_or before k venue).placed.items (legs_to k number 1 (take at legs)) in
-    let result : length (get_or after k venue).placed.items < deque_capacity (get_or after k venue).placed = omega (arith, fits, cap, counted, split, parts, more, one, long) in
-    subst (λ v. length v.placed.items < deque_capacity v.placed) (sym was) result
+    let long = ap length queue ∙ length-append (get_or before k venue).released.items (legs_to k number 1 (take at legs)) in
+    let result : vec_len (get_or after k venue).released < vec_capacity (get_or after k venue).released = omega (arith, fits, cap, counted, split, parts, more, one, long, (get_or before k venue).released.ok.0, (get_or after k venue).released.ok.0) in
+    subst (λ v. vec_len v.released < vec_capacity v.released) (sym was) result
 
 pub enqueued_none : (number : ℕ) (legs : List Routed) (venues : List Venue) → IsEnqueued number (take 0 legs) venues venues
 enqueued_none number legs venues =
     record {
       many = refl;
-      joined = λ k other there. record { queue = sym (append-nil (get_or venues k other).placed.items); room = refl; left = refl };
+      joined = λ k other there. record { joined = sym (append-nil (get_or venues k other).released.items); spare = refl; left = refl };
       seen = refl;
       due = omega arith;
     }
 
 -- one more leg joined
-pub enqueued_more : (number : ℕ) (legs : List Routed) (before after : List Venue) (at : ℕ) (routed : Routed) (was now : Venue) → IsEnqueued number (take at legs) before after → at < length legs → routed ≡ get_or legs at routed → routed.venue < length before → was ≡ get_or after routed.venue was → now.gate ≡ was.gate → now.left ≡ was.left → deque_capacity now.placed ≡ deque_capacity was.placed → now.placed.items ≡ was.placed.items ++ record { id = record { sweep = number; place = at + 1 }; terms = routed.terms } ∷ [] → IsEnqueued number (take (at + 1) legs) before (set after routed.venue now)
-enqueued_more number legs before after at routed was now joined there is known was_is gate left cap items =
+pub enqueued_more : (number : ℕ) (legs : List Routed) (before after : List Venue) (at : ℕ) (routed : Routed) (was now : Venue) → HaveRoom legs before → IsEnqueued number (take at legs) before after → at < length legs → routed ≡ get_or legs at routed → routed.venue < length before → was ≡ get_or after routed.venue was → now.gate ≡ was.gate → now.left ≡ was.left → vec_capacity now.released ≡ vec_capacity was.released → now.released.items ≡ was.released.items ++ record { id = record { sweep = number; place = at + 1 }; terms = routed.terms } ∷ [] → IsEnqueued number (take (at + 1) legs) before (set after routed.venue now)
+enqueued_more number legs before after at routed was now room joined there is known was_is gate left cap items =
     let v = routed.venue in
     let leg : Leg = record { id = record { sweep = number; place = at + 1 }; terms = routed.terms } in
     let many = joined.many in
@@ -82,15 +81,21 @@ enqueued_more number legs before after at routed was now joined there is known w
     let same : venue_seen now ≡ venue_seen was = λ k. record { gate = gate k; left = left k } in
     let front : length (take at legs) ≡ at = length-take-le at legs (omega (arith, there)) in
     let next : length (take (at + 1) legs) ≡ at + 1 = length-take-le (at + 1) legs (omega (arith, there)) in
-    let queue_long = ap length items ∙ length-append was.placed.items (leg ∷ []) in
+    let queue_long = ap length items ∙ length-append was.released.items (leg ∷ []) in
     let gates = ap gate_due gate in
+    let first = joined.joined v was known in
+    let kept_left = first.left in
+    let longer = ap length first.joined ∙ length-append (get_or before v was).released.items (legs_to v number 1 (take at legs)) in
+    let behind = room.left v was known in
+    let placed_was : was.left ≤ length was.released.items =
+    subst (λ x. x.left ≤ length x.released.items) (sym was_is) (omega (arith, kept_left, longer, behind)) in
     let sums : sum_by entries_due (set after v now) + entries_due was ≡ sum_by entries_due after + entries_due now = subst (λ x. sum_by entries_due (set after v now) + entries_due x ≡ sum_by entries_due after + entries_due now) (sym was_is) (sum_by-set entries_due after v now was within) in
     record {
       many = length-set after v now ∙ many;
       joined = λ k other inside.
           let here = joined.joined k other inside in
-          let queue = here.queue in
-          let capacity = here.room in
+          let queue = here.joined in
+          let capacity = here.spare in
           let lefts = here.left in
           let legs_are = legs_to-more k number legs at routed there is in
           elim (cases_eq k v) [
@@ -99,24 +104,24 @@ enqueued_more number legs before after at routed was now joined there is known w
                 let put : get_or (set after v now) k other ≡ now = ap (λ n. get_or (set after v now) n other) this ∙ get_or-set_same after v now other within in
                 subst (IsJoined (legs_to k number 1 (take (at + 1) legs)) (get_or before k other)) (sym put)
                 (record {
-                  queue = items
-                      ∙ (ap (λ x. x.placed.items ++ leg ∷ []) (sym same_venue)
+                  joined = items
+                      ∙ (ap (λ x. x.released.items ++ leg ∷ []) (sym same_venue)
                       ∙ (ap (λ l. l ++ leg ∷ []) queue
-                      ∙ (append_assoc (get_or before k other).placed.items (legs_to k number 1 (take at legs)) (leg ∷ [])
-                      ∙ ap (λ l. (get_or before k other).placed.items ++ l)
+                      ∙ (append_assoc (get_or before k other).released.items (legs_to k number 1 (take at legs)) (leg ∷ [])
+                      ∙ ap (λ l. (get_or before k other).released.items ++ l)
                       (ap (λ l. legs_to k number 1 (take at legs) ++ l) (sym (legs_to-this k number (at + 1) routed (sym this))) ∙ sym legs_are))));
-                  room = cap ∙ (ap (λ x. deque_capacity x.placed) (sym same_venue) ∙ capacity);
+                  spare = cap ∙ (ap (λ x. vec_capacity x.released) (sym same_venue) ∙ capacity);
                   left = left ∙ (ap (λ x. x.left) (sym same_venue) ∙ lefts);
                 }))
             | inr differs ↦
                 (let kept : get_or (set after v now) k other ≡ get_or after k other = get_or-set_other after v k now other differs in
                 subst (IsJoined (legs_to k number 1 (take (at + 1) legs)) (get_or before k other)) (sym kept)
                 (record {
-                  queue = queue
-                      ∙ ap (λ l. (get_or before k other).placed.items ++ l)
+                  joined = queue
+                      ∙ ap (λ l. (get_or before k other).released.items ++ l)
                       (sym (append-nil (legs_to k number 1 (take at legs)))
                       ∙ (ap (λ l. legs_to k number 1 (take at legs) ++ l) (sym (legs_to-other k number (at + 1) routed differs)) ∙ sym legs_are));
-                  room = capacity;
+                  spare = capacity;
                   left = lefts;
                 }))
           ];
@@ -124,7 +129,7 @@ enqueued_more number legs before after at routed was now joined there is known w
           ∙ (ap (λ x. set (map venue_seen after) v x) same
           ∙ (sym (map-set venue_seen after v was)
           ∙ (ap (map venue_seen) (ap (set after v) was_is ∙ set-get_or after v was) ∙ joined.seen)));
-      due = omega (arith, sum, sums, queue_long, gates, front, next);
+      due = omega (arith, sum, sums, queue_long, gates, front, next, left, placed_was);
     }
 
 -- all of them joined

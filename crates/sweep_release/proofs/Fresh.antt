@@ -2,8 +2,6 @@
 use Rattle.std.proofs.Common.{◌≡◌, ℕ, ◌+◌, ◌≤◌, List, [], ◌∷◌, length, map, get_or, replicate, refl, ap, sym, ◌∙◌, subst, arith}
 use Rattle.std.specs.Prelude.{sum_by, vec_len, vec_capacity}
 use Rattle.std.specs.List.{All}
-use Rattle.std.specs.VecDeque.{deque_capacity}
-use Rattle.std.proofs.lemmas.List.{drop_all}
 use Rattle.std.proofs.lemmas.List.Sums.{sum_by-cons}
 use Rattle.std.proofs.lemmas.List.Elements.{All-head, All-tail, All-get_or}
 use Rattle.sweep_release.specs.declared.desk.Desk.TheInside.{Inside}
@@ -17,8 +15,7 @@ use Rattle.sweep_release.specs.Kept.{released_sweeps, venue_seen, entries_due, I
 pub record IsFresh (venue : Venue) : Type 0 where
   pub gate : venue.gate ≡ Down
   pub left : venue.left ≡ 0
-  pub empty : venue.placed.items ≡ []
-  pub room : 256 ≤ deque_capacity venue.placed
+  pub empty : venue.released.items ≡ []
 
 seen_fresh : (venue : Venue) → IsFresh venue → venue_seen venue ≡ record { gate = Down; left = 0 }
 seen_fresh venue fresh = let gate = fresh.gate in let left = fresh.left in λ k. record { gate = gate k; left = left k }
@@ -38,29 +35,31 @@ all_due [] fresh = refl
 all_due (venue ∷ venues) fresh =
     omega (arith, sum_by-cons entries_due venue venues, due_fresh venue (All-head IsFresh venue venues fresh), all_due venues (All-tail IsFresh venue venues fresh))
 
-kept_fresh : (number : ℕ) (venue : Venue) → IsFresh venue → IsKeptVenue [] number venue
+kept_fresh : (number : ℕ) (venue : Venue) → IsFresh venue → IsKeptVenue [] 0 number venue
 kept_fresh number venue fresh =
     let empty = fresh.empty in
     let none = ap length empty in
     let left = fresh.left in
-    let room = fresh.room in
     record {
-      queue = empty ∙ sym (drop_all venue.left [] (omega arith));
+      legs = empty;
+      left = omega (arith, none, left);
       few = omega (arith, none);
-      room = room;
-      all = omega (arith, none, left);
-      counted = omega (arith, none, left);
+      counted = omega (arith, none);
+      spare = omega (arith, none, venue.released.ok.0, venue.released.ok.1);
     }
 
-pub kept_new : (desk : Inside) → All IsFresh desk.venues.items → desk.history.items ≡ [] → desk.sweeps ≡ 0 → desk.shares ≡ 0 → desk.due ≡ length desk.venues.items → vec_len desk.history + desk.due ≤ vec_capacity desk.history → IsKept desk
-kept_new desk fresh empty sweeps shares due room =
+pub kept_new : (desk : Inside) → All IsFresh desk.venues.items → desk.history.items ≡ [] → desk.sweeps ≡ 0 → desk.shares ≡ 0 → desk.due ≡ length desk.venues.items → desk.room ≡ 0 → vec_len desk.history + desk.due ≤ vec_capacity desk.history → IsKept desk
+kept_new desk fresh empty sweeps shares due none_more room =
     let none : [] ≡ released_sweeps desk.history.items = ap released_sweeps (sym empty) in
     record {
-      venues = λ k other there. subst (λ s. IsKeptVenue s k (get_or desk.venues.items k other)) none (kept_fresh k _ (All-get_or IsFresh desk.venues.items k other there fresh));
+      venues = λ k other there.
+          subst (λ n. IsKeptVenue (released_sweeps desk.history.items) n k (get_or desk.venues.items k other)) (sym none_more)
+          (subst (λ s. IsKeptVenue s 0 k (get_or desk.venues.items k other)) none
+          (kept_fresh k _ (All-get_or IsFresh desk.venues.items k other there fresh)));
       count = sweeps ∙ ap length none;
       shares = shares ∙ ap (sum_by _) none;
       few = omega (arith, sweeps);
       bounded = omega (arith, shares);
       due = due ∙ sym (all_due desk.venues.items fresh);
-      room = room;
+      spare = omega (arith, room, none_more);
     }

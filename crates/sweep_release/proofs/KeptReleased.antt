@@ -1,9 +1,9 @@
 -- What the desk keeps, once a sweep is released.
-use Rattle.std.proofs.Common.{◌≡◌, ℕ, suc, not, Err, if◌then◌else◌, ◌+◌, ◌<◌, ◌≤◌, Bool, true, false, List, [], ◌∷◌, ◌++◌, length, map, drop, get_or, None, Ok, refl, ap, sym, ◌∙◌, subst, arith}
+use Rattle.std.proofs.Common.{◌≡◌, ℕ, suc, not, Err, if◌then◌else◌, ◌+◌, ◌-◌, ◌<◌, ◌≤◌, Bool, true, false, List, [], ◌∷◌, ◌++◌, length, map, drop, get_or, None, Ok, refl, ap, sym, ◌∙◌, subst, arith}
 use Rattle.std.specs.Prelude.{◌||◌, ◌==◌, nat_le, nat_lt, sum_by, vec_len, vec_capacity}
 use Rattle.std.proofs.lemmas.Bool.{ltb-false}
 use Rattle.std.proofs.lemmas.Bool.Decides.{nat_tests}
-use Rattle.std.proofs.lemmas.List.{get_or_default, length-append, length_push, drop-append-le}
+use Rattle.std.proofs.lemmas.List.{get_or_default, length-append, length_push, length-drop}
 use Rattle.std.proofs.lemmas.List.Sums.{sum_by_push}
 use Rattle.leg.specs.Answering.{Answers}
 use Rattle.leg.specs.Refusing.{refused_if}
@@ -20,7 +20,7 @@ use Rattle.sweep_release.specs.Released.{legs_to, released}
 use Rattle.sweep_release.specs.Desk.{DeskParts, venue_at, placed, placed_shares, count_to, refused_at, is_up, gate_of, backlog_refusal, is_spent, release_refusal, next_number, with_sweep, release_unless, release}
 use Rattle.sweep_release.specs.History.{KeptDesk, without_room, with_entries, release_entries}
 use Rattle.sweep_release.specs.Kept.{desk_seen, released_sweeps, venue_seen, IsKeptVenue, IsKept, HaveRoom, IsEnqueued}
-use Rattle.sweep_release.proofs.Released.{released-push, length-legs_to, length-released-push}
+use Rattle.sweep_release.proofs.Released.{released-push, length-legs_to}
 use Rattle.sweep_release.proofs.Backlog.{none_second, fits}
 use Rattle.sweep_release.proofs.Changing.{released_sweeps-append, venue_at_seen}
 
@@ -53,27 +53,20 @@ shares_left desk legs e =
     let parts = neither (nat_le 999999999999 (length desk.sweeps)) (nat_lt 1000000000000000000 (placed_shares desk + sweep_shares legs)) (unspent desk legs e) in
     ltb-false 1000000000000000000 (placed_shares desk + sweep_shares legs) parts.1
 
--- each queue has room for the legs of a sweep that isn't refused
-pub fits_in : (desk : Inside) (legs : List Routed) (k : ℕ) (other : Venue) → IsKept desk → release_refusal (desk_seen desk).desk legs ≡ None → k < length desk.venues.items → length (get_or desk.venues.items k other).placed.items + count_to k legs ≤ 256
+-- at most 256 legs are placed at a venue once the legs of a sweep that isn't refused joined them
+pub fits_in : (desk : Inside) (legs : List Routed) (k : ℕ) (other : Venue) → IsKept desk → release_refusal (desk_seen desk).desk legs ≡ None → k < length desk.venues.items → length (get_or desk.venues.items k other).released.items + count_to k legs ≤ (get_or desk.venues.items k other).left + 256
 fits_in desk legs k other h fine there =
     let all = h.venues in
+    let at = get_or desk.venues.items k other in
     let kept = all k other there in
-    let queue = kept.queue in
+    let legs_are = kept.legs in
     let few = kept.few in
-    let left : (venue_at (desk_seen desk).desk k) ≡ venue_seen (get_or desk.venues.items k other) = venue_at_seen desk k (get_or desk.venues.items k other) there (get_or_default desk.venues.items k _ other there) in
-    let same : placed (desk_seen desk).desk k ≡ length (get_or desk.venues.items k other).placed.items = ap (λ v. length (drop v.left (released k (released_sweeps desk.history.items)))) left ∙ ap length (sym queue) in
-    let room = fits (desk_seen desk).desk k legs fine (omega (arith, same, few)) in
-    omega (arith, room, same)
-
-pub have_room : (desk : Inside) (legs : List Routed) → IsKept desk → release_refusal (desk_seen desk).desk legs ≡ None → HaveRoom legs desk.venues.items
-have_room desk legs h fine = record {
-  fits = λ k other there.
-      let all = h.venues in
-      let kept = all k other there in
-      let room = kept.room in
-      let within = fits_in desk legs k other h fine there in
-      omega (arith, room, within);
-}
+    let behind = kept.left in
+    let left : (venue_at (desk_seen desk).desk k) ≡ venue_seen at = venue_at_seen desk k at there (get_or_default desk.venues.items k _ other there) in
+    let same : placed (desk_seen desk).desk k ≡ length (drop at.left at.released.items) = ap (λ v. length (drop v.left (released k (released_sweeps desk.history.items)))) left ∙ ap (λ l. length (drop at.left l)) (sym legs_are) in
+    let long : length (drop at.left at.released.items) ≡ length at.released.items - at.left = length-drop at.left at.released.items in
+    let room = fits (desk_seen desk).desk k legs fine (omega (arith, same, long, few, behind)) in
+    omega (arith, room, same, long, behind)
 
 one_le : (b : Bool) (n m : ℕ) → n ≤ m → (if b then suc n else n) ≤ suc m
 one_le true n m h = omega (arith, h)
@@ -83,8 +76,21 @@ count-le : (venue : ℕ) (legs : List Routed) → count_to venue legs ≤ length
 count-le venue [] = omega arith
 count-le venue (routed ∷ legs) = let rest = count-le venue legs in one_le (routed.venue == venue) (count_to venue legs) (length legs) rest
 
-pub kept_released : (old new : Inside) (legs : List Routed) → IsKept old → release_refusal (desk_seen old).desk legs ≡ None → length legs ≤ 32 → IsEnqueued (old.sweeps + 1) legs old.venues.items new.venues.items → new.history.items ≡ old.history.items ++ entry.Released (record { legs = legs }) ∷ [] → new.sweeps ≡ old.sweeps + 1 → new.shares ≡ old.shares + sweep_shares legs → new.due ≡ old.due + length legs → vec_len new.history + new.due ≤ vec_capacity new.history → IsKept new
-kept_released old new legs h fine short joined history_is sweeps_are shares_are due_is room =
+pub have_room : (desk : Inside) (legs : List Routed) → IsKept desk → 1 + length legs ≤ desk.room → HaveRoom legs desk.venues.items
+have_room desk legs h reserved = record {
+  fits = λ k other there.
+      let all = h.venues in
+      let kept = all k other there in
+      let spare = kept.spare in
+      let few = count-le k legs in
+      omega (arith, spare, few, reserved);
+  left = λ k other there.
+      let all = h.venues in
+      let kept = all k other there in kept.left;
+}
+
+pub kept_released : (old new : Inside) (legs : List Routed) → IsKept old → release_refusal (desk_seen old).desk legs ≡ None → length legs ≤ 32 → IsEnqueued (old.sweeps + 1) legs old.venues.items new.venues.items → new.history.items ≡ old.history.items ++ entry.Released (record { legs = legs }) ∷ [] → new.sweeps ≡ old.sweeps + 1 → new.shares ≡ old.shares + sweep_shares legs → new.due ≡ old.due + length legs → new.room + (1 + length legs) ≡ old.room → vec_len new.history + new.due + new.room ≤ vec_capacity new.history → IsKept new
+kept_released old new legs h fine short joined history_is sweeps_are shares_are due_is room_is room =
     let all = h.venues in
     let count = h.count in
     let shares = h.shares in
@@ -102,42 +108,38 @@ kept_released old new legs h fine short joined history_is sweeps_are shares_are 
           let was = get_or old.venues.items k other in
           let now = get_or new.venues.items k other in
           let kept = all k other inside in
-          let queue = kept.queue in
-          let capacity = kept.room in
-          let placed_or_left = kept.all in
+          let legs_are = kept.legs in
+          let spare = kept.spare in
+          let behind = kept.left in
           let counted = kept.counted in
           let here = joined.joined k other inside in
-          let items = here.queue in
-          let cap = here.room in
+          let items = here.joined in
+          let cap = here.spare in
           let left = here.left in
           let fit = fits_in old legs k other h fine inside in
-          let long = ap length items ∙ length-append was.placed.items (legs_to k (old.sweeps + 1) 1 legs) in
+          let long = ap length items ∙ length-append was.released.items (legs_to k (old.sweeps + 1) 1 legs) in
           let as_many = length-legs_to k (old.sweeps + 1) 1 legs in
           let few = count-le k legs in
-          let released_more = length-released-push k before legs in
-          let within : was.left ≤ length (released k before) = omega (arith, placed_or_left) in
           let next : old.sweeps + 1 ≡ length before + 1 = ap (λ n. n + 1) count in
-          let queue_is : now.placed.items ≡ drop now.left (released k (before ++ legs ∷ [])) =
+          let legs_now : now.released.items ≡ released k (before ++ legs ∷ []) =
           items
-          ∙ (ap (λ l. l ++ legs_to k (old.sweeps + 1) 1 legs) queue
-          ∙ (ap (λ n. drop was.left (released k before) ++ legs_to k n 1 legs) next
-          ∙ (sym (drop-append-le was.left (released k before) (legs_to k (length before + 1) 1 legs) within)
-          ∙ (ap (drop was.left) (sym (released-push k before legs))
-          ∙ ap (λ n. drop n (released k (before ++ legs ∷ []))) (sym left))))) in
-          subst (λ s. IsKeptVenue s k now) (sym more)
+          ∙ (ap (λ l. l ++ legs_to k (old.sweeps + 1) 1 legs) legs_are
+          ∙ (ap (λ n. released k before ++ legs_to k n 1 legs) next
+          ∙ sym (released-push k before legs))) in
+          subst (λ s. IsKeptVenue s new.room k now) (sym more)
           (record {
-            queue = queue_is;
-            few = omega (arith, long, as_many, fit);
-            room = omega (arith, capacity, cap);
-            all = omega (arith, long, as_many, left, placed_or_left, released_more);
-            counted = omega (arith, long, as_many, left, counted, longer, few, short);
+            legs = legs_now;
+            left = omega (arith, long, left, behind);
+            few = omega (arith, long, as_many, fit, left);
+            counted = omega (arith, long, as_many, counted, longer, few, short);
+            spare = omega (arith, spare, cap, long, as_many, few, room_is, was.released.ok.0, now.released.ok.0);
           });
       count = sweeps_are ∙ (ap (λ n. n + 1) count ∙ (sym longer ∙ ap length (sym more)));
       shares = shares_are ∙ (ap (λ n. n + sweep_shares legs) shares ∙ (sym (sum_by_push sweep_shares before legs) ∙ ap (sum_by sweep_shares) (sym more)));
       few = omega (arith, number, count, sweeps_are);
       bounded = omega (arith, total, shares, shares_are);
       due = omega (arith, due, due_is, sums);
-      room = room;
+      spare = room;
     }
 
 -- the desk as it is seen

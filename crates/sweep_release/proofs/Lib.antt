@@ -12,3 +12,4 @@ pub mod Fresh
 pub mod Refusals
 pub mod Enqueued
 pub mod KeptReleased
+pub mod Reserved

@@ -76,7 +76,7 @@ pub record DeskWithHistory : Type 0 where
   pub desk : DeskParts
   pub history : List DeskEntry
 
--- the same, with how many more entries can be written without memory, beside those of the calls that take none
+-- the same, with how many legs can be released without memory, the release itself counted as one
 pub record KeptDesk : Type 0 where
   pub desk : DeskParts
   pub history : List DeskEntry

@@ -1,6 +1,5 @@
 -- What the desk keeps beside its history, so that no call walks it.
-use Rattle.std.specs.Prelude.{◌≡◌, ℕ, ◌+◌, ◌-◌, ◌*◌, ◌<◌, ◌≤◌, List, [], ◌∷◌, ◌++◌, length, map, drop, sum_by, get_or, vec_len, vec_capacity}
-use Rattle.std.specs.VecDeque.{deque_capacity}
+use Rattle.std.specs.Prelude.{◌≡◌, ℕ, ◌+◌, ◌-◌, ◌*◌, ◌<◌, ◌≤◌, List, [], ◌∷◌, ◌++◌, length, map, sum_by, get_or, vec_len, vec_capacity}
 use Rattle.leg.specs.declared.leg.Leg.{Leg}
 use Rattle.leg.specs.declared.sweep.Routed.{Routed}
 use Rattle.share_ledger.specs.Entries.{sweep_shares}
@@ -29,46 +28,68 @@ desk_seen desk =
     record {
       desk = record { sweeps = released_sweeps desk.history.items; venues = map venue_seen desk.venues.items };
       history = desk.history.items;
-      room = vec_capacity desk.history - (vec_len desk.history + desk.due);
+      room = desk.room;
     }
 
 -- how many entries the calls at a venue that take no memory may write: one for each placed leg, and those of its gate
 abbrev pub entries_due : Venue → ℕ
-entries_due venue = length venue.placed.items + gate_due venue.gate
+entries_due venue = length venue.released.items - venue.left + gate_due venue.gate
 
--- a venue's queue has the legs released to it that didn't leave; at most 256, for which it has room
-pub record IsKeptVenue (sweeps : List (List Routed)) (number : ℕ) (venue : Venue) : Type 0 where
-  pub queue : venue.placed.items ≡ drop venue.left (released number sweeps)
-  pub few : length venue.placed.items ≤ 256
-  pub room : 256 ≤ deque_capacity venue.placed
-  pub all : venue.left + length venue.placed.items ≡ length (released number sweeps)
-  pub counted : venue.left + length venue.placed.items ≤ 32 * length sweeps
+-- a venue has the legs released to it, of which some left and at most 256 are placed, and room for so many more
+pub record IsKeptVenue (sweeps : List (List Routed)) (room number : ℕ) (venue : Venue) : Type 0 where
+  pub legs : venue.released.items ≡ released number sweeps
+  pub left : venue.left ≤ length venue.released.items
+  pub few : length venue.released.items ≤ venue.left + 256
+  pub counted : length venue.released.items ≤ 32 * length sweeps
+  pub spare : vec_len venue.released + room ≤ vec_capacity venue.released
 
 -- the counts are those of the history, and the history has room for what is due
 pub record IsKept (desk : Inside) : Type 0 where
   pub venues : (k : ℕ) (other : Venue) →
       k < length desk.venues.items →
-      IsKeptVenue (released_sweeps desk.history.items) k (get_or desk.venues.items k other)
+      IsKeptVenue (released_sweeps desk.history.items) desk.room k (get_or desk.venues.items k other)
   pub count : desk.sweeps ≡ length (released_sweeps desk.history.items)
   pub shares : desk.shares ≡ sum_by sweep_shares (released_sweeps desk.history.items)
   pub few : desk.sweeps ≤ 999999999999
   pub bounded : desk.shares ≤ 1000000000000000000
   pub due : desk.due ≡ sum_by entries_due desk.venues.items
-  pub room : vec_len desk.history + desk.due ≤ vec_capacity desk.history
+  pub spare : vec_len desk.history + desk.due + desk.room ≤ vec_capacity desk.history
 
--- each venue's queue has room for the legs that join it
+-- a venue is as it was, but for more room
+pub record IsSame (before after : Venue) : Type 0 where
+  pub gate : after.gate ≡ before.gate
+  pub left : after.left ≡ before.left
+  pub legs : after.released.items ≡ before.released.items
+  pub spare : vec_capacity before.released ≤ vec_capacity after.released
+
+-- and so is each of these
+pub record AreSame (before after : List Venue) : Type 0 where
+  pub many : length after ≡ length before
+  pub each : (k : ℕ) (other : Venue) → k < length before → IsSame (get_or before k other) (get_or after k other)
+  pub seen : map venue_seen after ≡ map venue_seen before
+  pub due : sum_by entries_due after ≡ sum_by entries_due before
+
+-- each venue has room for so many more legs
+abbrev pub HaveSpare : ℕ → List Venue → Type 0
+HaveSpare room venues = (k : ℕ) (other : Venue) → k < length venues
+    → vec_len (get_or venues k other).released + room ≤ vec_capacity (get_or venues k other).released
+
+-- each venue has room for the legs that join it, and no more of its legs left than were released
 pub record HaveRoom (legs : List Routed) (venues : List Venue) : Type 0 where
   pub fits : (k : ℕ) (other : Venue) →
       k < length venues →
-      length (get_or venues k other).placed.items + count_to k legs ≤ deque_capacity (get_or venues k other).placed
+      vec_len (get_or venues k other).released + count_to k legs ≤ vec_capacity (get_or venues k other).released
+  pub left : (k : ℕ) (other : Venue) →
+      k < length venues →
+      (get_or venues k other).left ≤ length (get_or venues k other).released.items
 
--- a venue after these legs joined its queue
+-- a venue after these legs joined it
 pub record IsJoined (legs : List Leg) (before after : Venue) : Type 0 where
-  pub queue : after.placed.items ≡ before.placed.items ++ legs
-  pub room : deque_capacity after.placed ≡ deque_capacity before.placed
+  pub joined : after.released.items ≡ before.released.items ++ legs
+  pub spare : vec_capacity after.released ≡ vec_capacity before.released
   pub left : after.left ≡ before.left
 
--- the venues after the legs of a sweep joined their queues, each in the order of the places
+-- the venues after the legs of a sweep joined them, each in the order of the places
 pub record IsEnqueued (number : ℕ) (legs : List Routed) (before after : List Venue) : Type 0 where
   pub many : length after ≡ length before
   pub joined : (k : ℕ) (other : Venue) →

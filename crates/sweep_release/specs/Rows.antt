@@ -1,5 +1,5 @@
 -- Examples: a desk of two venues, the first with its gate up.
-use Rattle.std.specs.Prelude.{ℕ, zero, suc, List, length, replicate, Option, Some, None, Result, Ok, Err}
+use Rattle.std.specs.Prelude.{ℕ, zero, suc, List, [], ◌∷◌, length, replicate, Option, Some, None, Result, Ok, Err}
 use Rattle.leg.specs.declared.sweep.Routed.{Routed}
 use Rattle.share_ledger.specs.Entries.{opened}
 use Rattle.share_ledger.specs.Book.{BookParts, new_book, open_sweep}
@@ -16,6 +16,14 @@ two_venues = (gate_up (new_desk 2) 0).1
 -- so many orders for venue 0
 abbrev pub orders : ℕ → List Routed
 orders n = replicate n (order 0 10)
+
+-- the greatest sweep, to venue 0
+abbrev pub greatest : List Routed
+greatest = replicate 32 (order 0 1000000)
+
+-- the same desk, with so many shares released to venue 1 before, as one sweep
+abbrev pub after_shares : ℕ → DeskParts
+after_shares shares = record two_venues { sweeps = (order 1 shares ∷ []) ∷ [] }
 
 -- the desk after a sweep of 32 legs to venue 0 was released so many times
 abbrev pub after_sweeps : ℕ → DeskParts → DeskParts

@@ -1,36 +1,39 @@
 //! The desk of released legs.
 
-ghost use Rattle.std.specs.Prelude.{◌≡◌, ◌+◌, ◌<◌, ◌≤◌, [], ◌∷◌, ◌++◌, length, not, nat_le, IfOk, IfNone, OnErr, IsOkUnless};
+ghost use Rattle.std.specs.Prelude.{◌≡◌, ◌+◌, ◌<◌, ◌≤◌, [], ◌∷◌, ◌++◌, length, not, nat_le, IfOk, IfNone, OnOk, OnErr, IsOk, IsOkUnless};
 ghost use Rattle.std.specs.List.{All};
 ghost use Rattle.share_ledger.specs.Entries.{sweep_shares};
 ghost use Rattle.leg.specs.Answering.{Answers};
 ghost use Rattle.sweep_release.specs.Desk.{new_desk, is_up, refused_at, count_to, backlog_refusal, release_refusal, ready, release, gate_of, placed, placed_shares, next_leg, next_number, with_gate, gate_up, gate_down, shut, leave, take, drop_next};
 ghost use Rattle.sweep_release.specs.History.{without_room, with_entries, release_entries, gate_up_entries, gate_down_entries, shut_entries, left_entries, take_entries, drop_next_entries};
 ghost use Rattle.sweep_release.specs.Gates.{gate_due};
+ghost use Rattle.sweep_release.specs.Released.{released};
 ghost use Rattle.sweep_release.specs.Kept.{released_sweeps, HaveRoom, IsEnqueued};
 
 use crate::enqueue::enqueue;
 use crate::refusing::refusal;
-use crate::shares::shares_of;
+use crate::reserve::reserve;
 use crate::venue::Venue;
 use crate::{DeskEntry, Gate, GateFault, Receipt, ReleaseFault};
-use leg::{PlacedLeg, Sweep, VenueId};
-use std::alloc::Global;
-use std::collections::VecDeque;
+use leg::{Leg, PlacedLeg, Sweep, VenueId};
+use share_ledger::shares_of;
+use std::alloc::{AllocError, Global};
 use std::marker::Model;
 
 /// The most legs that are placed at a venue, neither taken nor dropped.
 pub const MAX_PLACED: usize = 256;
 
-/// The desk: sweeps are released into its venues' queues together or not at all, and leave leg by leg. A call for a
+/// The desk: the legs of a sweep are released to its venues together or not at all, and leave leg by leg. A call for a
 /// venue that the desk hasn't got is a broken condition, except at a release.
 #[derive(Drop)]
 pub struct Desk {
     venues: Vec<Venue>,
     sweeps: u64,
     shares: u64,
-    // How many entries the calls that take no memory may still write.
+    /// How many entries the calls that take no memory may still write.
     due: usize,
+    /// How many legs each venue, and how many more entries the history, has room for.
+    room: usize,
     history: Vec<DeskEntry>,
 }
 
@@ -60,7 +63,7 @@ impl Desk {
             list.push(Venue {
                 gate: Gate::Down,
                 left: 0,
-                placed: VecDeque::with_capacity(alloc, MAX_PLACED)?,
+                released: Vec::new(alloc),
             })?;
         }
         Ok(Desk {
@@ -68,6 +71,7 @@ impl Desk {
             sweeps: 0,
             shares: 0,
             due: count,
+            room: 0,
             history: Vec::with_capacity(alloc, count)?,
         })
     }
@@ -93,7 +97,8 @@ impl Desk {
         ensures value { result ≡ placed self.now.desk venue }
         ensures few { result ≤ 256 }
     {
-        self.venues[usize::from(venue.number())].placed.len()
+        let at = &self.venues[usize::from(venue.number())];
+        at.released.len() - at.left
     }
 
     /// The next leg of a venue, whatever its gate: that which leaves with the next call that takes or drops one there.
@@ -102,13 +107,22 @@ impl Desk {
         ensures { result ≡ next_leg self.now.desk venue }
     {
         let at = &self.venues[usize::from(venue.number())];
-        match at.placed.front() {
+        match at.released.get(at.left) {
             Some(leg) => Some(PlacedLeg {
-                ordinal: at.left + 1,
+                ordinal: at.left as u64 + 1,
                 leg: leg.clone().unwrap(),
             }),
             None => None,
         }
+    }
+
+    /// The legs released to a venue, placed or left, in the order of their ordinals: by the sweep's number, then by the
+    /// place.
+    pub fn released(&self, venue: VenueId) -> &[Leg]
+        requires { venue < length self.now.desk.venues }
+        ensures { result.now ≡ released venue self.now.desk.sweeps }
+    {
+        self.venues[usize::from(venue.number())].released.as_slice()
     }
 
     /// The shares of all sweeps released, at most 10^18.
@@ -142,7 +156,7 @@ impl Desk {
             return Err(GateFault::NotDrained);
         }
         // Its own entry, and that of putting the gate down again.
-        self.history.reserve(self.due + 2)?;
+        self.history.reserve(self.due + self.room + 2)?;
         let at = &mut self.venues[usize::from(venue.number())];
         at.gate = Gate::Up;
         self.due += 1;
@@ -232,13 +246,12 @@ impl Desk {
         ensures history { self.new.history ≡ self.old.history ++ left_entries entry (leave self.old.desk venue).0 }
         ensures room { self.new.room ≡ self.old.room }
     {
+        let next = self.next_leg(venue)?;
         let at = &mut self.venues[usize::from(venue.number())];
-        let leg = at.placed.pop_front()?;
         at.left += 1;
-        let ordinal = at.left;
         self.due -= 1;
         self.history.push_reserved(entry);
-        Some(PlacedLeg { ordinal, leg })
+        Some(next)
     }
 
     /// Whether a release of this sweep would be refused, and for what; where it wouldn't, the room for it is reserved,
@@ -252,7 +265,25 @@ impl Desk {
         if let Some(fault) = refusal(self, legs) {
             return Err(fault);
         }
-        self.history.reserve(self.due + 1 + legs.len())?;
+        Ok(self.reserve(legs.len())?)
+    }
+
+    /// Makes room for a release of so many legs: for them at each venue, for its entry, and for one of each leg that will
+    /// leave.
+    fn reserve(&mut self, legs: usize) -> Result<(), AllocError>
+        requires { legs ≤ 32 }
+        ensures desk { self.new.desk ≡ self.old.desk }
+        ensures history { self.new.history ≡ self.old.history }
+        ensures ok { OnOk result (1 + legs ≤ self.new.room) }
+        ensures err { OnErr result (self.new.room ≡ self.old.room) }
+        ensures there { 1 + legs ≤ self.old.room → IsOk result }
+    {
+        let room = 1 + legs;
+        if self.room < room {
+            reserve(&mut self.venues, room)?;
+            self.history.reserve(self.due + room)?;
+            self.room = room;
+        }
         Ok(())
     }
 
@@ -266,8 +297,7 @@ impl Desk {
         if let Some(fault) = refusal(self, legs) {
             return Err(fault);
         }
-        // Its own entry, and one for each leg that will leave.
-        self.history.reserve(self.due + 1 + legs.len())?;
+        self.reserve(legs.len())?;
         let receipt = Receipt {
             number: self.sweeps + 1,
             shares: shares_of(legs),
@@ -276,6 +306,7 @@ impl Desk {
         self.sweeps = receipt.number;
         self.shares += receipt.shares;
         self.due += legs.len();
+        self.room -= 1 + legs.len();
         self.history.push_reserved(DeskEntry::Released(sweep));
         Ok(receipt)
     }

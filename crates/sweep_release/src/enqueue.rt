@@ -1,4 +1,4 @@
-//! Puts the legs of a sweep into the queues of their venues.
+//! Puts the legs of a sweep behind those of their venues.
 
 ghost use Rattle.std.specs.Prelude.{◌<◌, ◌≤◌, length};
 ghost use Rattle.std.specs.List.{All};
@@ -7,7 +7,7 @@ ghost use Rattle.sweep_release.specs.Kept.{HaveRoom, IsEnqueued};
 use crate::venue::Venue;
 use leg::{Leg, LegId, MAX_SWEEP, Routed};
 
-/// The legs of a sweep join the queues of their venues, which have room for them.
+/// The legs of a sweep join those released to their venues, which have room for them.
 pub fn enqueue(venues: &mut Vec<Venue>, number: u64, legs: &[Routed])
     requires low { 1 ≤ number }
     requires high { number ≤ MAX_SWEEP }
@@ -24,6 +24,6 @@ pub fn enqueue(venues: &mut Vec<Venue>, number: u64, legs: &[Routed])
             terms: routed.terms.clone().unwrap(),
         };
         let at = &mut venues[usize::from(routed.venue.number())];
-        at.placed.push_back_reserved(leg);
+        at.released.push_reserved(leg);
     }
 }

@@ -11,8 +11,8 @@ mod placement;
 mod receipt;
 mod refusing;
 mod release_fault;
+mod reserve;
 pub mod rows;
-mod shares;
 mod venue;
 
 pub use desk::Desk;

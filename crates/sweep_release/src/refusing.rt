@@ -5,15 +5,9 @@ ghost use Rattle.std.specs.List.{All};
 ghost use Rattle.sweep_release.specs.Desk.{is_up, gate_of, refused_at, count_to, backlog_refusal, release_refusal};
 
 use crate::desk::MAX_PLACED;
-use crate::shares::shares_of;
 use crate::{Desk, Gate, ReleaseFault};
 use leg::{MAX_SWEEP, Routed, VenueId};
-
-/// The most legs of a sweep.
-const MAX_LEGS: usize = 32;
-
-/// The most shares that are released in all.
-const MAX_PLACED_SHARES: u64 = 1_000_000_000_000_000_000;
+use share_ledger::{MAX_DAY_SHARES, MAX_LEGS, shares_of};
 
 /// The first refusal of a sweep, want of memory aside.
 pub fn refusal(desk: &Desk, legs: &[Routed]) -> Option<ReleaseFault>
@@ -36,9 +30,7 @@ pub fn refusal(desk: &Desk, legs: &[Routed]) -> Option<ReleaseFault>
     if let Some(fault) = first_full(desk, legs) {
         return Some(fault);
     }
-    if desk.next_number() > MAX_SWEEP
-        || desk.placed_shares() + shares_of(legs) > MAX_PLACED_SHARES
-    {
+    if desk.next_number() > MAX_SWEEP || desk.placed_shares() + shares_of(legs) > MAX_DAY_SHARES {
         return Some(ReleaseFault::SweepsSpent);
     }
     None

@@ -3,7 +3,8 @@
 ghost use Rattle.std.specs.Prelude.{◌<◌, length, IfOk};
 
 use super::*;
-use leg::{Legs, Routed, Side, Sweep, Symbol, Terms, VenueId};
+use leg::{Legs, Routed, Side, Sweep, Symbol, Terms, Totals, VenueId};
+use share_ledger::Book;
 use std::alloc::Global;
 use std::test::Fail;
 
@@ -204,9 +205,50 @@ fn ready_then_release(rt: HostRuntime) -> Result<(), Fail> {
     assert_eq!(rt; placed.leg.id.sweep(), 1);
     assert_eq!(rt; placed.leg.id.place(), 1);
     let at = known(&desk, 0)?;
+    assert_eq!(rt; desk.released(at), [placed.leg].as_slice());
+    let at = known(&desk, 0)?;
     assert!(rt; desk.take(at).is_none());
     let at = known(&desk, 0)?;
     assert!(rt; desk.drop_next(at).is_none());
     assert_eq!(rt; desk.history().len(), 3);
+    Ok(())
+}
+
+#[test]
+fn a_sweep_is_placed_in_its_own_book(rt: HostRuntime) -> Result<(), Fail> {
+    let mut desk = two_venues(rt.alloc())?;
+    let one = sweep(rt.alloc(), 0, 1)?;
+    let mut own = Book::new(rt.alloc(), 2).ok().ok_or("a book")?;
+    own.open_sweep(1, &one).ok().ok_or("a sweep")?;
+    desk.release(one).ok().ok_or("a receipt")?;
+    let mut other = Book::new(rt.alloc(), 2).ok().ok_or("a book")?;
+    let next = sweep(rt.alloc(), 0, 1)?;
+    assert_eq!(rt;
+        place(&mut desk, &mut other, next),
+        Err(ReleaseFault::WrongBook)
+    );
+    let at = known(&desk, 0)?;
+    assert_eq!(rt; desk.placed(at), 1);
+    assert_eq!(rt; other.history().len(), 0);
+    let next = sweep(rt.alloc(), 0, 1)?;
+    assert_eq!(rt;
+        place(&mut desk, &mut own, next),
+        Ok(Receipt {
+            number: 2,
+            shares: 10
+        })
+    );
+    let at = known(&desk, 0)?;
+    assert_eq!(rt; desk.placed(at), 2);
+    assert_eq!(rt;
+        own.totals(2),
+        Some(Totals {
+            filled: 0,
+            busted: 0,
+            cancelled: 0,
+            withdrawn: 0,
+            still_open: 10
+        })
+    );
     Ok(())
 }

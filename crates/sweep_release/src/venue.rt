@@ -2,12 +2,11 @@
 
 use crate::Gate;
 use leg::Leg;
-use std::collections::VecDeque;
 
-/// A venue of the desk: its gate, how many of its legs left, and the legs that are placed there, the next one first.
+/// A venue of the desk: its gate, and the legs that were released to it, of which the first so many left.
 #[derive(Drop)]
 pub struct Venue {
     pub gate: Gate,
-    pub left: u64,
-    pub placed: VecDeque<Leg>,
+    pub left: usize,
+    pub released: Vec<Leg>,
 }

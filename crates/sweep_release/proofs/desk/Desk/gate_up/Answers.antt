@@ -18,11 +18,12 @@ invariant_of-self-2 c =
     let seen_as = read.seen_as in
     let down : before.gate ≡ Down = sym (ap (λ v. v.gate) seen_as) ∙ (sym c.gate.ensures ∙ c.in-Down.is) in
     let one = ap gate_due down in
-    let now : Venue = record { gate = Up; left = before.left; placed = before.placed } in
+    let now : Venue = record { gate = Up; left = before.left; released = before.released } in
     kept-changed desk _ c.from.result now before (entry.Up c.args.venue ∷ []) c.self.invariant read.there refl refl (c.push_reserved.ensures.items ∙ ap (λ l. l ++ entry.Up c.args.venue ∷ []) c.in_ok-reserve.ensures.items) refl refl read.was
     (omega (arith, one))
+    refl
     (omega (arith, c.in_ok-reserve.ensures.ok, c.push_reserved.ensures.len, c.push_reserved.ensures.capacity))
-    (record { queue = kept.queue; few = kept.few; room = kept.room; all = kept.all; counted = kept.counted })
+    (record { legs = kept.legs; left = kept.left; few = kept.few; counted = kept.counted; spare = kept.spare })
 
 pub returns-clause-answer : goal.returns-clause-answer
 returns-clause-answer c =
@@ -32,7 +33,7 @@ returns-clause-answer c =
     let items = c.push_reserved.ensures.items ∙ ap (λ l. l ++ entry.Up c.args.venue ∷ []) c.in_ok-reserve.ensures.items in
     let read = is_read desk seen c.args.venue c.from.result before c.self.view_is (c.from.ensures ∙ c.number.ensures.value) c.requires c.index_mut-at.ensures.value c.self.invariant in
     let drained : placed seen.desk c.args.venue ≡ 0 = omega (arith, c.placed.ensures, c.if-placed-gt0.false) in
-    let now : Venue = record { gate = Up; left = before.left; placed = before.placed } in
+    let now : Venue = record { gate = Up; left = before.left; released = before.released } in
     let after : KeptDesk = record { desk = record { sweeps = released_sweeps c.push_reserved.new.self.items; venues = map venue_seen (set desk.venues.items c.from.result now) }; history = c.push_reserved.new.self.items; room = 0 } in
     raised seen after c.args.venue (sym c.gate.ensures ∙ c.in-Down.is) drained
     (seen_turned desk seen c.args.venue c.from.result before Up _ (entry.Up c.args.venue ∷ []) c.self.view_is read refl items)

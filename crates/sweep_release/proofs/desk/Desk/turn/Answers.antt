@@ -8,7 +8,7 @@ pub push_reserved-requires : goal.push_reserved-requires
 push_reserved-requires c =
     let read = is_read c.self.inside c.args.self.now c.args.venue c.from.result c.index_mut-at.result.now c.self.view_is (c.from.ensures ∙ c.number.ensures.value) c.requires.there c.index_mut-at.ensures.value c.self.invariant in
     let due = read.due in
-    let room = c.self.invariant.room in
+    let room = c.self.invariant.spare in
     let gate = ap (λ v. gate_due v.gate) read.seen_as in
     omega (arith, due, room, gate, c.requires.fewer)
 
@@ -18,14 +18,15 @@ invariant_of-self c =
     let before = c.index_mut-at.result.now in
     let read = is_read desk c.args.self.now c.args.venue c.from.result before c.self.view_is (c.from.ensures ∙ c.number.ensures.value) c.requires.there c.index_mut-at.ensures.value c.self.invariant in
     let due = read.due in
-    let room = c.self.invariant.room in
+    let room = c.self.invariant.spare in
     let gate = ap (λ v. gate_due v.gate) read.seen_as in
     let kept = read.kept in
-    let now : Venue = record { gate = c.args.gate; left = before.left; placed = before.placed } in
+    let now : Venue = record { gate = c.args.gate; left = before.left; released = before.released } in
     kept-changed desk _ c.from.result now before (c.args.entry ∷ []) c.self.invariant read.there c.requires.no_release refl c.push_reserved.ensures.items refl refl read.was
     (omega (arith, due, gate, c.requires.fewer, c.due.ensures, c.due-2.ensures))
+    refl
     (omega (arith, due, room, gate, c.requires.fewer, c.due.ensures, c.due-2.ensures, c.push_reserved.ensures.len, c.push_reserved.ensures.capacity))
-    (record { queue = kept.queue; few = kept.few; room = kept.room; all = kept.all; counted = kept.counted })
+    (record { legs = kept.legs; left = kept.left; few = kept.few; counted = kept.counted; spare = kept.spare })
 
 pub returns-clause-desk : goal.returns-clause-desk
 returns-clause-desk c =
@@ -38,7 +39,7 @@ pub returns-clause-room : goal.returns-clause-room
 returns-clause-room c =
     let read = is_read c.self.inside c.args.self.now c.args.venue c.from.result c.index_mut-at.result.now c.self.view_is (c.from.ensures ∙ c.number.ensures.value) c.requires.there c.index_mut-at.ensures.value c.self.invariant in
     let due = read.due in
-    let room = c.self.invariant.room in
+    let room = c.self.invariant.spare in
     let gate = ap (λ v. gate_due v.gate) read.seen_as in
     let before = ap (λ s. s.room) c.self.view_is in
     omega (arith, due, room, gate, before, c.requires.fewer, c.due.ensures, c.due-2.ensures, c.push_reserved.ensures.len, c.push_reserved.ensures.capacity)

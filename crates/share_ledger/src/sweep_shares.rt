@@ -5,7 +5,7 @@ ghost use Rattle.share_ledger.specs.Entries.{sweep_shares};
 
 use leg::Routed;
 
-/// The shares of a sweep's legs.
+/// The shares of a sweep's legs, of which there are at most 32: at most 32,000,000 shares.
 pub fn shares_of(legs: &[Routed]) -> u64
     requires { length legs.now ≤ 32 }
     ensures value { result ≡ sweep_shares legs.now }

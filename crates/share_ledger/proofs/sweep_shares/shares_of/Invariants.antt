@@ -1,6 +1,6 @@
 use Rattle.std.proofs.Common.{◌≡◌, ◌*◌, ◌≤◌, take}
 use Rattle.share_ledger.specs.Entries.{sweep_shares}
-use Rattle.sweep_release.proofs.shares.shares_of.Given as goal
+use Rattle.share_ledger.proofs.sweep_shares.shares_of.Given as goal
 
 abbrev pub invariant-loop-routed : goal.invariant-loop-routed
 invariant-loop-routed l = record {
