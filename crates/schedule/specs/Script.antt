@@ -3,6 +3,7 @@ use Rattle.std.specs.Prelude.{ℕ, suc, ◌-◌, Bool, true, false, ◌&&◌, Li
 use Rattle.std.specs.Char.{is_ascii_graphic}
 use Rattle.std.specs.List.{list_all}
 use Rattle.std.specs.Str.{bytes_eq}
+use Rattle.fix_tags.specs.Digits.{within}
 use Rattle.fix_tags.specs.Number.{number_of}
 use Rattle.leg.specs.declared.side.Side.{Side}
 use Rattle.leg.specs.declared.side.Side.TheVariants.{Buy, Sell}
@@ -51,9 +52,6 @@ is_passed_over [] = true
 is_passed_over (byte ∷ bytes) = byte == 35
 
 -- a number within limits
-abbrev pub within : ℕ → ℕ → ℕ → Option ℕ
-within least most n = if nat_le least n && nat_le n most then Some n else None
-
 abbrev pub number_within : ℕ → ℕ → List ℕ → Option ℕ
 number_within least most word = option_and_then (within least most) (number_of word)
 

@@ -10,7 +10,7 @@ use Rattle.leg.specs.Answering.{Answers}
 use Rattle.resend.specs.Window.{OutLogParts, push}
 use Rattle.fix_tags.specs.Stamp.{StampParts}
 use Rattle.dialect.specs.declared.message.Message.{Message}
-use Rattle.dialect.specs.Framed.{Writers, IsFramed}
+use Rattle.dialect.specs.Framed.{Writers, IsFramed, AreFramed}
 use Rattle.dialect.specs.Outgoing.{alone}
 use Rattle.dialect.specs.Writable.{IsWritable}
 use Rattle.resend.specs.Log.{Entry, has_number, next_to_send}
@@ -18,12 +18,12 @@ use Rattle.resend.specs.Log.Entry.{Admin}
 use Rattle.session_core.specs.declared.line.Line.{Line}
 use Rattle.session_core.specs.Sound.{AreWritable}
 use Rattle.session_core.specs.Draft.{logged, is_fence, with_fences}
-use Rattle.session_core.specs.Given.{AreFramed}
 use Rattle.session_core.proofs.Drafted.{logged-push, with_fences-push, length-logged}
 
 -- one frame more
 pub framed-push : (w : Writers) (stamp : StampParts) (ms : List Message) (fs : List (List ℕ)) (m : Message) (b : List ℕ)
-    → AreFramed w stamp ms fs → IsFramed w stamp (alone m) b → AreFramed w stamp (ms ++ m ∷ []) (fs ++ b ∷ [])
+    → AreFramed w stamp (map alone ms) fs → IsFramed w stamp (alone m) b
+    → AreFramed w stamp (map alone (ms ++ m ∷ [])) (fs ++ b ∷ [])
 framed-push w stamp [] [] m b all one = (one, tt)
 framed-push w stamp [] (f ∷ fs) m b all one = absurd all
 framed-push w stamp (x ∷ ms) [] m b all one = absurd all
@@ -168,9 +168,9 @@ kept-old start now lines i d below no_fence so =
 -- one frame more
 pub framed-more : (w : Writers) (stamp : StampParts) (f : Line → Message) (lines : List Line) (i : ℕ) (d : Line)
     (frames now : List (Vec ℕ)) (frame : Vec ℕ) → i < length lines
-    → AreFramed w stamp (map f (take i lines)) (map (λ (v : Vec ℕ). v.items) frames)
+    → AreFramed w stamp (map alone (map f (take i lines))) (map (λ (v : Vec ℕ). v.items) frames)
     → IsFramed w stamp (alone (f (get_or lines i d))) frame.items → now ≡ frames ++ frame ∷ []
-    → AreFramed w stamp (map f (take (i + 1) lines)) (map (λ (v : Vec ℕ). v.items) now)
+    → AreFramed w stamp (map alone (map f (take (i + 1) lines))) (map (λ (v : Vec ℕ). v.items) now)
 framed-more w stamp f lines i d frames now frame below all one is =
     (let messages : map f (take (i + 1) lines) ≡ map f (take i lines) ++ f (get_or lines i d) ∷ [] =
     ap (λ (ls : List Line). map f ls) (take_more lines i d below) ∙ map-append f (take i lines) (get_or lines i d ∷

@@ -1,8 +1,7 @@
 -- What a call of a session hands its caller: the frames that it wrote, and what it says beside them.
-use Rattle.std.specs.Prelude.{◌≡◌, ℕ, List, [], ◌∷◌, Result, Ok, Err}
+use Rattle.std.specs.Prelude.{◌≡◌, map, Result, Ok, Err}
 use Rattle.fix_tags.specs.Stamp.{StampParts}
-use Rattle.dialect.specs.declared.message.Message.{Message}
-use Rattle.dialect.specs.Framed.{Writers, IsFramed}
+use Rattle.dialect.specs.Framed.{Writers, AreFramed}
 use Rattle.dialect.specs.Outgoing.{alone}
 use Rattle.session_core.specs.declared.session_fault.SessionFault.{SessionFault}
 use Rattle.session_core.specs.declared.session_fault.SessionFault.TheVariants.{OutOfMemory}
@@ -11,17 +10,9 @@ use Rattle.session_core.specs.Session.{SessionParts}
 use Rattle.session_core.specs.Turn.{StepParts}
 use Rattle.session_core.specs.Calling.{SessionAnswer}
 
--- these are the frames of these messages, one each and in order
-abbrev pub AreFramed : Writers → StampParts → List Message → List (List ℕ) → Type 0
-AreFramed w stamp [] [] = Unit {0}
-AreFramed w stamp [] (bytes ∷ frames) = ⊥
-AreFramed w stamp (m ∷ messages) [] = ⊥
-AreFramed w stamp (m ∷ messages) (bytes ∷ frames) =
-    IsFramed w stamp (alone m) bytes × AreFramed w stamp messages frames
-
 -- the step that was said, with the frames of its messages
 pub record IsStep (w : Writers) (stamp : StampParts) (said : StepParts) (step : Step) : Type 0 where
-  pub out : AreFramed w stamp said.written step.out
+  pub out : AreFramed w stamp (map alone said.written) step.out
   pub note : step.note ≡ said.note
   pub withdrawn : step.withdrawn ≡ said.withdrawn
   pub ended : step.ended ≡ said.ended

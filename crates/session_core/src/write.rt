@@ -3,13 +3,13 @@
 ghost use Rattle.std.specs.Prelude.{◌≡◌, false, Ok, IfOk, IsOkUnless, map};
 ghost use Rattle.dialect.specs.Addressed.{message_of};
 ghost use Rattle.dialect.specs.declared.content.Content.TheVariants.{Logon, Order};
-ghost use Rattle.dialect.specs.Framed.{IsFramed};
+ghost use Rattle.dialect.specs.Framed.{IsFramed, AreFramed};
 ghost use Rattle.dialect.specs.Outgoing.{alone};
 ghost use Rattle.dialect.specs.Writable.{IsWritable};
 ghost use Rattle.session_core.specs.Calling.{answers};
 ghost use Rattle.session_core.specs.Sound.{IsSound, AreWritable};
 ghost use Rattle.session_core.specs.Draft.{message_in, withdrawn_by, drafted};
-ghost use Rattle.session_core.specs.Given.{AreFramed, IsStep, Gives};
+ghost use Rattle.session_core.specs.Given.{IsStep, Gives};
 
 use crate::draft::{Draft, Settling};
 use crate::fence::fence_id_text;
@@ -36,17 +36,8 @@ fn frame<'a, D: Dialect>(
     ensures ok { IfOk result (λ bytes. IsFramed (record { IsOrder = D.IsOrder dialect.now; IsReport = D.IsReport dialect.now }) stamp.now (alone (message_of config.now number poss_dup content.entry)) bytes.items) }
     ensures refusal { IsOkUnless result SessionFault.OutOfMemory }
 {
-    let message = Message {
-        from: TextRef::new(config.me().as_bytes()),
-        to: TextRef::new(config.peer().as_bytes()),
-        number,
-        poss_dup,
-        content,
-    };
-    let outgoing = Outgoing {
-        message,
-        beside: None,
-    };
+    let message = Message::to_peer(config, number, poss_dup, content);
+    let outgoing = Outgoing::alone(message);
     Ok(write_message(alloc, dialect, stamp, &outgoing)?)
 }
 
@@ -154,7 +145,7 @@ fn frames<D: Dialect>(
     lines: &[Line],
 ) -> Result<Vec<Vec<u8>>, SessionFault>
     requires { AreWritable (map (message_in config.now answered.now) lines.now) }
-    ensures ok { IfOk result (λ frames. AreFramed (record { IsOrder = D.IsOrder dialect.now; IsReport = D.IsReport dialect.now }) stamp.now (map (message_in config.now answered.now) lines.now) (map (λ frame. frame.items) frames.items)) }
+    ensures ok { IfOk result (λ frames. AreFramed (record { IsOrder = D.IsOrder dialect.now; IsReport = D.IsReport dialect.now }) stamp.now (map alone (map (message_in config.now answered.now) lines.now)) (map (λ frame. frame.items) frames.items)) }
     ensures refusal { IsOkUnless result SessionFault.OutOfMemory }
 {
     let mut frames = Vec::with_capacity(alloc, lines.len())?;

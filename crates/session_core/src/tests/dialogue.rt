@@ -292,16 +292,15 @@ fn assert_stands(rt: &impl Abort, session: &Session, stand: Stand, at: &str) {
         legs.contains(&LegState::Doubt),
         "{at}: doubt"
     );
-    let mut ordinal = 1;
-    for leg in legs {
+    let count = legs.len() as u64;
+    for (ordinal, leg) in (1..=count).zip(legs) {
         assert_eq!(rt;
             session.leg_state(ordinal),
             Some(*leg),
             "{at}: leg {ordinal}"
         );
-        ordinal += 1;
     }
-    assert_eq!(rt; session.leg_state(ordinal), None, "{at}: leg {ordinal}");
+    assert_eq!(rt; session.leg_state(count + 1), None, "{at}: more legs");
 }
 
 /// Each case alone, by a new session that has these acts behind it.

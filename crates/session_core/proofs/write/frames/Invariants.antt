@@ -1,9 +1,10 @@
 use Rattle.std.proofs.Common.{map, take}
 use Rattle.session_core.specs.Draft.{message_in}
-use Rattle.session_core.specs.Given.{AreFramed}
+use Rattle.dialect.specs.Framed.{AreFramed}
+use Rattle.dialect.specs.Outgoing.{alone}
 use Rattle.session_core.proofs.write.frames.Given as goal
 
 abbrev pub invariant-loop-line : goal.invariant-loop-line
 invariant-loop-line g l =
     AreFramed (record { IsOrder = g.D.Dialect.IsOrder l.dialect; IsReport = g.D.Dialect.IsReport l.dialect }) l.stamp
-    (map (message_in l.config l.answered) (take l.line-index l.lines)) (map (λ frame. frame.items) l.frames.items)
+    (map alone (map (message_in l.config l.answered) (take l.line-index l.lines))) (map (λ frame. frame.items) l.frames.items)
