@@ -1,5 +1,5 @@
 -- What is reported of an order: New first, then what may follow.
-use Rattle.std.proofs.Common.{◌≡◌, ◌==◌, ◌⊎◌, inl, inr, ℕ, zero, suc, ◌+◌, ◌-◌, ◌≤◌, ◌<◌, Bool, true, false, not, nat_le, List, [], ◌∷◌, ◌++◌, length, decimal, Option, Some, None, Ok, Err, IfOk, refl, sym, ap, ◌∙◌, subst, if◌then◌else◌, arith, length-append}
+use Rattle.std.proofs.Common.{◌≡◌, ◌==◌, ◌⊎◌, inl, inr, ℕ, zero, suc, ◌≤◌, ◌<◌, Bool, true, false, not, nat_le, List, [], ◌∷◌, ◌++◌, length, decimal, Option, Some, None, Ok, Err, IfOk, refl, sym, ap, ◌∙◌, subst, if◌then◌else◌, arith, length-append}
 use Rattle.std.specs.Prelude.{slice_get, slice_set}
 use Rattle.std.specs.Str.{bytes_eq}
 use Rattle.std.proofs.lemmas.Bool.{cases_Bool}
@@ -8,7 +8,7 @@ use Rattle.std.proofs.lemmas.Fmt.{decimal_injective}
 use Rattle.std.proofs.lemmas.List.{append-nil}
 use Rattle.std.proofs.lemmas.Option.{same_Some}
 use Rattle.std.proofs.lemmas.Slice.Eq.{bytes_eq-Decides}
-use Rattle.fix_text.specs.Then.{◌>>=◌, unless}
+use Rattle.fix_text.specs.Then.{unless}
 use Rattle.leg.specs.Numbered.{numbered, with_numbered}
 use Rattle.leg.specs.declared.fault.LegFault.TheVariants.{Overfill, NotFilled}
 use Rattle.leg.specs.declared.leg.Leg.{Leg}
@@ -29,8 +29,8 @@ use Rattle.exchange_core.specs.Own.{next_exec, exec_id}
 use Rattle.exchange_core.specs.Exchange.{ExchangeParts, Answer, next_report, logon_answer, with_connection, due_taken, take}
 use Rattle.exchange_core.specs.Acts.{reported, order_at, still_going, trade_at, number_left, trade_answer, trade, end_answer, cancel_rest, reject, bust_answer, bust, test}
 use Rattle.exchange_core.specs.Sound.{IsSound}
-use Rattle.exchange_core.specs.Told.{Told, told_of, filled_by, closed, with_cum, IsCancelled, MayFollow, AreFollowing, last_told, new_told, IsStanding, AreReportsOn, AreToldBy, OrdersAreTold}
-use Rattle.exchange_core.proofs.ActsReport.{each, not_refused, after_act, at_place, found_by, moved_if, after_trade, after_bust, test_is}
+use Rattle.exchange_core.specs.Told.{Told, told_of, IsCancelled, MayFollow, AreFollowing, last_told, new_told, IsStanding, AreReportsOn, AreToldBy, OrdersAreTold}
+use Rattle.exchange_core.proofs.ActsReport.{each, not_refused, after_act, at_place, moved_if, after_trade, after_bust, test_is}
 use Rattle.exchange_core.proofs.Cases.{after_take_is}
 use Rattle.exchange_core.proofs.Reporting.{within_by}
 

@@ -9,7 +9,7 @@ use Rattle.dialect.specs.declared.report.ReportKind.{ReportKind}
 use Rattle.dialect.specs.declared.report.ReportKind.TheVariants.{New, Trade, Canceled, Rejected, Bust}
 use Rattle.exchange_core.specs.Order.{OrderParts, new_order, order_id, is_cancelled, view_of}
 use Rattle.exchange_core.specs.declared.own.Own.{Own}
-use Rattle.exchange_core.specs.declared.own.Own.TheVariants.{Admin, Reported, Refused}
+use Rattle.exchange_core.specs.declared.own.Own.TheVariants.{Reported}
 use Rattle.exchange_core.specs.Exchange.{ExchangeParts}
 
 -- a report on an order: what it says, and the order as it was then
