@@ -1,5 +1,5 @@
 -- An order that is accepted, and what is sent again.
-use Rattle.std.proofs.Common.{◌≡◌, ℕ, suc, ◌+◌, ◌-◌, ◌≤◌, true, false, List, [], ◌∷◌, ◌++◌, map, sym, ap, drop, take, length, All, None, refl, subst, arith, length-append, length-drop}
+use Rattle.std.proofs.Common.{◌≡◌, ℕ, suc, ◌-◌, ◌≤◌, true, false, List, [], ◌∷◌, ◌++◌, map, sym, ap, drop, take, length, All, None, refl, subst, arith, length-append, length-drop}
 use Rattle.std.proofs.lemmas.List.{take_all}
 use Rattle.dialect.specs.Writable.{IsWritable}
 use Rattle.fix_tags.specs.Config.{ConfigParts}

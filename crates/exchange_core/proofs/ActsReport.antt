@@ -52,12 +52,12 @@ live_by : (found trade : TradeParts) (b : Bool) → found.is_busted ≡ b → (i
 live_by found trade true is ok = cc
 live_by found trade false is ok = let same : found ≡ trade = cc in (same, ap (λ (t : TradeParts). t.is_busted) (sym same) ∙ is)
 
-found_by : (found : Option TradeParts) (trade : TradeParts) → (ok_or found NoSuchTrade >>= not_busted) ≡ Ok trade → (found ≡ Some trade) × (trade.is_busted ≡ false)
+pub found_by : (found : Option TradeParts) (trade : TradeParts) → (ok_or found NoSuchTrade >>= not_busted) ≡ Ok trade → (found ≡ Some trade) × (trade.is_busted ≡ false)
 found_by None trade ok = cc
 found_by (Some found) trade ok = let live = live_by found trade found.is_busted refl ok in (ap Some live.0, live.1)
 
 -- shares that could be moved
-moved_if : (fault : ExchangeFault) (why : LegFault) (after : SplitParts → OrderParts) (b : Bool) (fits stayed : SplitParts) (order : OrderParts) → moved fault after (if b then (Ok tt, fits) else (Err why, stayed)) ≡ Ok order → (b ≡ true) × (order ≡ after fits)
+pub moved_if : (fault : ExchangeFault) (why : LegFault) (after : SplitParts → OrderParts) (b : Bool) (fits stayed : SplitParts) (order : OrderParts) → moved fault after (if b then (Ok tt, fits) else (Err why, stayed)) ≡ Ok order → (b ≡ true) × (order ≡ after fits)
 moved_if fault why after true fits stayed order ok = (refl, cc)
 moved_if fault why after false fits stayed order ok = cc
 

@@ -10,6 +10,7 @@ pub mod ActsKeep
 pub mod Forward
 pub mod Sound
 pub mod SharesLaws
+pub mod Told
 pub mod Keeps
 pub mod Promises
 pub mod Written

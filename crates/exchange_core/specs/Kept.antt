@@ -3,7 +3,7 @@ use Rattle.std.specs.Prelude.{◌≡◌, List, [], ◌∷◌}
 use Rattle.dialect.specs.declared.report.Report.{Report}
 use Rattle.exchange_core.specs.declared.exchange.Exchange.TheInside.{Inside}
 use Rattle.exchange_core.specs.declared.own.Own.{Own}
-use Rattle.exchange_core.specs.declared.own.Own.TheVariants.{Admin, Reported, Refused}
+use Rattle.exchange_core.specs.declared.own.Own.TheVariants.{Reported}
 use Rattle.exchange_core.specs.Exchange.{ExchangeParts, accepted_by}
 use Rattle.exchange_core.specs.Sound.{IsSound}
 

@@ -5,6 +5,7 @@ pub mod Exchange
 pub mod Acts
 pub mod Keeping
 pub mod Shares
+pub mod Told
 pub mod Sound
 pub mod Kept
 pub mod Plan

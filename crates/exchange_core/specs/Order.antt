@@ -7,7 +7,7 @@ use Rattle.dialect.specs.OrderView.{OrderViewParts}
 use Rattle.exchange_core.specs.declared.exchange_fault.ExchangeFault.{ExchangeFault}
 use Rattle.exchange_core.specs.declared.exchange_fault.ExchangeFault.TheVariants.{TooManyShares, NoSuchTrade}
 use Rattle.exchange_core.specs.declared.ending.Ending.{Ending}
-use Rattle.exchange_core.specs.declared.ending.Ending.TheVariants.{ByCancel, ByReject}
+use Rattle.exchange_core.specs.declared.ending.Ending.TheVariants.{ByCancel}
 
 -- a trade: its shares, the count in the ExecID of its report, and whether it was busted
 pub record TradeParts : Type 0 where

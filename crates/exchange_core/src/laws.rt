@@ -16,6 +16,7 @@ ghost use Rattle.exchange_core.specs.Keeping.{rule_state, into, IsLastLive, OwnN
 ghost use Rattle.exchange_core.specs.Order.{OrderParts, view_of};
 ghost use Rattle.exchange_core.specs.Shares.{SharesAddUp, OrdersAddUp};
 ghost use Rattle.exchange_core.specs.Sound.{IsRead, IsSound};
+ghost use Rattle.exchange_core.specs.Told.{OrdersAreTold};
 
 /// A new exchange stands as the rules begin.
 pub fn a_new_exchange_is_open()
@@ -135,4 +136,23 @@ pub fn whatever_is_written_can_be()
     ensures bust { (x : ExchangeParts) (place which : ℕ) → IsSound x →
         IfOk (acts.bust x place which).0 (All IsWritable) }
     ensures test { (x : ExchangeParts) → IsSound x → IfOk (acts.test x).0 (All IsWritable) }
+{}
+
+/// The reports on an order are well-formed, whatever comes and is done: New is the first, with all of the leg open.
+/// Then come trades of open shares, each with its CumQty and LeavesQty, until nothing is open or the rest is cancelled
+/// or rejected; and after a cancel of the rest busts alone, by which less is filled and nothing is open.
+pub fn reports_follow_one_another()
+    ensures new { (config : ConfigParts) → OrdersAreTold (new_exchange config) }
+    ensures take { (x : ExchangeParts) (connection : ℕ) (m : Message) → IsSound x → OrdersAreTold x →
+        OrdersAreTold (take x connection m).1 }
+    ensures trade { (x : ExchangeParts) (place shares : ℕ) (px : List ℕ) → IsSound x → OrdersAreTold x →
+        OrdersAreTold (acts.trade x place shares px).1 }
+    ensures cancel_rest { (x : ExchangeParts) (place : ℕ) → IsSound x → OrdersAreTold x →
+        OrdersAreTold (acts.cancel_rest x place).1 }
+    ensures reject { (x : ExchangeParts) (place : ℕ) → IsSound x → OrdersAreTold x →
+        OrdersAreTold (acts.reject x place).1 }
+    ensures bust { (x : ExchangeParts) (place which : ℕ) → IsSound x → OrdersAreTold x →
+        OrdersAreTold (acts.bust x place which).1 }
+    ensures test { (x : ExchangeParts) → IsSound x → OrdersAreTold x → OrdersAreTold (acts.test x).1 }
+    ensures drop_connection { (x : ExchangeParts) → OrdersAreTold x → OrdersAreTold (drop_connection x) }
 {}
