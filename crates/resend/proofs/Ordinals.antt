@@ -1,5 +1,5 @@
 -- How the leg of an ordinal stands: in the window or in a run.
-use Rattle.std.proofs.Common.{◌≡◌, ◌<◌, ◌≤◌, ◌+◌, ◌==◌, ◌&&◌, ℕ, zero, suc, Bool, true, false, nat_lt, nat_le, List, [], ◌∷◌, length, get_or, Option, Some, None, refl, ap, ◌∙◌, if◌then◌else◌, arith}
+use Rattle.std.proofs.Common.{◌≡◌, ◌<◌, ◌≤◌, ◌+◌, ◌==◌, ℕ, zero, suc, Bool, true, false, nat_lt, nat_le, List, [], ◌∷◌, length, get_or, Option, Some, None, refl, ap, ◌∙◌, if◌then◌else◌, arith}
 use Rattle.std.specs.Prelude.{slice_get}
 use Rattle.std.specs.List.Sorted.{IsNonDecreasingBy}
 use Rattle.std.proofs.lemmas.Bool.Decides.{nat_tests}
@@ -11,17 +11,14 @@ use Rattle.resend.specs.Log.{SentLeg, is_doubt, state_in, state_of}
 use Rattle.resend.specs.Window.{doubts}
 use Rattle.resend.specs.Runs.{single, singles, goes_on, joined_to, joined}
 use Rattle.resend.specs.Kept.{entries, IsRising, leading}
-use Rattle.resend.specs.KeptRuns.{state_among, Follow}
+use Rattle.resend.specs.KeptRuns.{has_ordinal, state_among, Follow}
 use Rattle.resend.proofs.Joining.{merged, it_goes_on}
 use Rattle.resend.proofs.Kept.{sent_legs-entries}
 use Rattle.resend.proofs.Standing.{doubt_is}
 
-abbrev has : ℕ → Run → Bool
-has ordinal run = nat_le run.first_ordinal ordinal && nat_lt ordinal (run.first_ordinal + run.count)
-
 -- runs that are made one have the same ordinals
 module _ (ordinal : ℕ) where
-  merged_turn : (here first second : Bool) (run next : Run) (rest : Option LegState) → has ordinal (merged run next) ≡ here → has ordinal run ≡ first → has ordinal next ≡ second
+  merged_turn : (here first second : Bool) (run next : Run) (rest : Option LegState) → has_ordinal ordinal (merged run next) ≡ here → has_ordinal ordinal run ≡ first → has_ordinal ordinal next ≡ second
       → goes_on run next ≡ true
       → (if here then Some run.state else rest) ≡ (if first then Some run.state else (if second then Some next.state else rest))
   merged_turn true true second run next rest is one two on = refl
@@ -33,7 +30,7 @@ module _ (ordinal : ℕ) where
 
   joined_turn : (b : Bool) (run next : Run) (runs : List Run) → goes_on run next ≡ b
       → state_among ordinal (if b then merged run next ∷ runs else run ∷ next ∷ runs) ≡ state_among ordinal (run ∷ next ∷ runs)
-  joined_turn true run next runs on = merged_turn (has ordinal (merged run next)) (has ordinal run) (has ordinal next) run next (state_among ordinal runs) refl refl refl on
+  joined_turn true run next runs on = merged_turn (has_ordinal ordinal (merged run next)) (has_ordinal ordinal run) (has_ordinal ordinal next) run next (state_among ordinal runs) refl refl refl on
   joined_turn false run next runs on = refl
 
   state_among-joined_to : (run : Run) (runs : List Run) → state_among ordinal (joined_to run runs) ≡ state_among ordinal (run ∷ runs)
@@ -43,7 +40,7 @@ module _ (ordinal : ℕ) where
   state_among-joined : (runs : List Run) → state_among ordinal (joined runs) ≡ state_among ordinal runs
   state_among-joined [] = refl
   state_among-joined (run ∷ runs) =
-      state_among-joined_to run (joined runs) ∙ ap (λ (rest : Option LegState). if has ordinal run then Some run.state else rest) (state_among-joined runs)
+      state_among-joined_to run (joined runs) ∙ ap (λ (rest : Option LegState). if has_ordinal ordinal run then Some run.state else rest) (state_among-joined runs)
 
 -- the runs follow one another
 follow_later : (low least : ℕ) (runs : List Run) → least ≤ low → Follow low runs → Follow least runs
@@ -97,18 +94,18 @@ found_run ordinal (Some run) = if nat_le run.first_ordinal ordinal then Some run
 in_none : (ordinal low : ℕ) (runs : List Run) → ordinal < low → Follow low runs → state_among ordinal runs ≡ None
 in_none ordinal low [] lt follow = refl
 in_none ordinal low (run ∷ runs) lt follow =
-    let out : has ordinal run ≡ false = (let less : ordinal < run.first_ordinal = omega (arith, follow.0) in grind (arith, nat_tests, less)) in
+    let out : has_ordinal ordinal run ≡ false = (let less : ordinal < run.first_ordinal = omega (arith, follow.0) in grind (arith, nat_tests, less)) in
     rw out (in_none ordinal (run.first_ordinal + run.count) runs (omega (arith, follow.0)) follow.1)
 
 run_turn : (ended begun : Bool) (ordinal count : ℕ) (run : Run) (runs : List Run) → nat_le (run.first_ordinal + run.count) ordinal ≡ ended → nat_le run.first_ordinal ordinal ≡ begun
     → Follow (run.first_ordinal + run.count) runs → state_among ordinal runs ≡ found_run ordinal (slice_get runs count)
     → state_among ordinal (run ∷ runs) ≡ found_run ordinal (slice_get (run ∷ runs) (if ended then suc count else 0))
 run_turn true begun ordinal count run runs is at follow e =
-    let out : has ordinal run ≡ false = grind (arith, nat_tests, is) in rw out e
+    let out : has_ordinal ordinal run ≡ false = grind (arith, nat_tests, is) in rw out e
 run_turn false true ordinal count run runs is at follow e =
-    let here : has ordinal run ≡ true = grind (arith, nat_tests, is, at) in rw (here, at) refl
+    let here : has_ordinal ordinal run ≡ true = grind (arith, nat_tests, is, at) in rw (here, at) refl
 run_turn false false ordinal count run runs is at follow e =
-    let out : has ordinal run ≡ false = grind (arith, nat_tests, at) in
+    let out : has_ordinal ordinal run ≡ false = grind (arith, nat_tests, at) in
     rw (out, at) (in_none ordinal (run.first_ordinal + run.count) runs (grind (arith, nat_tests, is)) follow)
 
 run-leading : (ordinal low : ℕ) (runs : List Run) → Follow low runs
@@ -205,10 +202,10 @@ told_turn false true at ordinal last leg legs is here r e =
     let le : ordinal ≤ leg.ordinal = grind (arith, nat_tests, here) in
     let ge : leg.ordinal ≤ ordinal = grind (arith, nat_tests, here) in
     let none = not_there ordinal (doubts legs) (λ k d lt. omega (arith, ge, le, climb_above leg.ordinal (doubts legs) k d (doubts_climb at leg.ordinal last legs r) lt)) in
-    let one : has ordinal (single at leg.ordinal leg.state) ≡ true = grind (arith, nat_tests, le, ge) in
+    let one : has_ordinal ordinal (single at leg.ordinal leg.state) ≡ true = grind (arith, nat_tests, le, ge) in
     rw (none, one) refl
 told_turn false false at ordinal last leg legs is here r e =
-    let out : has ordinal (single at leg.ordinal leg.state) ≡ false = grind (arith, nat_tests, here) in
+    let out : has_ordinal ordinal (single at leg.ordinal leg.state) ≡ false = grind (arith, nat_tests, here) in
     rw out e
 
 state_told : (ordinal number low last : ℕ) (legs : List (ℕ × SentLeg)) → IsRising number low last legs → state_in ordinal legs ≡ told (in_window ordinal (doubts legs)) (state_among ordinal (singles legs))

@@ -11,7 +11,7 @@ use Rattle.resend.specs.declared.sent.Sent.{Sent}
 use Rattle.resend.specs.Log.{SentLeg, is_doubt, settled_as}
 use Rattle.resend.specs.Window.{doubts}
 use Rattle.resend.specs.Runs.{single, singles, goes_on, joined_to, joined}
-use Rattle.resend.specs.Kept.{is_in, ordinal_in, kept_leg, kept_legs, IsRising}
+use Rattle.resend.specs.Kept.{has_number, ordinal_in, kept_leg, kept_legs, IsRising}
 use Rattle.resend.proofs.Filled.{settled_legs}
 use Rattle.resend.proofs.Joining.{merged, it_goes_on}
 use Rattle.resend.proofs.Kept.{doubts-push}
@@ -25,7 +25,7 @@ id_if false leg other id is so = so
 
 kept_leg-id : (number : ℕ) (id : LegIdParts) (window : List Sent) (runs : List Run) → (kept_leg number id window runs).id ≡ id
 kept_leg-id number id window [] = refl
-kept_leg-id number id window (run ∷ runs) = id_if (is_in number run) _ _ id refl (kept_leg-id number id window runs)
+kept_leg-id number id window (run ∷ runs) = id_if (has_number number run) _ _ id refl (kept_leg-id number id window runs)
 
 pub ids-kept : (ids : List NumberedId) (window : List Sent) (runs : List Run) → ids ≡ numbered_ids (kept_legs ids window runs)
 ids-kept [] window runs = refl
@@ -36,7 +36,7 @@ ids-kept (numbered ∷ ids) window runs =
 
 -- runs that are made one say the same
 module _ (number : ℕ) (id : LegIdParts) (window : List Sent) where
-  merged_turn : (here first second : Bool) (run next : Run) (rest : SentLeg) → is_in number (merged run next) ≡ here → is_in number run ≡ first → is_in number next ≡ second
+  merged_turn : (here first second : Bool) (run next : Run) (rest : SentLeg) → has_number number (merged run next) ≡ here → has_number number run ≡ first → has_number number next ≡ second
       → goes_on run next ≡ true
       → (if here then record { ordinal = run.first_ordinal + (number - run.first_number); id = id; state = run.state } else rest)
       ≡ (if first then record { ordinal = run.first_ordinal + (number - run.first_number); id = id; state = run.state }
@@ -53,7 +53,7 @@ module _ (number : ℕ) (id : LegIdParts) (window : List Sent) where
 
   joined_turn : (b : Bool) (run next : Run) (runs : List Run) → goes_on run next ≡ b
       → kept_leg number id window (if b then merged run next ∷ runs else run ∷ next ∷ runs) ≡ kept_leg number id window (run ∷ next ∷ runs)
-  joined_turn true run next runs on = merged_turn (is_in number (merged run next)) (is_in number run) (is_in number next) run next (kept_leg number id window runs) refl refl refl on
+  joined_turn true run next runs on = merged_turn (has_number number (merged run next)) (has_number number run) (has_number number next) run next (kept_leg number id window runs) refl refl refl on
   joined_turn false run next runs on = refl
 
   kept_leg-joined_to : (run : Run) (runs : List Run) → kept_leg number id window (joined_to run runs) ≡ kept_leg number id window (run ∷ runs)
@@ -64,7 +64,7 @@ module _ (number : ℕ) (id : LegIdParts) (window : List Sent) where
   kept_leg-joined [] = refl
   kept_leg-joined (run ∷ runs) =
       kept_leg-joined_to run (joined runs)
-      ∙ ap (λ (rest : SentLeg). if is_in number run then record { ordinal = run.first_ordinal + (number - run.first_number); id = id; state = run.state } else rest) (kept_leg-joined runs)
+      ∙ ap (λ (rest : SentLeg). if has_number number run then record { ordinal = run.first_ordinal + (number - run.first_number); id = id; state = run.state } else rest) (kept_leg-joined runs)
 
 kept_legs-joined : (ids : List NumberedId) (window : List Sent) (runs : List Run) → kept_legs ids window (joined runs) ≡ kept_legs ids window runs
 kept_legs-joined [] window runs = refl
@@ -77,16 +77,16 @@ other_sent : (number : ℕ) (id : LegIdParts) (sent : Sent) (window : List Sent)
     → kept_leg number id (sent ∷ window) runs ≡ kept_leg number id window runs
 other_sent number id sent window [] ne = rw ne refl
 other_sent number id sent window (run ∷ runs) ne =
-    ap (λ (rest : SentLeg). if is_in number run then record { ordinal = run.first_ordinal + (number - run.first_number); id = id; state = run.state } else rest)
+    ap (λ (rest : SentLeg). if has_number number run then record { ordinal = run.first_ordinal + (number - run.first_number); id = id; state = run.state } else rest)
     (other_sent number id sent window runs ne)
 
-other_turn : (b : Bool) (number : ℕ) (id : LegIdParts) (sent : Sent) (run : Run) (window : List Sent) (runs : List Run) → (sent.number == number) ≡ false → is_in number run ≡ false
+other_turn : (b : Bool) (number : ℕ) (id : LegIdParts) (sent : Sent) (run : Run) (window : List Sent) (runs : List Run) → (sent.number == number) ≡ false → has_number number run ≡ false
     → kept_leg number id (if b then sent ∷ window else window) (if b then runs else run ∷ runs) ≡ kept_leg number id window runs
 other_turn true number id sent run window runs ne out = other_sent number id sent window runs ne
 other_turn false number id sent run window runs ne out = rw out refl
 
 -- the first leg says of its own number what it is
-absent_turn : (b : Bool) (number : ℕ) (id : LegIdParts) (window : List Sent) (run : Run) (runs : List Run) (leg : SentLeg) → is_in number run ≡ false
+absent_turn : (b : Bool) (number : ℕ) (id : LegIdParts) (window : List Sent) (run : Run) (runs : List Run) (leg : SentLeg) → has_number number run ≡ false
     → kept_leg number id window runs ≡ leg → kept_leg number id window (if b then runs else run ∷ runs) ≡ leg
 absent_turn true number id window run runs leg out e = e
 absent_turn false number id window run runs leg out e = rw out e
@@ -95,7 +95,7 @@ absent : (number low ordinal last : ℕ) (id : LegIdParts) (window : List Sent) 
     → kept_leg number id window (singles legs) ≡ record { ordinal = ordinal_in number window; id = id; state = Doubt }
 absent number low ordinal last id window [] le r = refl
 absent number low ordinal last id window ((at, leg) ∷ legs) le r =
-    let out : is_in number (single at leg.ordinal leg.state) ≡ false = (let lt : number < at = omega (arith, r.0) in grind (arith, nat_tests)) in
+    let out : has_number number (single at leg.ordinal leg.state) ≡ false = (let lt : number < at = omega (arith, r.0) in grind (arith, nat_tests)) in
     absent_turn (is_doubt leg.state) number id window (single at leg.ordinal leg.state) (singles legs) _ out
     (absent number at leg.ordinal last id window legs (omega (arith, r.0)) r.3)
 
@@ -114,7 +114,7 @@ own_turn true at last leg legs is r =
     let window : List Sent = record { number = at; ordinal = leg.ordinal; id = leg.id } ∷ doubts legs in
     absent at at leg.ordinal last leg.id window legs (omega arith) r ∙ rw (here, state) refl
 own_turn false at last leg legs is r =
-    let here : is_in at (single at leg.ordinal leg.state) ≡ true = grind (arith, nat_tests) in
+    let here : has_number at (single at leg.ordinal leg.state) ≡ true = grind (arith, nat_tests) in
     let same : leg.ordinal + (at - at) ≡ leg.ordinal = omega arith in
     rw (here, same) refl
 
@@ -125,7 +125,7 @@ behind first last ordinal low leg front [] le r = refl
 behind first last ordinal low leg front ((at, next) ∷ legs) le r =
     let lt : first < at = omega (arith, r.0) in
     let ne : (first == at) ≡ false = grind (arith, nat_tests, lt) in
-    let out : is_in at (single first leg.ordinal leg.state) ≡ false = grind (arith, nat_tests, lt) in
+    let out : has_number at (single first leg.ordinal leg.state) ≡ false = grind (arith, nat_tests, lt) in
     let here = other_turn (is_doubt leg.state) at next.id (record { number = first; ordinal = leg.ordinal; id = leg.id }) (single first leg.ordinal leg.state) (doubts front) (singles front) ne out in
     let rest = behind first last next.ordinal at leg front legs (omega arith) r.3 in
     rw (here, rest) refl

@@ -11,8 +11,8 @@ use Rattle.resend.specs.Log.Entry.{Admin, Sent as SentEntry}
 use Rattle.resend.specs.Window.{doubts}
 
 -- whether the leg of a number is in a run
-abbrev pub is_in : ℕ → Run → Bool
-is_in number run = nat_le run.first_number number && nat_lt number (run.first_number + run.count)
+abbrev pub has_number : ℕ → Run → Bool
+has_number number run = nat_le run.first_number number && nat_lt number (run.first_number + run.count)
 
 -- the ordinal that the window has for a number
 abbrev pub ordinal_in : ℕ → List Sent → ℕ
@@ -23,7 +23,7 @@ ordinal_in number (sent ∷ window) = if sent.number == number then sent.ordinal
 abbrev pub kept_leg : ℕ → LegIdParts → List Sent → List Run → SentLeg
 kept_leg number id window [] = record { ordinal = ordinal_in number window; id = id; state = Doubt }
 kept_leg number id window (run ∷ runs) =
-    if is_in number run
+    if has_number number run
     then record { ordinal = run.first_ordinal + (number - run.first_number); id = id; state = run.state }
     else kept_leg number id window runs
 

@@ -1,5 +1,5 @@
--- How the runs are kept: where a leg is added to them, and what stays true of them.
-use Rattle.std.specs.Prelude.{◌≡◌, ◌≤◌, ◌+◌, ◌&&◌, ℕ, zero, suc, false, nat_lt, nat_le, List, [], ◌∷◌, length, Option, Some, None, if◌then◌else◌}
+-- How the runs are kept: where a leg is added to them, how one is looked up in them, and what stays true of them.
+use Rattle.std.specs.Prelude.{◌≡◌, ◌≤◌, ◌+◌, ◌&&◌, ℕ, zero, suc, Bool, false, nat_lt, nat_le, List, [], ◌∷◌, length, Option, Some, None, if◌then◌else◌}
 use Rattle.leg.specs.declared.leg_state.LegState.{LegState}
 use Rattle.resend.specs.declared.run.Run.{Run}
 use Rattle.resend.specs.declared.sent.Sent.{Sent}
@@ -22,12 +22,14 @@ joined_at place [] = []
 joined_at zero (run ∷ runs) = joined_to run runs
 joined_at (suc place) (run ∷ runs) = run ∷ joined_at place runs
 
+-- whether the leg of an ordinal is in a run
+abbrev pub has_ordinal : ℕ → Run → Bool
+has_ordinal ordinal run = nat_le run.first_ordinal ordinal && nat_lt ordinal (run.first_ordinal + run.count)
+
 -- how the leg of an ordinal was settled, if a run has it
 abbrev pub state_among : ℕ → List Run → Option LegState
 state_among ordinal [] = None
-state_among ordinal (run ∷ runs) =
-    if nat_le run.first_ordinal ordinal && nat_lt ordinal (run.first_ordinal + run.count) then Some run.state
-    else state_among ordinal runs
+state_among ordinal (run ∷ runs) = if has_ordinal ordinal run then Some run.state else state_among ordinal runs
 
 -- each run's ordinals are above those of the runs before it, and from this one on
 abbrev pub Follow : ℕ → List Run → Type 0
