@@ -49,11 +49,7 @@ pub(super) fn shown(alloc: Global, text: Text, from: &str, to: &str) -> Result<S
 }
 
 /// Hands the session the message of a frame, shown with `|` for SOH.
-pub(super) fn hand(
-    alloc: Global,
-    session: &mut Session,
-    shown: &str,
-) -> Result<Step, Fail> {
+pub(super) fn hand(alloc: Global, session: &mut Session, shown: &str) -> Result<Step, Fail> {
     let bytes = shown.replace(alloc, "|", "\x01")?;
     let mut reader = FrameReader::new(alloc);
     reader.feed(bytes.as_bytes())?;
