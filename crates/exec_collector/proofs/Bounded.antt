@@ -29,7 +29,8 @@ bounded-new : (venues : ℕ) → IsBounded (new_book venues)
 bounded-new venues =
     record {
       few = omega arith;
-      known = λ id routed e. (let none : order_of id [] ≡ None = rw (numbered-nil {A = List Routed} id.sweep) refl in cc);
+      known = λ id routed e. (let none : order_of id [] ≡ None
+          = rw (numbered-nil {A = List Routed} id.sweep) refl in cc);
     }
 
 known_in : (venues : ℕ) (legs : List Routed) (place : ℕ) (routed : Routed)
@@ -83,7 +84,8 @@ bounded-opened book legs fit bounded =
     let old = bounded.known in
     record {
       few = omega (arith, low, sum);
-      known = λ id routed e. known_opened book.venues (opened book.entries) legs id.sweep id.place routed second.1 (λ k f. old (id_at (suc k) id.place) routed f)
+      known = λ id routed e. known_opened book.venues (opened book.entries) legs id.sweep id.place routed second.1
+          (λ k f. old (id_at (suc k) id.place) routed f)
           (ap (λ sweeps. option_and_then (numbered id.place) (numbered id.sweep sweeps)) (sym more) ∙ e);
     }
 
@@ -129,13 +131,16 @@ bounded-again book (Moved venue note) bounded =
 
 bounded-replay : (book : BookParts) (entries : List BookEntry) → IsBounded book → IsBounded (replay book entries)
 bounded-replay book [] bounded = bounded
-bounded-replay book (entry ∷ entries) bounded = bounded-replay (again book entry) entries (bounded-again book entry bounded)
+bounded-replay book (entry ∷ entries) bounded = bounded-replay (again book entry) entries
+    (bounded-again book entry bounded)
 
 pub bounded_book : (book : BookParts) → Replays book → IsBounded book
-bounded_book book replays = subst IsBounded replays (bounded-replay (new_book book.venues) book.entries (bounded-new book.venues))
+bounded_book book replays = subst IsBounded replays
+    (bounded-replay (new_book book.venues) book.entries (bounded-new book.venues))
 
 pub sound_book : (book : BookParts) → Replays book → IsSound book
-sound_book book replays = subst IsSound replays (sound-replay (new_book book.venues) book.entries (sound-new book.venues))
+sound_book book replays = subst IsSound replays
+    (sound-replay (new_book book.venues) book.entries (sound-new book.venues))
 
 -- so what some venues have resolved is at most 10^18
 pub few_below : (book : BookParts) → Replays book → (n : ℕ)

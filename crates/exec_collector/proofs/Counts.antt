@@ -48,7 +48,8 @@ busted_same s n t false h e = let never = ap (λ r. r.0) e in cc
 stepped : (moves : List Move) (move : Move) (s t : SplitParts) → split_step moves move s ≡ (Ok tt, t)
     → Gains move (resolved_of s) (resolved_of t)
 stepped moves (Trades trade) s t e = filled_more (nat_le trade.shares s.still_open) s trade.shares t e
-stepped moves (Busts exec) s t e = busted_same s (traded_under exec moves) t (nat_le (traded_under exec moves) s.filled) refl e
+stepped moves (Busts exec) s t e = busted_same s (traded_under exec moves) t
+    (nat_le (traded_under exec moves) s.filled) refl e
 stepped moves Ends s t e = let f = ap (λ r. resolved_of r.1) e in omega (arith, f)
 stepped moves Tells s t e = let f = ap (λ r. resolved_of r.1) e in omega (arith, f)
 
@@ -87,7 +88,8 @@ module _ (book : BookParts) (replays : Replays book) (venue : ℕ) (note : Note)
       ap (leg_parts other shares) (sym after_is) ∙ others-apply book venue note other shares (about other ∙ differs) in
       let same = opened-moved book.entries venue note in
       let its : order.venue ≡ venue = eqb-true order.venue venue at_venue in
-      let steps = subst (λ (b : BookParts). order_of id b.entries ≡ Some order → (apply b venue note).0 ≡ Ok applied.Moved
+      let steps = subst (λ (b : BookParts). order_of id b.entries ≡ Some order
+      → (apply b venue note).0 ≡ Ok applied.Moved
       → split_step (moves_on id b) (move_of note) (leg_parts id order.terms.shares b)
       ≡ (Ok tt, leg_parts id order.terms.shares (apply b venue note).1)) replays
       (steps-apply book.venues book.entries venue note id order leg) found (ap (λ a. Ok a) moved) in
@@ -215,8 +217,10 @@ withdrawn book replays id ok =
     let known = (bounded_book book replays).known id order it.1 in
     let all = all_venues book after id order it.1 same (others-withdraw book id) book.venues known in
     let venues : after.venues ≡ book.venues = ap (λ b. b.venues) writes in
-    let sum : resolved after ≡ sum_below (venue_resolved after) book.venues = ap (sum_below (venue_resolved after)) venues in
-    let kept : replay (new_book book.venues) after.entries ≡ after = replayed-again book.venues book (Withdrawn id) replays in
+    let sum : resolved after ≡ sum_below (venue_resolved after) book.venues
+    = ap (sum_below (venue_resolved after)) venues in
+    let kept : replay (new_book book.venues) after.entries ≡ after
+    = replayed-again book.venues book (Withdrawn id) replays in
     let replays_now : Replays after = ap (λ n. replay (new_book n) after.entries) venues ∙ kept in
     record {
       venues = venues;
@@ -233,7 +237,8 @@ pub record IsOpened (book after : BookParts) : Type 0 where
   pub replays : Replays after
   pub counts : resolved after ≡ resolved book
 
-opened_venues : (book : BookParts) (number : ℕ) (legs : List Routed) → (open_sweep book number legs).1.venues ≡ book.venues
+opened_venues : (book : BookParts) (number : ℕ) (legs : List Routed)
+    → (open_sweep book number legs).1.venues ≡ book.venues
 opened_venues book number legs =
     elim (open_outcome book number legs) [
       | inl writes ↦ ap (λ b. b.venues) writes
@@ -244,7 +249,8 @@ opened_one : (book : BookParts) → Replays book → (sweep : Sweep) → IsOpene
 opened_one book replays sweep =
     let after = again book (Opened sweep) in
     let venues : after.venues ≡ book.venues = opened_venues book (next_sweep book) sweep.legs in
-    let kept : replay (new_book book.venues) after.entries ≡ after = replayed-again book.venues book (Opened sweep) replays in
+    let kept : replay (new_book book.venues) after.entries ≡ after
+    = replayed-again book.venues book (Opened sweep) replays in
     record {
       venues = venues;
       replays = ap (λ n. replay (new_book n) after.entries) venues ∙ kept;

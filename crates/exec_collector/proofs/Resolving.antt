@@ -70,7 +70,8 @@ module _ (book after : BookParts) (id : LegIdParts) (order : Routed) (found : or
   other_venue venue apart =
       venue_weighed after venue
       ∙ ap (weigh_all (λ l r. resolved_at venue (booked_leg after l r)) 1) same
-      ∙ weigh_all-same (λ l r. resolved_at venue (booked_leg after l r)) (λ l r. resolved_at venue (booked_leg book l r))
+      ∙ weigh_all-same (λ l r. resolved_at venue (booked_leg after l r))
+      (λ l r. resolved_at venue (booked_leg book l r))
       book.entries (elsewhere venue apart)
       ∙ sym (venue_weighed book venue)
 
@@ -111,7 +112,8 @@ module _ (book : BookParts) (sound : IsSound book) (number : ℕ) (legs : List R
       let parts : (id : LegIdParts) (r : Routed) → now id r ≡ old id r = λ id r. ap
       (λ p. resolved_at venue (let leg : BookedLeg = record { venue = r.venue; parts = p } in leg))
       (others-open_sweep book number legs id r.terms.shares) in
-      let list = ap (λ b. opened b.entries) writes ∙ opened-append book.entries (Opened (record { legs = legs }) ∷ []) in
+      let list = ap (λ b. opened b.entries) writes
+      ∙ opened-append book.entries (Opened (record { legs = legs }) ∷ []) in
       let pushed = weigh_all-push now 1 (opened book.entries) legs in
       let same = weigh_all-same now old book.entries (λ id r e. parts id r) in
       let none = weigh-le now (λ l r. 0) (1 + length (opened book.entries)) 1 legs (λ n r e.
@@ -125,7 +127,8 @@ module _ (book : BookParts) (sound : IsSound book) (number : ℕ) (legs : List R
       let right = venue_weighed book venue in
       omega (arith, left, pushed, same, none, zeros, right)
 
-  pub opened_all : (n : ℕ) → sum_below (venue_resolved (open_sweep book number legs).1) n ≡ sum_below (venue_resolved book) n
+  pub opened_all : (n : ℕ)
+      → sum_below (venue_resolved (open_sweep book number legs).1) n ≡ sum_below (venue_resolved book) n
   opened_all n =
       elim (open_outcome book number legs) [
         | inl writes ↦ below-same (venue_resolved book) (venue_resolved (open_sweep book number legs).1) n

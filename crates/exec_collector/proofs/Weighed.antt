@@ -139,8 +139,10 @@ leg_below leg legs (suc n) =
           ((λ low. absurd (omega (arith, low, here))), omega (arith, same, sum)))
       | inr other ↦
           (let sum : at_venue n (leg ∷ legs) ≡ at_venue n legs = rw other refl in
-          let low = before.1 in
-          ((λ under. (let same = before.0 (omega (arith, under)) in omega (arith, same, sum))), omega (arith, low, sum)))
+          let low = before.1 in (
+            (λ under. (let same = before.0 (omega (arith, under)) in omega (arith, same, sum))),
+            omega (arith, low, sum),
+          ))
     ]
 
 pub all_below : (legs : List BookedLeg) (n : ℕ)

@@ -64,7 +64,8 @@ impl<M: Ledger> Collector<M> {
         note: &Note,
         seat: &mut WorkerSeat<M>,
     ) -> Result<Applied, BookFault>
-        ensures gains { MatchResult result (λ applied. GainsBy note.now applied seat.old.shares seat.new.shares) (λ fault. (fault ≡ BookFault.OutOfMemory) × (seat.new ≡ seat.old)) }
+        ensures gains { MatchResult result (λ applied. GainsBy note.now applied seat.old.shares seat.new.shares)
+            (λ fault. (fault ≡ BookFault.OutOfMemory) × (seat.new ≡ seat.old)) }
         ensures parts { seat.new.parts ≡ seat.old.parts }
     {
         self.counted.lock(rt).apply(venue, note, seat)
@@ -77,7 +78,8 @@ impl<M: Ledger> Collector<M> {
         id: LegId,
         seat: &mut WorkerSeat<M>,
     ) -> Result<(), BookFault>
-        ensures gains { MatchResult result (λ _. GainsLeg id seat.old.shares seat.new.shares) (λ fault. (fault ≡ BookFault.AlreadyMoved) × (seat.new ≡ seat.old)) }
+        ensures gains { MatchResult result (λ _. GainsLeg id seat.old.shares seat.new.shares)
+            (λ fault. (fault ≡ BookFault.AlreadyMoved) × (seat.new ≡ seat.old)) }
         ensures parts { seat.new.parts ≡ seat.old.parts }
     {
         self.counted.lock(rt).withdraw(id, seat)
@@ -107,7 +109,8 @@ impl<M: Ledger> Collector<M> {
         f: F,
     ) -> T
         requires call { F.IsAlwaysCallable f }
-        requires opens { (x : D) (b : BookParts) (r : T) (y : D) (c : BookParts) → CallGives F.FnOnce f x b r y c → OnlyOpens b c }
+        requires opens { (x : D) (b : BookParts) (r : T) (y : D) (c : BookParts) →
+            CallGives F.FnOnce f x b r y c → OnlyOpens b c }
         ensures { (b : BookParts) × (c : BookParts) × CallGives F.FnOnce f beside.old b result beside.new c }
     {
         self.counted.lock(rt).lend_beside(beside, f)

@@ -32,7 +32,8 @@ impl<M: Ledger> Model for CountedBook<M> {
 
     ghost view = { λ counted. counted.book };
 
-    ghost invariant = { λ counted. (counted.venues ≡ counted.book.venues) × (counted.venues ≤ 16) × Replays counted.book × (counted.total.total ≡ resolved counted.book) };
+    ghost invariant = { λ counted. (counted.venues ≡ counted.book.venues) × (counted.venues ≤ 16)
+        × Replays counted.book × (counted.total.total ≡ resolved counted.book) };
 }
 
 impl<M: Ledger> CountedBook<M> {
@@ -63,7 +64,8 @@ impl<M: Ledger> CountedBook<M> {
         ensures book { Answers BookFault.OutOfMemory self.old (apply self.old venue note.now) result self.new }
         ensures wanting { OnErr result (answer_to self.old venue note.now ≡ Applied.Moved) }
         ensures seat { seat.new.shares + resolved self.old ≡ seat.old.shares + resolved self.new }
-        ensures gains { MatchResult result (λ applied. GainsBy note.now applied seat.old.shares seat.new.shares) (λ _. seat.new ≡ seat.old) }
+        ensures gains { MatchResult result (λ applied. GainsBy note.now applied seat.old.shares seat.new.shares)
+            (λ _. seat.new ≡ seat.old) }
         ensures parts { seat.new.parts ≡ seat.old.parts }
     {
         let before = self.book.venue_resolved(venue);
@@ -77,7 +79,8 @@ impl<M: Ledger> CountedBook<M> {
     pub fn withdraw(&mut self, id: LegId, seat: &mut WorkerSeat<M>) -> Result<(), BookFault>
         ensures book { (result, self.new) ≡ withdraw self.old id }
         ensures seat { seat.new.shares + resolved self.old ≡ seat.old.shares + resolved self.new }
-        ensures gains { MatchResult result (λ _. GainsLeg id seat.old.shares seat.new.shares) (λ _. seat.new ≡ seat.old) }
+        ensures gains { MatchResult result (λ _. GainsLeg id seat.old.shares seat.new.shares)
+            (λ _. seat.new ≡ seat.old) }
         ensures parts { seat.new.parts ≡ seat.old.parts }
     {
         let before = resolved_in(&self.book, self.venues);
@@ -103,7 +106,8 @@ impl<M: Ledger> CountedBook<M> {
         f: F,
     ) -> T
         requires call { F.IsAlwaysCallable f }
-        requires opens { (x : D) (b : BookParts) (r : T) (y : D) (c : BookParts) → CallGives F.FnOnce f x b r y c → OnlyOpens b c }
+        requires opens { (x : D) (b : BookParts) (r : T) (y : D) (c : BookParts) →
+            CallGives F.FnOnce f x b r y c → OnlyOpens b c }
         ensures { CallGives F.FnOnce f beside.old self.old result beside.new self.new }
     {
         f(beside, &mut self.book)

@@ -63,7 +63,8 @@ fn trade(place: u8, exec: &[u8], shares: u64) -> Result<Note, Fail>
     report(place, exec, ReportKind::Trade(fill))
 }
 
-// Two shares of a leg are traded under each of 26 ids, each report comes twice, and the order ends; with what is wanted.
+// Two shares of a leg are traded under each of 26 ids, each report comes twice, and the order ends; each note with the
+// answer that is wanted.
 fn notes(alloc: Global, place: u8) -> Result<Vec<(Note, Applied)>, Fail>
     requires low { 1 ≤ place }
     requires high { place ≤ 32 }

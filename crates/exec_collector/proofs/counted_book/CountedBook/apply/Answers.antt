@@ -36,8 +36,12 @@ invariant_of-self-2 g c =
     let counts = it.counts in
     let total = c.self.invariant.3 in
     let rises = it.rises in
-    let sum = c.count.ensures.total in
-    (c.self.invariant.0 ∙ sym it.venues, c.self.invariant.1, it.replays, omega (arith, before, now, counts, total, rises, sum))
+    let sum = c.count.ensures.total in (
+      c.self.invariant.0 ∙ sym it.venues,
+      c.self.invariant.1,
+      it.replays,
+      omega (arith, before, now, counts, total, rises, sum),
+    )
 
 pub returns-clause-seat : goal.returns-clause-seat
 returns-clause-seat g c =
