@@ -1,0 +1,5 @@
+pub mod Below
+pub mod Weighed
+pub mod Bounded
+pub mod Resolving
+pub mod Counts

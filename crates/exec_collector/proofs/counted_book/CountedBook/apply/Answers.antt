@@ -1,0 +1,69 @@
+use Rattle.std.proofs.Common.{◌+◌, ◌-◌, ◌≤◌, ◌≡◌, ap, sym, ◌∙◌, arith}
+use Rattle.exec_collector.specs.Resolved.{resolved}
+use Rattle.exec_collector.proofs.Counts.{noted}
+use Rattle.exec_collector.proofs.counted_book.CountedBook.apply.Goals as goal
+
+pub overflow_sub-gained : goal.overflow_sub-gained
+overflow_sub-gained g c =
+    let done = c.in_ok-applied.ensures.answer in
+    let it = noted c.self.inside.book c.apply.new.self c.args.venue c.args.note.now c.in_ok-applied.applied
+    c.self.invariant.2 done.0 done.1 in
+    let before = c.venue_resolved-before.ensures in
+    let now = c.venue_resolved.ensures in
+    let rises = it.rises in
+    omega (arith, before, now, rises)
+
+pub count-requires : goal.count-requires
+count-requires g c =
+    let done = c.in_ok-applied.ensures.answer in
+    let it = noted c.self.inside.book c.apply.new.self c.args.venue c.args.note.now c.in_ok-applied.applied
+    c.self.invariant.2 done.0 done.1 in
+    let before = c.venue_resolved-before.ensures in
+    let now = c.venue_resolved.ensures in
+    let counts = it.counts in
+    let few = it.few in
+    let total = c.self.invariant.3 in
+    let rises = it.rises in
+    omega (arith, before, now, counts, few, total, rises)
+
+pub invariant_of-self-2 : goal.invariant_of-self-2
+invariant_of-self-2 g c =
+    let done = c.in_ok-applied.ensures.answer in
+    let it = noted c.self.inside.book c.apply.new.self c.args.venue c.args.note.now c.in_ok-applied.applied
+    c.self.invariant.2 done.0 done.1 in
+    let before = c.venue_resolved-before.ensures in
+    let now = c.venue_resolved.ensures in
+    let counts = it.counts in
+    let total = c.self.invariant.3 in
+    let rises = it.rises in
+    let sum = c.count.ensures.total in (
+      c.self.invariant.0 ∙ sym it.venues,
+      c.self.invariant.1,
+      it.replays,
+      omega (arith, before, now, counts, total, rises, sum),
+    )
+
+pub returns-clause-seat : goal.returns-clause-seat
+returns-clause-seat g c =
+    let done = c.in_ok-applied.ensures.answer in
+    let it = noted c.self.inside.book c.apply.new.self c.args.venue c.args.note.now c.in_ok-applied.applied
+    c.self.invariant.2 done.0 done.1 in
+    let before = c.venue_resolved-before.ensures in
+    let now = c.venue_resolved.ensures in
+    let counts = it.counts in
+    let rises = it.rises in
+    let seat = c.count.ensures.seat in
+    let view = ap resolved c.self.view_is in
+    omega (arith, before, now, counts, rises, seat, view)
+
+pub returns-clause-gains : goal.returns-clause-gains
+returns-clause-gains g c =
+    let done = c.in_ok-applied.ensures.answer in
+    let it = noted c.self.inside.book c.apply.new.self c.args.venue c.args.note.now c.in_ok-applied.applied
+    c.self.invariant.2 done.0 done.1 in
+    let before = c.venue_resolved-before.ensures in
+    let now = c.venue_resolved.ensures in
+    let counts = it.counts in
+    let rises = it.rises in
+    let seat = c.count.ensures.seat in
+    it.gains c.args.seat.now.shares c.count.new.self.shares (omega (arith, before, now, counts, rises, seat))

@@ -1,0 +1,123 @@
+//! The book behind a lock.
+
+ghost use Rattle.std.specs.Prelude.{◌≡◌, ◌≤◌, replicate, IfOk, IsOkUnless, MatchResult};
+ghost use Rattle.std.specs.Fn.{FnOnceReturnsAtMut};
+ghost use Rattle.share_ledger.specs.Book.{BookParts, totals};
+ghost use Rattle.exec_collector.specs.Calls.{CallGives};
+ghost use Rattle.exec_collector.specs.Resolved.{Replays, OnlyOpens, GainsBy, GainsLeg};
+ghost use Rattle.exec_collector.specs.Seats.{new_seat};
+
+use crate::{CountedBook, WorkerSeat};
+use dialect::Note;
+use leg::{LegId, Totals, VenueId};
+use share_ledger::{Applied, Book, BookFault};
+use std::alloc::Global;
+use std::sync::ledger::{Blank, Ledger};
+use std::sync::{Mutex, Wait};
+
+/// The book behind a lock, which all workers share. Each call may wait for the lock.
+#[derive(Drop)]
+pub struct Collector<M: Ledger> {
+    counted: Mutex<CountedBook<M>>,
+}
+
+impl<M: Ledger> Collector<M> {
+    /// A new book of 1 to 16 venues behind a lock, and a seat for the worker of each venue. B02.
+    pub fn new(
+        alloc: Global,
+        venues: u8,
+        blank: Blank,
+    ) -> Result<(Collector<M>, Vec<WorkerSeat<M>>), BookFault>
+        requires low { 1 ≤ venues }
+        requires high { venues ≤ 16 }
+        requires name { blank.name ≡ M.name }
+        requires parts { (blank.parts ≡ M.parts) × (M.parts ≡ venues) }
+        ensures seats { IfOk result (λ made. made.1.items ≡ replicate venues new_seat) }
+        ensures only { IsOkUnless result BookFault.OutOfMemory }
+    {
+        let book = Book::new(alloc, venues)?;
+        let mut seats = Vec::with_capacity(alloc, usize::from(venues))?;
+        let (total, mut whole) = blank.open::<M>();
+        for _ in 0..venues {
+            seats.push_reserved(WorkerSeat {
+                shares: 0,
+                share: whole.split_off(1, 0),
+            });
+        }
+        let counted = CountedBook {
+            venues,
+            book,
+            total,
+        };
+        let collector = Collector {
+            counted: Mutex::new(counted),
+        };
+        Ok((collector, seats))
+    }
+
+    /// Applies a note of a venue; the seat gains the shares that cease to be open. B02, and the note may be applied
+    /// again.
+    pub fn apply(
+        &self,
+        rt: &impl Wait,
+        venue: VenueId,
+        note: &Note,
+        seat: &mut WorkerSeat<M>,
+    ) -> Result<Applied, BookFault>
+        ensures gains { MatchResult result (λ applied. GainsBy note.now applied seat.old.shares seat.new.shares)
+            (λ fault. (fault ≡ BookFault.OutOfMemory) × (seat.new ≡ seat.old)) }
+        ensures parts { seat.new.parts ≡ seat.old.parts }
+    {
+        self.counted.lock(rt).apply(venue, note, seat)
+    }
+
+    /// Withdraws a leg; the seat gains its shares. B03. It takes no memory.
+    pub fn withdraw(
+        &self,
+        rt: &impl Wait,
+        id: LegId,
+        seat: &mut WorkerSeat<M>,
+    ) -> Result<(), BookFault>
+        ensures gains { MatchResult result (λ _. GainsLeg id seat.old.shares seat.new.shares)
+            (λ fault. (fault ≡ BookFault.AlreadyMoved) × (seat.new ≡ seat.old)) }
+        ensures parts { seat.new.parts ≡ seat.old.parts }
+    {
+        self.counted.lock(rt).withdraw(id, seat)
+    }
+
+    /// The totals of a sweep, if it was opened, of a book that replays from its own history. It takes no memory.
+    pub fn totals(&self, rt: &impl Wait, number: u64) -> Option<Totals>
+        ensures { (book : BookParts) × Replays book × (result ≡ totals book number) }
+    {
+        self.counted.lock(rt).book().totals(number)
+    }
+
+    /// Lends the book to a closure that only opens sweeps.
+    pub fn lend<T, F: FnOnce(&mut Book) -> T>(&self, rt: &impl Wait, f: F) -> T
+        requires call { F.IsAlwaysCallable f }
+        requires opens { (b : BookParts) (r : T) (c : BookParts) → FnOnceReturnsAtMut F.FnOnce f b r c → OnlyOpens b c }
+        ensures { (b : BookParts) × (c : BookParts) × FnOnceReturnsAtMut F.FnOnce f b result c }
+    {
+        self.counted.lock(rt).lend(f)
+    }
+
+    /// Lends the book, beside a value of the caller's, to a closure that only opens sweeps.
+    pub fn lend_beside<D, T, F: FnOnce(&mut D, &mut Book) -> T>(
+        &self,
+        rt: &impl Wait,
+        beside: &mut D,
+        f: F,
+    ) -> T
+        requires call { F.IsAlwaysCallable f }
+        requires opens { (x : D) (b : BookParts) (r : T) (y : D) (c : BookParts) →
+            CallGives F.FnOnce f x b r y c → OnlyOpens b c }
+        ensures { (b : BookParts) × (c : BookParts) × CallGives F.FnOnce f beside.old b result beside.new c }
+    {
+        self.counted.lock(rt).lend_beside(beside, f)
+    }
+
+    /// The book and its count, once no thread shares the lock any more.
+    pub fn into_counted(self) -> CountedBook<M> {
+        self.counted.into_inner()
+    }
+}

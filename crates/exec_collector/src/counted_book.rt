@@ -1,0 +1,133 @@
+//! The book, and the count of what its venues have resolved.
+
+ghost use Rattle.std.specs.Prelude.{◌≡◌, ◌+◌, ◌≤◌, MatchResult, OnErr};
+ghost use Rattle.std.specs.Fn.{FnOnceReturnsAtMut};
+ghost use Rattle.leg.specs.Answering.{Answers};
+ghost use Rattle.share_ledger.specs.Book.{BookParts, apply, answer_to, withdraw, totals};
+ghost use Rattle.exec_collector.specs.Calls.{CallGives};
+ghost use Rattle.exec_collector.specs.Resolved.{Replays, OnlyOpens, GainsBy, GainsLeg, resolved, sum_below};
+
+use crate::WorkerSeat;
+use dialect::Note;
+use leg::{LegId, Totals, VenueId};
+use share_ledger::{Applied, Book, BookFault};
+use std::marker::Model;
+use std::sync::ledger::{Book as Total, Ledger};
+
+/// What lies under the collector's lock. Contracts see the book. It replays from its own history, and the seats add up
+/// to the shares that its venues have resolved.
+#[derive(Drop)]
+pub struct CountedBook<M: Ledger> {
+    pub(crate) venues: u8,
+    pub(crate) book: Book,
+    pub(crate) total: Total<M>,
+}
+
+impl<M: Ledger> Model for CountedBook<M> {
+    ghost use Rattle.std.specs.Prelude.{◌≡◌, ◌≤◌};
+    ghost use Rattle.share_ledger.specs.Book.{BookParts};
+    ghost use Rattle.exec_collector.specs.Resolved.{Replays, resolved};
+
+    ghost Value = { BookParts };
+
+    ghost view = { λ counted. counted.book };
+
+    ghost invariant = { λ counted. (counted.venues ≡ counted.book.venues) × (counted.venues ≤ 16)
+        × Replays counted.book × (counted.total.total ≡ resolved counted.book) };
+}
+
+impl<M: Ledger> CountedBook<M> {
+    /// The book.
+    pub fn book(&self) -> &Book
+        ensures value { result.now ≡ self.now }
+        ensures replays { Replays self.now }
+    {
+        &self.book
+    }
+
+    /// The shares that the venues have resolved, at most 10^18.
+    pub fn resolved(&self) -> u64
+        ensures value { result ≡ resolved self.now }
+        ensures few { result ≤ 1000000000000000000 }
+    {
+        resolved_in(&self.book, self.venues)
+    }
+
+    /// Applies a note of a venue; the seat gains the shares that cease to be open. B02, and the note may be applied
+    /// again.
+    pub fn apply(
+        &mut self,
+        venue: VenueId,
+        note: &Note,
+        seat: &mut WorkerSeat<M>,
+    ) -> Result<Applied, BookFault>
+        ensures book { Answers BookFault.OutOfMemory self.old (apply self.old venue note.now) result self.new }
+        ensures wanting { OnErr result (answer_to self.old venue note.now ≡ Applied.Moved) }
+        ensures seat { seat.new.shares + resolved self.old ≡ seat.old.shares + resolved self.new }
+        ensures gains { MatchResult result (λ applied. GainsBy note.now applied seat.old.shares seat.new.shares)
+            (λ _. seat.new ≡ seat.old) }
+        ensures parts { seat.new.parts ≡ seat.old.parts }
+    {
+        let before = self.book.venue_resolved(venue);
+        let applied = self.book.apply(venue, note)?;
+        let gained = self.book.venue_resolved(venue) - before;
+        seat.count(&mut self.total, gained);
+        Ok(applied)
+    }
+
+    /// Withdraws a leg; the seat gains its shares. B03. It takes no memory.
+    pub fn withdraw(&mut self, id: LegId, seat: &mut WorkerSeat<M>) -> Result<(), BookFault>
+        ensures book { (result, self.new) ≡ withdraw self.old id }
+        ensures seat { seat.new.shares + resolved self.old ≡ seat.old.shares + resolved self.new }
+        ensures gains { MatchResult result (λ _. GainsLeg id seat.old.shares seat.new.shares)
+            (λ _. seat.new ≡ seat.old) }
+        ensures parts { seat.new.parts ≡ seat.old.parts }
+    {
+        let before = resolved_in(&self.book, self.venues);
+        self.book.withdraw(id)?;
+        let gained = resolved_in(&self.book, self.venues) - before;
+        seat.count(&mut self.total, gained);
+        Ok(())
+    }
+
+    /// Lends the book to a closure that only opens sweeps.
+    pub fn lend<T, F: FnOnce(&mut Book) -> T>(&mut self, f: F) -> T
+        requires call { F.IsAlwaysCallable f }
+        requires opens { (b : BookParts) (r : T) (c : BookParts) → FnOnceReturnsAtMut F.FnOnce f b r c → OnlyOpens b c }
+        ensures { FnOnceReturnsAtMut F.FnOnce f self.old result self.new }
+    {
+        f(&mut self.book)
+    }
+
+    /// Lends the book, beside a value of the caller's, to a closure that only opens sweeps.
+    pub fn lend_beside<D, T, F: FnOnce(&mut D, &mut Book) -> T>(
+        &mut self,
+        beside: &mut D,
+        f: F,
+    ) -> T
+        requires call { F.IsAlwaysCallable f }
+        requires opens { (x : D) (b : BookParts) (r : T) (y : D) (c : BookParts) →
+            CallGives F.FnOnce f x b r y c → OnlyOpens b c }
+        ensures { CallGives F.FnOnce f beside.old self.old result beside.new self.new }
+    {
+        f(beside, &mut self.book)
+    }
+}
+
+/// The shares that so many venues of a book have resolved.
+fn resolved_in(book: &Book, venues: u8) -> u64
+    requires all { venues ≡ book.now.venues }
+    requires few { venues ≤ 16 }
+    requires replays { Replays book.now }
+    ensures value { result ≡ resolved book.now }
+    ensures few { result ≤ 1000000000000000000 }
+{
+    let mut shares = 0;
+    for number in 0..venues {
+        let Ok(venue) = VenueId::new(number) else {
+            unreachable!()
+        };
+        shares += book.venue_resolved(venue);
+    }
+    shares
+}
