@@ -1,0 +1,9 @@
+mod FirstPiece
+mod FirstLine
+mod Legs
+mod SoFar
+mod LegsSoFar
+mod EventsSoFar
+mod Venues
+mod Names
+mod Printable

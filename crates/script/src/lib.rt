@@ -1,0 +1,23 @@
+//! A replay script: its text is read into the events of a world.
+#![tactic(auto)]
+
+mod call;
+mod dialect_name;
+mod event;
+mod head;
+mod kept;
+mod line_fault;
+mod lines;
+mod pieces;
+mod read;
+mod release;
+mod release_leg;
+mod script;
+mod venue_choice;
+mod word;
+
+pub use read::read_script;
+pub use script::Script;
+
+#[cfg(test)]
+mod tests;

@@ -1,0 +1,88 @@
+//! A replay script.
+
+ghost use Rattle.std.specs.Prelude.{◌≡◌, IfOk, Ok, map};
+ghost use Rattle.schedule.specs.Script.{ScriptVenue, with_events};
+
+use crate::head::Head;
+use crate::venue_choice::VenueChoice;
+use dialect::AnyDialect;
+use schedule::Event;
+use std::alloc::{AllocError, Global};
+use std::marker::Model;
+
+/// The events of a world, and what the world is made with.
+#[derive(Debug, Drop)]
+pub struct Script {
+    max_number: u64,
+    dialects: Vec<AnyDialect>,
+    next: Vec<bool>,
+    events: Vec<Event>,
+}
+
+impl Model for Script {
+    ghost use Rattle.schedule.specs.Script.{ScriptParts};
+
+    ghost Value = { ScriptParts };
+
+    ghost view = { λ s. record {
+      max_number = s.max_number;
+      dialects = s.dialects.items;
+      next = s.next.items;
+      events = s.events.items;
+    } };
+}
+
+fn dialects_of(alloc: Global, venues: &[VenueChoice]) -> Result<Vec<AnyDialect>, AllocError>
+    ensures { IfOk result (λ dialects. dialects.items ≡ map (λ (venue : ScriptVenue). venue.dialect) venues.now) }
+{
+    venues.iter().map(|venue| venue.dialect()).collect(alloc)
+}
+
+fn next_of(alloc: Global, venues: &[VenueChoice]) -> Result<Vec<bool>, AllocError>
+    ensures { IfOk result (λ next. next.items ≡ map (λ (venue : ScriptVenue). venue.next) venues.now) }
+{
+    venues.iter().map(|venue| venue.next()).collect(alloc)
+}
+
+impl Script {
+    pub(crate) fn new(alloc: Global, head: &Head, events: Vec<Event>) -> Result<Script, AllocError>
+        ensures { IfOk result (λ script. Ok script ≡ with_events head.now (Ok events.items)) }
+    {
+        let venues = head.venues();
+        Ok(Script {
+            max_number: head.max_number(),
+            dialects: dialects_of(alloc, venues)?,
+            next: next_of(alloc, venues)?,
+            events,
+        })
+    }
+
+    /// The number that no message of a session has, 16 to 999,999,999.
+    pub fn max_number(&self) -> u64
+        ensures { result ≡ self.now.max_number }
+    {
+        self.max_number
+    }
+
+    /// The dialect of each venue. There are 1 to 16.
+    pub fn dialects(&self) -> &[AnyDialect]
+        ensures { result.now ≡ self.now.dialects }
+    {
+        self.dialects.as_slice()
+    }
+
+    /// Of each venue, whether its Logons say which number is expected next: NextExpectedMsgSeqNum (789) of a Logon, FIX
+    /// 4.4 Volume 2.
+    pub fn next(&self) -> &[bool]
+        ensures { result.now ≡ self.now.next }
+    {
+        self.next.as_slice()
+    }
+
+    /// The events, in order.
+    pub fn events(&self) -> &[Event]
+        ensures { result.now ≡ self.now.events }
+    {
+        self.events.as_slice()
+    }
+}
