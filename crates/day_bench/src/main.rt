@@ -1,5 +1,6 @@
-//! The program `desk_bench`: it goes through a day of sweeps, and then places sweeps or books trades as often as it is
-//! asked to, so that a profiler can count what each of them costs. `bench/desk` runs it so.
+//! The program `day_bench`: it goes through a day of sweeps, or of a session's legs, and then places sweeps, books
+//! trades, sends legs or receives reports as often as it is asked to, so that a profiler can count what each of them
+//! costs. `bench/day` runs it so.
 #![tactic(auto)]
 
 mod bench;
@@ -7,6 +8,7 @@ mod day;
 mod fault;
 mod part;
 mod request;
+mod session_day;
 mod worked;
 
 use crate::bench::bench;

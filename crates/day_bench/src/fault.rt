@@ -1,6 +1,10 @@
 //! Why a run failed, and the exit status that tells it.
 
+use exchange_core::ExchangeFault;
+use fix_tags::ReadFault;
+use fix_text::ReaderFault;
 use leg::LegFault;
+use session_core::SessionFault;
 use share_ledger::BookFault;
 use std::alloc::{AllocError, AllocFailed};
 use std::io::Write;
@@ -11,13 +15,13 @@ use thiserror::Error;
 #[derive(Debug, Drop, Error)]
 pub enum BenchFault {
     /// The words aren't a part and two counts.
-    #[error("expected a part, place or apply, how many sweeps go before, and a count")]
+    #[error("expected a part, place, apply, send or receive, how many sweeps or legs go before, and a count")]
     Usage,
-    #[error("bad count: expected 1 to 1000000 sweeps before, and a count from 1 to 200")]
+    #[error("bad count: expected 1 to 1000000 before, and a count from 1 to 200")]
     BadCount,
-    #[error("bad part: expected place or apply")]
+    #[error("bad part: expected place, apply, send or receive")]
     BadPart,
-    /// Desk or book refused what is worked on.
+    /// What is worked on was refused.
     #[error("not done")]
     NotDone,
     /// The words of the command line can't be had.
@@ -65,6 +69,39 @@ impl From<ReleaseFault> for BenchFault {
     }
 }
 
+impl From<SessionFault> for BenchFault {
+    fn from(fault: SessionFault) -> BenchFault {
+        match fault {
+            SessionFault::OutOfMemory => BenchFault::OutOfMemory,
+            _ => BenchFault::NotDone,
+        }
+    }
+}
+
+impl From<ExchangeFault> for BenchFault {
+    fn from(fault: ExchangeFault) -> BenchFault {
+        match fault {
+            ExchangeFault::OutOfMemory => BenchFault::OutOfMemory,
+            _ => BenchFault::NotDone,
+        }
+    }
+}
+
+impl From<ReaderFault> for BenchFault {
+    fn from(_: ReaderFault) -> BenchFault {
+        BenchFault::OutOfMemory
+    }
+}
+
+impl From<ReadFault> for BenchFault {
+    fn from(fault: ReadFault) -> BenchFault {
+        match fault {
+            ReadFault::OutOfMemory => BenchFault::OutOfMemory,
+            _ => BenchFault::NotDone,
+        }
+    }
+}
+
 impl From<BookFault> for BenchFault {
     fn from(fault: BookFault) -> BenchFault {
         match fault {
@@ -75,7 +112,7 @@ impl From<BookFault> for BenchFault {
 }
 
 impl BenchFault {
-    /// The exit status: 2 for the command line, 3 for what desk or book refused, 4 for a failed read or write, 5 for
+    /// The exit status: 2 for the command line, 3 for what was refused, 4 for a failed read or write, 5 for
     /// memory.
     pub fn status(&self) -> u8 {
         match self {
@@ -89,6 +126,6 @@ impl BenchFault {
 
 /// Writes the fault as a line to `err` and gives its exit status, which also tells it where `err` can't be written.
 pub fn tell<E: Write>(fault: &BenchFault, err: &mut E) -> u8 {
-    let _ = writeln!(err, "desk_bench: {fault}");
+    let _ = writeln!(err, "day_bench: {fault}");
     fault.status()
 }

@@ -4,13 +4,13 @@ use crate::fault::BenchFault;
 use crate::part::Part;
 use fix_tags::read_number;
 
-/// The most sweeps that go before.
+/// The most sweeps, or legs, that go before.
 const MAX_BEFORE: u64 = 1_000_000;
 
-/// The most sweeps or trades of a run: so many sweeps fit into the backlog of each venue.
+/// The most of a run: so many sweeps fit into the backlog of each venue.
 pub const MAX_COUNT: u64 = 200;
 
-/// How many sweeps go before, and what is done then, how often.
+/// How many sweeps, or legs, go before, and what is done then, how often.
 #[derive(Clone, Copy, Debug)]
 pub struct Request {
     pub part: Part,

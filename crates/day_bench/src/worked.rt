@@ -1,9 +1,9 @@
-//! The worked sweep, and the report on a trade of one of its legs.
+//! The worked sweep and leg, and the report on a trade of one of the sweep's legs.
 
 use crate::fault::BenchFault;
 use dialect::{ExecId, Fill, LastPx, Note, Report, ReportKind};
 use itoa::Buffer;
-use leg::{LegId, Legs, MAX_SWEEP, Routed, Side, Sweep, Symbol, Terms, VenueId};
+use leg::{Leg, LegId, Legs, MAX_SWEEP, Routed, Side, Sweep, Symbol, Terms, VenueId};
 use std::alloc::Global;
 
 /// How many venues there are, and how many legs a sweep has, one for each.
@@ -21,6 +21,18 @@ pub fn worked_sweep(alloc: Global) -> Result<Sweep, BenchFault> {
     }
     Ok(Sweep {
         legs: Legs::new(legs),
+    })
+}
+
+/// Buy 1,000 IBM at 10 dollars, the only leg of the sweep of a number.
+pub fn worked_leg(sweep: u64) -> Result<Leg, BenchFault> {
+    if sweep == 0 || sweep > MAX_SWEEP {
+        return Err(BenchFault::NotDone);
+    }
+    let symbol = Symbol::new(b"IBM", b"")?;
+    Ok(Leg {
+        id: LegId::new(sweep, 1),
+        terms: Terms::new(symbol, Side::Buy, 1_000, 100_000)?,
     })
 }
 
