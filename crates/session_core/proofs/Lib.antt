@@ -10,3 +10,5 @@ pub mod Drafted
 pub mod Framing
 pub mod Decided
 pub mod KeptOn
+pub mod CallsMade
+pub mod AnyCalls
