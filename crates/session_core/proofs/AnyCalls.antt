@@ -172,31 +172,31 @@ sent_first s ordinal leg final (Ok m, t) rest does next later all =
 sent_first s ordinal leg final (Err why, t) rest is next later all =
     subst (λ (u : SessionParts). AreIn (next_out u) final rest) is all
 
+-- a call that writes no order
+other_first : (read : Readers) (s : SessionParts) (one : SessionCall) (final : List Entry) (orders : List (ℕ × ℕ))
+    → AreIn (next_out (called read s one).1) final orders → AreIn (next_out s) final orders
+other_first read s one final orders all =
+    (let last = (called_onward read s one).log.last in
+    lower (next_out s) (next_out (called read s one).1) final orders (omega (arith, last)) all)
+
 -- every order that is written is still there in the end, each under a higher number than the one before
 calls_in : (read : Readers) (s : SessionParts) (calls : List SessionCall)
     → AreIn (next_out s) (after_calls read s calls).log (orders_of read s calls)
-
-other_first : (read : Readers) (s : SessionParts) (one : SessionCall) (calls : List SessionCall)
-    → AreIn (next_out s) (after_calls read (called read s one).1 calls).log (orders_of read (called read s one).1 calls)
-other_first read s one calls =
-    (let last = (called_onward read s one).log.last in
-    lower (next_out s) (next_out (called read s one).1) (after_calls read (called read s one).1 calls).log
-    (orders_of read (called read s one).1 calls) (omega (arith, last)) (calls_in read (called read s one).1 calls))
 calls_in read s [] = tt
 calls_in read s (call.SendLeg ordinal leg ∷ calls) =
     (let next = called read s (call.SendLeg ordinal leg) in
     sent_first s ordinal leg (after_calls read next.1 calls).log (send_leg s ordinal leg)
     (orders_of read next.1 calls) (send_leg_keeps s ordinal leg) (send_in-next s ordinal leg s.phase)
     (calls_onward read next.1 calls).log (calls_in read next.1 calls))
-calls_in read s (call.Connect ∷ calls) = other_first read s call.Connect calls
-calls_in read s (call.Receive envelope ∷ calls) = other_first read s (call.Receive envelope) calls
-calls_in read s (call.Confirm ∷ calls) = other_first read s call.Confirm calls
-calls_in read s (call.Quiet ∷ calls) = other_first read s call.Quiet calls
-calls_in read s (call.Silent ∷ calls) = other_first read s call.Silent calls
-calls_in read s (call.Close ∷ calls) = other_first read s call.Close calls
-calls_in read s (call.Malformed ∷ calls) = other_first read s call.Malformed calls
-calls_in read s (call.Broken ∷ calls) = other_first read s call.Broken calls
-calls_in read s (call.Abandon ∷ calls) = other_first read s call.Abandon calls
+calls_in read s (call.Connect ∷ calls) = other_first read s call.Connect _ _ (calls_in read (called read s call.Connect).1 calls)
+calls_in read s (call.Receive envelope ∷ calls) = other_first read s (call.Receive envelope) _ _ (calls_in read (called read s (call.Receive envelope)).1 calls)
+calls_in read s (call.Confirm ∷ calls) = other_first read s call.Confirm _ _ (calls_in read (called read s call.Confirm).1 calls)
+calls_in read s (call.Quiet ∷ calls) = other_first read s call.Quiet _ _ (calls_in read (called read s call.Quiet).1 calls)
+calls_in read s (call.Silent ∷ calls) = other_first read s call.Silent _ _ (calls_in read (called read s call.Silent).1 calls)
+calls_in read s (call.Close ∷ calls) = other_first read s call.Close _ _ (calls_in read (called read s call.Close).1 calls)
+calls_in read s (call.Malformed ∷ calls) = other_first read s call.Malformed _ _ (calls_in read (called read s call.Malformed).1 calls)
+calls_in read s (call.Broken ∷ calls) = other_first read s call.Broken _ _ (calls_in read (called read s call.Broken).1 calls)
+calls_in read s (call.Abandon ∷ calls) = other_first read s call.Abandon _ _ (calls_in read (called read s call.Abandon).1 calls)
 
 rising : (next : ℕ) (log : List Entry) (orders : List (ℕ × ℕ)) → OrdinalsRise log → AreIn next log orders
     → AreRising orders
