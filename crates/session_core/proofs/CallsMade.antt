@@ -41,22 +41,26 @@ steps-append read s (call ∷ first) then =
     (steps_of read (after_calls read (called read s call).1 first) then))
 
 -- one call more
-pub after-more : (read : Readers) (s : SessionParts) (calls : List SessionCall) (i : ℕ) (d : SessionCall)
-    → i < length calls
-    → after_calls read s (take (i + 1) calls) ≡ (called read (after_calls read s (take i calls)) (get_or calls i d)).1
-after-more read s calls i d below =
-    ap (after_calls read s) (take_more calls i d below) ∙ after-append read s (take i calls) (get_or calls i d ∷ [])
+one_more : (calls : List SessionCall) (i : ℕ) (one : SessionCall) → i < length calls → one ≡ get_or calls i one
+    → take (i + 1) calls ≡ take i calls ++ one ∷ []
+one_more calls i one below is =
+    take_more calls i one below ∙ ap (λ (call : SessionCall). take i calls ++ call ∷ []) (sym is)
 
-pub steps-more : (read : Readers) (s : SessionParts) (calls : List SessionCall) (i : ℕ) (d : SessionCall)
-    → i < length calls
+after-more : (read : Readers) (s : SessionParts) (calls : List SessionCall) (i : ℕ) (one : SessionCall)
+    → i < length calls → one ≡ get_or calls i one
+    → after_calls read s (take (i + 1) calls) ≡ (called read (after_calls read s (take i calls)) one).1
+after-more read s calls i one below is =
+    ap (after_calls read s) (one_more calls i one below is) ∙ after-append read s (take i calls) (one ∷ [])
+
+steps-more : (read : Readers) (s : SessionParts) (calls : List SessionCall) (i : ℕ) (one : SessionCall)
+    → i < length calls → one ≡ get_or calls i one
     → steps_of read s (take (i + 1) calls)
-    ≡ steps_of read s (take i calls)
-    ++ option_to_list (called read (after_calls read s (take i calls)) (get_or calls i d)).0
-steps-more read s calls i d below =
-    ap (steps_of read s) (take_more calls i d below)
-    ∙ (steps-append read s (take i calls) (get_or calls i d ∷ [])
+    ≡ steps_of read s (take i calls) ++ option_to_list (called read (after_calls read s (take i calls)) one).0
+steps-more read s calls i one below is =
+    ap (steps_of read s) (one_more calls i one below is)
+    ∙ (steps-append read s (take i calls) (one ∷ [])
     ∙ ap (λ (steps : List StepParts). steps_of read s (take i calls) ++ steps)
-    (append-nil (option_to_list (called read (after_calls read s (take i calls)) (get_or calls i d)).0)))
+    (append-nil (option_to_list (called read (after_calls read s (take i calls)) one).0)))
 
 -- no answer of a definition is want of memory
 abbrev NeverWants : {X : Type 0} → SessionAnswer X → Type 0
@@ -211,9 +215,9 @@ none_added w stamp (None, after) now said steps is all = (is, rw (append-nil sai
 
 -- so far the session and the steps are those of the calls made
 module _ (w : Writers) (stamp : StampParts) (read : Readers) (start : SessionParts) (calls : List SessionCall) (i : ℕ)
-    (d : SessionCall) (below : i < length calls) where
+    (one : SessionCall) (below : i < length calls) (is_one : one ≡ get_or calls i one) where
   abbrev here : Addition
-  here = called read (after_calls read start (take i calls)) (get_or calls i d)
+  here = called read (after_calls read start (take i calls)) one
 
   abbrev said : List StepParts
   said = steps_of read start (take i calls)
@@ -223,33 +227,33 @@ module _ (w : Writers) (stamp : StampParts) (read : Readers) (start : SessionPar
       → (now ≡ after_calls read start (take (i + 1) calls))
       × AreSteps w stamp (steps_of read start (take (i + 1) calls)) steps
   more now steps is =
-      (is.0 ∙ sym (after-more read start calls i d below), rw (steps-more read start calls i d below) is.1)
+      (is.0 ∙ sym (after-more read start calls i one below is_one), rw (steps-more read start calls i one below is_one) is.1)
 
   pub step-more : (before now : SessionParts) (steps later : List Step) (step : Step)
       → (before ≡ after_calls read start (take i calls)) × AreSteps w stamp said steps
-      → Adds w stamp (called read before (get_or calls i d)) (Ok (Some step)) now → later ≡ steps ++ step ∷ []
+      → Adds w stamp (called read before one) (Ok (Some step)) now → later ≡ steps ++ step ∷ []
       → (now ≡ after_calls read start (take (i + 1) calls))
       × AreSteps w stamp (steps_of read start (take (i + 1) calls)) later
   step-more before now steps later step so is pushed =
       more now later (rw pushed (some_added w stamp here step now said steps
-      (subst (λ (t : SessionParts). Adds w stamp (called read t (get_or calls i d)) (Ok (Some step)) now) so.0 is)
+      (subst (λ (t : SessionParts). Adds w stamp (called read t one) (Ok (Some step)) now) so.0 is)
       so.1))
 
   pub no_step-more : (before now : SessionParts) (steps : List Step)
       → (before ≡ after_calls read start (take i calls)) × AreSteps w stamp said steps
-      → Adds w stamp (called read before (get_or calls i d)) (Ok None) now
+      → Adds w stamp (called read before one) (Ok None) now
       → (now ≡ after_calls read start (take (i + 1) calls))
       × AreSteps w stamp (steps_of read start (take (i + 1) calls)) steps
   no_step-more before now steps so is =
       more now steps (none_added w stamp here now said steps
-      (subst (λ (t : SessionParts). Adds w stamp (called read t (get_or calls i d)) (Ok None) now) so.0 is) so.1)
+      (subst (λ (t : SessionParts). Adds w stamp (called read t one) (Ok None) now) so.0 is) so.1)
 
   -- where a step was to be added, memory may be wanting
-  wanting : (first : List StepParts) (one : StepParts) (rest : List StepParts) (after : SessionParts)
+  wanting : (first : List StepParts) (more : StepParts) (rest : List StepParts) (after : SessionParts)
       (why : SessionFault) → why ≡ fault.OutOfMemory
-      → Tries w stamp ((first ++ one ∷ []) ++ rest) after (Err why)
-  wanting [] one rest after why is = is
-  wanting (x ∷ first) one rest after why is = is
+      → Tries w stamp ((first ++ more ∷ []) ++ rest) after (Err why)
+  wanting [] more rest after why is = is
+  wanting (x ∷ first) more rest after why is = is
 
   all_steps : steps_of read start calls
       ≡ (said ++ option_to_list here.0) ++ steps_of read (after_calls read start (take (i + 1) calls)) (drop (i + 1) calls)
@@ -258,48 +262,41 @@ module _ (w : Writers) (stamp : StampParts) (read : Readers) (start : SessionPar
       ∙ (steps-append read start (take (i + 1) calls) (drop (i + 1) calls)
       ∙ ap (λ (steps : List StepParts). steps ++ steps_of read (after_calls read start (take (i + 1) calls))
       (drop (i + 1) calls))
-      (steps-more read start calls i d below))
+      (steps-more read start calls i one below is_one))
 
   wanting_for : (o : Option StepParts) (after : SessionParts) (why : SessionFault) → (o ≡ None → ⊥)
       → why ≡ fault.OutOfMemory → o ≡ here.0
       → Tries w stamp (steps_of read start calls) after (Err why)
   wanting_for None after why some is so = absurd (some refl)
-  wanting_for (Some one) after why some is so =
+  wanting_for (Some more) after why some is so =
       rw (all_steps, ← so)
-      (wanting said one (steps_of read (after_calls read start (take (i + 1) calls)) (drop (i + 1) calls)) after why
+      (wanting said more (steps_of read (after_calls read start (take (i + 1) calls)) (drop (i + 1) calls)) after why
       is)
 
   is_some : (a : Addition) (step : Step) (now : SessionParts) → Adds w stamp a (Ok (Some step)) now → a.0 ≡ None → ⊥
   is_some (None, after) step now is none = is
-  is_some (Some one, after) step now is none = absurd cc
+  is_some (Some more, after) step now is none = absurd cc
 
   is_wanting : (a : Addition) (why : SessionFault) (now : SessionParts) → Adds w stamp a (Err why) now
       → (a.0 ≡ None → ⊥) × (why ≡ fault.OutOfMemory)
   is_wanting (None, after) why now is = absurd is
-  is_wanting (Some one, after) why now is = (λ none. absurd cc, is)
+  is_wanting (Some more, after) why now is = (λ none. absurd cc, is)
 
   pub call-wanting : (before now after : SessionParts) (why : SessionFault)
       → before ≡ after_calls read start (take i calls)
-      → Adds w stamp (called read before (get_or calls i d)) (Err why) now
+      → Adds w stamp (called read before one) (Err why) now
       → Tries w stamp (steps_of read start calls) after (Err why)
   call-wanting before now after why so is =
       (let found = is_wanting here why now
-      (subst (λ (t : SessionParts). Adds w stamp (called read t (get_or calls i d)) (Err why) now) so is) in
+      (subst (λ (t : SessionParts). Adds w stamp (called read t one) (Err why) now) so is) in
       wanting_for here.0 after why found.0 found.1 refl)
 
   pub push-wanting : (before now after : SessionParts) (step : Step) (why : SessionFault)
       → before ≡ after_calls read start (take i calls)
-      → Adds w stamp (called read before (get_or calls i d)) (Ok (Some step)) now → why ≡ fault.OutOfMemory
+      → Adds w stamp (called read before one) (Ok (Some step)) now → why ≡ fault.OutOfMemory
       → Tries w stamp (steps_of read start calls) after (Err why)
   push-wanting before now after step why so is wants =
       wanting_for here.0 after why
       (is_some here step now
-      (subst (λ (t : SessionParts). Adds w stamp (called read t (get_or calls i d)) (Ok (Some step)) now) so is))
+      (subst (λ (t : SessionParts). Adds w stamp (called read t one) (Ok (Some step)) now) so is))
       wants refl
-
--- every call that is made was read
-pub read-at : (read : Readers) (calls : List SessionCall) (i : ℕ) (d : SessionCall) → i < length calls
-    → AreRead read calls → IsReadCall read (get_or calls i d)
-read-at read [] i d below all = absurd (omega (arith, below))
-read-at read (call ∷ calls) zero d below all = all.0
-read-at read (call ∷ calls) (suc i) d below all = read-at read calls i d (omega (arith, below)) all.1
