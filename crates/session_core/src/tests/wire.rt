@@ -52,7 +52,7 @@ pub(super) fn shown(alloc: Global, text: Text, from: &str, to: &str) -> Result<S
 }
 
 /// Whether what was read of a message is in range.
-fn is_in_range(message: &Message<'_>) -> bool
+pub(super) fn is_in_range(message: &Message<'_>) -> bool
     ensures { IsTrue result → IsRead message.now }
 {
     message.number <= MAX_MESSAGE_NUMBER
