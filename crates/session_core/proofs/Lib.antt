@@ -11,3 +11,5 @@ pub mod Framing
 pub mod Decided
 pub mod KeptOn
 pub mod Read
+pub mod CallsMade
+pub mod AnyCalls

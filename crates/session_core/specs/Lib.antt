@@ -8,3 +8,4 @@ pub mod Sound
 pub mod Kept
 pub mod Draft
 pub mod Given
+pub mod Trial

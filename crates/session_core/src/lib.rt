@@ -12,16 +12,18 @@ mod phase;
 mod receive;
 mod rows;
 mod session;
+mod session_call;
 mod session_fault;
 mod standing;
 mod step;
+mod trial_run;
 mod write;
 
 pub use ended::Ended;
 pub use laws::{
     a_closed_session_is_over, a_logged_out_session_fills_alone, a_session_keeps_its_promises,
-    going_onward_goes_on, other_calls_keep_the_legs, what_a_session_writes_can_be_written,
-    what_is_received_leads_onward,
+    any_calls_keep_the_rules, going_onward_goes_on, other_calls_keep_the_legs,
+    what_a_session_writes_can_be_written, what_is_received_leads_onward,
 };
 pub use phase::Phase;
 pub use rows::{
@@ -30,8 +32,10 @@ pub use rows::{
     logs_on_and_settles, notes_are_confirmed, refuses_calls, withdraws_what_is_asked_for_again,
 };
 pub use session::Session;
+pub use session_call::SessionCall;
 pub use session_fault::SessionFault;
 pub use step::{Frames, LegIds, Step};
+pub use trial_run::trial;
 
 #[cfg(test)]
 mod tests;

@@ -9,4 +9,5 @@ mod messages;
 mod notes;
 mod resends;
 mod told;
+mod trial_run;
 mod wire;

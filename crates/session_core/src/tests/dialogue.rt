@@ -138,8 +138,8 @@ pub(super) const LOGGED_ON: &[Line] = &[
     (Act::Hear(Text::Once("0", 2, "112=F2|")), NOTHING),
 ];
 
-/// A session of A with B, which has done nothing.
-pub(super) fn new_session(alloc: Global, setup: Setup) -> Result<Session, Fail> {
+/// The configuration of A, whose peer is B.
+pub(super) fn config_for(setup: Setup) -> Result<Config, Fail> {
     let me = CompId::new(b"A").ok_or("A")?;
     let peer = CompId::new(b"B").ok_or("B")?;
     let max_number = match setup {
@@ -148,16 +148,20 @@ pub(super) fn new_session(alloc: Global, setup: Setup) -> Result<Session, Fail> 
         Setup::Told => 1000,
     };
     let config = Config::new(me, peer, 30, max_number).ok_or("a configuration")?;
-    let config = match setup {
+    Ok(match setup {
         Setup::Told => config.with_next(),
         Setup::Usual => config,
         Setup::Few => config,
-    };
-    Ok(Session::new(alloc, config))
+    })
+}
+
+/// A session of A with B, which has done nothing.
+pub(super) fn new_session(alloc: Global, setup: Setup) -> Result<Session, Fail> {
+    Ok(Session::new(alloc, config_for(setup)?))
 }
 
 /// The leg in a place of sweep 1, which buys 100 BRK.B at 10.25 dollars.
-fn leg_in(rt: &impl Abort, place: u8) -> Result<Leg, Fail> {
+pub(super) fn leg_in(rt: &impl Abort, place: u8) -> Result<Leg, Fail> {
     assert!(rt; 1 <= place && place <= MAX_PLACE);
     let symbol = Symbol::new(b"BRK", b"B")?;
     let terms = Terms::new(symbol, Side::Buy, 100, 102_500)?;
@@ -233,7 +237,7 @@ fn subject_of(note: &Note) -> About {
 }
 
 /// A step says no more than this.
-fn assert_step(
+pub(super) fn assert_step(
     rt: &impl Abort,
     alloc: Global,
     step: Step,
@@ -282,7 +286,7 @@ pub(super) fn play(
 }
 
 /// Where a session stands.
-fn assert_stands(rt: &impl Abort, session: &Session, stand: Stand, at: &str) {
+pub(super) fn assert_stands(rt: &impl Abort, session: &Session, stand: Stand, at: &str) {
     let (phase, next_out, next_in, legs) = stand;
     assert_eq!(rt; session.phase(), phase, "{at}");
     assert_eq!(rt; session.next_out(), next_out, "{at}: next out");
