@@ -1,6 +1,6 @@
 -- What holds of a session over every list of calls.
-use Rattle.std.proofs.Common.{◌≡◌, ◌≤◌, ◌<◌, ◌+◌, ℕ, true, false, not, nat_lt, List, [], ◌∷◌, ◌++◌, length, map, Option, Some, None, refl, sym, ap, subst, ◌∙◌, arith, length-append}
-use Rattle.std.specs.Prelude.{Result, Ok, Err, option_to_list}
+use Rattle.std.proofs.Common.{◌≡◌, ◌≤◌, ◌<◌, ◌+◌, ℕ, not, nat_lt, List, [], ◌∷◌, ◌++◌, Option, Some, None, refl, sym, subst, arith, length-append}
+use Rattle.std.specs.Prelude.{Ok, Err, option_to_list}
 use Rattle.leg.specs.Numbered.{numbered}
 use Rattle.leg.specs.declared.leg.Leg.{Leg}
 use Rattle.dialect.specs.declared.message.Message.{Message}
@@ -14,9 +14,9 @@ use Rattle.session_core.specs.declared.session_call.SessionCall.{SessionCall}
 use Rattle.session_core.specs.declared.session_call.SessionCall.TheVariants as call
 use Rattle.session_core.specs.declared.session_fault.SessionFault.TheVariants as fault
 use Rattle.session_core.specs.Session.{SessionParts, next_out, may_write}
-use Rattle.session_core.specs.Turn.{StepParts, no_step}
+use Rattle.session_core.specs.Turn.{StepParts}
 use Rattle.session_core.specs.Calling.{SessionAnswer, refuses, doubted, connect, send_leg, send_in, quiet, silent, close}
-use Rattle.session_core.specs.Onward.{OrUnchanged, IsOnward, KeepsLegs, IsConnection, SendsLeg, IsCall}
+use Rattle.session_core.specs.Onward.{OrUnchanged, IsOnward, IsConnection, SendsLeg, IsCall}
 use Rattle.session_core.specs.Sound.{IsSound, OrdinalsRise}
 use Rattle.session_core.specs.Trial.{Addition, added, added_message, called, after_calls, steps_of, order_of, orders_of, AreRising, IsReadCall, AreRead, WritesNothing, WriteNothing}
 use Rattle.session_core.proofs.Adding.{chosen, onward-refl, onward-trans}

@@ -1,5 +1,5 @@
 -- A list of calls is made one by one.
-use Rattle.std.proofs.Common.{◌≡◌, ◌<◌, ◌+◌, ℕ, Bool, true, false, not, nat_lt, zero, suc, List, [], ◌∷◌, ◌++◌, length, take, drop, get_or, Option, Some, None, refl, sym, ap, subst, ◌∙◌, arith}
+use Rattle.std.proofs.Common.{◌≡◌, ◌<◌, ◌+◌, ℕ, not, nat_lt, List, [], ◌∷◌, ◌++◌, length, take, drop, get_or, Option, Some, None, refl, sym, ap, subst, ◌∙◌}
 use Rattle.std.proofs.lemmas.List.{take_more, append-nil, append_assoc, take-append-drop}
 use Rattle.std.specs.Prelude.{Result, Ok, Err, option_to_list}
 use Rattle.std.specs.Global.{Vec}
@@ -20,9 +20,9 @@ use Rattle.session_core.specs.declared.session_fault.SessionFault.TheVariants as
 use Rattle.session_core.specs.declared.step.Step.{Step}
 use Rattle.session_core.specs.Session.{SessionParts, is_connected, is_still, may_write}
 use Rattle.session_core.specs.Turn.{StepParts, Turn, quietly, puts, puts_fence, ends}
-use Rattle.session_core.specs.Calling.{SessionAnswer, refuses, answers, answers_numbered, connect, connect_in, logs_on, send_leg, send_in, send_up, quiet, silent, hushed, close, close_in, closing_up}
+use Rattle.session_core.specs.Calling.{SessionAnswer, refuses, answers, answers_numbered, connect, connect_in, send_leg, send_in, quiet, silent, hushed, close, close_in, closing_up}
 use Rattle.session_core.specs.Given.{IsStep, Gives}
-use Rattle.session_core.specs.Trial.{Addition, added, added_message, called, after_calls, steps_of, IsReadCall, AreRead, AreSteps, unless_refused, step_with, StepAdded, Adds, Tries}
+use Rattle.session_core.specs.Trial.{Addition, added, added_message, called, after_calls, steps_of, AreSteps, unless_refused, StepAdded, Adds, Tries}
 use Rattle.session_core.proofs.Adding.{chosen}
 
 -- what comes after calls and then others
