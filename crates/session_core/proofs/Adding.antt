@@ -6,7 +6,7 @@ use Rattle.dialect.specs.Addressed.{message_of}
 use Rattle.dialect.specs.declared.content.Content.{Content}
 use Rattle.dialect.specs.declared.message.Message.{Message}
 use Rattle.dialect.specs.declared.content.Content.TheVariants.{TestRequest, ResendRequest, GapFill}
-use Rattle.resend.specs.Log.{Entry, GapFillParts}
+use Rattle.resend.specs.Log.{Entry, GapFillParts, last_ordinal}
 use Rattle.resend.specs.Log.Entry.{Admin}
 use Rattle.resend.specs.Later.{IsLater, WithdrawsNone, withdrawn_since}
 use Rattle.resend.proofs.Later.{later-refl, later-trans, later-append, later-added, withdraws_none-trans, withdraws_none-admin}
@@ -17,6 +17,7 @@ use Rattle.session_core.specs.Session.{SessionParts, next_out, may_write}
 use Rattle.session_core.specs.Turn.{Turn, quietly, with_session, with_message, spending, fence_id, fenced, asking, puts, puts_fence, writes, writes_fence, asks, fills, counts, logs_out, ends_turn, unless_ended}
 use Rattle.session_core.specs.Receiving.{counts_if, asks_if, in_phase, filled_if, asks_missing, asks_anew}
 use Rattle.session_core.specs.Onward.{IsOnward, KeepsLegs, IsCall, SparesLegs, new_numbers, AreNext, SpendsNumbers}
+use Rattle.session_core.proofs.Ordinals.{last-admin}
 
 -- a choice by a test has what both choices have
 pub chosen : {A : Type 0} (P : A → Type 0) (b : Bool) (x y : A) → (b ≡ true → P x) → (b ≡ false → P y)
@@ -213,9 +214,14 @@ spends_by s t u before more =
     (are_next-append (next_out s) (next_out t.session) (next_out u.session) (new_numbers t.step.written) more.0 before
     more.2)
 
--- what a turn does to the session, with whether it may withdraw legs
+last-one_more : (old new : List Entry) → OneMore old new → last_ordinal new ≡ last_ordinal old
+last-one_more old new (inl same) = ap last_ordinal same
+last-one_more old new (inr more) = ap last_ordinal more ∙ last-admin 0 old
+
+-- what a turn does to the session, with whether it may withdraw legs; it sends none
 pub record Goes (may : Bool) (s : SessionParts) (turn : Turn) : Type 0 where
   pub onward : IsOnward s turn.session
+  pub last : last_ordinal turn.session.log ≡ last_ordinal s.log
   pub spends : SpendsNumbers s turn.step.written turn.session
   pub named : turn.step.withdrawn ≡ withdrawn_since s.log turn.session.log
   pub spares : may ≡ false → SparesLegs s turn
@@ -231,6 +237,7 @@ received_by may s t u goes adds = record {
     expected = (let h = goes.onward.expected in omega (arith, adds.expected));
     close_asked = λ asked. adds.close_asked ∙ goes.onward.close_asked asked;
   };
+  last = last-one_more t.session.log u.session.log adds.log ∙ goes.last;
   spends = spends_by s t u goes.spends adds.numbers;
   named =
       adds.withdrawn

@@ -1,27 +1,32 @@
 -- What holds of a session over every list of calls.
-use Rattle.std.proofs.Common.{◌≡◌, ◌≤◌, ◌<◌, ◌+◌, ℕ, not, nat_lt, List, [], ◌∷◌, ◌++◌, Option, Some, None, refl, sym, subst, arith, length-append}
+use Rattle.std.proofs.Common.{◌≡◌, ◌≤◌, ◌<◌, ◌+◌, ℕ, false, not, nat_lt, List, [], ◌∷◌, ◌++◌, Option, Some, None, refl, subst, arith, length-append}
+use Rattle.std.proofs.lemmas.Bool.Decides.{nat_tests}
 use Rattle.std.specs.Prelude.{Ok, Err, option_to_list}
-use Rattle.leg.specs.Numbered.{numbered}
 use Rattle.leg.specs.declared.leg.Leg.{Leg}
+use Rattle.dialect.specs.declared.content.Content.TheVariants.{Heartbeat}
 use Rattle.dialect.specs.declared.message.Message.{Message}
 use Rattle.dialect.specs.Message.{Readers, seen}
-use Rattle.resend.specs.Log.{SentLeg, Entry, last_ordinal}
+use Rattle.resend.specs.Log.{last_ordinal}
 use Rattle.resend.specs.Log.Entry.{Sent}
-use Rattle.resend.specs.Later.{IsLater}
 use Rattle.session_core.specs.declared.phase.Phase.{Phase}
 use Rattle.session_core.specs.declared.phase.Phase.TheVariants.{Down, LoggingOn, Settling, Up, Closing, LoggedOut, Closed}
+use Rattle.session_core.specs.declared.ended.Ended.{Ended}
+use Rattle.session_core.specs.declared.ended.Ended.TheVariants.{Silent, Malformed}
 use Rattle.session_core.specs.declared.session_call.SessionCall.{SessionCall}
 use Rattle.session_core.specs.declared.session_call.SessionCall.TheVariants as call
 use Rattle.session_core.specs.declared.session_fault.SessionFault.TheVariants as fault
-use Rattle.session_core.specs.Session.{SessionParts, next_out, may_write}
-use Rattle.session_core.specs.Turn.{StepParts}
-use Rattle.session_core.specs.Calling.{SessionAnswer, refuses, doubted, connect, send_leg, send_in, quiet, silent, close}
+use Rattle.session_core.specs.Session.{SessionParts, is_connected, is_still, next_out, may_write}
+use Rattle.session_core.specs.Turn.{StepParts, Turn, quietly, puts, puts_fence, counting, with_pending, ends, disconnected}
+use Rattle.session_core.specs.Receiving.{confirm}
+use Rattle.session_core.specs.Calling.{SessionAnswer, refuses, answers, answers_numbered, doubted, connect, connect_in, send_leg, send_in, quiet, silent, hushed, close, close_in, closing_up, malformed, broken}
 use Rattle.session_core.specs.Onward.{OrUnchanged, IsOnward, IsConnection, SendsLeg, IsCall}
-use Rattle.session_core.specs.Sound.{IsSound, OrdinalsRise}
-use Rattle.session_core.specs.Trial.{Addition, added, added_message, called, after_calls, steps_of, order_of, orders_of, AreRising, IsReadCall, AreRead, WritesNothing, WriteNothing}
+use Rattle.session_core.specs.Sound.{IsSound}
+use Rattle.session_core.specs.Trial.{Addition, added, added_message, called, after_calls, steps_of, order_of, orders_of, AreRising, IsReadCall, AreRead, WritesNothing, WriteNothing, KeepsRules}
+use Rattle.session_core.proofs.Ordinals.{last-admin, last-sent}
 use Rattle.session_core.proofs.Adding.{chosen, onward-refl, onward-trans}
 use Rattle.session_core.proofs.Called.{connect_keeps, send_leg_keeps, confirm_keeps, quiet_keeps, silent_keeps, close_keeps, malformed_keeps, broken_keeps, abandon_keeps, closed-receive, closed-connect, closed-send_leg, closed-quiet, closed-silent, closed-close, closed-malformed, closed-broken, closed-confirm}
-use Rattle.session_core.proofs.Received.{receive_is_received}
+use Rattle.session_core.proofs.CallsMade.{after-append}
+use Rattle.session_core.proofs.Received.{receive_is_received, receive-last}
 use Rattle.session_core.proofs.Kept.{kept-receive}
 use Rattle.session_core.proofs.Promised.{connect_sound, send_leg_sound, confirm_sound, quiet_sound, silent_sound, close_sound, malformed_sound, broken_sound, abandon_sound}
 
@@ -46,7 +51,7 @@ call_onward s answer is =
     step_state (IsOnward s) answer (unchanged_onward s (IsCall s) answer (λ step t does. does.keeps.onward) is)
 
 -- each call leads onward
-pub called_onward : (read : Readers) (s : SessionParts) (one : SessionCall) → IsOnward s (called read s one).1
+called_onward : (read : Readers) (s : SessionParts) (one : SessionCall) → IsOnward s (called read s one).1
 called_onward read s call.Connect =
     message_state (IsOnward s) (connect s)
     (unchanged_onward s (IsConnection s) (connect s) (λ m t does. does.keeps.onward) (connect_keeps s))
@@ -63,7 +68,7 @@ called_onward read s call.Malformed = (malformed_keeps s).onward
 called_onward read s call.Broken = (broken_keeps s).onward
 called_onward read s call.Abandon = (abandon_keeps s).onward
 
-pub calls_onward : (read : Readers) (s : SessionParts) (calls : List SessionCall)
+calls_onward : (read : Readers) (s : SessionParts) (calls : List SessionCall)
     → IsOnward s (after_calls read s calls)
 calls_onward read s [] = onward-refl s
 calls_onward read s (one ∷ calls) =
@@ -117,7 +122,7 @@ nothing_more : (o : Option StepParts) (rest : List StepParts) → WritesNothing 
 nothing_more None rest nothing all = all
 nothing_more (Some step) rest nothing all = (nothing, all)
 
-pub calls_over : (read : Readers) (s : SessionParts) (calls : List SessionCall) → s.phase ≡ Closed
+calls_over : (read : Readers) (s : SessionParts) (calls : List SessionCall) → s.phase ≡ Closed
     → WriteNothing (steps_of read s calls)
 calls_over read s [] closed = tt
 calls_over read s (one ∷ calls) closed =
@@ -125,96 +130,171 @@ calls_over read s (one ∷ calls) closed =
     nothing_more (called read s one).0 (steps_of read (called read s one).1 calls) over.nothing
     (calls_over read (called read s one).1 calls over.phase))
 
--- orders under numbers from one on, each of whose legs a log has under its number
-abbrev IsIn : List Entry → ℕ × ℕ → Type 0
-IsIn log order = (leg : SentLeg) × (numbered order.0 log ≡ Some (Sent leg)) × (leg.ordinal ≡ order.1)
+-- the last ordinal after each call but the sending of a leg
+numbered-last : (s : SessionParts) (turn : Turn) → last_ordinal turn.session.log ≡ last_ordinal s.log
+    → last_ordinal (added (answers_numbered s turn)).1.log ≡ last_ordinal s.log
+numbered-last s turn same =
+    chosen (λ (answer : SessionAnswer StepParts). last_ordinal (added answer).1.log ≡ last_ordinal s.log)
+    (may_write s) (answers turn) (refuses fault.NumbersSpent s) (λ may. same) (λ spent. refl)
 
-abbrev AreIn : ℕ → List Entry → List (ℕ × ℕ) → Type 0
-AreIn next log [] = Unit {0}
-AreIn next log (order ∷ orders) = (next ≤ order.0) × IsIn log order × AreIn (order.0 + 1) log orders
+connect_in-last : (s : SessionParts) (phase : Phase)
+    → last_ordinal (added_message (connect_in phase s)).1.log ≡ last_ordinal s.log
+connect_in-last s Down =
+    chosen (λ (answer : SessionAnswer Message). last_ordinal (added_message answer).1.log ≡ last_ordinal s.log)
+    (may_write s) _ (refuses fault.NumbersSpent s) (λ may. last-admin 0 s.log) (λ spent. refl)
+connect_in-last s LoggingOn = refl
+connect_in-last s Settling = refl
+connect_in-last s Up = refl
+connect_in-last s Closing = refl
+connect_in-last s LoggedOut = refl
+connect_in-last s Closed = refl
 
-lower : (least next : ℕ) (log : List Entry) (orders : List (ℕ × ℕ)) → least ≤ next → AreIn next log orders
-    → AreIn least log orders
-lower least next log [] below all = tt
-lower least next log (order ∷ orders) below all =
-    (let above = all.0 in (omega (arith, below, above), all.1, all.2))
+confirm-last : (s : SessionParts) → last_ordinal (confirm s).log ≡ last_ordinal s.log
+confirm-last s =
+    chosen (λ (t : SessionParts). last_ordinal t.log ≡ last_ordinal s.log) s.current.pending
+    (with_pending false (counting s)) s (λ noted. refl) (λ none_noted. refl)
 
--- an order that is sent has the next number
-abbrev HasNext : SessionParts → SessionAnswer Message → Type 0
-HasNext s (Ok message, after) = (message.number ≡ next_out s) × (next_out after ≡ next_out s + 1)
-HasNext s (Err why, after) = Unit {0}
+quiet-last : (s : SessionParts) → last_ordinal (added (quiet s)).1.log ≡ last_ordinal s.log
+quiet-last s =
+    (let Same : SessionAnswer StepParts → Type 0 = λ answer. last_ordinal (added answer).1.log ≡ last_ordinal s.log in
+    chosen Same (not (is_connected s.phase)) (refuses fault.NotConnected s) _ (λ off. refl)
+    (λ on. chosen Same (is_still s.phase) (answers (quietly s)) _ (λ still. refl)
+    (λ going. numbered-last s (puts (Heartbeat None) (quietly s)) (last-admin 0 s.log))))
 
-send_in-next : (s : SessionParts) (ordinal : ℕ) (leg : Leg) (phase : Phase) → HasNext s (send_in phase s ordinal leg)
+silent-last : (s : SessionParts) → last_ordinal (added (silent s)).1.log ≡ last_ordinal s.log
+silent-last s =
+    (let Same : SessionAnswer StepParts → Type 0 = λ answer. last_ordinal (added answer).1.log ≡ last_ordinal s.log in
+    chosen Same (not (is_connected s.phase)) (refuses fault.NotConnected s) _ (λ off. refl)
+    (λ on. chosen Same s.current.silent (answers (ends Silent s)) _ (λ again. refl)
+    (λ first. chosen Same (is_still s.phase) (answers (quietly (hushed s))) _ (λ still. refl)
+    (λ going. numbered-last s (puts_fence (quietly (hushed s))) (last-admin 0 s.log)))))
+
+close_in-last : (s : SessionParts) (phase : Phase)
+    → last_ordinal (added (close_in phase s)).1.log ≡ last_ordinal s.log
+close_in-last s Up = numbered-last s (puts_fence (quietly (closing_up s))) (last-admin 0 s.log)
+close_in-last s Down = refl
+close_in-last s Closed = refl
+close_in-last s LoggingOn = refl
+close_in-last s Settling = refl
+close_in-last s Closing = refl
+close_in-last s LoggedOut = refl
+
+malformed-last : (s : SessionParts) → last_ordinal (malformed s).1.log ≡ last_ordinal s.log
+malformed-last s =
+    chosen (λ (r : Option Ended × SessionParts). last_ordinal r.1.log ≡ last_ordinal s.log) (is_connected s.phase)
+    (Some Malformed, disconnected false s) (None, s) (λ on. refl) (λ off. refl)
+
+broken-last : (s : SessionParts) → last_ordinal (broken s).log ≡ last_ordinal s.log
+broken-last s =
+    chosen (λ (t : SessionParts). last_ordinal t.log ≡ last_ordinal s.log) (is_connected s.phase)
+    (disconnected false s) s (λ on. refl) (λ off. refl)
+
+-- orders under numbers from one on, with ordinals above another
+abbrev AreAbove : ℕ → ℕ → List (ℕ × ℕ) → Type 0
+AreAbove next last [] = Unit {0}
+AreAbove next last (order ∷ orders) = (next ≤ order.0) × (last < order.1) × AreAbove (order.0 + 1) order.1 orders
+
+lower : (least next last : ℕ) (orders : List (ℕ × ℕ)) → least ≤ next → AreAbove next last orders
+    → AreAbove least last orders
+lower least next last [] below all = tt
+lower least next last (order ∷ orders) below all = (let above = all.0 in (omega (arith, below, above), all.1, all.2))
+
+-- an order that is sent has the next number, and its leg the last ordinal, above the one that was last
+abbrev IsNextOrder : SessionParts → ℕ → SessionAnswer Message → Type 0
+IsNextOrder s ordinal (Ok message, after) =
+    (message.number ≡ next_out s) × (next_out after ≡ next_out s + 1) × (last_ordinal s.log < ordinal)
+    × (last_ordinal after.log ≡ ordinal)
+IsNextOrder s ordinal (Err why, after) = after ≡ s
+
+above_last : (last ordinal : ℕ) → not (nat_lt last ordinal) ≡ false → last < ordinal
+above_last last ordinal is = grind (arith, nat_tests, is)
+
+send_in-next : (s : SessionParts) (ordinal : ℕ) (leg : Leg) (phase : Phase)
+    → IsNextOrder s ordinal (send_in phase s ordinal leg)
 send_in-next s ordinal leg Up =
-    chosen (HasNext s) (not (nat_lt (last_ordinal s.log) ordinal)) (refuses fault.OrdinalNotGreater s) _ (λ low. tt)
-    (λ high. chosen (HasNext s) (may_write s) _ (refuses fault.NumbersSpent s)
-    (λ may. (refl, omega (arith, length-append s.log (Sent (doubted ordinal leg) ∷ []))))
-    (λ spent. tt))
-send_in-next s ordinal leg Down = tt
-send_in-next s ordinal leg LoggingOn = tt
-send_in-next s ordinal leg Settling = tt
-send_in-next s ordinal leg Closing = tt
-send_in-next s ordinal leg LoggedOut = tt
-send_in-next s ordinal leg Closed = tt
+    chosen (IsNextOrder s ordinal) (not (nat_lt (last_ordinal s.log) ordinal)) (refuses fault.OrdinalNotGreater s) _
+    (λ low. refl)
+    (λ high. chosen (IsNextOrder s ordinal) (may_write s) _ (refuses fault.NumbersSpent s)
+    (λ may. (
+      refl,
+      omega (arith, length-append s.log (Sent (doubted ordinal leg) ∷ [])),
+      above_last (last_ordinal s.log) ordinal high,
+      last-sent 0 s.log (doubted ordinal leg),
+    ))
+    (λ spent. refl))
+send_in-next s ordinal leg Down = refl
+send_in-next s ordinal leg LoggingOn = refl
+send_in-next s ordinal leg Settling = refl
+send_in-next s ordinal leg Closing = refl
+send_in-next s ordinal leg LoggedOut = refl
+send_in-next s ordinal leg Closed = refl
 
-sent_first : (s : SessionParts) (ordinal : ℕ) (leg : Leg) (final : List Entry) (answer : SessionAnswer Message)
-    (rest : List (ℕ × ℕ)) → OrUnchanged s (SendsLeg s ordinal leg) answer → HasNext s answer
-    → IsLater (added_message answer).1.log final → AreIn (next_out (added_message answer).1) final rest
-    → AreIn (next_out s) final (order_of (call.SendLeg ordinal leg) (added_message answer).0 ++ rest)
-sent_first s ordinal leg final (Ok m, t) rest does next later all =
-    (let kept = later.sent (next_out s) (doubted ordinal leg) does.in_doubt in
-    let is_next = next.0 in
+sent_first : (s : SessionParts) (ordinal : ℕ) (leg : Leg) (answer : SessionAnswer Message) (rest : List (ℕ × ℕ))
+    → IsNextOrder s ordinal answer
+    → AreAbove (next_out (added_message answer).1) (last_ordinal (added_message answer).1.log) rest
+    → AreAbove (next_out s) (last_ordinal s.log)
+    (order_of (call.SendLeg ordinal leg) (added_message answer).0 ++ rest)
+sent_first s ordinal leg (Ok m, t) rest next all =
+    (let is_next = next.0 in
     let is_after = next.1 in (
       omega (arith, is_next),
-      (kept.0, subst (λ (n : ℕ). numbered n final ≡ Some (Sent kept.0)) (sym is_next) kept.1, kept.2.ordinal),
-      lower (m.number + 1) (next_out t) final rest (omega (arith, is_next, is_after)) all,
+      next.2,
+      lower (m.number + 1) (next_out t) ordinal rest (omega (arith, is_next, is_after))
+          (subst (λ (last : ℕ). AreAbove (next_out t) last rest) next.3 all),
     ))
-sent_first s ordinal leg final (Err why, t) rest is next later all =
-    subst (λ (u : SessionParts). AreIn (next_out u) final rest) is all
+sent_first s ordinal leg (Err why, t) rest is all =
+    subst (λ (u : SessionParts). AreAbove (next_out u) (last_ordinal u.log) rest) is all
 
 -- a call that writes no order
-other_first : (read : Readers) (s : SessionParts) (one : SessionCall) (final : List Entry) (orders : List (ℕ × ℕ))
-    → AreIn (next_out (called read s one).1) final orders → AreIn (next_out s) final orders
-other_first read s one final orders all =
+other_first : (read : Readers) (s : SessionParts) (one : SessionCall) (orders : List (ℕ × ℕ))
+    → last_ordinal (called read s one).1.log ≡ last_ordinal s.log
+    → AreAbove (next_out (called read s one).1) (last_ordinal (called read s one).1.log) orders
+    → AreAbove (next_out s) (last_ordinal s.log) orders
+other_first read s one orders same all =
     (let last = (called_onward read s one).log.last in
-    lower (next_out s) (next_out (called read s one).1) final orders (omega (arith, last)) all)
+    lower (next_out s) (next_out (called read s one).1) (last_ordinal s.log) orders (omega (arith, last))
+    (subst (λ (ordinal : ℕ). AreAbove (next_out (called read s one).1) ordinal orders) same all))
 
--- every order that is written is still there in the end, each under a higher number than the one before
-calls_in : (read : Readers) (s : SessionParts) (calls : List SessionCall)
-    → AreIn (next_out s) (after_calls read s calls).log (orders_of read s calls)
-calls_in read s [] = tt
-calls_in read s (call.SendLeg ordinal leg ∷ calls) =
+calls_above : (read : Readers) (s : SessionParts) (calls : List SessionCall)
+    → AreAbove (next_out s) (last_ordinal s.log) (orders_of read s calls)
+calls_above read s [] = tt
+calls_above read s (call.SendLeg ordinal leg ∷ calls) =
     (let next = called read s (call.SendLeg ordinal leg) in
-    sent_first s ordinal leg (after_calls read next.1 calls).log (send_leg s ordinal leg)
-    (orders_of read next.1 calls) (send_leg_keeps s ordinal leg) (send_in-next s ordinal leg s.phase)
-    (calls_onward read next.1 calls).log (calls_in read next.1 calls))
-calls_in read s (call.Connect ∷ calls) = other_first read s call.Connect _ _ (calls_in read (called read s call.Connect).1 calls)
-calls_in read s (call.Receive envelope ∷ calls) = other_first read s (call.Receive envelope) _ _ (calls_in read (called read s (call.Receive envelope)).1 calls)
-calls_in read s (call.Confirm ∷ calls) = other_first read s call.Confirm _ _ (calls_in read (called read s call.Confirm).1 calls)
-calls_in read s (call.Quiet ∷ calls) = other_first read s call.Quiet _ _ (calls_in read (called read s call.Quiet).1 calls)
-calls_in read s (call.Silent ∷ calls) = other_first read s call.Silent _ _ (calls_in read (called read s call.Silent).1 calls)
-calls_in read s (call.Close ∷ calls) = other_first read s call.Close _ _ (calls_in read (called read s call.Close).1 calls)
-calls_in read s (call.Malformed ∷ calls) = other_first read s call.Malformed _ _ (calls_in read (called read s call.Malformed).1 calls)
-calls_in read s (call.Broken ∷ calls) = other_first read s call.Broken _ _ (calls_in read (called read s call.Broken).1 calls)
-calls_in read s (call.Abandon ∷ calls) = other_first read s call.Abandon _ _ (calls_in read (called read s call.Abandon).1 calls)
+    sent_first s ordinal leg (send_leg s ordinal leg) (orders_of read next.1 calls)
+    (send_in-next s ordinal leg s.phase) (calls_above read next.1 calls))
+calls_above read s (call.Connect ∷ calls) =
+    other_first read s call.Connect _ (connect_in-last s s.phase)
+    (calls_above read (called read s call.Connect).1 calls)
+calls_above read s (call.Receive envelope ∷ calls) =
+    other_first read s (call.Receive envelope) _ (receive-last s (seen read envelope))
+    (calls_above read (called read s (call.Receive envelope)).1 calls)
+calls_above read s (call.Confirm ∷ calls) =
+    other_first read s call.Confirm _ (confirm-last s) (calls_above read (called read s call.Confirm).1 calls)
+calls_above read s (call.Quiet ∷ calls) =
+    other_first read s call.Quiet _ (quiet-last s) (calls_above read (called read s call.Quiet).1 calls)
+calls_above read s (call.Silent ∷ calls) =
+    other_first read s call.Silent _ (silent-last s) (calls_above read (called read s call.Silent).1 calls)
+calls_above read s (call.Close ∷ calls) =
+    other_first read s call.Close _ (close_in-last s s.phase) (calls_above read (called read s call.Close).1 calls)
+calls_above read s (call.Malformed ∷ calls) =
+    other_first read s call.Malformed _ (malformed-last s) (calls_above read (called read s call.Malformed).1 calls)
+calls_above read s (call.Broken ∷ calls) =
+    other_first read s call.Broken _ (broken-last s) (calls_above read (called read s call.Broken).1 calls)
+calls_above read s (call.Abandon ∷ calls) =
+    other_first read s call.Abandon _ refl (calls_above read (called read s call.Abandon).1 calls)
 
-rising : (next : ℕ) (log : List Entry) (orders : List (ℕ × ℕ)) → OrdinalsRise log → AreIn next log orders
-    → AreRising orders
-rising next log [] rise all = tt
-rising next log (first ∷ []) rise all = tt
-rising next log (first ∷ second ∷ orders) rise all =
-    (let one = all.1 in
-    let later = all.2 in
-    let two = later.1 in
+rising : (next last : ℕ) (orders : List (ℕ × ℕ)) → AreAbove next last orders → AreRising orders
+rising next last [] all = tt
+rising next last (first ∷ []) all = tt
+rising next last (first ∷ second ∷ orders) all =
+    (let later = all.2 in
     let above = later.0 in
-    let same = one.2 in
-    let same_too = two.2 in
-    let below : first.0 < second.0 = omega (arith, above) in
-    let rises = rise first.0 one.0 one.1 second.0 two.0 two.1 below in
-    (below, omega (arith, rises, same, same_too), rising (first.0 + 1) log (second ∷ orders) rise later))
+    (omega (arith, above), later.1, rising (first.0 + 1) first.1 (second ∷ orders) later))
 
-pub calls_rise : (read : Readers) (s : SessionParts) (calls : List SessionCall) → IsSound s → AreRead read calls
-    → AreRising (orders_of read s calls)
-calls_rise read s calls is all =
-    rising (next_out s) (after_calls read s calls).log (orders_of read s calls)
-    (calls_sound read s calls is all).legs.rise (calls_in read s calls)
+pub calls_keep_rules : (read : Readers) (s : SessionParts) (calls : List SessionCall) → KeepsRules read s calls
+calls_keep_rules read s calls = record {
+  onward = λ first later rest is.
+      rw (after-append read s first later) (calls_onward read (after_calls read s first) later);
+  orders = rising (next_out s) (last_ordinal s.log) (orders_of read s calls) (calls_above read s calls);
+  closed = λ first rest is over. calls_over read (after_calls read s first) rest over;
+}

@@ -26,7 +26,7 @@ use Rattle.session_core.specs.Trial.{Addition, added, added_message, called, aft
 use Rattle.session_core.proofs.Adding.{chosen}
 
 -- what comes after calls and then others
-after-append : (read : Readers) (s : SessionParts) (first then : List SessionCall)
+pub after-append : (read : Readers) (s : SessionParts) (first then : List SessionCall)
     → after_calls read s (first ++ then) ≡ after_calls read (after_calls read s first) then
 after-append read s [] then = refl
 after-append read s (call ∷ first) then = after-append read (called read s call).1 first then
@@ -132,7 +132,8 @@ adds : (w : Writers) (stamp : StampParts) (before now : SessionParts) (answer : 
     → Adds w stamp (added answer) given now
 adds w stamp before now (Ok said, after) (Ok step) given never is so = rw so is
 adds w stamp before now (Ok said, after) (Err why) given never is so =
-    (let wants : given ≡ Err fault.OutOfMemory = so ∙ ap (λ (f : SessionFault). unless_refused {X = Step} (Err f)) is.0 in
+    (let wants : given ≡ Err fault.OutOfMemory =
+    so ∙ ap (λ (f : SessionFault). unless_refused {X = Step} (Err f)) is.0 in
     rw wants refl)
 adds w stamp before now (Err why, after) result given never is so =
     (let none : given ≡ Ok None =
@@ -226,8 +227,10 @@ module _ (w : Writers) (stamp : StampParts) (read : Readers) (start : SessionPar
       → (now ≡ here.1) × AreSteps w stamp (said ++ option_to_list here.0) steps
       → (now ≡ after_calls read start (take (i + 1) calls))
       × AreSteps w stamp (steps_of read start (take (i + 1) calls)) steps
-  more now steps is =
-      (is.0 ∙ sym (after-more read start calls i one below is_one), rw (steps-more read start calls i one below is_one) is.1)
+  more now steps is = (
+    is.0 ∙ sym (after-more read start calls i one below is_one),
+    rw (steps-more read start calls i one below is_one) is.1,
+  )
 
   pub step-more : (before now : SessionParts) (steps later : List Step) (step : Step)
       → (before ≡ after_calls read start (take i calls)) × AreSteps w stamp said steps
@@ -256,7 +259,8 @@ module _ (w : Writers) (stamp : StampParts) (read : Readers) (start : SessionPar
   wanting (x ∷ first) more rest after why is = is
 
   all_steps : steps_of read start calls
-      ≡ (said ++ option_to_list here.0) ++ steps_of read (after_calls read start (take (i + 1) calls)) (drop (i + 1) calls)
+      ≡ (said ++ option_to_list here.0)
+      ++ steps_of read (after_calls read start (take (i + 1) calls)) (drop (i + 1) calls)
   all_steps =
       ap (steps_of read start) (sym (take-append-drop (i + 1) calls))
       ∙ (steps-append read start (take (i + 1) calls) (drop (i + 1) calls)

@@ -1,3 +1,4 @@
+pub mod Ordinals
 pub mod Adding
 pub mod Received
 pub mod Called

@@ -14,7 +14,7 @@ use Rattle.dialect.specs.declared.content.Content.TheVariants.{Logon, Heartbeat,
 use Rattle.resend.specs.declared.judged.Judged.{Judged}
 use Rattle.resend.specs.declared.judged.Judged.TheVariants as judged
 use Rattle.resend.specs.Judging.{judged}
-use Rattle.resend.specs.Log.{Entry, GapFillParts, last_number, take_below, give_up_from, leg_at, fill_for}
+use Rattle.resend.specs.Log.{Entry, GapFillParts, last_number, last_ordinal, take_below, give_up_from, leg_at, fill_for}
 use Rattle.resend.specs.Later.{withdrawn_since}
 use Rattle.resend.proofs.Later.{length-settled_where, later-refl, later-trans, later-take_below, later-give_up_from, withdraws_none-take_below}
 use Rattle.resend.proofs.Settled.{since-refl, since-settled, since-take_below}
@@ -27,6 +27,7 @@ use Rattle.session_core.specs.Session.{SessionParts, is_connected, is_logging_on
 use Rattle.session_core.specs.Turn.{Turn, quietly, writes, writes_fence, fills, settles_at, counts, notes, logs_out, ends, ends_turn}
 use Rattle.session_core.specs.Receiving.{is_reset, counts_if, told_number, is_too_high, settles_told, asks_if, in_phase, logon_row, filled_if, resend_while_settling, resend_later, resend_row, named_fence, passing, is_closing_fence, passed_in, passes_fence, answers_test, gap_fill_row, refused_leg, refused_row, logout_row, report_note, in_turn, row, by_number, received, hearing, receive}
 use Rattle.session_core.specs.Onward.{IsOnward, IsReceived, may_withdraw}
+use Rattle.session_core.proofs.Ordinals.{last-settled_where}
 use Rattle.session_core.proofs.Adding.{Goes, chosen, adds-writes, adds-writes_fence, adds-asks_if, adds-fills, adds-filled_if, adds-counts, adds-in_phase, adds-ends_turn, adds-logs_out, adds-counts_if, adds-asks_missing, received_by}
 
 -- the same log, and an expected number that is no lower
@@ -51,6 +52,7 @@ module _ (may : Bool) where
       → turn.session.close_asked ≡ s.close_asked → turn.step.withdrawn ≡ [] → turn.step.written ≡ [] → Goes may s turn
   received_with s turn config log connection expected close_asked withdrawn written = record {
     onward = onward_with s turn.session config log connection expected close_asked;
+    last = ap last_ordinal log;
     spends = rw written (ap (λ (l : List Entry). length l + 1) log);
     named = withdrawn ∙ sym (rw log (since-refl s.log));
     spares = λ not_now. record { named = withdrawn; settled = rw log (λ number leg is gone. is) };
@@ -80,6 +82,9 @@ module _ (may : Bool) where
       expected = omega arith;
       close_asked = λ asked. asked;
     };
+    last =
+        last-settled_where (λ k. nat_le n k) Withdrawn 0 1 (take_below n s.log)
+        ∙ last-settled_where (λ k. nat_lt k n) Taken 0 1 s.log;
     spends =
         ap (λ (n : ℕ). n + 1)
         (length-settled_where (λ k. nat_le n k) Withdrawn 1 (take_below n s.log)
@@ -159,6 +164,7 @@ module _ (may : Bool) where
       expected = omega arith;
       close_asked = λ asked. close_asked ∙ asked;
     };
+    last = ap last_ordinal log ∙ last-settled_where (λ k. nat_lt k fence) Taken 0 1 s.log;
     spends =
         ap (λ (l : List Entry). length l + 1) log ∙ ap (λ (n : ℕ). n + 1)
         (length-settled_where (λ k. nat_lt k fence) Taken 1 s.log);
@@ -285,6 +291,7 @@ module _ (may : Bool) where
       expected = goes.onward.expected;
       close_asked = goes.onward.close_asked;
     };
+    last = goes.last;
     spends = goes.spends;
     named = goes.named;
     spares = λ not_now. (let spared = goes.spares not_now in record { named = spared.named; settled = spared.settled });
@@ -300,3 +307,7 @@ pub receive_is_received : (s : SessionParts) (m : Message) → IsReceived s m (r
 receive_is_received s m =
     (let goes = receive_goes (may_withdraw s m.content) s m refl in
     record { onward = goes.onward; spends = goes.spends; named = goes.named; spares = goes.spares })
+
+-- no leg is sent by it
+pub receive-last : (s : SessionParts) (m : Message) → last_ordinal (receive s m).session.log ≡ last_ordinal s.log
+receive-last s m = (receive_goes (may_withdraw s m.content) s m refl).last

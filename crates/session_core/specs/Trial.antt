@@ -6,6 +6,7 @@ use Rattle.fix_tags.specs.Stamp.{StampParts}
 use Rattle.dialect.specs.declared.message.Message.{Message}
 use Rattle.dialect.specs.Framed.{Writers}
 use Rattle.dialect.specs.Message.{Readers, seen}
+use Rattle.session_core.specs.declared.phase.Phase.TheVariants.{Closed}
 use Rattle.session_core.specs.declared.session_call.SessionCall.{SessionCall}
 use Rattle.session_core.specs.declared.session_call.SessionCall.TheVariants as call
 use Rattle.session_core.specs.declared.session_fault.SessionFault.{SessionFault}
@@ -15,6 +16,7 @@ use Rattle.session_core.specs.Session.{SessionParts}
 use Rattle.session_core.specs.Turn.{StepParts, no_step}
 use Rattle.session_core.specs.Receiving.{receive, confirm}
 use Rattle.session_core.specs.Calling.{SessionAnswer, answers, connect, send_leg, quiet, silent, close, malformed, broken, abandon}
+use Rattle.session_core.specs.Onward.{IsOnward}
 use Rattle.session_core.specs.Sound.{IsRead}
 use Rattle.session_core.specs.Given.{IsStep}
 
@@ -121,3 +123,13 @@ WritesNothing (Some step) = step.written ≡ []
 
 abbrev pub WriteNothing : List StepParts → Type 0
 WriteNothing steps = AllByRecursion (λ step. step.written ≡ []) steps
+
+-- whatever the exchange sends: the session goes onward from each point to each later one, so that a leg leaves doubt at
+-- most once and for good; each order has a higher number and a higher ordinal than the one before it; and once the
+-- session has ended for good it writes nothing
+pub record KeepsRules (read : Readers) (start : SessionParts) (calls : List SessionCall) : Type 0 where
+  pub onward : (first later rest : List SessionCall) → calls ≡ first ++ later ++ rest
+      → IsOnward (after_calls read start first) (after_calls read start (first ++ later))
+  pub orders : AreRising (orders_of read start calls)
+  pub closed : (first rest : List SessionCall) → calls ≡ first ++ rest → (after_calls read start first).phase ≡ Closed
+      → WriteNothing (steps_of read (after_calls read start first) rest)

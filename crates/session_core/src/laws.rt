@@ -16,7 +16,7 @@ ghost use Rattle.session_core.specs.Calling.{connect, send_leg, quiet, silent, c
 ghost use Rattle.session_core.specs.Onward.{OrUnchanged, IsOnward, KeepsLegs, IsConnection, SendsLeg, IsCall, IsReceived, WritesFillAlone};
 ghost use Rattle.session_core.specs.Sound.{IsSound, IsRead, AreWritable};
 ghost use Rattle.session_core.specs.declared.session_call.SessionCall.{SessionCall as ACall};
-ghost use Rattle.session_core.specs.Trial.{after_calls, steps_of, orders_of, AreRead, AreRising, WriteNothing};
+ghost use Rattle.session_core.specs.Trial.{after_calls, AreRead, KeepsRules};
 ghost use Rattle.dialect.specs.Message.{Readers as SomeReaders};
 
 /// A session is onward from itself, and what is onward from a session that is onward is so too.
@@ -93,12 +93,9 @@ pub fn what_a_session_writes_can_be_written()
     ensures close { (s : SessionParts) → IsSound s → IfOk (close s).0 (λ step. AreWritable step.written) }
 {}
 
-/// Whatever list of calls is made, and whatever the exchange sends: the session goes onward, so that a leg leaves doubt
-/// at most once and for good; its orders have rising numbers and rising ordinals, so that each ordinal is sent at most
-/// once; and once it has ended for good it writes nothing.
+/// Whatever list of calls is made, and whatever the exchange sends, the session keeps the rules; and where what is
+/// received was read in range, it keeps its promises.
 pub fn any_calls_keep_the_rules()
-    ensures onward { (read : SomeReaders) (s : SessionParts) (calls : List ACall) → IsOnward s (after_calls read s calls) }
+    ensures rules { (read : SomeReaders) (s : SessionParts) (calls : List ACall) → KeepsRules read s calls }
     ensures promises { (read : SomeReaders) (s : SessionParts) (calls : List ACall) → IsSound s → AreRead read calls → IsSound (after_calls read s calls) }
-    ensures orders { (read : SomeReaders) (s : SessionParts) (calls : List ACall) → IsSound s → AreRead read calls → AreRising (orders_of read s calls) }
-    ensures closed { (read : SomeReaders) (s : SessionParts) (calls : List ACall) → s.phase ≡ phase.Closed → WriteNothing (steps_of read s calls) }
 {}

@@ -2,7 +2,7 @@
 
 ghost use Rattle.std.specs.Prelude.{◌≡◌, IfOk, IsOkUnless};
 ghost use Rattle.session_core.specs.Session.{new_session};
-ghost use Rattle.session_core.specs.Trial.{unless_refused, step_with, StepAdded, called, after_calls, steps_of, Adds, Tries};
+ghost use Rattle.session_core.specs.Trial.{unless_refused, step_with, StepAdded, called, after_calls, steps_of, Adds, Tries, KeepsRules};
 
 use crate::session::Session;
 use crate::session_call::SessionCall;
@@ -60,7 +60,10 @@ impl Session {
         stamp: &Stamp,
         call: &SessionCall<'_>,
     ) -> Result<Option<Step>, SessionFault>
-        ensures { Adds (record { IsOrder = D.IsOrder dialect.now; IsReport = D.IsReport dialect.now }) stamp.now (called (record { order = D.order_read dialect.now; report = D.report_read dialect.now }) self.old call.now) result self.new }
+        ensures { Adds
+            (record { IsOrder = D.IsOrder dialect.now; IsReport = D.IsReport dialect.now }) stamp.now
+            (called (record { order = D.order_read dialect.now; report = D.report_read dialect.now }) self.old call.now)
+            result self.new }
     {
         match call {
             SessionCall::Connect => step_given(self.alloc(), self.connect(dialect, stamp)),
@@ -101,7 +104,16 @@ pub fn trial<D: Dialect>(
     stamp: &Stamp,
     calls: &[SessionCall<'_>],
 ) -> Result<(Session, Vec<Step>), SessionFault>
-    ensures { Tries (record { IsOrder = D.IsOrder dialect.now; IsReport = D.IsReport dialect.now }) stamp.now (steps_of (record { order = D.order_read dialect.now; report = D.report_read dialect.now }) (new_session config) calls.now) (after_calls (record { order = D.order_read dialect.now; report = D.report_read dialect.now }) (new_session config) calls.now) result }
+    ensures run { Tries
+        (record { IsOrder = D.IsOrder dialect.now; IsReport = D.IsReport dialect.now }) stamp.now
+        (steps_of (record { order = D.order_read dialect.now; report = D.report_read dialect.now })
+        (new_session config) calls.now)
+        (after_calls (record { order = D.order_read dialect.now; report = D.report_read dialect.now })
+        (new_session config) calls.now)
+        result }
+    ensures rules { KeepsRules
+        (record { order = D.order_read dialect.now; report = D.report_read dialect.now })
+        (new_session config) calls.now }
 {
     let mut session = Session::new(alloc, config);
     let mut steps = Vec::new(alloc);
