@@ -4,6 +4,9 @@ ghost use Rattle.std.specs.Prelude.{◌≡◌, ◌<◌, length, Some};
 ghost use Rattle.std.specs.Option.{option_copied};
 ghost use Rattle.schedule.specs.World.{accepted, closed_at, given, made, totals, venue_in};
 
+mod desk_events;
+mod end_events;
+
 use crate::venue::Venue;
 use dialect::{Dialect, Note, Report};
 use leg::{Leg, Totals, VenueId};
