@@ -1,1 +1,5 @@
 pub mod Reports
+pub mod FramesRead
+pub mod SessionCalls
+pub mod WorldAfter
+pub mod EventsHappen

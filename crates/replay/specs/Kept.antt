@@ -1,5 +1,5 @@
 -- What a venue and a world keep.
-use Rattle.std.specs.Prelude.{◌≡◌, ℕ, List, [], ◌∷◌, Option, Some, None, length, IfSome}
+use Rattle.std.specs.Prelude.{◌≡◌, ℕ, List, [], ◌∷◌, Option, Some, None, IfSome}
 use Rattle.std.specs.List.{AllByRecursion}
 use Rattle.dialect.specs.Framed.{Writers}
 use Rattle.exchange_core.specs.Exchange.{ExchangeParts, live_connection}

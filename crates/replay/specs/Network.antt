@@ -1,5 +1,5 @@
 -- The network as bytes: what a frame is read as, and that each is one that was written.
-use Rattle.std.specs.Prelude.{◌≡◌, ℕ, false, List, [], map, Option, Some, None, Result, Ok, Err}
+use Rattle.std.specs.Prelude.{ℕ, false, List, [], map, Option, Some, None, Result, Ok, Err}
 use Rattle.fix_text.specs.Tagged.{Tagged}
 use Rattle.fix_text.specs.Reading.{Stream, next_read}
 use Rattle.fix_tags.specs.Reading.{envelope_read}

@@ -4,6 +4,7 @@
 
 mod ends;
 mod frame;
+mod keep;
 mod moment;
 mod venue;
 mod world;

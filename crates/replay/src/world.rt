@@ -6,6 +6,7 @@ ghost use Rattle.schedule.specs.World.{accepted, closed_at, given, made, totals,
 
 mod desk_events;
 mod end_events;
+mod session_events;
 
 use crate::venue::Venue;
 use dialect::{Dialect, Note, Report};

@@ -1,4 +1,4 @@
-use Rattle.std.proofs.Common.{◌≡◌, [], Option, Some, None, ap, ◌∙◌}
+use Rattle.std.proofs.Common.{◌≡◌, Option, Some, None, ap, ◌∙◌}
 use Rattle.std.specs.Option.{option_map_or}
 use Rattle.schedule.specs.World.{VenueParts, venue_in}
 use Rattle.replay.proofs.world.World.closed_at.Goals as goal
