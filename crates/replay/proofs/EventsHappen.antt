@@ -7,11 +7,13 @@ use Rattle.session_core.specs.Turn.{StepParts}
 use Rattle.session_core.specs.Calling.{SessionAnswer, connect, quiet, silent, close}
 use Rattle.session_core.specs.Onward.{OrUnchanged, IsCall}
 use Rattle.session_core.proofs.Called.{connect_keeps, quiet_keeps, silent_keeps, close_keeps}
+use Rattle.schedule.specs.declared.act.Act.{Act}
 use Rattle.schedule.specs.declared.event.Event.{Event}
 use Rattle.schedule.specs.declared.event.Event.TheVariants as event
 use Rattle.schedule.specs.World.{World, VenueParts, venue_in}
-use Rattle.schedule.specs.Happening.{with_venue, may_connect, connected_world, called_world, closed_world, connects, happens}
-use Rattle.replay.specs.AtVenue.{sent, called}
+use Rattle.schedule.specs.Happening.{with_venue, may_connect, connected_world, called_world, closed_world, connects, act_of, acted_world, happens}
+use Rattle.replay.specs.AtVenue.{sent, called, acted}
+use Rattle.replay.proofs.ExchangeActs.{act_in_live, acted_is}
 use Rattle.replay.proofs.WorldAfter.{at_there, is_there, with_same, connected_is, called_is}
 
 -- what happens at a venue by its index, where that was not for want of memory
@@ -72,3 +74,12 @@ close_refused w v before now there ok is =
     ap (with_venue w v) is
     ∙ (closes_not w v before (close before.session) there (close_keeps before.session) ok
     ∙ sym (at_there w v before (λ venue. closed_world w v venue (close venue.session)) there))
+
+-- the exchange acts
+pub act_happens : (w : World) (v : ℕ) (before now : VenueParts) (a : Act) → venue_in w v ≡ Some before
+    → now ≡ acted before (act_of a before.exchange)
+    → with_venue w v now ≡ happens w (event.Act v a)
+act_happens w v before now a there is =
+    ap (with_venue w v) is
+    ∙ (acted_is w v before (act_of a before.exchange) there (act_in_live a before.exchange)
+    ∙ sym (at_there w v before (λ venue. acted_world w v venue (act_of a venue.exchange)) there))

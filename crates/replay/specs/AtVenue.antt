@@ -1,15 +1,17 @@
 -- What becomes of a venue by what its two ends do.
-use Rattle.std.specs.Prelude.{ℕ, List, [], ◌∷◌, map, Option, Some, None, Ok, Err}
+use Rattle.std.specs.Prelude.{ℕ, List, [], ◌∷◌, map, Ok, Err}
 use Rattle.std.specs.Global.{Vec}
+use Rattle.dialect.specs.FreeText.{IsFreeText}
 use Rattle.dialect.specs.declared.message.Message.{Message}
 use Rattle.session_core.specs.Turn.{StepParts}
 use Rattle.session_core.specs.Calling.{SessionAnswer}
 use Rattle.exchange_core.specs.Acts.{ActAnswer}
-use Rattle.exchange_core.specs.Exchange.{live_connection, take}
+use Rattle.exchange_core.specs.Exchange.{live_connection}
 use Rattle.replay.specs.declared.frame.Frame.{Frame}
-use Rattle.schedule.specs.World as world
+use Rattle.schedule.specs.declared.act.Act.{Act}
+use Rattle.schedule.specs.declared.act.Act.TheVariants as act
 use Rattle.schedule.specs.World.{VenueParts}
-use Rattle.schedule.specs.Happening.{session_wrote, exchange_did, exchange_wrote}
+use Rattle.schedule.specs.Happening.{session_wrote, exchange_did}
 
 -- the frames of what was written into a connection
 abbrev pub written_in : ℕ → List (Vec ℕ) → List Frame
@@ -30,9 +32,7 @@ abbrev pub acted : VenueParts → ActAnswer → VenueParts
 acted venue (Ok written, exchange) = exchange_did (live_connection venue.exchange) written exchange venue
 acted venue (Err fault, exchange) = record venue { exchange = exchange }
 
--- a frame comes to the exchange, in the connection that it was written in
-abbrev pub taken : VenueParts → Option world.Frame → VenueParts
-taken venue None = venue
-taken venue (Some frame) =
-    let answer = take venue.exchange frame.connection frame.message in
-    exchange_wrote frame.connection answer.0 answer.1 venue
+-- the price of a trade is one that a venue may pick
+abbrev pub IsActInRange : Act → Type 0
+IsActInRange (act.Trade order shares px) = IsFreeText 20 px
+IsActInRange a = Unit {0}

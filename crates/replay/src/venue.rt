@@ -5,6 +5,7 @@ ghost use Rattle.schedule.specs.World.{new_venue, reports_in};
 ghost use Rattle.schedule.specs.Happening.{is_session_up};
 ghost use Rattle.exchange_core.specs.Exchange.{accepted_by};
 
+mod acts;
 mod calls;
 mod endings;
 
