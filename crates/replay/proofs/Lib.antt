@@ -5,3 +5,4 @@ pub mod WorldAfter
 pub mod ExchangeWrites
 pub mod ExchangeActs
 pub mod EventsHappen
+pub mod TakesHappen

@@ -6,6 +6,7 @@ mod ends;
 mod frame;
 mod keep;
 mod moment;
+mod sending;
 mod venue;
 mod world;
 

@@ -8,6 +8,7 @@ ghost use Rattle.exchange_core.specs.Exchange.{accepted_by};
 mod acts;
 mod calls;
 mod endings;
+mod sends;
 
 use crate::ends::{exchange_end, session_end};
 use crate::frame::Frame;

@@ -8,6 +8,7 @@ mod act_events;
 mod desk_events;
 mod end_events;
 mod session_events;
+mod take_event;
 
 use crate::venue::Venue;
 use dialect::{Dialect, Note, Report};
