@@ -1,0 +1,82 @@
+use Rattle.std.proofs.Common.{◌≡◌, rules, refl, subst}
+use Rattle.std.specs.Prelude.{OnOk}
+use Rattle.dialect.specs.Framed.{Writers}
+use Rattle.dialect.specs.Message.{Readers}
+use Rattle.dialect.proofs.FrameBack.{Agrees}
+use Rattle.session_core.specs.declared.session_fault.SessionFault.{SessionFault}
+use Rattle.session_core.specs.Calling.{silent}
+use Rattle.session_core.specs.Given.{IsStep}
+use Rattle.session_core.proofs.Promised.{silent_sound, silent_writable}
+use Rattle.schedule.specs.World.{VenueParts}
+use Rattle.replay.specs.Network.{all_said}
+use Rattle.replay.specs.AtVenue.{called}
+use Rattle.replay.proofs.SessionCalls.{given_sound, still_kept, step_kept, step_said_if, called_refused}
+use Rattle.replay.proofs.venue.Venue.silent.Goals as goal
+
+pub invariant_of-self : goal.invariant_of-self
+invariant_of-self g c =
+    let v = c.self.inside in
+    let w : Writers = record { IsOrder = g.D.Dialect.IsOrder v.dialect; IsReport = g.D.Dialect.IsReport v.dialect } in
+    let s = v.session in
+    step_kept w s c.silent.new.self v.exchange v.to_exchange.items c.keep.new.kept.items v.from_exchange.items
+    c.stamp.result c.connection-connection.result (silent s) c.in-Ok.step c.into_vec.result.items c.keep.result c.self.invariant c.stamp.ensures
+    c.in-Ok.ensures (silent_sound s c.self.invariant.session) (silent_writable s c.self.invariant.session) c.into_vec.ensures
+    c.connection-connection.ensures c.keep.ensures.ok c.keep.ensures.err
+
+pub invariant_of-self-in-Err-OutOfMemory : goal.invariant_of-self-in-Err-OutOfMemory
+invariant_of-self-in-Err-OutOfMemory g c =
+    let v = c.self.inside in
+    let w : Writers = record { IsOrder = g.D.Dialect.IsOrder v.dialect; IsReport = g.D.Dialect.IsReport v.dialect } in
+    let s = v.session in
+    let sound = given_sound (IsStep w c.stamp.result) s c.silent.new.self (silent s) c.silent.result c.silent.ensures c.self.invariant.session (silent_sound s c.self.invariant.session) in
+    still_kept w s c.silent.new.self v.exchange v.to_exchange.items v.to_exchange.items v.from_exchange.items c.self.invariant sound refl
+
+pub invariant_of-self-in-Err : goal.invariant_of-self-in-Err
+invariant_of-self-in-Err g c =
+    let v = c.self.inside in
+    let w : Writers = record { IsOrder = g.D.Dialect.IsOrder v.dialect; IsReport = g.D.Dialect.IsReport v.dialect } in
+    let s = v.session in
+    let sound = given_sound (IsStep w c.stamp.result) s c.silent.new.self (silent s) c.silent.result c.silent.ensures c.self.invariant.session (silent_sound s c.self.invariant.session) in
+    still_kept w s c.silent.new.self v.exchange v.to_exchange.items v.to_exchange.items v.from_exchange.items c.self.invariant sound refl
+
+pub returns-in-Ok : goal.returns-in-Ok
+returns-in-Ok g c =
+    let v = c.self.inside in
+    let w : Writers = record { IsOrder = g.D.Dialect.IsOrder v.dialect; IsReport = g.D.Dialect.IsReport v.dialect } in
+    let r : Readers = record { order = g.D.Dialect.order_read v.dialect; report = g.D.Dialect.report_read v.dialect } in
+    let laws = g.met.D.Dialect in
+    let agrees : Agrees w r = record {
+      order_back = laws.order_reads_back v.dialect;
+      order_fits = laws.order_fits v.dialect;
+      report_back = laws.report_reads_back v.dialect;
+      report_fits = laws.report_fits v.dialect;
+    } in
+    let before : VenueParts = record {
+      session = v.session;
+      exchange = v.exchange;
+      to_exchange = all_said r v.to_exchange.items;
+      from_exchange = all_said r v.from_exchange.items;
+      given = v.given.items;
+    } in
+    let now : VenueParts = record before { session = c.silent.new.self; to_exchange = all_said r c.keep.new.kept.items } in
+    subst (λ (venue : VenueParts). OnOk c.keep.result (now ≡ called venue (silent venue.session))) c.self.view_is
+    (step_said_if w r agrees before v.to_exchange.items c.keep.new.kept.items c.stamp.result c.connection-connection.result
+    (silent v.session) c.in-Ok.step c.into_vec.result.items c.silent.new.self c.keep.result refl c.stamp.ensures c.in-Ok.ensures
+    (silent_writable v.session c.self.invariant.session) c.into_vec.ensures c.connection-connection.ensures c.keep.ensures.ok)
+
+pub returns-in-Err : goal.returns-in-Err
+returns-in-Err g c =
+    let v = c.self.inside in
+    let w : Writers = record { IsOrder = g.D.Dialect.IsOrder v.dialect; IsReport = g.D.Dialect.IsReport v.dialect } in
+    let r : Readers = record { order = g.D.Dialect.order_read v.dialect; report = g.D.Dialect.report_read v.dialect } in
+    let before : VenueParts = record {
+      session = v.session;
+      exchange = v.exchange;
+      to_exchange = all_said r v.to_exchange.items;
+      from_exchange = all_said r v.from_exchange.items;
+      given = v.given.items;
+    } in
+    let other : c.in-Err.field-0 ≡ SessionFault.OutOfMemory → ⊥ = search rules in
+    let now : VenueParts = record before { session = c.silent.new.self } in
+    subst (λ (venue : VenueParts). now ≡ called venue (silent venue.session)) c.self.view_is
+    (called_refused w c.stamp.result before (silent v.session) c.in-Err.field-0 c.silent.new.self other c.in-Err.ensures)

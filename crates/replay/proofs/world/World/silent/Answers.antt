@@ -1,0 +1,20 @@
+use Rattle.std.proofs.Common.{◌≡◌, ◌<◌, length, sym, subst, ◌∙◌}
+use Rattle.std.specs.Prelude.{OnOk}
+use Rattle.session_core.specs.Calling.{silent}
+use Rattle.schedule.specs.declared.event.Event.TheVariants as event
+use Rattle.schedule.specs.World.{World, VenueParts}
+use Rattle.schedule.specs.Happening.{with_venue, happens}
+use Rattle.replay.specs.AtVenue.{called}
+use Rattle.replay.proofs.EventsHappen.{at_index, silent_happens}
+use Rattle.replay.proofs.world.World.silent.Goals as goal
+
+pub returns : goal.returns
+returns g c =
+    let w : World = record { desk = c.self.inside.desk.desk; book = c.self.inside.book; venues = c.self.inside.venues.items } in
+    let v = c.args.venue in
+    let before : VenueParts = c.index_mut.result.now in
+    let now : VenueParts = c.silent.new.self in
+    let low : v < length w.venues = subst (λ (world : World). v < length world.venues) (sym c.self.view_is) c.requires in
+    subst (λ (world : World). OnOk c.silent.result (with_venue w c.from.result now ≡ happens world (event.Silent v))) c.self.view_is
+    (at_index w c.from.result v before now (now ≡ called before (silent before.session)) (event.Silent v) c.silent.result
+    (c.from.ensures ∙ c.number.ensures.value) low c.index_mut.ensures.value c.silent.ensures (silent_happens w v before now))

@@ -1,0 +1,4 @@
+pub mod Network
+pub mod AtVenue
+pub mod Taking
+pub mod Kept

@@ -1,0 +1,14 @@
+//! The whole core in one thread, over bytes: desk, book, sessions, exchanges and every frame ever written between them,
+//! and the events that move them. What it does is defined in crate `schedule`.
+#![tactic(auto)]
+
+mod ends;
+mod frame;
+mod keep;
+mod moment;
+mod sending;
+mod venue;
+mod world;
+
+pub use venue::Venue;
+pub use world::World;

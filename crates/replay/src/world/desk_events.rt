@@ -1,0 +1,56 @@
+//! What happens at the desk and in the book alone.
+
+ghost use Rattle.std.specs.Prelude.{◌≡◌, ◌<◌, length, OnOk};
+ghost use Rattle.schedule.specs.declared.event.Event.TheVariants as event;
+ghost use Rattle.schedule.specs.Happening.{happens};
+
+use super::World;
+use dialect::Dialect;
+use leg::{Sweep, VenueId};
+use std::alloc::AllocError;
+use sweep_release::{GateFault, ReleaseFault, place};
+
+impl<D: Dialect + Drop> World<D> {
+    /// A sweep is released at the desk and opened in the book, or neither.
+    pub(crate) fn release(&mut self, sweep: Sweep) -> Result<(), AllocError>
+        ensures { OnOk result (self.new ≡ happens self.old (event.Release sweep)) }
+    {
+        match place(&mut self.desk, &mut self.book, sweep) {
+            Err(ReleaseFault::OutOfMemory) => Err(AllocError),
+            _ => Ok(()),
+        }
+    }
+
+    /// The gate of a venue whose session is up goes up, if it may.
+    pub(crate) fn gate_up(&mut self, venue: VenueId) -> Result<(), AllocError>
+        requires { venue < length self.old.venues }
+        ensures { OnOk result (self.new ≡ happens self.old (event.GateUp venue)) }
+    {
+        if !self.at(venue).is_up() {
+            return Ok(());
+        }
+        match self.desk.gate_up(venue) {
+            Err(GateFault::OutOfMemory) => Err(AllocError),
+            _ => Ok(()),
+        }
+    }
+
+    /// The gate of a venue goes down.
+    pub(crate) fn gate_down(&mut self, venue: VenueId)
+        requires { venue < length self.old.venues }
+        ensures { self.new ≡ happens self.old (event.GateDown venue) }
+    {
+        self.desk.gate_down(venue);
+    }
+
+    /// The next leg of a venue whose gate isn't up is dropped, and withdrawn.
+    pub(crate) fn drop_next(&mut self, venue: VenueId)
+        requires { venue < length self.old.venues }
+        ensures { self.new ≡ happens self.old (event.Drop venue) }
+    {
+        if let Some(placed) = self.desk.drop_next(venue) {
+            // A leg that the book has as moved stays as it is.
+            let _ = self.book.withdraw(placed.leg.id);
+        }
+    }
+}

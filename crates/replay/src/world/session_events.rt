@@ -1,0 +1,63 @@
+//! What happens when a venue's session is called.
+
+ghost use Rattle.std.specs.Prelude.{◌≡◌, ◌<◌, length, OnOk};
+ghost use Rattle.schedule.specs.declared.event.Event.TheVariants as event;
+ghost use Rattle.schedule.specs.Happening.{may_connect, happens};
+
+use super::World;
+use dialect::Dialect;
+use leg::VenueId;
+use std::alloc::AllocError;
+use sweep_release::Gate;
+
+impl<D: Dialect + Drop> World<D> {
+    /// The session connects, if the gate isn't up and nothing is placed.
+    pub(crate) fn connect(&mut self, venue: VenueId) -> Result<(), AllocError>
+        requires { venue < length self.old.venues }
+        ensures { OnOk result (self.new ≡ happens self.old (event.Connect venue)) }
+    {
+        if !self.may_connect(venue) {
+            return Ok(());
+        }
+        self.venues[usize::from(venue.number())].connect()
+    }
+
+    /// The session wrote nothing for a while.
+    pub(crate) fn quiet(&mut self, venue: VenueId) -> Result<(), AllocError>
+        requires { venue < length self.old.venues }
+        ensures { OnOk result (self.new ≡ happens self.old (event.Quiet venue)) }
+    {
+        self.venues[usize::from(venue.number())].quiet()
+    }
+
+    /// The session heard nothing for a while.
+    pub(crate) fn silent(&mut self, venue: VenueId) -> Result<(), AllocError>
+        requires { venue < length self.old.venues }
+        ensures { OnOk result (self.new ≡ happens self.old (event.Silent venue)) }
+    {
+        self.venues[usize::from(venue.number())].silent()
+    }
+
+    /// The session is to close; where that isn't refused the gate is shut.
+    pub(crate) fn close(&mut self, venue: VenueId) -> Result<(), AllocError>
+        requires { venue < length self.old.venues }
+        ensures { OnOk result (self.new ≡ happens self.old (event.Close venue)) }
+    {
+        if self.venues[usize::from(venue.number())].close()? {
+            self.desk.shut(venue);
+        }
+        Ok(())
+    }
+
+    /// Whether a session may connect: the gate isn't up and nothing is placed.
+    fn may_connect(&self, venue: VenueId) -> bool
+        requires { venue < length self.now.venues }
+        ensures { result ≡ may_connect self.now.desk venue }
+    {
+        match self.desk.gate(venue) {
+            Gate::Up => false,
+            Gate::Down => self.desk.placed(venue) == 0,
+            Gate::Shut => self.desk.placed(venue) == 0,
+        }
+    }
+}

@@ -1,0 +1,56 @@
+//! What happens when a leg is taken.
+
+ghost use Rattle.std.specs.Prelude.{◌≡◌, ◌<◌, length, OnOk};
+ghost use Rattle.schedule.specs.declared.event.Event.TheVariants as event;
+ghost use Rattle.schedule.specs.Happening.{happens};
+ghost use Rattle.replay.specs.Taking.{leg_to_send};
+
+use super::World;
+use crate::sending::Sending;
+use dialect::Dialect;
+use leg::{PlacedLeg, VenueId};
+use std::alloc::AllocError;
+use sweep_release::Gate;
+
+impl<D: Dialect + Drop> World<D> {
+    /// The next leg of a venue whose gate and session are up leaves the desk and is sent. Where the session has no number
+    /// left for it the leg is withdrawn in the book.
+    pub(crate) fn take(&mut self, venue: VenueId) -> Result<(), AllocError>
+        requires { venue < length self.old.venues }
+        ensures { OnOk result (self.new ≡ happens self.old (event.Take venue)) }
+    {
+        let Some(placed) = self.leg_to_send(venue) else {
+            return Ok(());
+        };
+        let at = usize::from(venue.number());
+        // The leg leaves the desk only once its frame is kept: want of memory leaves it placed.
+        match self.venues[at].send(placed.ordinal, &placed.leg)? {
+            Sending::Sent => {
+                self.desk.take(venue);
+                Ok(())
+            }
+            Sending::NumbersSpent => {
+                self.desk.take(venue);
+                // A leg that the book has as moved stays as it is.
+                let _ = self.book.withdraw(placed.leg.id);
+                Ok(())
+            }
+            Sending::Refused => Ok(()),
+        }
+    }
+
+    /// The next leg of a venue that can be taken and sent: there is none unless both the session and the gate are up.
+    fn leg_to_send(&self, venue: VenueId) -> Option<PlacedLeg>
+        requires { venue < length self.now.venues }
+        ensures { result ≡ leg_to_send self.now venue }
+    {
+        if !self.at(venue).is_up() {
+            return None;
+        }
+        match self.desk.gate(venue) {
+            Gate::Up => self.desk.next_leg(venue),
+            Gate::Down => None,
+            Gate::Shut => None,
+        }
+    }
+}
