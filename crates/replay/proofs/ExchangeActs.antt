@@ -8,7 +8,7 @@ use Rattle.std.proofs.lemmas.List.{append-nil}
 use Rattle.fix_tags.specs.Stamp.{StampParts}
 use Rattle.dialect.specs.declared.report.ReportKind.{ReportKind}
 use Rattle.dialect.specs.declared.report.ReportKind.TheVariants.{Canceled, Rejected}
-use Rattle.dialect.specs.Framed.{Writers}
+use Rattle.dialect.specs.Framed.{Writers, AreFramed}
 use Rattle.dialect.specs.Message.{Readers}
 use Rattle.dialect.specs.Writable.{IsWritable}
 use Rattle.dialect.proofs.FrameBack.{Agrees}
@@ -17,7 +17,7 @@ use Rattle.exchange_core.specs.declared.exchange_fault.ExchangeFault.{ExchangeFa
 use Rattle.exchange_core.specs.declared.live_connection.LiveConnection.{LiveConnection}
 use Rattle.exchange_core.specs.Acts.{ActAnswer, answered, while_live, reported, trade_answer, end_answer, bust_answer, test_answer}
 use Rattle.exchange_core.specs.Exchange.{ExchangeParts, Answer, live_connection, next_execution_report}
-use Rattle.exchange_core.specs.Frames.{AreFramed, ActResult, ActGives}
+use Rattle.exchange_core.specs.Frames.{ActResult, ActGives}
 use Rattle.exchange_core.specs.Order.{OrderParts}
 use Rattle.exchange_core.specs.Sound as exchange
 use Rattle.exchange_core.proofs.ActsReport.{IsReported, AnyPx, trade_reports, cancel_rest_reports, reject_reports, bust_reports, test_reports}
@@ -157,7 +157,7 @@ act_framed : (w : Writers) (at : StampParts) (x now : ExchangeParts) (connection
 act_framed w at x now connection bytes (Err refused, after) then gives can = absurd (let e = gives.0 in cc)
 act_framed w at x now connection bytes (Ok written, after) then gives can =
     are_written w connection written (bytes ∷ []) can
-    (subst (λ (stamp : StampParts). AreFramed w stamp written (bytes ∷ [])) then gives.0)
+    (subst (λ (stamp : StampParts). AreFramed w stamp written (bytes.items ∷ [])) then gives.0)
 
 pub act_kept : (w : Writers) (at : StampParts) (s : SessionParts) (x now : ExchangeParts) (to from new : List Frame) (connection : ℕ)
     (answer : ActAnswer) (bytes : Vec ℕ) → IsKept w s x to from → at ≡ moment
@@ -214,8 +214,8 @@ acted_said w r agrees at s venue to from new connection (Ok written, after) byte
     let x = venue.exchange in
     let alive : x.live ≡ None → ⊥ = wrote_alive w at x now (Ok written, after) bytes acts gives in
     let live : live_connection x ≡ Some connection = is_live x.live (last_connection from) connection alive kept.live last in
-    let framed : AreFramed w moment written (bytes ∷ []) =
-    subst (λ (stamp : StampParts). AreFramed w stamp written (bytes ∷ [])) then gives.0 in
+    let framed : AreFramed w moment written (bytes.items ∷ []) =
+    subst (λ (stamp : StampParts). AreFramed w stamp written (bytes.items ∷ [])) then gives.0 in
     let here = said_written w r agrees connection written (bytes ∷ []) can framed in
     let more = ap (all_said r) is ∙ said_more r from (written_in connection (bytes ∷ [])) in
     (λ k. record venue { exchange = now; from_exchange = more k })

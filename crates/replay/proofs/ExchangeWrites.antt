@@ -6,11 +6,11 @@ use Rattle.std.specs.Global.{Vec}
 use Rattle.std.specs.List.{AllByRecursion}
 use Rattle.std.proofs.lemmas.List.{append-nil}
 use Rattle.dialect.specs.declared.outgoing.Outgoing.{Outgoing}
-use Rattle.dialect.specs.Framed.{Writers}
+use Rattle.dialect.specs.Framed.{Writers, AreFramed}
 use Rattle.dialect.specs.Message.{Readers}
 use Rattle.dialect.specs.Writable.{IsWritable}
 use Rattle.dialect.proofs.FrameBack.{Agrees}
-use Rattle.exchange_core.specs.Frames.{AreFramed}
+use Rattle.exchange_core.specs.Frames.{bytes_of}
 use Rattle.schedule.specs.Happening.{in_connection, messages_of}
 use Rattle.replay.specs.declared.frame.Frame.{Frame}
 use Rattle.replay.specs.Network.{moment, all_said, IsWritten}
@@ -20,7 +20,7 @@ use Rattle.replay.proofs.FramesRead.{reads}
 
 -- what was written of an exchange's messages
 pub said_written : (w : Writers) (r : Readers) → Agrees w r → (connection : ℕ) (out : List Outgoing) (written : List (Vec ℕ))
-    → All IsWritable out → AreFramed w moment out written
+    → All IsWritable out → AreFramed w moment out (bytes_of written)
     → all_said r (written_in connection written) ≡ in_connection connection (messages_of out)
 said_written w r agrees connection [] [] can framed = refl
 said_written w r agrees connection [] (bytes ∷ written) can framed = absurd framed
@@ -31,7 +31,7 @@ said_written w r agrees connection (m ∷ out) (bytes ∷ written) can framed =
     λ k. record { connection = connection; message = first k } ∷ next k
 
 pub are_written : (w : Writers) (connection : ℕ) (out : List Outgoing) (written : List (Vec ℕ)) → All IsWritable out
-    → AreFramed w moment out written
+    → AreFramed w moment out (bytes_of written)
     → AllByRecursion (IsWritten w) (written_in connection written)
 are_written w connection [] [] can framed = tt
 are_written w connection [] (bytes ∷ written) can framed = absurd framed

@@ -6,12 +6,11 @@ use Rattle.std.proofs.lemmas.List.{append-nil}
 use Rattle.fix_text.specs.Reading.{NextFrame}
 use Rattle.dialect.specs.declared.message.Message.{Message}
 use Rattle.dialect.specs.declared.outgoing.Outgoing.{Outgoing}
-use Rattle.dialect.specs.Framed.{Writers, IsFramed}
+use Rattle.dialect.specs.Framed.{Writers, IsFramed, AreFramed}
 use Rattle.dialect.specs.Message.{Readers}
 use Rattle.dialect.specs.Outgoing.{alone}
 use Rattle.dialect.specs.Writable.{IsWritable}
 use Rattle.dialect.proofs.FrameBack.{Agrees, frame_back}
-use Rattle.session_core.specs.Given as session
 use Rattle.session_core.specs.Sound.{AreWritable}
 use Rattle.schedule.specs.World as world
 use Rattle.schedule.specs.Happening.{in_connection}
@@ -39,7 +38,7 @@ all_more P (x ∷ xs) ys first next = (first.0, all_more P xs ys first.1 next)
 
 -- the frames of the messages of a session's step
 pub said_step : (w : Writers) (r : Readers) → Agrees w r → (connection : ℕ) (messages : List Message) (written : List (Vec ℕ))
-    → AreWritable messages → session.AreFramed w moment messages (map (λ bytes. bytes.items) written)
+    → AreWritable messages → AreFramed w moment (map alone messages) (map (λ (bytes : Vec ℕ). bytes.items) written)
     → all_said r (written_in connection written) ≡ in_connection connection messages
 said_step w r agrees connection [] [] can framed = refl
 said_step w r agrees connection [] (bytes ∷ written) can framed = absurd framed
@@ -50,7 +49,7 @@ said_step w r agrees connection (m ∷ messages) (bytes ∷ written) can framed 
     λ k. record { connection = connection; message = first k } ∷ next k
 
 pub written_step : (w : Writers) (connection : ℕ) (messages : List Message) (written : List (Vec ℕ)) → AreWritable messages
-    → session.AreFramed w moment messages (map (λ bytes. bytes.items) written)
+    → AreFramed w moment (map alone messages) (map (λ (bytes : Vec ℕ). bytes.items) written)
     → AllByRecursion (IsWritten w) (written_in connection written)
 written_step w connection [] [] can framed = tt
 written_step w connection [] (bytes ∷ written) can framed = absurd framed
