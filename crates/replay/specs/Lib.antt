@@ -1,4 +1,5 @@
 pub mod Network
 pub mod AtVenue
 pub mod Taking
+pub mod Delivering
 pub mod Kept

@@ -7,6 +7,7 @@ ghost use Rattle.exchange_core.specs.Exchange.{accepted_by};
 
 mod acts;
 mod calls;
+mod deliveries;
 mod endings;
 mod sends;
 

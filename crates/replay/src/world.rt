@@ -6,6 +6,7 @@ ghost use Rattle.schedule.specs.World.{accepted, closed_at, given, made, totals,
 
 mod act_events;
 mod desk_events;
+mod delivery_events;
 mod end_events;
 mod session_events;
 mod take_event;
