@@ -9,6 +9,7 @@ mod acts;
 mod calls;
 mod deliveries;
 mod endings;
+mod hearing;
 mod sends;
 
 use crate::ends::{exchange_end, session_end};

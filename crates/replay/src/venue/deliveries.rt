@@ -1,7 +1,6 @@
-//! What a venue's two ends do with the frames that come to them.
+//! What the exchange of a venue does with the frames that come to it.
 
-ghost use Rattle.std.specs.Prelude.{◌≡◌, OnOk, IfOk};
-ghost use Rattle.std.specs.Option.{option_copied};
+ghost use Rattle.std.specs.Prelude.{◌≡◌, OnOk};
 ghost use Rattle.leg.specs.Numbered.{numbered};
 ghost use Rattle.fix_text.specs.FrameFields.{fields_in};
 ghost use Rattle.fix_text.specs.Reading.{next_read};
@@ -9,12 +8,12 @@ ghost use Rattle.fix_tags.specs.Reading.{envelope_read};
 ghost use Rattle.exchange_core.specs.Exchange.{take};
 ghost use Rattle.exchange_core.specs.Frames.{TakeGives};
 ghost use Rattle.replay.specs.Delivering.{IsMessage, IsFrameOfMessage, taken};
-ghost use Rattle.replay.specs.Network.{moment, stream_of, message_of, message_in};
+ghost use Rattle.replay.specs.Network.{moment, message_of, message_in};
 
 use super::Venue;
-use crate::frame::Frame;
 use crate::keep::keep;
 use crate::moment::stamp;
+use crate::network::{frame_at, stream_of};
 use dialect::Dialect;
 use exchange_core::{Exchange, ExchangeFault};
 use fix_tags::{ReadFault, read_envelope};
@@ -34,7 +33,13 @@ impl<D: Dialect + Drop> Venue<D> {
         };
         let connection = frame.connection;
         let mut stream = stream_of(alloc, &frame.bytes)?;
-        match take_next(alloc, &self.dialect, &mut self.exchange, connection, &mut stream) {
+        match take_next(
+            alloc,
+            &self.dialect,
+            &mut self.exchange,
+            connection,
+            &mut stream,
+        ) {
             Ok(written) => {
                 if keep(&mut self.from_exchange, connection, written).is_err() {
                     // What the exchange wrote is lost, and so is its connection.
@@ -45,27 +50,6 @@ impl<D: Dialect + Drop> Venue<D> {
             }
             Err(_) => Err(AllocError),
         }
-    }
-}
-
-/// The frame of a number, counted from 1, if there is one.
-fn frame_at(frames: &[Frame], number: FrameNumber) -> Option<&Frame>
-    ensures { option_copied result ≡ numbered number frames.now }
-{
-    if number == 0 {
-        return None;
-    }
-    frames.get((number - 1) as usize)
-}
-
-/// A stream of these bytes. The only refusal is want of memory.
-fn stream_of(alloc: Global, bytes: &[u8]) -> Result<FrameReader, AllocError>
-    ensures { IfOk result (λ stream. stream ≡ stream_of bytes.now) }
-{
-    let mut stream = FrameReader::new(alloc);
-    match stream.feed(bytes) {
-        Ok(()) => Ok(stream),
-        Err(_) => Err(AllocError),
     }
 }
 

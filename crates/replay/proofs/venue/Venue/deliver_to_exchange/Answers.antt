@@ -28,7 +28,7 @@ take_next-requires g c =
     let x = v.exchange in
     let frame = c.in-Some.frame.now in
     let there : numbered c.args.number v.to_exchange.items ≡ Some frame =
-    sym c.in-Some.ensures ∙ ap (numbered c.args.number) c.deref.ensures.value in
+    sym (c.in-Some.ensures ∙ ap (numbered c.args.number) c.deref.ensures.value) in
     let written = written_at w c.args.number v.to_exchange.items frame c.self.invariant.to_exchange there in
     let stream : c.in_ok-stream.stream ≡ stream_of frame.bytes.items = c.in_ok-stream.ensures ∙ ap stream_of c.deref-2.ensures.value in
     subst (λ (s : Stream). IsFrameOfMessage (next_read s).frame) (sym stream) (is_frame w r agrees frame written)
@@ -48,7 +48,7 @@ invariant_of-self g c =
     let x = v.exchange in
     let frame = c.in-Some.frame.now in
     let there : numbered c.args.number v.to_exchange.items ≡ Some frame =
-    sym c.in-Some.ensures ∙ ap (numbered c.args.number) c.deref.ensures.value in
+    sym (c.in-Some.ensures ∙ ap (numbered c.args.number) c.deref.ensures.value) in
     let written = written_at w c.args.number v.to_exchange.items frame c.self.invariant.to_exchange there in
     let stream : c.in_ok-stream.stream ≡ stream_of frame.bytes.items = c.in_ok-stream.ensures ∙ ap stream_of c.deref-2.ensures.value in
     let gives : TakeGives w moment x (take x frame.connection (said_by r frame.bytes.items)) (Ok c.in-Ok.written) c.take_next.new.exchange =
@@ -72,7 +72,7 @@ invariant_of-self-else-is_err g c =
     let x = v.exchange in
     let frame = c.in-Some.frame.now in
     let there : numbered c.args.number v.to_exchange.items ≡ Some frame =
-    sym c.in-Some.ensures ∙ ap (numbered c.args.number) c.deref.ensures.value in
+    sym (c.in-Some.ensures ∙ ap (numbered c.args.number) c.deref.ensures.value) in
     let written = written_at w c.args.number v.to_exchange.items frame c.self.invariant.to_exchange there in
     let stream : c.in_ok-stream.stream ≡ stream_of frame.bytes.items = c.in_ok-stream.ensures ∙ ap stream_of c.deref-2.ensures.value in
     let gives : TakeGives w moment x (take x frame.connection (said_by r frame.bytes.items)) (Ok c.in-Ok.written) c.take_next.new.exchange =
@@ -96,7 +96,7 @@ returns-in-Ok g c =
     let x = v.exchange in
     let frame = c.in-Some.frame.now in
     let there : numbered c.args.number v.to_exchange.items ≡ Some frame =
-    sym c.in-Some.ensures ∙ ap (numbered c.args.number) c.deref.ensures.value in
+    sym (c.in-Some.ensures ∙ ap (numbered c.args.number) c.deref.ensures.value) in
     let written = written_at w c.args.number v.to_exchange.items frame c.self.invariant.to_exchange there in
     let stream : c.in_ok-stream.stream ≡ stream_of frame.bytes.items = c.in_ok-stream.ensures ∙ ap stream_of c.deref-2.ensures.value in
     let gives : TakeGives w moment x (take x frame.connection (said_by r frame.bytes.items)) (Ok c.in-Ok.written) c.take_next.new.exchange =
