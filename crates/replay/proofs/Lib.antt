@@ -8,3 +8,5 @@ pub mod WhetherKept
 pub mod ExchangeTakes
 pub mod EventsHappen
 pub mod TakesHappen
+pub mod SessionHears
+pub mod DispatcherHappens

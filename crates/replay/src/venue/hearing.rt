@@ -38,7 +38,10 @@ impl<D: Dialect + Drop> Venue<D> {
         let Some(frame) = frame_at(&self.from_exchange, number) else {
             return Ok(None);
         };
-        if !self.session.phase().is_connected() || frame.connection != self.session.connection() {
+        if !self.session.phase().is_connected() {
+            return Ok(None);
+        }
+        if frame.connection != self.session.connection() {
             return Ok(None);
         }
         let mut stream = stream_of(alloc, &frame.bytes)?;
@@ -59,11 +62,14 @@ impl<D: Dialect + Drop> Venue<D> {
     pub fn confirm(&mut self, note: Option<Note>) -> Result<(), AllocError>
         ensures { OnOk result (self.new ≡ confirmed self.old note) }
     {
-        if let Some(note) = note {
-            self.given.push(note)?;
-        }
         self.session.confirm();
-        Ok(())
+        match note {
+            Some(note) => {
+                self.given.push(note)?;
+                Ok(())
+            }
+            None => Ok(()),
+        }
     }
 }
 

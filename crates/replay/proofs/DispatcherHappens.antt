@@ -1,0 +1,57 @@
+-- A frame that comes to the session, as an event of the world.
+use Rattle.std.proofs.Common.{◌≡◌, ◌==◌, ◌&&◌, Bool, true, false, ℕ, zero, suc, List, [], ◌∷◌, Option, Some, None, refl, sym, ap, ◌∙◌, if◌then◌else◌}
+use Rattle.std.specs.Prelude.{slice_set}
+use Rattle.std.specs.Option.{option_map}
+use Rattle.leg.specs.Numbered.{numbered}
+use Rattle.session_core.specs.Session.{is_connected}
+use Rattle.session_core.specs.Turn.{Turn}
+use Rattle.session_core.specs.Receiving.{receive}
+use Rattle.share_ledger.specs.Book.{BookParts}
+use Rattle.schedule.specs.declared.event.Event.TheVariants as event
+use Rattle.schedule.specs.World.{World, VenueParts, Frame, venue_in}
+use Rattle.schedule.specs.Happening.{with_venue, withdrawn_in, booked, session_turn, to_dispatcher, happens}
+use Rattle.replay.specs.declared.for_book.ForBook.{ForBook}
+use Rattle.replay.specs.Hearing.{turn_on, heard, for_book, confirmed}
+use Rattle.replay.proofs.WorldAfter.{at_there}
+
+set_again : {A : Type 0} (xs : List A) (k : ℕ) (x y : A) → slice_set (slice_set xs k x) k y ≡ slice_set xs k y
+set_again [] k x y = refl
+set_again (z ∷ zs) zero x y = refl
+set_again (z ∷ zs) (suc k) x y = ap (λ l. z ∷ l) (set_again zs k x y)
+
+turn_by : (w : World) (v : ℕ) (venue : VenueParts) (turn t : Turn) (b : Bool) → (if b then Some turn else None) ≡ Some t
+    → (if b then session_turn w v venue turn else w) ≡ session_turn w v venue t
+turn_by w v venue turn t true is = let same : turn ≡ t = cc in ap (session_turn w v venue) same
+turn_by w v venue turn t false is = absurd cc
+
+turned : (w : World) (v : ℕ) (venue : VenueParts) (frame : Option Frame) (t : Turn) → turn_on venue frame ≡ Some t
+    → to_dispatcher w v venue frame ≡ session_turn w v venue t
+turned w v venue None t is = absurd cc
+turned w v venue (Some frame) t is =
+    turn_by w v venue (receive venue.session frame.message) t
+    (is_connected venue.session.phase && frame.connection == venue.session.connection) is
+
+-- what was told is of a turn
+told_of : (w : World) (v : ℕ) (before : VenueParts) (frame : Option Frame) (turn : Option Turn) (news : ForBook)
+    → turn_on before frame ≡ turn
+    → Some news ≡ option_map for_book turn
+    → with_venue (record w { book = booked v news.note (withdrawn_in w.book news.withdrawn) }) v (confirmed (heard before turn) news.note)
+    ≡ to_dispatcher w v before frame
+told_of w v before frame None news is says = absurd cc
+told_of w v before frame (Some t) news is says =
+    let same : news ≡ for_book t = cc in
+    ap (λ (n : ForBook). with_venue (record w { book = booked v n.note (withdrawn_in w.book n.withdrawn) }) v (confirmed (heard before (Some t)) n.note)) same
+    ∙ sym (turned w v before frame t is)
+
+pub dispatcher_happens : (w : World) (v n : ℕ) (before mid now : VenueParts) (book : BookParts) (news : ForBook)
+    → venue_in w v ≡ Some before
+    → mid ≡ heard before (turn_on before (numbered n before.from_exchange))
+    → Some news ≡ option_map for_book (turn_on before (numbered n before.from_exchange))
+    → book ≡ booked v news.note (withdrawn_in w.book news.withdrawn)
+    → now ≡ confirmed mid news.note
+    → with_venue (with_venue (record w { book = book }) v mid) v now ≡ happens w (event.ToDispatcher v n)
+dispatcher_happens w v n before mid now book news there hears says told confirms =
+    (λ k. record w { book = book; venues = set_again w.venues v mid now k })
+    ∙ ((λ k. with_venue (record w { book = told k }) v ((confirms ∙ ap (λ (venue : VenueParts). confirmed venue news.note) hears) k))
+    ∙ (told_of w v before (numbered n before.from_exchange) (turn_on before (numbered n before.from_exchange)) news refl says
+    ∙ sym (at_there w v before (λ venue. to_dispatcher w v venue (numbered n venue.from_exchange)) there)))
