@@ -4,5 +4,9 @@ pub mod SessionCalls
 pub mod WorldAfter
 pub mod ExchangeWrites
 pub mod ExchangeActs
+pub mod WhetherKept
+pub mod ExchangeTakes
 pub mod EventsHappen
 pub mod TakesHappen
+pub mod SessionHears
+pub mod DispatcherHappens

@@ -3,10 +3,13 @@
 #![tactic(auto)]
 
 mod ends;
+mod for_book;
 mod frame;
 mod keep;
 mod moment;
+mod network;
 mod sending;
+mod telling;
 mod venue;
 mod world;
 

@@ -7,7 +7,9 @@ ghost use Rattle.exchange_core.specs.Exchange.{accepted_by};
 
 mod acts;
 mod calls;
+mod deliveries;
 mod endings;
+mod hearing;
 mod sends;
 
 use crate::ends::{exchange_end, session_end};

@@ -5,6 +5,7 @@ ghost use Rattle.std.specs.Option.{option_copied};
 ghost use Rattle.schedule.specs.World.{accepted, closed_at, given, made, totals, venue_in};
 
 mod act_events;
+mod delivery_events;
 mod desk_events;
 mod end_events;
 mod session_events;

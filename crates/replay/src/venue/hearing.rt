@@ -1,0 +1,114 @@
+//! What the session of a venue does with the frames that come to it.
+
+ghost use Rattle.std.specs.Prelude.{◌≡◌, OnOk, IfOk};
+ghost use Rattle.std.specs.Option.{option_map};
+ghost use Rattle.leg.specs.Numbered.{numbered};
+ghost use Rattle.fix_text.specs.FrameFields.{fields_in};
+ghost use Rattle.fix_text.specs.Reading.{next_read};
+ghost use Rattle.fix_tags.specs.Reading.{envelope_read};
+ghost use Rattle.session_core.specs.Calling.{answers};
+ghost use Rattle.session_core.specs.Given.{Gives, IsStep};
+ghost use Rattle.session_core.specs.Receiving.{receive};
+ghost use Rattle.replay.specs.Delivering.{IsMessage, IsFrameOfMessage};
+ghost use Rattle.replay.specs.Hearing.{turn_on, heard, for_book, confirmed};
+ghost use Rattle.replay.specs.Network.{moment, message_of, message_in};
+
+use super::Venue;
+use crate::for_book::ForBook;
+use crate::keep::keep;
+use crate::moment::stamp;
+use crate::network::{frame_at, stream_of};
+use dialect::{Dialect, Note};
+use fix_tags::{ReadFault, read_envelope};
+use fix_text::FrameReader;
+use schedule::FrameNumber;
+use session_core::{Session, SessionFault, Step};
+use std::alloc::{AllocError, Global};
+
+impl<D: Dialect + Drop> Venue<D> {
+    /// A frame that the exchange wrote comes to the session, if it was written in the session's present connection. It
+    /// gives what the book is then to be told. The only refusal is want of memory.
+    pub fn hear(&mut self, number: FrameNumber) -> Result<Option<ForBook>, AllocError>
+        ensures now { OnOk result (self.new ≡ heard self.old
+            (turn_on self.old (numbered number self.old.from_exchange))) }
+        ensures told { IfOk result (λ told. told ≡ option_map for_book
+            (turn_on self.old (numbered number self.old.from_exchange))) }
+    {
+        let alloc = *self.given.allocator();
+        let Some(frame) = frame_at(&self.from_exchange, number) else {
+            return Ok(None);
+        };
+        if !self.session.phase().is_connected() {
+            return Ok(None);
+        }
+        if frame.connection != self.session.connection() {
+            return Ok(None);
+        }
+        let mut stream = stream_of(alloc, &frame.bytes)?;
+        match hear_next(alloc, &self.dialect, &mut self.session, &mut stream) {
+            Ok(step) => {
+                let connection = self.session.connection();
+                keep(&mut self.to_exchange, connection, step.out.into_vec())?;
+                Ok(Some(ForBook {
+                    note: step.note,
+                    withdrawn: step.withdrawn,
+                }))
+            }
+            Err(_) => Err(AllocError),
+        }
+    }
+
+    /// The book was told, and has the note if there is one. The only refusal is want of memory.
+    pub fn confirm(&mut self, note: Option<Note>) -> Result<(), AllocError>
+        ensures { OnOk result (self.new ≡ confirmed self.old note) }
+    {
+        self.session.confirm();
+        match note {
+            Some(note) => {
+                self.given.push(note)?;
+                Ok(())
+            }
+            None => Ok(()),
+        }
+    }
+}
+
+/// A session receives the next frame of a stream. The only refusal is want of memory, S04.
+fn hear_next<D: Dialect>(
+    alloc: Global,
+    dialect: &D,
+    session: &mut Session,
+    stream: &mut FrameReader,
+) -> Result<Step, SessionFault>
+    requires { IsFrameOfMessage (next_read stream.old).frame }
+    ensures { Gives (IsStep (record { IsOrder = D.IsOrder dialect.now; IsReport = D.IsReport dialect.now }) moment)
+        session.old (answers (receive session.old (message_in
+        (record { order = D.order_read dialect.now; report = D.report_read dialect.now }) (next_read stream.old).frame)))
+        result session.new }
+{
+    match stream.next() {
+        Ok(Some(found)) => hear_frame(alloc, dialect, session, &found),
+        Ok(None) => unreachable!(),
+        Err(_) => Err(SessionFault::OutOfMemory),
+    }
+}
+
+/// A session receives a frame. The only refusal is want of memory, S04.
+fn hear_frame<D: Dialect>(
+    alloc: Global,
+    dialect: &D,
+    session: &mut Session,
+    frame: &fix_text::Frame<'_>,
+) -> Result<Step, SessionFault>
+    requires { IsMessage (envelope_read (fields_in frame.now)) }
+    ensures { Gives (IsStep (record { IsOrder = D.IsOrder dialect.now; IsReport = D.IsReport dialect.now }) moment)
+        session.old (answers (receive session.old (message_of
+        (record { order = D.order_read dialect.now; report = D.report_read dialect.now })
+        (envelope_read (fields_in frame.now))))) result session.new }
+{
+    match read_envelope(alloc, frame) {
+        Ok(envelope) => session.receive(dialect, &envelope, &stamp()),
+        Err(ReadFault::Tag(_)) => unreachable!(),
+        Err(ReadFault::OutOfMemory) => Err(SessionFault::OutOfMemory),
+    }
+}
