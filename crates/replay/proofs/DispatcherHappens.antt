@@ -3,6 +3,7 @@ use Rattle.std.proofs.Common.{◌≡◌, ◌==◌, ◌&&◌, Bool, true, false, 
 use Rattle.std.proofs.Math.ListN.{get_or}
 use Rattle.std.specs.Prelude.{OnOk, Result, slice_set}
 use Rattle.std.specs.Option.{option_map}
+use Rattle.std.proofs.lemmas.List.{get_or-set_same}
 use Rattle.leg.specs.Numbered.{numbered}
 use Rattle.session_core.specs.Session.{is_connected}
 use Rattle.session_core.specs.Turn.{Turn}
@@ -57,12 +58,7 @@ dispatcher_happens w v n before mid now book news there hears says told confirms
     ∙ (told_of w v before (numbered n before.from_exchange) (turn_on before (numbered n before.from_exchange)) news refl says
     ∙ sym (at_there w v before (λ venue. to_dispatcher w v venue (numbered n venue.from_exchange)) there)))
 
--- what was written at an index is there
-set_there : {A : Type 0} (xs : List A) (k : ℕ) (x d : A) → k < length xs → get_or (slice_set xs k x) k d ≡ x
-set_there [] k x d low = absurd (omega (arith, low))
-set_there (y ∷ ys) zero x d low = refl
-set_there (y ∷ ys) (suc k) x d low = set_there ys k x d (omega (arith, low))
-
+-- told and confirmed at an index, where that was not for want of memory
 pub dispatcher_at : {T E : Type 0} (w : World) (i v n : ℕ) (before mid again now : VenueParts) (book : BookParts) (news : ForBook)
     (result : Result T E) → i ≡ v → v < length w.venues → before ≡ get_or w.venues i before
     → again ≡ get_or (slice_set w.venues i mid) i again
@@ -72,7 +68,7 @@ pub dispatcher_at : {T E : Type 0} (w : World) (i v n : ℕ) (before mid again n
     → OnOk result (now ≡ confirmed again news.note)
     → OnOk result (with_venue (with_venue (record w { book = book }) i mid) i now ≡ happens w (event.ToDispatcher v n))
 dispatcher_at w i v n before mid again now book news (Ok done) same low is found hears says told confirms =
-    let kept : again ≡ mid = found ∙ set_there w.venues i mid again (omega (arith, same, low)) in
+    let kept : again ≡ mid = found ∙ get_or-set_same w.venues i mid again (omega (arith, same, low)) in
     (λ k. with_venue (with_venue (record w { book = book }) (same k) mid) (same k) now)
     ∙ dispatcher_happens w v n before mid now book news (is_there w.venues i v before same low is) hears says told
     (confirms ∙ ap (λ (venue : VenueParts). confirmed venue news.note) kept)
