@@ -15,14 +15,14 @@ use Rattle.dialect.specs.declared.content.Content.{Content}
 use Rattle.dialect.specs.declared.content.Content.TheVariants.{Logon, Heartbeat, TestRequest, ResendRequest, Reject, GapFill, Reset, Logout, BusinessReject, Order, ExecutionReport, Other}
 use Rattle.dialect.specs.declared.message.Message.{Message}
 use Rattle.dialect.specs.declared.outgoing.Outgoing.{Outgoing}
-use Rattle.dialect.specs.Framed.{Writers, IsFramed}
+use Rattle.dialect.specs.Framed.{Writers, IsFramed, AreFramed}
 use Rattle.dialect.specs.Message.{Readers}
 use Rattle.dialect.specs.Writable.{IsWritable, IsWritableContent}
 use Rattle.dialect.proofs.FrameBack.{Agrees, frame_back}
 use Rattle.exchange_core.specs.declared.exchange_fault.ExchangeFault.{ExchangeFault}
 use Rattle.exchange_core.specs.declared.live_connection.LiveConnection.{LiveConnection}
 use Rattle.exchange_core.specs.Exchange.{ExchangeParts, Answer, live_connection, with_connection, logon_answer, due_taken, asks, received, take, drop_connection}
-use Rattle.exchange_core.specs.Frames.{AreFramed, TakeResult, TakeGives}
+use Rattle.exchange_core.specs.Frames.{bytes_of, TakeResult, TakeGives}
 use Rattle.exchange_core.specs.Keeping.{IsFillInRange}
 use Rattle.exchange_core.specs.Sound as exchange
 use Rattle.exchange_core.proofs.Promises.{take_is_sound, drop_is_sound}
@@ -183,7 +183,7 @@ take_live x connection m =
     (λ at room is. received_live x connection at is m.number m.content)
 
 last_after : (x : ExchangeParts) (connection live : ℕ) (a : Answer) (w : Writers) (from : List Frame) (written : List (Vec ℕ))
-    → IfSome (live_connection x) (λ at. last_connection from ≡ Some at) → AreFramed w moment a.0 written
+    → IfSome (live_connection x) (λ at. last_connection from ≡ Some at) → AreFramed w moment a.0 (bytes_of written)
     → ((live_connection x ≡ Some live) × ((a.0 ≡ []) ⊎ (live ≡ connection))) ⊎ ((a.0 ≡ [] → ⊥) × (live ≡ connection))
     → last_connection (from ++ written_in connection written) ≡ Some live
 last_after x connection live ([], y) w from [] last framed (inl was) =
@@ -200,7 +200,7 @@ last_after x connection live (out ∷ more, y) w from (bytes ∷ written) last f
 -- the exchange took a frame
 pub taken_kept : (w : Writers) (s : SessionParts) (x now : ExchangeParts) (to from new : List Frame) (connection : ℕ) (m : Message)
     (written : List (Vec ℕ)) → IsKept w s x to from → exchange.IsRead m
-    → AreFramed w moment (take x connection m).0 written
+    → AreFramed w moment (take x connection m).0 (bytes_of written)
     → now ≡ (take x connection m).1
     → new ≡ from ++ written_in connection written
     → IsKept w s now to new
@@ -225,7 +225,7 @@ said_range w r agrees frame is =
     subst exchange.IsRead (sym (reads w r agrees is.out frame.bytes.items is.writable is.framed)) (exchange_read is.out is.writable)
 
 took : (w : Writers) (x now : ExchangeParts) (a : Answer) (frames : Vec (Vec ℕ)) → TakeGives w moment x a (Ok frames) now
-    → AreFramed w moment a.0 frames.items × (now ≡ a.1)
+    → AreFramed w moment a.0 (bytes_of frames.items) × (now ≡ a.1)
 took w x now (written, after) frames gives = gives
 
 pub delivered_kept : (w : Writers) (r : Readers) → Agrees w r → (s : SessionParts) (x now : ExchangeParts)

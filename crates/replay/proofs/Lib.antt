@@ -10,3 +10,5 @@ pub mod EventsHappen
 pub mod TakesHappen
 pub mod SessionHears
 pub mod DispatcherHappens
+pub mod Nowhere
+pub mod Opening

@@ -8,10 +8,12 @@ mod frame;
 mod keep;
 mod moment;
 mod network;
+mod running;
 mod sending;
 mod telling;
 mod venue;
 mod world;
 
+pub use running::run;
 pub use venue::Venue;
 pub use world::World;

@@ -8,6 +8,8 @@ mod act_events;
 mod delivery_events;
 mod desk_events;
 mod end_events;
+mod happening;
+mod opening;
 mod session_events;
 mod take_event;
 
