@@ -11,4 +11,3 @@ pub mod TakesHappen
 pub mod SessionHears
 pub mod DispatcherHappens
 pub mod Nowhere
-pub mod Opening
