@@ -11,3 +11,4 @@ pub mod TakesHappen
 pub mod SessionHears
 pub mod DispatcherHappens
 pub mod Nowhere
+pub mod Theorem

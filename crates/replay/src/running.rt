@@ -2,6 +2,7 @@
 
 ghost use Rattle.std.specs.Prelude.{◌≡◌, ◌≤◌, length, IfOk};
 ghost use Rattle.schedule.specs.Happening.{run};
+ghost use Rattle.schedule.specs.SweepTheorem.{HoldsOf};
 
 use crate::world::World;
 use dialect::Dialect;
@@ -11,6 +12,9 @@ use std::alloc::{AllocError, Global};
 /// The world after these events: of a venue for each dialect, 1 to 16, and for each whether its session's Logons say
 /// which number it expects next (789). `max_number`, which no message of a session has, is 16 to 999,999,999. It takes
 /// the events, since the desk keeps the sweeps. The only refusal is want of memory.
+///
+/// The sweep theorem holds of the world: what an exchange accepted, what is missing before it, the close and the shares.
+#[tactic(auto, using(crate::proofs::Theorem::it_holds))]
 pub fn run<D: Dialect + Drop>(
     alloc: Global,
     dialects: Vec<D>,
@@ -23,7 +27,8 @@ pub fn run<D: Dialect + Drop>(
     requires each { length dialects.items ≡ length next.now }
     requires least { 16 ≤ max_number }
     requires most { max_number ≤ 999999999 }
-    ensures { IfOk result (λ world. world ≡ run next.now max_number events.items) }
+    ensures world { IfOk result (λ world. world ≡ run next.now max_number events.items) }
+    ensures theorem { IfOk result HoldsOf }
 {
     let mut world = World::new(alloc, dialects, next, max_number)?;
     for event in events {
