@@ -17,3 +17,6 @@ mod world;
 pub use running::run;
 pub use venue::Venue;
 pub use world::World;
+
+#[cfg(test)]
+mod tests;
