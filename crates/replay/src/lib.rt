@@ -15,7 +15,6 @@ mod venue;
 mod world;
 
 pub use running::run;
-pub use venue::Venue;
 pub use world::World;
 
 #[cfg(test)]

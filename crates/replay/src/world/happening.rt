@@ -1,6 +1,7 @@
 //! What happens, event by event.
 
-ghost use Rattle.std.specs.Prelude.{◌≡◌, nat_lt, length, OnOk};
+ghost use Rattle.std.specs.Prelude.{◌≡◌, ◌<◌, nat_lt, length, IfSome, OnOk};
+ghost use Rattle.schedule.specs.Growing.{named};
 ghost use Rattle.schedule.specs.Happening.{happens};
 
 use super::World;
@@ -8,6 +9,29 @@ use dialect::Dialect;
 use leg::VenueId;
 use schedule::Event;
 use std::alloc::AllocError;
+
+/// The venue that an event is at, if it is at one.
+fn venue_of(event: &Event) -> Option<VenueId>
+    ensures { result ≡ named event.now }
+{
+    match event {
+        Event::Release(_) => None,
+        Event::GateUp(venue) => Some(*venue),
+        Event::GateDown(venue) => Some(*venue),
+        Event::Drop(venue) => Some(*venue),
+        Event::Take(venue) => Some(*venue),
+        Event::Connect(venue) => Some(*venue),
+        Event::ToExchange { venue, .. } => Some(*venue),
+        Event::ToDispatcher { venue, .. } => Some(*venue),
+        Event::Break(venue) => Some(*venue),
+        Event::ExchangeBreak(venue) => Some(*venue),
+        Event::Act { venue, .. } => Some(*venue),
+        Event::Quiet(venue) => Some(*venue),
+        Event::Silent(venue) => Some(*venue),
+        Event::Close(venue) => Some(*venue),
+        Event::Abandon(venue) => Some(*venue),
+    }
+}
 
 impl<D: Dialect + Drop> World<D> {
     /// Whether there is such a venue.
@@ -17,83 +41,40 @@ impl<D: Dialect + Drop> World<D> {
         usize::from(venue.number()) < self.venues.len()
     }
 
-    /// What an event does at a venue that is there.
+    /// What an event does. At a venue that isn't there it does nothing.
     #[tactic(auto, using(crate::proofs::Nowhere::nowhere))]
     pub(crate) fn happen(&mut self, event: Event) -> Result<(), AllocError>
         ensures { OnOk result (self.new ≡ happens self.old event) }
     {
+        if let Some(venue) = venue_of(&event) {
+            if !self.has(venue) {
+                return Ok(());
+            }
+        }
+        self.happen_here(event)
+    }
+
+    /// What an event does at no venue, or at one that is there.
+    fn happen_here(&mut self, event: Event) -> Result<(), AllocError>
+        requires { IfSome (named event) (λ venue. venue < length self.old.venues) }
+        ensures { OnOk result (self.new ≡ happens self.old event) }
+    {
         match event {
             Event::Release(sweep) => self.release(sweep)?,
-            Event::GateUp(venue) => {
-                if self.has(venue) {
-                    self.gate_up(venue)?;
-                }
-            }
-            Event::GateDown(venue) => {
-                if self.has(venue) {
-                    self.gate_down(venue);
-                }
-            }
-            Event::Drop(venue) => {
-                if self.has(venue) {
-                    self.drop_next(venue);
-                }
-            }
-            Event::Take(venue) => {
-                if self.has(venue) {
-                    self.take(venue)?;
-                }
-            }
-            Event::Connect(venue) => {
-                if self.has(venue) {
-                    self.connect(venue)?;
-                }
-            }
-            Event::ToExchange { venue, frame } => {
-                if self.has(venue) {
-                    self.deliver_to_exchange(venue, frame)?;
-                }
-            }
-            Event::ToDispatcher { venue, frame } => {
-                if self.has(venue) {
-                    self.deliver_to_dispatcher(venue, frame)?;
-                }
-            }
-            Event::Break(venue) => {
-                if self.has(venue) {
-                    self.break_off(venue);
-                }
-            }
-            Event::ExchangeBreak(venue) => {
-                if self.has(venue) {
-                    self.drop_connection(venue);
-                }
-            }
-            Event::Act { venue, act } => {
-                if self.has(venue) {
-                    self.act(venue, &act)?;
-                }
-            }
-            Event::Quiet(venue) => {
-                if self.has(venue) {
-                    self.quiet(venue)?;
-                }
-            }
-            Event::Silent(venue) => {
-                if self.has(venue) {
-                    self.silent(venue)?;
-                }
-            }
-            Event::Close(venue) => {
-                if self.has(venue) {
-                    self.close(venue)?;
-                }
-            }
-            Event::Abandon(venue) => {
-                if self.has(venue) {
-                    self.abandon(venue);
-                }
-            }
+            Event::GateUp(venue) => self.gate_up(venue)?,
+            Event::GateDown(venue) => self.gate_down(venue),
+            Event::Drop(venue) => self.drop_next(venue),
+            Event::Take(venue) => self.take(venue)?,
+            Event::Connect(venue) => self.connect(venue)?,
+            Event::ToExchange { venue, frame } => self.deliver_to_exchange(venue, frame)?,
+            Event::ToDispatcher { venue, frame } => self.deliver_to_dispatcher(venue, frame)?,
+            Event::Break(venue) => self.break_off(venue),
+            Event::ExchangeBreak(venue) => self.drop_connection(venue),
+            Event::Act { venue, act } => self.act(venue, &act)?,
+            Event::Quiet(venue) => self.quiet(venue)?,
+            Event::Silent(venue) => self.silent(venue)?,
+            Event::Close(venue) => self.close(venue)?,
+            Event::Abandon(venue) => self.abandon(venue),
         }
         Ok(())
     }
