@@ -1,2 +1,4 @@
 pub mod OrderBack
 pub mod WantedOrders
+pub mod Grown
+pub mod ShownEnds

@@ -4,4 +4,5 @@ pub mod Options
 pub mod OrderFrame
 pub mod OrderLines
 pub mod OrderOption
+pub mod Replay
 pub mod Request

@@ -3,6 +3,7 @@ ghost use Rattle.dispatch_main.specs.ExitStatus.{IsOfCommandLine};
 
 use crate::fault::ProgramFault;
 use crate::order::order_command;
+use crate::replay_script::replay_command;
 use clap::Command;
 use clap::error::ErrorKind;
 use std::alloc::{AllocError, Global};
@@ -14,7 +15,8 @@ fn program<'a>(alloc: Global) -> Result<Command<'a>, AllocError> {
         .bin_name("dispatch")?
         .about("The dispatcher of a smart order router")
         .subcommand_required(true)
-        .subcommand(order_command(alloc)?)
+        .subcommand(order_command(alloc)?)?
+        .subcommand(replay_command(alloc)?)
 }
 
 /// The help that lists the commands, where the words name none of them.

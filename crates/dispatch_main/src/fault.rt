@@ -1,8 +1,11 @@
 //! Why a run of the program failed.
 ghost use Rattle.std.specs.Prelude.{◌≡◌};
 ghost use Rattle.dispatch_main.specs.declared.fault.ProgramFault.TheVariants.{OutOfMemory};
+ghost use Rattle.dispatch_main.specs.ExitStatus.{IsOfCommandLine, script_fault};
 
 use crate::order::OrderOption;
+use clap::error::ErrorKind;
+use schedule::ScriptFault;
 use std::alloc::AllocError;
 use thiserror::Error;
 
@@ -21,7 +24,11 @@ pub enum ProgramFault {
     /// The value of this option isn't of its form or within its limits.
     #[error("bad value --{0}")]
     BadValue(OrderOption),
-    /// The words of the command line can't be had.
+    /// This line of the script isn't of its form, counted from 1; or there is no first line, and this is one above the
+    /// last.
+    #[error("line {0}")]
+    BadLine(u64),
+    /// The words of the command line can't be had, or the input can't be read.
     #[error("read failed")]
     ReadFailed,
     #[error("write failed")]
@@ -35,5 +42,27 @@ impl From<AllocError> for ProgramFault {
 
     fn from(_: AllocError) -> ProgramFault {
         ProgramFault::OutOfMemory
+    }
+}
+
+impl From<clap::Error> for ProgramFault {
+    ghost from_gives = { λ _ fault. IsOfCommandLine fault };
+
+    fn from(error: clap::Error) -> ProgramFault {
+        match error.kind() {
+            ErrorKind::OutOfMemory => ProgramFault::OutOfMemory,
+            _ => ProgramFault::CommandLine(error),
+        }
+    }
+}
+
+impl From<ScriptFault> for ProgramFault {
+    ghost from_gives = { λ fault given. given ≡ script_fault fault };
+
+    fn from(fault: ScriptFault) -> ProgramFault {
+        match fault {
+            ScriptFault::Line(number) => ProgramFault::BadLine(number),
+            ScriptFault::OutOfMemory => ProgramFault::OutOfMemory,
+        }
     }
 }

@@ -6,7 +6,7 @@ use std::test::Fail;
 
 /// The help that lists the commands, as clap 4 writes it.
 const COMMANDS: &str =
-    "The dispatcher of a smart order router\n\nUsage: dispatch <COMMAND>\n\nCommands:\n  order  Writes a leg as an order frame, with | for SOH, and the leg that is read back from it\n  help   Print this message or the help of the given subcommand(s)\n\nOptions:\n  -h, --help  Print help\n";
+    "The dispatcher of a smart order router\n\nUsage: dispatch <COMMAND>\n\nCommands:\n  order   Writes a leg as an order frame, with | for SOH, and the leg that is read back from it\n  replay  Reads a day as a script from standard input, and prints what became of each leg\n  help    Print this message or the help of the given subcommand(s)\n\nOptions:\n  -h, --help  Print help\n";
 
 /// What a run gave: its status, and what it wrote.
 #[derive(Drop)]
@@ -20,7 +20,8 @@ fn run_line(alloc: Global, line: &str) -> Result<Run, AllocError> {
     let words: Vec<&str> = line.split(' ').collect(alloc)?;
     let mut out = Vec::new(alloc);
     let mut err = Vec::new(alloc);
-    let status = run(alloc, words.as_slice(), &mut out, &mut err);
+    let mut input: &[u8] = b"";
+    let status = run(alloc, words.as_slice(), &mut input, &mut out, &mut err);
     Ok(Run { status, out, err })
 }
 

@@ -1,16 +1,16 @@
 //! The program `refusals`: a day of one venue, on which each call that is refused memory is made again.
 //!
-//! It prints how both ends, the desk and the book stand after each turn of the day. `checks/refusals` runs it with its
-//! first growth of memory refused, then its second, and so on: it must always print the same.
+//! It prints how both ends, the desk and the book stand after each turn of the day. `checks/built/refusals` runs it
+//! with its first growth of memory refused, then its second, and so on: it must always print the same.
 #![tactic(auto)]
 
 mod day;
 mod day_fault;
 mod delivery;
+mod desk_calls;
 mod exchange_calls;
 mod frame;
 mod session_calls;
-mod shop_calls;
 mod standing;
 mod turn;
 

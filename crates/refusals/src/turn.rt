@@ -4,7 +4,7 @@ use std::fmt;
 
 /// An order of a sweep.
 #[derive(Clone, Copy, Debug)]
-pub struct Wanted {
+pub struct SweepOrder {
     pub root: &'static [u8],
     pub suffix: &'static [u8],
     pub shares: u64,
@@ -24,7 +24,7 @@ pub enum Turn {
     Unconfirmed(usize),
     GateUp,
     GateDown,
-    Place(&'static [Wanted]),
+    Place(&'static [SweepOrder]),
     Take,
     Drop,
     Trade { order: usize, shares: u64 },
@@ -66,20 +66,20 @@ impl fmt::Display for Turn {
 }
 
 /// The sweep of which two legs are taken and one is dropped.
-const FIRST: [Wanted; 3] = [
-    Wanted {
+const FIRST: [SweepOrder; 3] = [
+    SweepOrder {
         root: b"BRK",
         suffix: b"B",
         shares: 100,
         price: 102_500,
     },
-    Wanted {
+    SweepOrder {
         root: b"BRK",
         suffix: b"B",
         shares: 200,
         price: 102_500,
     },
-    Wanted {
+    SweepOrder {
         root: b"IBM",
         suffix: b"",
         shares: 300,
@@ -88,7 +88,7 @@ const FIRST: [Wanted; 3] = [
 ];
 
 /// The sweep of the second connection.
-const SECOND: [Wanted; 1] = [Wanted {
+const SECOND: [SweepOrder; 1] = [SweepOrder {
     root: b"IBM",
     suffix: b"",
     shares: 50,
@@ -96,7 +96,7 @@ const SECOND: [Wanted; 1] = [Wanted {
 }];
 
 /// The sweep before the close.
-const THIRD: [Wanted; 1] = [Wanted {
+const THIRD: [SweepOrder; 1] = [SweepOrder {
     root: b"IBM",
     suffix: b"",
     shares: 10,

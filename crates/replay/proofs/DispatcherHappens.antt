@@ -1,7 +1,7 @@
 -- A frame that comes to the session, as an event of the world.
-use Rattle.std.proofs.Common.{◌≡◌, ◌==◌, ◌&&◌, Bool, true, false, ℕ, zero, suc, ◌<◌, List, [], ◌∷◌, length, Option, Some, None, Ok, Err, refl, sym, ap, ◌∙◌, if◌then◌else◌, arith}
+use Rattle.std.proofs.Common.{◌≡◌, ◌==◌, ◌&&◌, Bool, true, false, ℕ, zero, suc, ◌<◌, List, [], ◌∷◌, length, Option, Some, None, refl, sym, ap, ◌∙◌, if◌then◌else◌, arith}
 use Rattle.std.proofs.Math.ListN.{get_or}
-use Rattle.std.specs.Prelude.{OnOk, Result, slice_set}
+use Rattle.std.specs.Prelude.{slice_set}
 use Rattle.std.specs.Option.{option_map}
 use Rattle.std.proofs.lemmas.List.{get_or-set_same}
 use Rattle.leg.specs.Numbered.{numbered}
@@ -12,8 +12,8 @@ use Rattle.share_ledger.specs.Book.{BookParts}
 use Rattle.schedule.specs.declared.event.Event.TheVariants as event
 use Rattle.schedule.specs.World.{World, VenueParts, Frame, venue_in}
 use Rattle.schedule.specs.Happening.{with_venue, withdrawn_in, booked, session_turn, to_dispatcher, happens}
-use Rattle.replay.specs.declared.for_book.ForBook.{ForBook}
-use Rattle.replay.specs.Hearing.{turn_on, heard, for_book, confirmed}
+use Rattle.replay.specs.declared.news.News.{News}
+use Rattle.replay.specs.Hearing.{turn_on, heard, news_of, confirmed}
 use Rattle.replay.proofs.WorldAfter.{at_there, is_there, with_same}
 
 set_again : {A : Type 0} (xs : List A) (k : ℕ) (x y : A) → slice_set (slice_set xs k x) k y ≡ slice_set xs k y
@@ -34,21 +34,21 @@ turned w v venue (Some frame) t is =
     (is_connected venue.session.phase && frame.connection == venue.session.connection) is
 
 -- what was told is of a turn
-told_of : (w : World) (v : ℕ) (before : VenueParts) (frame : Option Frame) (turn : Option Turn) (news : ForBook)
+told_of : (w : World) (v : ℕ) (before : VenueParts) (frame : Option Frame) (turn : Option Turn) (news : News)
     → turn_on before frame ≡ turn
-    → Some news ≡ option_map for_book turn
+    → Some news ≡ option_map news_of turn
     → with_venue (record w { book = booked v news.note (withdrawn_in w.book news.withdrawn) }) v (confirmed (heard before turn) news.note)
     ≡ to_dispatcher w v before frame
 told_of w v before frame None news is says = absurd cc
 told_of w v before frame (Some t) news is says =
-    let same : news ≡ for_book t = cc in
-    ap (λ (n : ForBook). with_venue (record w { book = booked v n.note (withdrawn_in w.book n.withdrawn) }) v (confirmed (heard before (Some t)) n.note)) same
+    let same : news ≡ news_of t = cc in
+    ap (λ (n : News). with_venue (record w { book = booked v n.note (withdrawn_in w.book n.withdrawn) }) v (confirmed (heard before (Some t)) n.note)) same
     ∙ sym (turned w v before frame t is)
 
-dispatcher_happens : (w : World) (v n : ℕ) (before mid now : VenueParts) (book : BookParts) (news : ForBook)
+dispatcher_happens : (w : World) (v n : ℕ) (before mid now : VenueParts) (book : BookParts) (news : News)
     → venue_in w v ≡ Some before
     → mid ≡ heard before (turn_on before (numbered n before.from_exchange))
-    → Some news ≡ option_map for_book (turn_on before (numbered n before.from_exchange))
+    → Some news ≡ option_map news_of (turn_on before (numbered n before.from_exchange))
     → book ≡ booked v news.note (withdrawn_in w.book news.withdrawn)
     → now ≡ confirmed mid news.note
     → with_venue (with_venue (record w { book = book }) v mid) v now ≡ happens w (event.ToDispatcher v n)
@@ -58,21 +58,20 @@ dispatcher_happens w v n before mid now book news there hears says told confirms
     ∙ (told_of w v before (numbered n before.from_exchange) (turn_on before (numbered n before.from_exchange)) news refl says
     ∙ sym (at_there w v before (λ venue. to_dispatcher w v venue (numbered n venue.from_exchange)) there)))
 
--- told and confirmed at an index, where that was not for want of memory
-pub dispatcher_at : {T E : Type 0} (w : World) (i v n : ℕ) (before mid again now : VenueParts) (book : BookParts) (news : ForBook)
-    (result : Result T E) → i ≡ v → v < length w.venues → before ≡ get_or w.venues i before
+-- told and confirmed at an index
+pub dispatcher_at : (w : World) (i v n : ℕ) (before mid again now : VenueParts) (book : BookParts) (news : News)
+    → i ≡ v → v < length w.venues → before ≡ get_or w.venues i before
     → again ≡ get_or (slice_set w.venues i mid) i again
     → mid ≡ heard before (turn_on before (numbered n before.from_exchange))
-    → Some news ≡ option_map for_book (turn_on before (numbered n before.from_exchange))
+    → Some news ≡ option_map news_of (turn_on before (numbered n before.from_exchange))
     → book ≡ booked v news.note (withdrawn_in w.book news.withdrawn)
-    → OnOk result (now ≡ confirmed again news.note)
-    → OnOk result (with_venue (with_venue (record w { book = book }) i mid) i now ≡ happens w (event.ToDispatcher v n))
-dispatcher_at w i v n before mid again now book news (Ok done) same low is found hears says told confirms =
+    → now ≡ confirmed again news.note
+    → with_venue (with_venue (record w { book = book }) i mid) i now ≡ happens w (event.ToDispatcher v n)
+dispatcher_at w i v n before mid again now book news same low is found hears says told confirms =
     let kept : again ≡ mid = found ∙ get_or-set_same w.venues i mid again (omega (arith, same, low)) in
     (λ k. with_venue (with_venue (record w { book = book }) (same k) mid) (same k) now)
     ∙ dispatcher_happens w v n before mid now book news (is_there w.venues i v before same low is) hears says told
     (confirms ∙ ap (λ (venue : VenueParts). confirmed venue news.note) kept)
-dispatcher_at w i v n before mid again now book news (Err fault) same low is found hears says told confirms = tt
 
 -- the session had no turn
 no_turn_by : (w : World) (v : ℕ) (venue : VenueParts) (turn : Turn) (b : Bool) → (if b then Some turn else None) ≡ None
@@ -88,7 +87,7 @@ unturned w v venue (Some frame) is =
     (is_connected venue.session.phase && frame.connection == venue.session.connection) is
 
 waits : (w : World) (v : ℕ) (venue : VenueParts) (frame : Option Frame) (turn : Option Turn) → turn_on venue frame ≡ turn
-    → None ≡ option_map for_book turn
+    → None ≡ option_map news_of turn
     → venue_in w v ≡ Some venue
     → with_venue w v (heard venue turn) ≡ to_dispatcher w v venue frame
 waits w v venue frame None is says there = with_same w v venue there ∙ sym (unturned w v venue frame is)
@@ -96,7 +95,7 @@ waits w v venue frame (Some t) is says there = absurd cc
 
 pub dispatcher_waits : (w : World) (v n : ℕ) (before mid : VenueParts) → venue_in w v ≡ Some before
     → mid ≡ heard before (turn_on before (numbered n before.from_exchange))
-    → None ≡ option_map for_book (turn_on before (numbered n before.from_exchange))
+    → None ≡ option_map news_of (turn_on before (numbered n before.from_exchange))
     → with_venue w v mid ≡ happens w (event.ToDispatcher v n)
 dispatcher_waits w v n before mid there hears says =
     ap (with_venue w v) hears

@@ -12,3 +12,6 @@ pub mod SessionHears
 pub mod DispatcherHappens
 pub mod Nowhere
 pub mod Theorem
+mod NoFrames
+mod Tells
+mod Endings

@@ -1,15 +1,52 @@
--- An event at a venue that isn't there changes nothing.
-use Rattle.std.proofs.Common.{◌≡◌, ◌≤◌, ℕ, length, Some, false, sym, arith}
+-- An event at a venue that isn't there changes nothing, and tells nothing.
+use Rattle.std.proofs.Common.{◌≡◌, ◌≤◌, ℕ, length, Option, Some, None, false, refl, sym, ap, ◌∙◌, arith}
 use Rattle.std.specs.Prelude.{nat_lt}
+use Rattle.std.specs.Option.{option_map_or}
 use Rattle.std.proofs.lemmas.Bool.Decides.{nat_tests}
 use Rattle.std.proofs.lemmas.Option.{slice_get_past}
 use Rattle.schedule.specs.declared.event.Event.{Event}
-use Rattle.schedule.specs.World.{World}
+use Rattle.session_core.specs.Calling.{silent}
+use Rattle.leg.specs.Numbered.{numbered}
+use Rattle.schedule.specs.World.{World, VenueParts, venue_in}
 use Rattle.schedule.specs.Happening.{happens}
 use Rattle.schedule.specs.Growing.{named}
+use Rattle.schedule.specs.declared.event.Event.TheVariants as event
 use Rattle.schedule.proofs.Happened.{absent_unchanged}
+use Rattle.replay.specs.declared.told.Told.{Told}
+use Rattle.replay.specs.Hearing.{turn_on}
+use Rattle.replay.specs.Telling.{nothing_told, told_by, ending_of, told}
 
 pub nowhere : (w : World) (e : Event) (v : ℕ) → named e ≡ Some v → nat_lt v (length w.venues) ≡ false → w ≡ happens w e
 nowhere w e v names gone =
     let past : length w.venues ≤ v = grind (arith, nat_tests) in
     sym (absent_unchanged w e v names (slice_get_past w.venues v past))
+
+-- and tells nothing
+told_nowhere : (w : World) (e : Event) (v : ℕ) → named e ≡ Some v → venue_in w v ≡ None → nothing_told ≡ told w e
+told_nowhere w (event.Release sweep) v names gone = refl
+told_nowhere w (event.GateUp u) v names gone = refl
+told_nowhere w (event.GateDown u) v names gone = refl
+told_nowhere w (event.Drop u) v names gone = refl
+told_nowhere w (event.Take u) v names gone = refl
+told_nowhere w (event.Connect u) v names gone = refl
+told_nowhere w (event.ToExchange u frame) v names gone = refl
+told_nowhere w (event.ToDispatcher u frame) v names gone =
+    let same : u ≡ v = cc in
+    let absent : venue_in w u ≡ None = ap (venue_in w) same ∙ gone in
+    sym (ap (λ (venue : Option VenueParts). option_map_or (λ (there : VenueParts). told_by w u (turn_on there (numbered frame there.from_exchange))) venue nothing_told) absent)
+told_nowhere w (event.Break u) v names gone = refl
+told_nowhere w (event.ExchangeBreak u) v names gone = refl
+told_nowhere w (event.Act u act) v names gone = refl
+told_nowhere w (event.Quiet u) v names gone = refl
+told_nowhere w (event.Silent u) v names gone =
+    let same : u ≡ v = cc in
+    let absent : venue_in w u ≡ None = ap (venue_in w) same ∙ gone in
+    sym (ap (λ (venue : Option VenueParts). record { answer = None; ended = option_map_or (λ (there : VenueParts). ending_of (silent there.session)) venue None }) absent)
+told_nowhere w (event.Close u) v names gone = refl
+told_nowhere w (event.Abandon u) v names gone = refl
+
+pub nothing_is_told : (w : World) (e : Event) (v : ℕ) → named e ≡ Some v → nat_lt v (length w.venues) ≡ false
+    → nothing_told ≡ told w e
+nothing_is_told w e v names gone =
+    let past : length w.venues ≤ v = grind (arith, nat_tests) in
+    told_nowhere w e v names (slice_get_past w.venues v past)

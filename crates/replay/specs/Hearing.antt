@@ -1,4 +1,4 @@
--- A frame that comes to the session, and what the book is to be told of it.
+-- A frame that comes to the session, and what it tells.
 use Rattle.std.specs.Prelude.{◌&&◌, ◌==◌, ◌++◌, Option, Some, None, if◌then◌else◌}
 use Rattle.dialect.specs.declared.note.Note.{Note}
 use Rattle.session_core.specs.Session.{is_connected}
@@ -7,7 +7,7 @@ use Rattle.session_core.specs.Receiving.{receive, confirm}
 use Rattle.venue_line.specs.Line.{noted}
 use Rattle.schedule.specs.World.{VenueParts, Frame}
 use Rattle.schedule.specs.Happening.{session_wrote}
-use Rattle.replay.specs.declared.for_book.ForBook.{ForBook}
+use Rattle.replay.specs.declared.news.News.{News}
 
 -- the session's turn, if the frame was written in its present connection
 abbrev pub turn_on : VenueParts → Option Frame → Option Turn
@@ -22,9 +22,9 @@ abbrev pub heard : VenueParts → Option Turn → VenueParts
 heard venue None = venue
 heard venue (Some turn) = session_wrote turn.session turn.step.written venue
 
--- what the book is to be told
-abbrev pub for_book : Turn → ForBook
-for_book turn = record { note = turn.step.note; withdrawn = turn.step.withdrawn }
+-- what the frame told: what the book is to be told, and why the connection ended
+abbrev pub news_of : Turn → News
+news_of turn = record { note = turn.step.note; withdrawn = turn.step.withdrawn; ended = turn.step.ended }
 
 -- the venue whose book was told
 abbrev pub confirmed : VenueParts → Option Note → VenueParts

@@ -4,3 +4,4 @@ pub mod Taking
 pub mod Delivering
 pub mod Hearing
 pub mod Kept
+pub mod Telling

@@ -3,19 +3,22 @@
 #![tactic(auto)]
 
 mod ends;
-mod for_book;
 mod frame;
 mod keep;
 mod moment;
 mod network;
+mod news;
 mod running;
 mod sending;
 mod telling;
+mod told;
 mod venue;
 mod world;
 
+pub use frame::Frame;
 pub use running::run;
-pub use world::World;
+pub use told::Told;
+pub use world::{World, venue_of};
 
 #[cfg(test)]
 mod tests;

@@ -3,9 +3,15 @@
 ghost use Rattle.std.specs.Prelude.{◌≡◌, IfOk};
 ghost use Rattle.std.specs.Option.{option_copied};
 ghost use Rattle.leg.specs.Numbered.{numbered};
-ghost use Rattle.replay.specs.Network.{stream_of};
+ghost use Rattle.fix_text.specs.FrameFields.{fields_in};
+ghost use Rattle.fix_text.specs.Reading.{next_read};
+ghost use Rattle.fix_tags.specs.Reading.{envelope_read};
+ghost use Rattle.dialect.specs.Message.{Readers as SomeReaders, seen};
+ghost use Rattle.replay.specs.Delivering.{IsMessage, IsFrameOfMessage};
+ghost use Rattle.replay.specs.Network.{message_of, message_in, stream_of};
 
 use crate::frame::Frame;
+use fix_tags::{EnvelopeRef, ReadFault, read_envelope};
 use fix_text::FrameReader;
 use schedule::FrameNumber;
 use std::alloc::{AllocError, Global};
@@ -28,5 +34,34 @@ pub fn stream_of(alloc: Global, bytes: &[u8]) -> Result<FrameReader, AllocError>
     match stream.feed(bytes) {
         Ok(()) => Ok(stream),
         Err(_) => Err(AllocError),
+    }
+}
+
+/// The message of the next frame of a stream. The only refusal is want of memory.
+pub fn next_message<'a>(
+    alloc: Global,
+    stream: &'a mut FrameReader,
+) -> Result<EnvelopeRef<'a>, AllocError>
+    requires { IsFrameOfMessage (next_read stream.old).frame }
+    ensures { IfOk result (λ envelope. (read : SomeReaders)
+        → message_in read (next_read stream.old).frame ≡ seen read envelope) }
+{
+    match stream.next() {
+        Ok(Some(frame)) => message_of(alloc, &frame),
+        Ok(None) => unreachable!(),
+        Err(_) => Err(AllocError),
+    }
+}
+
+/// The message of a frame. The only refusal is want of memory.
+fn message_of<'a>(alloc: Global, frame: &fix_text::Frame<'a>) -> Result<EnvelopeRef<'a>, AllocError>
+    requires { IsMessage (envelope_read (fields_in frame.now)) }
+    ensures { IfOk result (λ envelope. (read : SomeReaders)
+        → message_of read (envelope_read (fields_in frame.now)) ≡ seen read envelope) }
+{
+    match read_envelope(alloc, frame) {
+        Ok(envelope) => Ok(envelope),
+        Err(ReadFault::Tag(_)) => unreachable!(),
+        Err(ReadFault::OutOfMemory) => Err(AllocError),
     }
 }

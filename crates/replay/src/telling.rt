@@ -1,31 +1,34 @@
 //! The book is told what a session received.
 
-ghost use Rattle.std.specs.Prelude.{◌≡◌, OnOk};
+ghost use Rattle.std.specs.Prelude.{◌≡◌, IfOk, OnOk};
+ghost use Rattle.std.specs.Option.{option_map};
 ghost use Rattle.schedule.specs.Happening.{booked, withdrawn_in};
+ghost use Rattle.share_ledger.specs.Book.{answer_to};
 
 use dialect::Note;
 use leg::{LegId, VenueId};
 use session_core::LegIds;
-use share_ledger::{Book, BookFault};
+use share_ledger::{Applied, Book};
 use std::alloc::AllocError;
 
 /// Tells a book what the session of a venue received: the legs that are now withdrawn, and then the note, if there is
-/// one. Whatever the book answers stands, but for want of memory, the only refusal.
+/// one. It gives the book's answer to the note. The only refusal is want of memory.
 pub fn tell(
     book: &mut Book,
     venue: VenueId,
     withdrawn: LegIds,
     note: &Option<Note>,
-) -> Result<(), AllocError>
-    ensures { OnOk result (book.new ≡ booked venue note.now (withdrawn_in book.old withdrawn)) }
+) -> Result<Option<Applied>, AllocError>
+    ensures book { OnOk result (book.new ≡ booked venue note.now (withdrawn_in book.old withdrawn)) }
+    ensures answer { IfOk result (λ answer. answer ≡ option_map (answer_to (withdrawn_in book.old withdrawn) venue) note.now) }
 {
     withdraw_all(book, withdrawn.into_vec());
     match note {
         Some(note) => match book.apply(venue, note) {
-            Err(BookFault::OutOfMemory) => Err(AllocError),
-            _ => Ok(()),
+            Ok(answer) => Ok(Some(answer)),
+            Err(_) => Err(AllocError),
         },
-        None => Ok(()),
+        None => Ok(None),
     }
 }
 

@@ -53,7 +53,9 @@ impl<D: Dialect + Drop> Model for Venue<D> {
 }
 
 impl<D: Dialect + Drop> Venue<D> {
+    ghost use Rattle.dialect.specs.Message.{Readers};
     ghost use Rattle.session_core.specs.Session.{leg_state};
+    ghost use Rattle.replay.specs.Network.{all_said};
 
     /// A venue where nothing was written. `max_number`, which no message of the session has, is 16 to 999,999,999;
     /// `next` says whether the session's Logons say which number it expects next (789).
@@ -120,6 +122,20 @@ impl<D: Dialect + Drop> Venue<D> {
         ensures { result.now ≡ reports_in self.now.exchange.own }
     {
         self.exchange.reports()
+    }
+
+    /// The frames ever written to the exchange, in order.
+    pub fn frames_to(&self) -> &[Frame]
+        ensures { (read : Readers) × (self.now.to_exchange ≡ all_said read result.now) }
+    {
+        self.to_exchange.as_slice()
+    }
+
+    /// The frames ever written by the exchange, in order.
+    pub fn frames_from(&self) -> &[Frame]
+        ensures { (read : Readers) × (self.now.from_exchange ≡ all_said read result.now) }
+    {
+        self.from_exchange.as_slice()
     }
 
     /// The notes handed to the book, whatever it answered, in order.

@@ -1,8 +1,11 @@
 //! The world.
 
-ghost use Rattle.std.specs.Prelude.{◌≡◌, ◌<◌, length, Some};
+ghost use Rattle.std.specs.Prelude.{◌≡◌, ◌<◌, ◌≤◌, [], length, Some, None};
 ghost use Rattle.std.specs.Option.{option_copied};
-ghost use Rattle.schedule.specs.World.{accepted, closed_at, given, made, totals, venue_in};
+ghost use Rattle.dialect.specs.Message.{Readers};
+ghost use Rattle.session_core.specs.Session.{leg_state};
+ghost use Rattle.schedule.specs.World.{accepted, closed_at, given, made, released_to, state_of, totals, of_venue, venue_in};
+ghost use Rattle.replay.specs.Network.{all_said};
 
 mod act_events;
 mod delivery_events;
@@ -13,9 +16,12 @@ mod opening;
 mod session_events;
 mod take_event;
 
+use crate::frame::Frame;
 use crate::venue::Venue;
 use dialect::{Dialect, Note, Report};
-use leg::{Leg, Totals, VenueId};
+pub use happening::venue_of;
+use leg::{Leg, LegState, Totals, VenueId};
+use session_core::Phase;
 use share_ledger::Book;
 use std::marker::Model;
 use sweep_release::Desk;
@@ -78,6 +84,96 @@ impl<D: Dialect + Drop> World<D> {
             Some(venue) => venue.made(),
             None => &[],
         }
+    }
+
+    /// The legs released to a venue, in the order of their ordinals; none where there is no such venue.
+    pub fn released(&self, venue: VenueId) -> &[Leg]
+        ensures { result.now ≡ released_to self.now venue }
+    {
+        self.desk.released(venue)
+    }
+
+    /// How far the leg of an ordinal is, which is its place among the legs released to a venue, from 1; none where no
+    /// such leg was released.
+    pub fn state(&self, venue: VenueId, ordinal: u64) -> Option<LegState>
+        ensures { result ≡ state_of self.now venue ordinal }
+    {
+        let released = self.released(venue).len() as u64;
+        let left = self.desk.left(venue) as u64;
+        if ordinal == 0 || released < ordinal {
+            return None;
+        }
+        if left < ordinal {
+            return Some(LegState::Queued);
+        }
+        match self.sent(venue, ordinal) {
+            Some(state) => Some(state),
+            None => Some(LegState::Withdrawn),
+        }
+    }
+
+    /// How far the leg of an ordinal is settled, if it was sent.
+    fn sent(&self, venue: VenueId, ordinal: u64) -> Option<LegState>
+        ensures { result ≡ of_venue self.now venue None (λ at. leg_state at.session ordinal) }
+    {
+        match self.venue(venue) {
+            Some(venue) => venue.leg_state(ordinal),
+            None => None,
+        }
+    }
+
+    /// How far the session of a venue has come; none where there is no such venue.
+    pub fn phase(&self, venue: VenueId) -> Option<Phase>
+        ensures { result ≡ of_venue self.now venue None (λ at. Some at.session.phase) }
+    {
+        match self.venue(venue) {
+            Some(venue) => Some(venue.phase()),
+            None => None,
+        }
+    }
+
+    /// How many venues there are, at most 16.
+    pub fn venues(&self) -> usize
+        ensures value { result ≡ length self.now.venues }
+        ensures few { result ≤ 16 }
+    {
+        self.desk.venues()
+    }
+
+    /// The desk. Its history has the sweeps, in the order of their numbers.
+    pub fn desk(&self) -> &Desk
+        ensures { result.now.desk ≡ self.now.desk }
+    {
+        &self.desk
+    }
+
+    /// The frames ever written to the exchange of a venue, in order, each read as the message that it was written of;
+    /// none where there is no such venue.
+    pub fn frames_to(&self, venue: VenueId) -> &[Frame]
+        ensures { (read : Readers) × (of_venue self.now venue [] (λ at. at.to_exchange) ≡ all_said read result.now) }
+    {
+        match self.venue(venue) {
+            Some(venue) => venue.frames_to(),
+            None => &[],
+        }
+    }
+
+    /// The frames ever written by the exchange of a venue, in order, each read as the message that it was written of;
+    /// none where there is no such venue.
+    pub fn frames_from(&self, venue: VenueId) -> &[Frame]
+        ensures { (read : Readers) × (of_venue self.now venue [] (λ at. at.from_exchange) ≡ all_said read result.now) }
+    {
+        match self.venue(venue) {
+            Some(venue) => venue.frames_from(),
+            None => &[],
+        }
+    }
+
+    /// The book.
+    pub fn book(&self) -> &Book
+        ensures { result.now ≡ self.now.book }
+    {
+        &self.book
     }
 
     /// The parts of a sweep's shares, if it was released.

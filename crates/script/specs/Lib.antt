@@ -2,3 +2,6 @@ pub mod Pieces
 pub mod Lines
 pub mod Reading
 pub mod Head
+pub mod Limits
+pub mod Parts
+pub mod EventLines

@@ -28,14 +28,14 @@ pub(crate) struct Head {
 }
 
 impl Model for Head {
-    ghost use Rattle.std.specs.Prelude.{◌≤◌, length};
     ghost use Rattle.schedule.specs.Script.{ScriptHead};
+    ghost use Rattle.script.specs.Head.{IsHead};
 
     ghost Value = { ScriptHead };
 
     ghost view = { λ h. record { max_number = h.max_number; venues = h.venues.items } };
 
-    ghost invariant = { λ h. (1 ≤ length h.venues.items) × (length h.venues.items ≤ 16) };
+    ghost invariant = { λ h. IsHead (record { max_number = h.max_number; venues = h.venues.items }) };
 }
 
 /// The venues of a first line, 1 to 16.
@@ -74,13 +74,17 @@ impl Head {
     }
 
     pub(crate) fn max_number(&self) -> u64
-        ensures { result ≡ self.now.max_number }
+        ensures number { result ≡ self.now.max_number }
+        ensures least { 16 ≤ result }
+        ensures most { result ≤ 999999999 }
     {
         self.max_number
     }
 
     pub(crate) fn venues(&self) -> &[VenueChoice]
-        ensures { result.now ≡ self.now.venues }
+        ensures venues { result.now ≡ self.now.venues }
+        ensures low { 1 ≤ length result.now }
+        ensures high { length result.now ≤ 16 }
     {
         self.venues.as_slice()
     }

@@ -4,10 +4,12 @@
 mod call;
 mod dialect_name;
 mod event;
+mod event_lines;
 mod head;
 mod kept;
 mod line_fault;
 mod lines;
+mod parts;
 mod pieces;
 mod read;
 mod release;
@@ -16,6 +18,9 @@ mod script;
 mod venue_choice;
 mod word;
 
+pub use event_lines::EventLines;
+pub use lines::Line;
+pub use parts::Parts;
 pub use read::read_script;
 pub use script::Script;
 

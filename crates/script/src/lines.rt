@@ -8,11 +8,13 @@ ghost use Rattle.script.specs.Pieces.{with_first};
 use memchr::memchr;
 use std::marker::Model;
 
-/// A line without its end, and its number, counted from 1.
+/// A line of a text.
 #[derive(Clone, Copy)]
-pub(crate) struct Line<'a> {
-    pub(crate) number: u64,
-    pub(crate) text: &'a [u8],
+pub struct Line<'a> {
+    /// Its number, counted from 1 over all lines.
+    pub number: u64,
+    /// The line without its end.
+    pub text: &'a [u8],
 }
 
 /// The lines of a text that are left. Each ends with LF, which the last one may lack.

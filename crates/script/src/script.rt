@@ -2,8 +2,11 @@
 
 ghost use Rattle.std.specs.Prelude.{◌≡◌, IfOk, Ok, map};
 ghost use Rattle.schedule.specs.Script.{ScriptVenue, with_events};
+ghost use Rattle.script.specs.Limits.{IsWithinLimits};
+ghost use Rattle.script.specs.Parts.{parts_of};
 
 use crate::head::Head;
+use crate::parts::Parts;
 use crate::venue_choice::VenueChoice;
 use dialect::AnyDialect;
 use schedule::Event;
@@ -21,6 +24,7 @@ pub struct Script {
 
 impl Model for Script {
     ghost use Rattle.schedule.specs.Script.{ScriptParts};
+    ghost use Rattle.script.specs.Limits.{IsWithinLimits};
 
     ghost Value = { ScriptParts };
 
@@ -30,6 +34,13 @@ impl Model for Script {
       next = s.next.items;
       events = s.events.items;
     } };
+
+    ghost invariant = { λ s. IsWithinLimits (record {
+      max_number = s.max_number;
+      dialects = s.dialects.items;
+      next = s.next.items;
+      events = s.events.items;
+    }) };
 }
 
 fn dialects_of(alloc: Global, venues: &[VenueChoice]) -> Result<Vec<AnyDialect>, AllocError>
@@ -84,5 +95,18 @@ impl Script {
         ensures { result.now ≡ self.now.events }
     {
         self.events.as_slice()
+    }
+
+    /// The script in its parts, which a world is made of and runs. It takes no memory.
+    pub fn into_parts(self) -> Parts
+        ensures parts { parts_of result ≡ self }
+        ensures limits { IsWithinLimits (parts_of result) }
+    {
+        Parts {
+            max_number: self.max_number,
+            dialects: self.dialects,
+            next: self.next,
+            events: self.events,
+        }
     }
 }

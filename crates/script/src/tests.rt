@@ -1,5 +1,7 @@
 //! Scripts that are read, and bad lines by their numbers.
 
+ghost use Rattle.std.specs.Prelude.{◌≡◌, ◌≤◌, length};
+
 use super::*;
 use dialect::AnyDialect;
 use schedule::{Act, Event, ScriptFault};
@@ -48,6 +50,31 @@ fn a_script_is_read(rt: HostRuntime) -> Result<(), Fail> {
             }
         )
     );
+    Ok(())
+}
+
+/// How many venues there are, of what a world may be made of.
+fn venues_of_world(dialects: &[AnyDialect], next: &[bool], max_number: u64) -> (usize, u64)
+    requires low { 1 ≤ length next.now }
+    requires high { length next.now ≤ 16 }
+    requires each { length dialects.now ≡ length next.now }
+    requires least { 16 ≤ max_number }
+    requires most { max_number ≤ 999999999 }
+    ensures { result ≡ (length dialects.now, max_number) }
+{
+    (next.len(), max_number)
+}
+
+#[test]
+fn a_world_may_be_made_of_the_parts(rt: HostRuntime) -> Result<(), Fail> {
+    let script = read_script(rt.alloc(), b"venues 16 split+789 coded\nup 1\n")?;
+    let parts = script.into_parts();
+    let venues = venues_of_world(&parts.dialects, &parts.next, parts.max_number);
+    assert_eq!(rt; venues, (2, 16));
+    let [Event::GateUp(venue)] = parts.events.as_slice() else {
+        return Err("one event".into());
+    };
+    assert_eq!(rt; venue.number(), 1);
     Ok(())
 }
 

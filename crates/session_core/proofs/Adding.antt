@@ -16,8 +16,9 @@ use Rattle.session_core.specs.declared.ended.Ended.{Ended}
 use Rattle.session_core.specs.Session.{SessionParts, next_out, may_write}
 use Rattle.session_core.specs.Turn.{Turn, quietly, with_session, with_message, spending, fence_id, fenced, asking, puts, puts_fence, writes, writes_fence, asks, fills, counts, logs_out, ends_turn, unless_ended}
 use Rattle.session_core.specs.Receiving.{counts_if, asks_if, in_phase, filled_if, asks_missing, asks_anew}
-use Rattle.session_core.specs.Onward.{IsOnward, KeepsLegs, IsCall, SparesLegs, new_numbers, AreNext, SpendsNumbers}
+use Rattle.session_core.specs.Onward.{IsOnward, KeepsLegs, IsCall, SparesLegs, SettlesAsTold, new_numbers, AreNext, SpendsNumbers}
 use Rattle.session_core.proofs.Ordinals.{last-admin}
+use Rattle.session_core.proofs.Told.{more-told}
 
 -- a choice by a test has what both choices have
 pub chosen : {A : Type 0} (P : A → Type 0) (b : Bool) (x y : A) → (b ≡ true → P x) → (b ≡ false → P y)
@@ -218,16 +219,23 @@ last-one_more : (old new : List Entry) → OneMore old new → last_ordinal new 
 last-one_more old new (inl same) = ap last_ordinal same
 last-one_more old new (inr more) = ap last_ordinal more ∙ last-admin 0 old
 
--- what a turn does to the session, with whether it may withdraw legs; it sends none
-pub record Goes (may : Bool) (s : SessionParts) (turn : Turn) : Type 0 where
+settles-one_more : (told : Option ℕ) (first old new : List Entry) → OneMore old new → SettlesAsTold told first old
+    → SettlesAsTold told first new
+settles-one_more told first old new (inl same) settles = rw same settles
+settles-one_more told first old new (inr more) settles = rw more (more-told told first old settles)
+
+-- what a turn does to the session, with whether it may withdraw legs, and which number was told; it sends none
+pub record Goes (may : Bool) (told : Option ℕ) (s : SessionParts) (turn : Turn) : Type 0 where
   pub onward : IsOnward s turn.session
   pub last : last_ordinal turn.session.log ≡ last_ordinal s.log
   pub spends : SpendsNumbers s turn.step.written turn.session
   pub named : turn.step.withdrawn ≡ withdrawn_since s.log turn.session.log
   pub spares : may ≡ false → SparesLegs s turn
+  pub settles : SettlesAsTold told s.log turn.session.log
 
-pub received_by : (may : Bool) (s : SessionParts) (t u : Turn) → Goes may s t → Adds t u → Goes may s u
-received_by may s t u goes adds = record {
+pub received_by : (may : Bool) (told : Option ℕ) (s : SessionParts) (t u : Turn) → Goes may told s t → Adds t u
+    → Goes may told s u
+received_by may told s t u goes adds = record {
   onward = record {
     config = adds.config ∙ goes.onward.config;
     log =
@@ -250,6 +258,7 @@ received_by may s t u goes adds = record {
             withdraws_none-trans s.log t.session.log u.session.log before.settled
             (withdraws_none-one_more t.session.log u.session.log adds.log);
       });
+  settles = settles-one_more told s.log t.session.log u.session.log adds.log goes.settles;
 }
 
 added-one_more : (first old new : List Entry) → Grew first old → OneMore old new → Grew first new

@@ -10,6 +10,7 @@ use Rattle.fix_tags.specs.Config.{ConfigParts, IsConfig}
 use Rattle.fix_tags.specs.Range.{is_range}
 use Rattle.fix_tags.proofs.WritableFields.{is_writable_value-decimal}
 use Rattle.leg.specs.LegId.{LegIdParts}
+use Rattle.leg.specs.declared.leg_state.LegState.TheVariants.{Doubt}
 use Rattle.dialect.specs.declared.note.Note.{Note}
 use Rattle.dialect.specs.Addressed.{message_of, is_for}
 use Rattle.dialect.specs.FreeText.{IsFreeText}
@@ -22,7 +23,8 @@ use Rattle.dialect.specs.Writable.{IsNext, IsWritable, IsWritableContent}
 use Rattle.resend.specs.declared.judged.Judged.{Judged}
 use Rattle.resend.specs.declared.judged.Judged.TheVariants as judged
 use Rattle.resend.specs.Judging.{judged}
-use Rattle.resend.specs.Log.{GapFillParts, last_number, leg_at, fill_for}
+use Rattle.resend.specs.Log.{Entry, GapFillParts, last_number, leg_at, fill_for}
+use Rattle.resend.specs.Log.Entry.{Admin}
 use Rattle.resend.specs.Later.{IsFillFor}
 use Rattle.resend.proofs.Due.{due_is_expected}
 use Rattle.resend.proofs.Ranges.{fill_is_for}
@@ -31,12 +33,14 @@ use Rattle.session_core.specs.declared.phase.Phase.TheVariants.{Down, LoggingOn,
 use Rattle.session_core.specs.declared.ended.Ended.{Ended}
 use Rattle.session_core.specs.declared.ended.Ended.TheVariants as ended
 use Rattle.session_core.specs.Session.{SessionParts, is_connected, is_logging_on, is_settling, is_logged_out, next_out, may_write}
-use Rattle.session_core.specs.Turn.{Turn, quietly, with_session, fence_id, asking, puts, puts_fence, writes, writes_fence, asks, fills, settles_at, counts, notes, logs_out, after_peer_logout, ends, ends_turn, unless_ended}
+use Rattle.session_core.specs.Turn.{Turn, quietly, with_session, fence_id, asking, puts, puts_fence, writes, writes_fence, asks, fills, settles_at, settling_at, counts, notes, logs_out, after_peer_logout, ends, ends_turn, unless_ended}
 use Rattle.session_core.specs.Receiving.{is_reset, counts_if, told_number, is_too_high, settles_told, asks_if, in_phase, logon_row, filled_if, resend_while_settling, resend_later, resend_row, named_fence, passing, is_closing_fence, passed_in, passes_fence, answers_test, gap_fill_row, refused_leg, logout_row, report_note, in_turn, row, was_requested, asks_missing, asks_anew, by_number, received, hearing, receive}
-use Rattle.session_core.specs.Sound.{LegsAreBelow, HasNoDoubt, IsFence, IsBeforeUp, IsSound, IsReadContent, IsRead, AreWritable}
+use Rattle.session_core.specs.Sound.{EveryLeg, LegsAreBelow, LegsStand, HasNoDoubt, IsFence, IsBeforeUp, IsSound, IsReadContent, IsRead, AreWritable}
 use Rattle.session_core.proofs.Adding.{chosen}
-use Rattle.session_core.proofs.Legs.{below-no_doubt}
-use Rattle.session_core.proofs.Sound.{all-append, named-holds, stands-up, stands-logged_out, sound-phase, sound-pending, sound-expected, sound-disconnected, sound-spending, sound-fenced, sound-passing, sound-settling_at}
+use Rattle.session_core.specs.Onward.{FillSpares, FillsSpareDoubt}
+use Rattle.session_core.proofs.Legs.{below-no_doubt, legs-admin}
+use Rattle.session_core.proofs.Told.{settled-no_doubt}
+use Rattle.session_core.proofs.Sound.{all-map, all-append, named-holds, stands-up, stands-logged_out, sound-phase, sound-pending, sound-expected, sound-disconnected, sound-spending, sound-fenced, sound-passing, sound-settling_at}
 
 -- a message to the peer, under a number that a message may have
 pub writable : (config : ConfigParts) → IsConfig config → (number : ℕ) (poss_dup : Bool) (content : Content)
@@ -62,13 +66,14 @@ fence_writable number to =
     some : (n : ℕ) → not (suc n == 0) ≡ true
     some n = grind (arith, nat_tests)
 
--- a turn that keeps the promises
+-- a turn that keeps the promises, and whose gap fills stand for no leg in doubt
 pub record Kept (t : Turn) : Type 0 where
   pub sound : IsSound t.session
   pub written : AreWritable t.step.written
+  pub spares : FillsSpareDoubt t.session.log t.step.written
 
 pub kept-quietly : (s : SessionParts) → IsSound s → Kept (quietly s)
-kept-quietly s is = record { sound = is; written = tt }
+kept-quietly s is = record { sound = is; written = tt; spares = tt }
 
 -- the next number is one that a message may have, where one is left
 pub next_writable : (s : SessionParts) → IsSound s → may_write s ≡ true → next_out s ≤ 999999998
@@ -81,19 +86,39 @@ one_more : (t : Turn) (m : Message) → AreWritable t.step.written → IsWritabl
     → AreWritable (t.step.written ++ m ∷ [])
 one_more t m written says = all-append (λ m. IsWritable (alone m)) t.step.written (m ∷ []) written (says, tt)
 
+-- a message that is no gap fill, under the next number
+pub IsNoFill : Content → Type 0
+IsNoFill content = (new_number : ℕ) → content ≡ GapFill new_number → ⊥
+
+spares_next : (t : Turn) (content : Content) → IsNoFill content → FillsSpareDoubt t.session.log t.step.written
+    → FillsSpareDoubt (t.session.log ++ Admin ∷ [])
+    (t.step.written ++ message_of t.session.config (next_out t.session) false content ∷ [])
+unfolding IsNoFill
+spares_next t content no_fill spares =
+    all-append (FillSpares (t.session.log ++ Admin ∷ [])) t.step.written _
+    (all-map (FillSpares t.session.log) (FillSpares (t.session.log ++ Admin ∷ []))
+    (λ m spare new_number is.
+    legs-admin (λ number leg. m.number ≤ number → number < new_number → leg.state ≡ Doubt → ⊥) t.session.log
+    (spare new_number is))
+    t.step.written spares)
+    (λ new_number is. absurd (no_fill new_number is), tt)
+
 pub kept-puts : (content : Content) (t : Turn) → Kept t → may_write t.session ≡ true → IsWritableContent None content
-    → Kept (puts content t)
-kept-puts content t kept may says = record {
+    → IsNoFill content → Kept (puts content t)
+kept-puts content t kept may says no_fill = record {
   sound = sound-spending t.session kept.sound may;
+  spares = spares_next t content no_fill kept.spares;
   written =
       one_more t _ kept.written
       (writable t.session.config kept.sound.config (next_out t.session) false content (omega arith)
       (next_writable t.session kept.sound may) says);
 }
 
-pub kept-writes : (content : Content) (t : Turn) → Kept t → IsWritableContent None content → Kept (writes content t)
-kept-writes content t kept says =
-    chosen Kept (may_write t.session) (puts content t) t (λ may. kept-puts content t kept may says) (λ spent. kept)
+pub kept-writes : (content : Content) (t : Turn) → Kept t → IsWritableContent None content → IsNoFill content
+    → Kept (writes content t)
+kept-writes content t kept says no_fill =
+    chosen Kept (may_write t.session) (puts content t) t (λ may. kept-puts content t kept may says no_fill)
+    (λ spent. kept)
 
 pub fence_message : (s : SessionParts) → IsSound s → may_write s ≡ true
     → IsWritable (alone (message_of s.config (next_out s) false (TestRequest (fence_id (next_out s)))))
@@ -102,9 +127,28 @@ fence_message s is may =
     writable s.config is.config (next_out s) false (TestRequest (fence_id (next_out s))) (omega arith) low
     (fence_writable (next_out s) (omega (arith, low))))
 
+pub no_fill-heartbeat : (id : Option (List ℕ)) → IsNoFill (Heartbeat id)
+unfolding IsNoFill
+no_fill-heartbeat id new_number is = absurd cc
+
+no_fill-test : (id : List ℕ) → IsNoFill (TestRequest id)
+unfolding IsNoFill
+no_fill-test id new_number is = absurd cc
+
+no_fill-request : (begin last : ℕ) → IsNoFill (ResendRequest begin last)
+unfolding IsNoFill
+no_fill-request begin last new_number is = absurd cc
+
+no_fill-logout : IsNoFill Logout
+unfolding IsNoFill
+no_fill-logout new_number is = absurd cc
+
 pub kept-puts_fence : (t : Turn) → Kept t → may_write t.session ≡ true → Kept (puts_fence t)
 kept-puts_fence t kept may = record {
   sound = sound-fenced t.session kept.sound may;
+  spares =
+      spares_next t (TestRequest (fence_id (next_out t.session))) (no_fill-test (fence_id (next_out t.session)))
+      kept.spares;
   written = one_more t _ kept.written (fence_message t.session kept.sound may);
 }
 
@@ -130,20 +174,44 @@ kept-asks t kept =
     (let asked : Kept (with_session (asking t.session) t) = record {
       sound = same_sound t.session kept.sound;
       written = kept.written;
+      spares = kept.spares;
     } in
     kept-puts (ResendRequest t.session.expected 0) (with_session (asking t.session) t) asked may
-    (kept.sound.expected.to, omega arith)))
+    (kept.sound.expected.to, omega arith) (no_fill-request t.session.expected 0)))
     (λ spent. kept)
 
 kept-asks_if : (wanted : Bool) (t : Turn) → Kept t → Kept (asks_if wanted t)
 kept-asks_if true t kept = kept-asks t kept
 kept-asks_if false t kept = kept
 
+-- the legs that a gap fill stands for aren't in doubt
+IsSpared : List Entry → GapFillParts → Type 0
+IsSpared log fill = EveryLeg log (λ number leg. number < fill.new_number → leg.state ≡ Doubt → ⊥)
+
+spares_fill : (log : List Entry) (config : ConfigParts) (fill : GapFillParts) → IsSpared log fill
+    → FillSpares log (message_of config fill.first true (GapFill fill.new_number))
+unfolding IsSpared
+spares_fill log config fill spared new_number is number leg there low below doubt =
+    (let same : fill.new_number ≡ new_number = cc in spared number leg there (omega (arith, same, below)) doubt)
+
+spared_all : (log : List Entry) (fill : GapFillParts) → HasNoDoubt log → IsSpared log fill
+unfolding IsSpared
+spared_all log fill none number leg there below doubt = none number leg there doubt
+
+spared_settled : (settled : ℕ) (log : List Entry) (fill : GapFillParts) → LegsStand settled log
+    → fill.new_number ≤ settled + 1 → IsSpared log fill
+unfolding IsSpared
+spared_settled settled log fill stand top number leg there below doubt =
+    (let above = stand.doubt number leg there doubt in absurd (omega (arith, above, below, top)))
+
 -- a gap fill over numbers that were sent
 kept-fills : (fill : GapFillParts) (t : Turn) → Kept t → 1 ≤ fill.first → fill.first < fill.new_number
-    → fill.new_number ≤ 999999999 → Kept (fills fill t)
-kept-fills fill t kept from forward to = record {
+    → fill.new_number ≤ 999999999 → IsSpared t.session.log fill → Kept (fills fill t)
+kept-fills fill t kept from forward to spared = record {
   sound = kept.sound;
+  spares =
+      all-append (FillSpares t.session.log) t.step.written _ kept.spares
+      (spares_fill t.session.log t.session.config fill spared, tt);
   written =
       one_more t _ kept.written
       (writable t.session.config kept.sound.config fill.first true (GapFill fill.new_number) from
@@ -155,16 +223,20 @@ next_reference s is =
     (let limited = is.numbers.limited in let top = is.config.max_number in omega (arith, limited, top))
 
 kept-filled : (s : SessionParts) → IsSound s → (begin last top : ℕ) (fill : GapFillParts)
-    → IsFillFor begin last top s.log fill → (t : Turn) → Kept t → Kept (fills fill t)
-kept-filled s is begin last top fill for t kept =
+    → IsFillFor begin last top s.log fill → (t : Turn) → Kept t → IsSpared t.session.log fill → Kept (fills fill t)
+kept-filled s is begin last top fill for t kept spared =
     (let sent = for.was_sent in
     let limited = next_reference s is in
-    kept-fills fill t kept for.from_one for.forward (omega (arith, sent, limited)))
+    kept-fills fill t kept for.from_one for.forward (omega (arith, sent, limited)) spared)
 
 -- the connection ends
 kept-ends_turn : (why : Ended) (t : Turn) → Kept t → Kept (ends_turn why t)
 kept-ends_turn why t kept =
-    record { sound = sound-disconnected t.session kept.sound (after_peer_logout why); written = kept.written }
+    record {
+      sound = sound-disconnected t.session kept.sound (after_peer_logout why);
+      written = kept.written;
+      spares = kept.spares;
+    }
 
 pub kept-ends : (why : Ended) (s : SessionParts) → IsSound s → Kept (ends why s)
 kept-ends why s is = kept-ends_turn why (quietly s) (kept-quietly s is)
@@ -187,11 +259,15 @@ record Good (top : ℕ) (t : Turn) : Type 0 where
   expected : t.session.expected ≤ top
 
 module _ (top : ℕ) where
-  good-writes : (content : Content) (t : Turn) → Good top t → IsWritableContent None content
+  good-writes : (content : Content) (t : Turn) → Good top t → IsWritableContent None content → IsNoFill content
       → Good top (writes content t)
-  good-writes content t good says =
+  good-writes content t good says no_fill =
       chosen (Good top) (may_write t.session) (puts content t) t
-      (λ may. record { kept = kept-puts content t good.kept may says; heard = good.heard; expected = good.expected })
+      (λ may. record {
+        kept = kept-puts content t good.kept may says no_fill;
+        heard = good.heard;
+        expected = good.expected;
+      })
       (λ spent. good)
 
   good-writes_fence : (t : Turn) → Good top t → Good top (writes_fence t)
@@ -209,7 +285,11 @@ module _ (top : ℕ) where
   good-settles_at : (number : ℕ) (s : SessionParts) → IsSound s → s.current.pending ≡ false → s.expected ≤ top
       → Good top (settles_at number s)
   good-settles_at number s is heard below =
-      record { kept = record { sound = sound-settling_at s is number; written = tt }; heard = heard; expected = below }
+      record {
+        kept = record { sound = sound-settling_at s is number; written = tt; spares = tt };
+        heard = heard;
+        expected = below;
+      }
 
   -- the Logout, once no leg is in doubt
   good-logs_out : (s : SessionParts) → IsSound s → s.current.pending ≡ false → s.expected ≤ top → HasNoDoubt s.log
@@ -221,7 +301,7 @@ module _ (top : ℕ) where
       chosen (λ (t : Turn). Good top (with_session (record t.session { phase = LoggedOut }) t)) (may_write s)
       (puts Logout (quietly s)) (quietly s)
       (λ may. record {
-        kept = kept-puts Logout (quietly out) (kept-quietly out out_is) may tt;
+        kept = kept-puts Logout (quietly out) (kept-quietly out out_is) may tt no_fill-logout;
         heard = heard;
         expected = below;
       })
@@ -236,6 +316,7 @@ kept-counts t good =
           sound-expected t.session good.kept.sound (t.session.expected + 1) good.heard (omega arith)
           (omega (arith, below));
       written = good.kept.written;
+      spares = good.kept.spares;
     })
 
 kept-counts_if : (due : Bool) (top : ℕ) → (due ≡ true → top ≡ 999999998) → (t : Turn) → Good top t
@@ -287,6 +368,7 @@ kept-settling t kept was =
             logged_out = λ is. absurd cc;
           });
       written = kept.written;
+      spares = kept.spares;
     })
 
 is_first : (phase : Phase) → not (is_logging_on phase) ≡ false → phase ≡ LoggingOn
@@ -312,7 +394,9 @@ module _ (s : SessionParts) (is : IsSound s) (heard : s.current.pending ≡ fals
       let le : n ≤ s.current.logon_number = grind (arith, nat_tests, lower) in
       let fill : GapFillParts = record { first = n; new_number = s.current.logon_number + 1 } in
       record {
-        kept = kept-fills fill (settles_at n s) settled.kept says.0 (omega (arith, le)) (omega (arith, sent, limited));
+        kept =
+            kept-fills fill (settles_at n s) settled.kept says.0 (omega (arith, le)) (omega (arith, sent, limited))
+            (spared_all (settling_at n s).log fill (settled-no_doubt n s.log));
         heard = heard;
         expected = below;
       }))
@@ -341,19 +425,21 @@ module _ (s : SessionParts) (is : IsSound s) (heard : s.current.pending ≡ fals
       ∙ (phase-settles_told s (told_number s next) ∙ is_first s.phase first)))))))
 
   good-filled_if : (begin last upto : ℕ) (fill : Option GapFillParts) → IfSome fill (IsFillFor begin last upto s.log)
-      → (t : Turn) → Good top t → Good top (filled_if fill t)
-  good-filled_if begin last upto None for t good = good
-  good-filled_if begin last upto (Some fill) for t good = record {
-    kept = kept-filled s is begin last upto fill for t good.kept;
+      → (t : Turn) → Good top t → HasNoDoubt t.session.log → Good top (filled_if fill t)
+  good-filled_if begin last upto None for t good none = good
+  good-filled_if begin last upto (Some fill) for t good none = record {
+    kept = kept-filled s is begin last upto fill for t good.kept (spared_all t.session.log fill none);
     heard = good.heard;
     expected = good.expected;
   }
 
-  good-resend_later : (begin last upto : ℕ) (fill : Option GapFillParts)
-      → IfSome fill (IsFillFor begin last upto s.log) → Good top (resend_later fill s)
-  good-resend_later begin last upto None for = good-ends top ended.ResendInDoubt s is below
-  good-resend_later begin last upto (Some fill) for = record {
-    kept = kept-filled s is begin last upto fill for (quietly s) (kept-quietly s is);
+  -- no leg up to the settled number is in doubt
+  good-resend_later : (begin last : ℕ) (fill : Option GapFillParts)
+      → IfSome fill (IsFillFor begin last s.settled s.log) → Good top (resend_later fill s)
+  good-resend_later begin last None for = good-ends top ended.ResendInDoubt s is below
+  good-resend_later begin last (Some fill) for = record {
+    kept = kept-filled s is begin last s.settled fill for (quietly s) (kept-quietly s is)
+        (spared_settled s.settled s.log fill is.legs for.below_top);
     heard = heard;
     expected = below;
   }
@@ -370,9 +456,9 @@ module _ (s : SessionParts) (is : IsSound s) (heard : s.current.pending ≡ fals
       good-writes_fence top _
       (good-filled_if begin last (last_number s.log) (fill_for begin last (last_number s.log) s.log)
       (fill_is_for begin last (last_number s.log) s.log)
-      (settles_at begin s) (good-settles_at top begin s is heard below)))
+      (settles_at begin s) (good-settles_at top begin s is heard below) (settled-no_doubt begin s.log)))
       (λ later.
-      good-resend_later begin last s.settled (fill_for begin last s.settled s.log)
+      good-resend_later begin last (fill_for begin last s.settled s.log)
       (fill_is_for begin last s.settled s.log))))
 
   -- a fence that is answered
@@ -447,7 +533,8 @@ module _ (s : SessionParts) (is : IsSound s) (heard : s.current.pending ≡ fals
       kept-counts (answers_test s id)
       (chosen (Good 999999998) (is_logged_out s.phase) (quietly s) (writes (Heartbeat (Some id)) (quietly s))
       (λ over. good-quietly 999999998 s is heard low)
-      (λ going. good-writes 999999998 (Heartbeat (Some id)) (quietly s) (good-quietly 999999998 s is heard low) says))
+      (λ going. good-writes 999999998 (Heartbeat (Some id)) (quietly s) (good-quietly 999999998 s is heard low) says
+      (no_fill-heartbeat (Some id))))
 
   kept-gap_fill : (number new_number : ℕ) → new_number ≤ 999999999 → Kept (gap_fill_row s number new_number)
   kept-gap_fill number new_number to =
@@ -458,7 +545,7 @@ module _ (s : SessionParts) (is : IsSound s) (heard : s.current.pending ≡ fals
       (λ back. kept-ends ended.BadGapFill s is)
 
   kept-notes : (note : Note) → s.expected ≤ 999999998 → Kept (notes note s)
-  kept-notes note low = record { sound = sound-pending s is true (λ noted. low); written = tt }
+  kept-notes note low = record { sound = sound-pending s is true (λ noted. low); written = tt; spares = tt }
 
   kept-refused_leg : (id : Option LegIdParts) → s.expected ≤ 999999998 → Kept (refused_leg s id)
   kept-refused_leg (Some id) low = kept-notes _ low
@@ -471,7 +558,7 @@ module _ (s : SessionParts) (is : IsSound s) (heard : s.current.pending ≡ fals
       (λ done. kept-ends ended.LogoutDone s is)
       (λ first.
       kept-ends_turn ended.PeerLogout (writes Logout (quietly s))
-      (kept-writes Logout (quietly s) (kept-quietly s is) tt))
+      (kept-writes Logout (quietly s) (kept-quietly s is) tt no_fill-logout))
 
   kept-row : (number : ℕ) (content : Content) → IsReadContent content → Kept (row due s number content)
   kept-row number (Logon heart reset next) says = kept-logon next says

@@ -59,7 +59,7 @@ legs-tail P head log every zero leg is = absurd cc
 legs-tail P head log every (suc n) leg is = every (suc (suc n)) leg is
 
 -- each leg, where some are settled
-settled_if : Bool → LegState → SentLeg → SentLeg
+pub settled_if : Bool → LegState → SentLeg → SentLeg
 settled_if b state leg = if b then settled_as state leg else leg
 
 no_leg : (b : Bool) (state : LegState) (leg : SentLeg)
@@ -83,7 +83,7 @@ module _ (test : ℕ → Bool) (state : LegState) where
       (let same : at ≡ first = omega (arith, here) in (was, refl, rw same (leg_was (test first) state was leg is)))
   settled-was first at (suc n) (head ∷ log) leg here is = settled-was (suc first) at n log leg (omega (arith, here)) is
 
-  legs-settled : (P Q : ℕ → SentLeg → Type 0) (log : List Entry)
+  pub legs-settled : (P Q : ℕ → SentLeg → Type 0) (log : List Entry)
       → ((number : ℕ) (was : SentLeg) → P number was → Q number (settled_if (test number) state was))
       → EveryLeg log P → EveryLeg (settled_where test state 1 log) Q
   legs-settled P Q log step every zero leg is = absurd cc
@@ -99,7 +99,7 @@ doubt_by state other was Queued is doubt = absurd (let e = sym is ∙ doubt in c
 doubt_by state other was Taken is doubt = absurd (let e = sym is ∙ doubt in cc)
 doubt_by state other was Withdrawn is doubt = absurd (let e = sym is ∙ doubt in cc)
 
-settled-doubt : (b : Bool) (state : LegState) → (state ≡ Doubt → ⊥) → (was : SentLeg)
+pub settled-doubt : (b : Bool) (state : LegState) → (state ≡ Doubt → ⊥) → (was : SentLeg)
     → (settled_if b state was).state ≡ Doubt → (was.state ≡ Doubt) × (b ≡ false)
 unfolding settled_if
 settled-doubt false state other was doubt = (doubt, refl)
@@ -127,6 +127,21 @@ settled-ordinal : (b : Bool) (state : LegState) (was : SentLeg) → (settled_if 
 unfolding settled_if
 settled-ordinal false state was = refl
 settled-ordinal true state was = ordinal_by state was (is_doubt was.state)
+
+-- a leg is as it was, or it is settled now
+was_doubt : (state : LegState) (was : SentLeg) (old : LegState) → was.state ≡ old
+    → ((if is_doubt old then record was { state = state } else was) ≡ was)
+    ⊎ ((if is_doubt old then record was { state = state } else was).state ≡ state)
+was_doubt state was Doubt is = inr refl
+was_doubt state was Queued is = inl refl
+was_doubt state was Taken is = inl refl
+was_doubt state was Withdrawn is = inl refl
+
+pub became : (b : Bool) (state : LegState) (was : SentLeg)
+    → (settled_if b state was ≡ was) ⊎ ((b ≡ true) × ((settled_if b state was).state ≡ state))
+unfolding settled_if
+became false state was = inl refl
+became true state was = elim (was_doubt state was was.state refl) [ inl same ↦ inl same | inr now ↦ inr (refl, now) ]
 
 -- what was settled is so where a test passes, and no leg is put in doubt or in a queue
 module _ (test : ℕ → Bool) (state : LegState) (not_doubt : state ≡ Doubt → ⊥) (not_queued : state ≡ Queued → ⊥) where

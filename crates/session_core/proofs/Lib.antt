@@ -1,9 +1,11 @@
 pub mod Ordinals
+pub mod Legs
+pub mod Told
 pub mod Adding
 pub mod Received
+pub mod Counted
 pub mod Called
 pub mod LoggedOut
-pub mod Legs
 pub mod Sound
 pub mod Kept
 pub mod Promised

@@ -22,7 +22,7 @@ use Rattle.session_core.specs.Calling.{SessionAnswer, refuses, answers, answers_
 use Rattle.session_core.specs.Sound.{IsSound, AreWritable}
 use Rattle.session_core.proofs.Adding.{chosen}
 use Rattle.session_core.proofs.Sound.{stands-closed, sound-pending, sound-phase, sound-disconnected, sound-connecting, sound-sending, sound-closing}
-use Rattle.session_core.proofs.Kept.{Kept, writable, next_writable, fence_message, kept-quietly, kept-puts, kept-puts_fence, kept-ends}
+use Rattle.session_core.proofs.Kept.{Kept, writable, next_writable, fence_message, no_fill-heartbeat, kept-quietly, kept-puts, kept-puts_fence, kept-ends}
 
 -- an answer after which the promises stand, with what holds of it where it is no refusal
 pub record Keeps {X : Type 0} (Says : X → Type 0) (answer : SessionAnswer X) : Type 0 where
@@ -138,7 +138,7 @@ keeps-quiet s is =
     (λ on. chosen (Keeps StepCanBe) (is_still s.phase) (answers (quietly s)) _
     (λ still. keeps-answers (quietly s) (kept-quietly s is))
     (λ going. keeps-numbered s is (puts (Heartbeat None) (quietly s))
-    (λ may. kept-puts (Heartbeat None) (quietly s) (kept-quietly s is) may tt)))
+    (λ may. kept-puts (Heartbeat None) (quietly s) (kept-quietly s is) may tt (no_fill-heartbeat None))))
 
 pub quiet_sound : (s : SessionParts) → IsSound s → IsSound (quiet s).1
 quiet_sound s is = (keeps-quiet s is).sound
@@ -190,7 +190,9 @@ keeps-close_in s is Down = keeps_refused StepCanBe fault.NotConnected s is
 keeps-close_in s is Closed = keeps_refused StepCanBe fault.NotConnected s is
 keeps-close_in s is Up =
     keeps-numbered s is (puts_fence (quietly (closing_up s)))
-    (λ may. record { sound = sound-closing s is may; written = (fence_message s is may, tt) })
+    (λ may.
+    (let fenced = kept-puts_fence (quietly s) (kept-quietly s is) may in
+    record { sound = sound-closing s is may; written = (fence_message s is may, tt); spares = fenced.spares }))
 keeps-close_in s is LoggingOn =
     keeps-answers (quietly (asked_to_close s)) (kept-quietly (asked_to_close s) (asked_sound s is))
 keeps-close_in s is Settling =

@@ -4,6 +4,7 @@ pub mod Receiving
 pub mod Calling
 pub mod Example
 pub mod Onward
+pub mod Counting
 pub mod Sound
 pub mod Kept
 pub mod Draft

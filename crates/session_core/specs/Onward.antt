@@ -1,21 +1,24 @@
 -- How a session goes on, whatever is called and whatever comes.
-use Rattle.std.specs.Prelude.{◌≡◌, ◌≤◌, ◌<◌, ◌+◌, ◌⊎◌, ℕ, Bool, true, false, ◌&&◌, List, [], ◌∷◌, Ok, Err, Some, None, if◌then◌else◌}
+use Rattle.std.specs.Prelude.{◌≡◌, ◌≤◌, ◌<◌, ◌+◌, ◌⊎◌, ℕ, Bool, true, false, ◌&&◌, List, [], ◌∷◌, Option, Ok, Err, Some, None, if◌then◌else◌}
 use Rattle.std.specs.Option.{is_some}
+use Rattle.std.specs.List.{AllByRecursion}
 use Rattle.leg.specs.Numbered.{numbered}
 use Rattle.leg.specs.declared.leg.Leg.{Leg}
+use Rattle.leg.specs.declared.leg_state.LegState.TheVariants.{Doubt, Taken, Withdrawn}
 use Rattle.leg.specs.Growing.{Grew}
 use Rattle.dialect.specs.Addressed.{message_of}
 use Rattle.dialect.specs.declared.content.Content.{Content}
 use Rattle.dialect.specs.declared.message.Message.{Message}
-use Rattle.dialect.specs.declared.content.Content.TheVariants.{Logon, ResendRequest, GapFill, Order}
-use Rattle.resend.specs.Log.{GapFillParts, last_ordinal}
+use Rattle.dialect.specs.declared.content.Content.TheVariants.{Logon, Heartbeat, ResendRequest, GapFill, Order}
+use Rattle.resend.specs.Log.{Entry, GapFillParts, last_ordinal}
 use Rattle.resend.specs.Log.Entry.{Sent}
 use Rattle.resend.specs.Later.{IsLater, WithdrawsNone, withdrawn_since}
 use Rattle.session_core.specs.declared.phase.Phase.TheVariants.{Down, LoggingOn, Up}
 use Rattle.session_core.specs.Session.{SessionParts, is_logging_on, is_settling, next_out}
 use Rattle.session_core.specs.Turn.{StepParts, Turn}
-use Rattle.session_core.specs.Receiving.{told_number}
+use Rattle.session_core.specs.Receiving.{told_number, named_fence}
 use Rattle.session_core.specs.Calling.{SessionAnswer, own_next, doubted}
+use Rattle.session_core.specs.Sound.{EveryLeg}
 
 -- what was sent stays sent and settled, neither connections nor expected numbers go back, and a close that was asked
 -- stays asked
@@ -83,6 +86,39 @@ may_withdraw s (ResendRequest begin last) = is_settling s.phase
 may_withdraw s (Logon heart reset next) = is_logging_on s.phase && is_some (told_number s next)
 may_withdraw s _ = false
 
+-- the number below which a message says that all was taken: of the fence that it names, or the one that the exchange
+-- expects
+abbrev pub told_taken : SessionParts → Content → Option ℕ
+told_taken s (Heartbeat id) = named_fence s id
+told_taken s (ResendRequest begin last) = Some begin
+told_taken s (Logon heart reset next) = told_number s next
+told_taken s _ = None
+
+-- such a number was told, and a leg's is below it
+abbrev pub IsToldTaken : Option ℕ → ℕ → Type 0
+IsToldTaken told number = (n : ℕ) × (told ≡ Some n) × (number < n)
+
+-- such a number was told, and a leg's is that number or a higher one
+abbrev pub IsToldMissing : Option ℕ → ℕ → Type 0
+IsToldMissing told number = (n : ℕ) × (told ≡ Some n) × (n ≤ number)
+
+-- a leg that is taken was so before or its number was told as taken; and one that is withdrawn was so before or its
+-- number was told as missing
+pub record SettlesAsTold (told : Option ℕ) (before after : List Entry) : Type 0 where
+  pub taken : EveryLeg after
+      (λ number leg. leg.state ≡ Taken → (numbered number before ≡ Some (Sent leg)) ⊎ IsToldTaken told number)
+  pub withdrawn : EveryLeg after
+      (λ number leg. leg.state ≡ Withdrawn → (numbered number before ≡ Some (Sent leg)) ⊎ IsToldMissing told number)
+
+-- a gap fill stands for no leg in doubt
+abbrev pub FillSpares : List Entry → Message → Type 0
+FillSpares log m =
+    (new_number : ℕ) → m.content ≡ GapFill new_number
+    → EveryLeg log (λ number leg. m.number ≤ number → number < new_number → leg.state ≡ Doubt → ⊥)
+
+abbrev pub FillsSpareDoubt : List Entry → List Message → Type 0
+FillsSpareDoubt log messages = AllByRecursion (FillSpares log) messages
+
 -- nothing is written, or one gap fill
 abbrev pub WritesFillAlone : SessionParts → List Message → Type 0
 WritesFillAlone s written =
@@ -94,9 +130,11 @@ pub record SparesLegs (before : SessionParts) (turn : Turn) : Type 0 where
   pub named : turn.step.withdrawn ≡ []
   pub settled : WithdrawsNone before.log turn.session.log
 
--- a message received: onward; the legs that are now withdrawn are named, and only such a message withdraws legs
+-- a message received: onward; the legs that are now withdrawn are named, and only such a message withdraws legs; and
+-- legs are settled at the number that it tells
 pub record IsReceived (before : SessionParts) (m : Message) (turn : Turn) : Type 0 where
   pub onward : IsOnward before turn.session
   pub spends : SpendsNumbers before turn.step.written turn.session
   pub named : turn.step.withdrawn ≡ withdrawn_since before.log turn.session.log
   pub spares : may_withdraw before m.content ≡ false → SparesLegs before turn
+  pub settles : SettlesAsTold (told_taken before m.content) before.log turn.session.log

@@ -1,6 +1,6 @@
 //! What follows from the definitions: each law is the contract of a function that does nothing.
 
-ghost use Rattle.std.specs.Prelude.{◌≡◌, ℕ, List, None, Err, IfOk};
+ghost use Rattle.std.specs.Prelude.{◌≡◌, ℕ, true, List, None, Err, IfOk};
 ghost use Rattle.fix_tags.specs.Config.{ConfigParts, IsConfig};
 ghost use Rattle.leg.specs.Leg.{IsLeg};
 ghost use Rattle.leg.specs.declared.leg.Leg.{Leg as ALeg};
@@ -9,11 +9,12 @@ ghost use Rattle.dialect.specs.Outgoing.{alone};
 ghost use Rattle.dialect.specs.Writable.{IsWritable};
 ghost use Rattle.session_core.specs.declared.phase.Phase.TheVariants as phase;
 ghost use Rattle.session_core.specs.declared.session_fault.SessionFault.TheVariants as fault;
-ghost use Rattle.session_core.specs.Session.{SessionParts, new_session};
+ghost use Rattle.session_core.specs.Session.{SessionParts, new_session, is_connected};
 ghost use Rattle.session_core.specs.Turn.{quietly};
-ghost use Rattle.session_core.specs.Receiving.{receive, confirm};
+ghost use Rattle.session_core.specs.Receiving.{hearing, receive, confirm};
 ghost use Rattle.session_core.specs.Calling.{connect, send_leg, quiet, silent, close, malformed, broken, abandon};
-ghost use Rattle.session_core.specs.Onward.{OrUnchanged, IsOnward, KeepsLegs, IsConnection, SendsLeg, IsCall, IsReceived, WritesFillAlone};
+ghost use Rattle.session_core.specs.Counting.{Counted};
+ghost use Rattle.session_core.specs.Onward.{OrUnchanged, IsOnward, KeepsLegs, IsConnection, SendsLeg, IsCall, IsReceived, WritesFillAlone, FillsSpareDoubt};
 ghost use Rattle.session_core.specs.Sound.{IsSound, IsRead, AreWritable};
 ghost use Rattle.session_core.specs.declared.session_call.SessionCall.{SessionCall as ACall};
 ghost use Rattle.session_core.specs.Trial.{after_calls, AreRead, KeepsRules};
@@ -27,9 +28,16 @@ pub fn going_onward_goes_on()
 
 /// Whatever message is received, the session goes onward, and numbers are spent on what it writes; and a leg is
 /// withdrawn, and named so, only where the exchange says what it got: by a resend request while settling, or by a Logon
-/// that tells the number which it expects next.
+/// that tells the number which it expects next. Only legs from that number on are withdrawn; and a leg is taken only
+/// below it, or below a fence of this connection that was answered.
 pub fn what_is_received_leads_onward()
     ensures { (s : SessionParts) (m : AMessage) → IsReceived s m (receive s m) }
+{}
+
+/// A message that is received is counted only where its number is the expected one: one that is ahead isn't, nor is one
+/// that comes again. A note is given of such a message alone, and not counted yet.
+pub fn what_is_due_is_counted()
+    ensures { (s : SessionParts) (m : AMessage) → is_connected s.phase ≡ true → Counted (hearing s) m.number m.content (receive s m) }
 {}
 
 /// Every other call leaves each leg that was sent as it was: numbers are only added, each for a message that was
@@ -81,6 +89,11 @@ pub fn a_session_keeps_its_promises()
     ensures malformed { (s : SessionParts) → IsSound s → IsSound (malformed s).1 }
     ensures broken { (s : SessionParts) → IsSound s → IsSound (broken s) }
     ensures abandon { (s : SessionParts) → IsSound s → IsSound (abandon s) }
+{}
+
+/// A gap fill stands for no leg in doubt, whatever it answers.
+pub fn gap_fills_spare_legs_in_doubt()
+    ensures { (s : SessionParts) (m : AMessage) → IsSound s → IsRead m → FillsSpareDoubt (receive s m).session.log (receive s m).step.written }
 {}
 
 /// Whatever a session writes can be written.

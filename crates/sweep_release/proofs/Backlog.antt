@@ -20,7 +20,7 @@ use Rattle.sweep_release.proofs.Released.{length-released-push}
 use Rattle.sweep_release.proofs.Calls.{IsStep, stays, releases, turns, leaves, step}
 
 -- where nothing is refused, neither of two refusals holds
-none_first : (a b : Option ReleaseFault) → (a or_then b) ≡ None → a ≡ None
+pub none_first : (a b : Option ReleaseFault) → (a or_then b) ≡ None → a ≡ None
 none_first (Some fault) b e = cc
 none_first None b e = refl
 

@@ -19,7 +19,7 @@ use Rattle.sweep_release.specs.declared.gate.Gate.TheVariants.{Up, Down, Shut}
 use Rattle.sweep_release.specs.Released.{released}
 use Rattle.sweep_release.specs.Desk.{DeskVenue, DeskParts, venue_at, with_venue, gate_of, placed_legs, placed, with_gate, one_left, leave_first, leave, next_leg, gate_up_from, gate_up}
 use Rattle.sweep_release.specs.History.{KeptDesk, DeskWithHistory, without_room, with_entries, gate_up_entries_from, gate_up_entries}
-use Rattle.sweep_release.specs.Kept.{desk_seen, released_sweeps, venue_seen, entries_due, IsKeptVenue, IsKept}
+use Rattle.sweep_release.specs.Kept.{desk_seen, released_sweeps, AreShort, venue_seen, entries_due, IsKeptVenue, IsKept}
 
 pub released_sweeps-append : (xs ys : List DeskEntry) → released_sweeps (xs ++ ys) ≡ released_sweeps xs ++ released_sweeps ys
 released_sweeps-append [] ys = refl
@@ -54,6 +54,10 @@ kept-changed old new i now before more h there none venues_are history_is sweeps
     let few = h.few in
     let bounded = h.bounded in
     let due = h.due in
+    let few_venues = h.few_venues in
+    let elsewhere = h.elsewhere in
+    let short = h.short in
+    let as_many : length new.venues.items ≡ length old.venues.items = ap length venues_are ∙ length-set old.venues.items i now in
     let same : released_sweeps new.history.items ≡ released_sweeps old.history.items = ap released_sweeps history_is ∙ no_more_sweeps old.history.items more none in
     let sums = sum_by-set entries_due old.venues.items i now before there in
     let sums' : sum_by entries_due (set old.venues.items i now) + entries_due before ≡ sum_by entries_due old.venues.items + entries_due now = subst (λ v. sum_by entries_due (set old.venues.items i now) + entries_due v ≡ sum_by entries_due old.venues.items + entries_due now) was sums in
@@ -69,6 +73,9 @@ kept-changed old new i now before more h there none venues_are history_is sweeps
       bounded = omega (arith, bounded, shares_are);
       due = omega (arith, due, due_is, sums', summed);
       spare = room;
+      few_venues = omega (arith, few_venues, as_many);
+      elsewhere = λ k past. ap (released k) same ∙ elsewhere k (omega (arith, past, as_many));
+      short = subst AreShort (sym same) short;
     }
 
 -- what is known of a venue that was read at index i

@@ -3,13 +3,15 @@ use Rattle.std.proofs.Common.{◌≡◌, ℕ, ◌+◌, ◌≤◌, List, [], ◌�
 use Rattle.std.specs.Prelude.{sum_by, vec_len, vec_capacity}
 use Rattle.std.specs.List.{All}
 use Rattle.std.proofs.lemmas.List.Sums.{sum_by-cons}
-use Rattle.std.proofs.lemmas.List.Elements.{All-head, All-tail, All-get_or}
+use Rattle.std.proofs.lemmas.List.Elements.{All-nil, All-head, All-tail, All-get_or}
+use Rattle.leg.specs.declared.sweep.Routed.{Routed}
 use Rattle.sweep_release.specs.declared.desk.Desk.TheInside.{Inside}
 use Rattle.sweep_release.specs.declared.gate.Gate.TheVariants.{Down}
 use Rattle.sweep_release.specs.declared.venue.Venue.{Venue}
 use Rattle.sweep_release.specs.Gates.{gate_due}
+use Rattle.sweep_release.specs.Released.{released}
 use Rattle.sweep_release.specs.Desk.{DeskVenue}
-use Rattle.sweep_release.specs.Kept.{released_sweeps, venue_seen, entries_due, IsKeptVenue, IsKept}
+use Rattle.sweep_release.specs.Kept.{released_sweeps, AreShort, venue_seen, entries_due, IsKeptVenue, IsKept}
 
 -- the gate is down, no leg left and none is placed
 pub record IsFresh (venue : Venue) : Type 0 where
@@ -48,8 +50,8 @@ kept_fresh number venue fresh =
       spare = omega (arith, none, venue.released.ok.0, venue.released.ok.1);
     }
 
-pub kept_new : (desk : Inside) → All IsFresh desk.venues.items → desk.history.items ≡ [] → desk.sweeps ≡ 0 → desk.shares ≡ 0 → desk.due ≡ length desk.venues.items → desk.room ≡ 0 → vec_len desk.history + desk.due ≤ vec_capacity desk.history → IsKept desk
-kept_new desk fresh empty sweeps shares due none_more room =
+pub kept_new : (desk : Inside) → All IsFresh desk.venues.items → desk.history.items ≡ [] → desk.sweeps ≡ 0 → desk.shares ≡ 0 → desk.due ≡ length desk.venues.items → desk.room ≡ 0 → vec_len desk.history + desk.due ≤ vec_capacity desk.history → length desk.venues.items ≤ 16 → IsKept desk
+kept_new desk fresh empty sweeps shares due none_more room few =
     let none : [] ≡ released_sweeps desk.history.items = ap released_sweeps (sym empty) in
     record {
       venues = λ k other there.
@@ -62,4 +64,7 @@ kept_new desk fresh empty sweeps shares due none_more room =
       bounded = omega (arith, shares);
       due = due ∙ sym (all_due desk.venues.items fresh);
       spare = omega (arith, room, none_more);
+      few_venues = few;
+      elsewhere = λ k past. ap (released k) (sym none);
+      short = subst AreShort none (All-nil (λ (legs : List Routed). length legs ≤ 32));
     }

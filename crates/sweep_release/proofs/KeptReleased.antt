@@ -3,7 +3,9 @@ use Rattle.std.proofs.Common.{◌≡◌, ℕ, suc, not, Err, if◌then◌else◌
 use Rattle.std.specs.Prelude.{◌||◌, ◌==◌, nat_le, nat_lt, sum_by, vec_len, vec_capacity}
 use Rattle.std.proofs.lemmas.Bool.{ltb-false}
 use Rattle.std.proofs.lemmas.Bool.Decides.{nat_tests}
-use Rattle.std.proofs.lemmas.List.{get_or_default, length-append, length_push, length-drop}
+use Rattle.std.proofs.lemmas.List.{get_or_default, length-append, length_push, length-drop, length-map}
+use Rattle.std.specs.List.{All}
+use Rattle.std.proofs.lemmas.List.Elements.{All-head, All-tail, All-push}
 use Rattle.std.proofs.lemmas.List.Sums.{sum_by_push}
 use Rattle.leg.specs.Answering.{Answers}
 use Rattle.leg.specs.Refusing.{refused_if}
@@ -19,9 +21,10 @@ use Rattle.sweep_release.specs.declared.venue.Venue.{Venue}
 use Rattle.sweep_release.specs.Released.{legs_to, released}
 use Rattle.sweep_release.specs.Desk.{DeskParts, venue_at, placed, placed_shares, count_to, refused_at, is_up, gate_of, backlog_refusal, is_spent, release_refusal, next_number, with_sweep, release_unless, release}
 use Rattle.sweep_release.specs.History.{KeptDesk, without_room, with_entries, release_entries}
-use Rattle.sweep_release.specs.Kept.{desk_seen, released_sweeps, venue_seen, IsKeptVenue, IsKept, HaveRoom, IsEnqueued}
+use Rattle.sweep_release.specs.Kept.{desk_seen, released_sweeps, AreShort, venue_seen, IsKeptVenue, IsKept, HaveRoom, IsEnqueued}
 use Rattle.sweep_release.proofs.Released.{released-push, length-legs_to}
-use Rattle.sweep_release.proofs.Backlog.{none_second, fits}
+use Rattle.sweep_release.proofs.Refusals.{all_known}
+use Rattle.sweep_release.proofs.Backlog.{none_first, none_second, fits}
 use Rattle.sweep_release.proofs.Changing.{released_sweeps-append, venue_at_seen}
 
 -- what isn't refused isn't spent
@@ -89,12 +92,31 @@ have_room desk legs h reserved = record {
       let kept = all k other there in kept.left;
 }
 
+-- no leg of a sweep that isn't refused is for a venue that the desk hasn't got
+known : (desk : Inside) (legs : List Routed) → release_refusal (desk_seen desk).desk legs ≡ None → All (λ (routed : Routed). routed.venue < length desk.venues.items) legs
+known desk legs e =
+    subst (λ (n : ℕ). All (λ (routed : Routed). routed.venue < n) legs) (length-map desk.venues.items venue_seen)
+    (all_known (length (desk_seen desk).desk.venues) legs
+    (none_first (refused_at UnknownVenue (λ venue. nat_le (length (desk_seen desk).desk.venues) venue) legs) _
+    (none_second (refused_if (nat_lt 32 (length legs)) TooManyLegs) _
+    (none_second (refused_if (length legs == 0) Empty) _ e))))
+
+none_to : (venues k number place : ℕ) (legs : List Routed) → venues ≤ k → All (λ (routed : Routed). routed.venue < venues) legs → legs_to k number place legs ≡ []
+none_to venues k number place [] past all = refl
+none_to venues k number place (routed ∷ legs) past all =
+    let first = All-head (λ (r : Routed). r.venue < venues) routed legs all in
+    let other : (routed.venue == k) ≡ false = grind (arith, nat_tests) in
+    rw other (none_to venues k number (suc place) legs past (All-tail (λ (r : Routed). r.venue < venues) routed legs all))
+
 pub kept_released : (old new : Inside) (legs : List Routed) → IsKept old → release_refusal (desk_seen old).desk legs ≡ None → length legs ≤ 32 → IsEnqueued (old.sweeps + 1) legs old.venues.items new.venues.items → new.history.items ≡ old.history.items ++ entry.Released (record { legs = legs }) ∷ [] → new.sweeps ≡ old.sweeps + 1 → new.shares ≡ old.shares + sweep_shares legs → new.due ≡ old.due + length legs → new.room + (1 + length legs) ≡ old.room → vec_len new.history + new.due + new.room ≤ vec_capacity new.history → IsKept new
 kept_released old new legs h fine short joined history_is sweeps_are shares_are due_is room_is room =
     let all = h.venues in
     let count = h.count in
     let shares = h.shares in
     let due = h.due in
+    let few_venues = h.few_venues in
+    let elsewhere = h.elsewhere in
+    let were_short = h.short in
     let before = released_sweeps old.history.items in
     let more : released_sweeps new.history.items ≡ before ++ legs ∷ [] = ap released_sweeps history_is ∙ released_sweeps-append old.history.items (entry.Released (record { legs = legs }) ∷ []) in
     let longer : length (before ++ legs ∷ []) ≡ length before + 1 = length_push before legs in
@@ -140,6 +162,14 @@ kept_released old new legs h fine short joined history_is sweeps_are shares_are 
       bounded = omega (arith, total, shares, shares_are);
       due = omega (arith, due, due_is, sums);
       spare = room;
+      few_venues = omega (arith, few_venues, many);
+      elsewhere = λ k past.
+          let beyond : length old.venues.items ≤ k = omega (arith, past, many) in
+          ap (released k) more
+          ∙ (released-push k before legs
+          ∙ (ap (λ l. l ++ legs_to k (length before + 1) 1 legs) (elsewhere k beyond)
+          ∙ none_to (length old.venues.items) k (length before + 1) 1 legs beyond (known old legs fine)));
+      short = subst AreShort (sym more) (All-push (λ (l : List Routed). length l ≤ 32) before legs were_short short);
     }
 
 -- the desk as it is seen

@@ -13,3 +13,4 @@ pub mod Refusals
 pub mod Enqueued
 pub mod KeptReleased
 pub mod Reserved
+pub mod Asked

@@ -1,5 +1,6 @@
 -- What the desk keeps beside its history, so that no call walks it.
 use Rattle.std.specs.Prelude.{◌≡◌, ℕ, ◌+◌, ◌-◌, ◌*◌, ◌<◌, ◌≤◌, List, [], ◌∷◌, ◌++◌, length, map, sum_by, get_or, vec_len, vec_capacity}
+use Rattle.std.specs.List.{All}
 use Rattle.leg.specs.declared.leg.Leg.{Leg}
 use Rattle.leg.specs.declared.sweep.Routed.{Routed}
 use Rattle.share_ledger.specs.Entries.{sweep_shares}
@@ -17,6 +18,10 @@ abbrev pub released_sweeps : List DeskEntry → List (List Routed)
 released_sweeps [] = []
 released_sweeps (Released sweep ∷ entries) = sweep.legs ∷ released_sweeps entries
 released_sweeps (_ ∷ entries) = released_sweeps entries
+
+-- no sweep has more than 32 legs
+abbrev pub AreShort : List (List Routed) → Type 0
+AreShort sweeps = All (λ (legs : List Routed). length legs ≤ 32) sweeps
 
 -- a venue as a caller sees it
 abbrev pub venue_seen : Venue → DeskVenue
@@ -43,7 +48,8 @@ pub record IsKeptVenue (sweeps : List (List Routed)) (room number : ℕ) (venue 
   pub counted : length venue.released.items ≤ 32 * length sweeps
   pub spare : vec_len venue.released + room ≤ vec_capacity venue.released
 
--- the counts are those of the history, and the history has room for what is due
+-- the counts are those of the history, and the history has room for what is due. No leg was released to a venue that the
+-- desk hasn't got
 pub record IsKept (desk : Inside) : Type 0 where
   pub venues : (k : ℕ) (other : Venue) →
       k < length desk.venues.items →
@@ -54,6 +60,9 @@ pub record IsKept (desk : Inside) : Type 0 where
   pub bounded : desk.shares ≤ 1000000000000000000
   pub due : desk.due ≡ sum_by entries_due desk.venues.items
   pub spare : vec_len desk.history + desk.due + desk.room ≤ vec_capacity desk.history
+  pub few_venues : length desk.venues.items ≤ 16
+  pub elsewhere : (k : ℕ) → length desk.venues.items ≤ k → released k (released_sweeps desk.history.items) ≡ []
+  pub short : AreShort (released_sweeps desk.history.items)
 
 -- a venue is as it was, but for more room
 pub record IsSame (before after : Venue) : Type 0 where

@@ -4,11 +4,11 @@ ghost use Rattle.std.specs.Prelude.{◌≡◌, ◌+◌, ◌<◌, ◌≤◌, [], 
 ghost use Rattle.std.specs.List.{All};
 ghost use Rattle.share_ledger.specs.Entries.{sweep_shares};
 ghost use Rattle.leg.specs.Answering.{Answers};
-ghost use Rattle.sweep_release.specs.Desk.{new_desk, is_up, refused_at, count_to, backlog_refusal, release_refusal, ready, release, gate_of, placed, placed_shares, next_leg, next_number, with_gate, gate_up, gate_down, shut, leave, take, drop_next};
+ghost use Rattle.sweep_release.specs.Desk.{new_desk, venue_at, is_up, refused_at, count_to, backlog_refusal, release_refusal, ready, release, gate_of, placed, placed_shares, next_leg, next_number, with_gate, gate_up, gate_down, shut, leave, take, drop_next};
 ghost use Rattle.sweep_release.specs.History.{without_room, with_entries, release_entries, gate_up_entries, gate_down_entries, shut_entries, left_entries, take_entries, drop_next_entries};
 ghost use Rattle.sweep_release.specs.Gates.{gate_due};
 ghost use Rattle.sweep_release.specs.Released.{released};
-ghost use Rattle.sweep_release.specs.Kept.{released_sweeps, HaveRoom, IsEnqueued};
+ghost use Rattle.sweep_release.specs.Kept.{released_sweeps, AreShort, HaveRoom, IsEnqueued};
 
 use crate::enqueue::enqueue;
 use crate::refusing::refusal;
@@ -24,7 +24,7 @@ use std::marker::Model;
 pub const MAX_PLACED: usize = 256;
 
 /// The desk: the legs of a sweep are released to its venues together or not at all, and leave leg by leg. A call for a
-/// venue that the desk hasn't got is a broken condition, except at a release.
+/// venue that the desk hasn't got is a broken condition, except at a release, `released` and `left`.
 #[derive(Drop)]
 pub struct Desk {
     venues: Vec<Venue>,
@@ -76,9 +76,10 @@ impl Desk {
         })
     }
 
-    /// How many venues the desk has.
+    /// How many venues the desk has, 1 to 16.
     pub fn venues(&self) -> usize
-        ensures { result ≡ length self.now.desk.venues }
+        ensures value { result ≡ length self.now.desk.venues }
+        ensures few { result ≤ 16 }
     {
         self.venues.len()
     }
@@ -117,12 +118,25 @@ impl Desk {
     }
 
     /// The legs released to a venue, placed or left, in the order of their ordinals: by the sweep's number, then by the
-    /// place.
+    /// place. There are none at a venue that the desk hasn't got.
     pub fn released(&self, venue: VenueId) -> &[Leg]
-        requires { venue < length self.now.desk.venues }
         ensures { result.now ≡ released venue self.now.desk.sweeps }
     {
-        self.venues[usize::from(venue.number())].released.as_slice()
+        match self.venues.get(usize::from(venue.number())) {
+            Some(at) => at.released.as_slice(),
+            None => &[],
+        }
+    }
+
+    /// How many of the legs released to a venue left, taken or dropped: those of the lowest ordinals. None left for a
+    /// venue that the desk hasn't got.
+    pub fn left(&self, venue: VenueId) -> usize
+        ensures { result ≡ (venue_at self.now.desk venue).left }
+    {
+        match self.venues.get(usize::from(venue.number())) {
+            Some(at) => at.left,
+            None => 0,
+        }
     }
 
     /// The shares of all sweeps released, at most 10^18.
@@ -133,9 +147,12 @@ impl Desk {
         self.shares
     }
 
-    /// The calls that changed the desk, in order. They lead to it again from a new one.
+    /// The calls that changed the desk, in order. They lead to it again from a new one, and the sweeps among them are the
+    /// desk's, each of at most 32 legs.
     pub fn history(&self) -> &[DeskEntry]
-        ensures { result.now ≡ self.now.history }
+        ensures value { result.now ≡ self.now.history }
+        ensures sweeps { released_sweeps result.now ≡ self.now.desk.sweeps }
+        ensures short { AreShort self.now.desk.sweeps }
     {
         self.history.as_slice()
     }

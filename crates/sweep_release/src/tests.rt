@@ -206,6 +206,7 @@ fn ready_then_release(rt: HostRuntime) -> Result<(), Fail> {
     assert_eq!(rt; placed.leg.id.place(), 1);
     let at = known(&desk, 0)?;
     assert_eq!(rt; desk.released(at), [placed.leg].as_slice());
+    assert_eq!(rt; desk.left(at), 1);
     let at = known(&desk, 0)?;
     assert!(rt; desk.take(at).is_none());
     let at = known(&desk, 0)?;

@@ -17,10 +17,11 @@ use Rattle.venue_line.specs.Line.{noted}
 use Rattle.venue_line.specs.Line.{Line, after_turn}
 use Rattle.venue_line.specs.Copies.{IsReportOrRefusal}
 use Rattle.venue_line.specs.LineInvariant.{LineInvariant}
-use Rattle.venue_line.specs.Notes.{note_for, note_under, notes_under}
+use Rattle.venue_line.specs.Notes.{note_under, notes_under}
 use Rattle.venue_line.specs.Given.{IsPlainSaid, IsUnder, Given}
 use Rattle.venue_line.proofs.Kept.{numbered_contains}
-use Rattle.venue_line.proofs.Counted.{Quiet, Counted, stays, counted, passed, gives, receive_counted}
+use Rattle.session_core.specs.Counting.{note_for, Quiet, Counted, stays, counted, passed, gives}
+use Rattle.session_core.proofs.Counted.{receive_counted}
 use Rattle.venue_line.proofs.GivenLater.{note_later, OneMore, one_more, Skipped, skips, given_of, notes_now, plain_has_no_note}
 
 -- a message that is received

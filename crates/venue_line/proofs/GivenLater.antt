@@ -16,7 +16,8 @@ use Rattle.resend.specs.Later.{IsLater}
 use Rattle.session_core.specs.Session.{SessionParts}
 use Rattle.exchange_core.specs.Acceptance.{Carried}
 use Rattle.venue_line.specs.Line.{Line}
-use Rattle.venue_line.specs.Notes.{note_for, note_under, notes_under, refusal_note}
+use Rattle.session_core.specs.Counting.{note_for, refusal_note}
+use Rattle.venue_line.specs.Notes.{note_under, notes_under}
 use Rattle.venue_line.specs.Given.{IsOnNoLeg, IsPlainSaid, IsUnder, NamesSpent, Given}
 
 -- what a spent number was spent on

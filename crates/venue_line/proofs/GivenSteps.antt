@@ -15,12 +15,13 @@ use Rattle.session_core.specs.Onward.{OrUnchanged, IsCall, IsConnection, SendsLe
 use Rattle.resend.proofs.Later.{later-refl}
 use Rattle.session_core.proofs.Adding.{chosen}
 use Rattle.session_core.proofs.Called.{connect_keeps, send_leg_keeps, quiet_keeps, silent_keeps, close_keeps, broken_keeps, abandon_keeps}
-use Rattle.venue_line.specs.Line.{Line, new_line, after_message, after_turn, IsCallOf, LineStep, AreSteps}
+use Rattle.venue_line.specs.Line.{Line, new_line, IsCallOf, LineStep, AreSteps}
 use Rattle.venue_line.specs.Line as line
 use Rattle.venue_line.specs.LineInvariant.{LineInvariant}
 use Rattle.venue_line.specs.Given.{Given}
 use Rattle.venue_line.proofs.Stepping.{steps_keep}
-use Rattle.venue_line.proofs.Counted.{Quiet, q_puts, q_puts_fence, q_ends}
+use Rattle.session_core.specs.Counting.{Quiet}
+use Rattle.session_core.proofs.Counted.{q_puts, q_puts_fence, q_ends}
 use Rattle.venue_line.proofs.CopiesSent.{sent_is}
 use Rattle.venue_line.proofs.LineKept.{invariant_new, invariant_step}
 use Rattle.venue_line.proofs.GivenLater.{given_same}

@@ -1,11 +1,9 @@
 //! The options of `dispatch order`, as text.
 ghost use Rattle.std.specs.Prelude.{◌≡◌, Some, IfOk, IfErr};
-ghost use Rattle.dispatch_main.specs.ExitStatus.{IsOfCommandLine};
 ghost use Rattle.dispatch_main.specs.Options.{matched, AreOptions};
 
 use crate::fault::ProgramFault;
 use crate::order::option::OrderOption;
-use clap::error::ErrorKind;
 use clap::{Arg, ArgMatches, Command};
 use dialect::AnyDialect;
 use std::alloc::{AllocError, Global};
@@ -99,15 +97,6 @@ pub fn order_command<'a>(alloc: Global) -> Result<Command<'a>, AllocError> {
         ))
 }
 
-fn fault_of(error: clap::Error) -> ProgramFault
-    ensures { IsOfCommandLine result }
-{
-    if error.kind() == ErrorKind::OutOfMemory {
-        return ProgramFault::OutOfMemory;
-    }
-    ProgramFault::CommandLine(error)
-}
-
 fn value<'a>(matches: &ArgMatches<'a>, option: OrderOption) -> Result<&'a str, ProgramFault>
     ensures ok { IfOk result (λ text. matched matches.now option ≡ Some text.now) }
     ensures err { IfErr result (λ fault. fault ≡ ProgramFault.NoValue option) }
@@ -146,6 +135,6 @@ pub fn read_options<'a, S: AsStr>(
     words: &'a [S],
 ) -> Result<Options<'a>, ProgramFault> {
     let command = order_command(alloc)?.bin_name("dispatch order")?;
-    let matches = command.try_get_matches_from(words).map_err(fault_of)?;
+    let matches = command.try_get_matches_from(words)?;
     options_of(&matches)
 }

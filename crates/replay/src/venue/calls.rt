@@ -4,13 +4,14 @@ ghost use Rattle.std.specs.Prelude.{◌≡◌, OnOk, IfOk};
 ghost use Rattle.session_core.specs.Calling.{connect, quiet, silent, close};
 ghost use Rattle.std.specs.Result.{is_ok};
 ghost use Rattle.replay.specs.AtVenue.{sent, called};
+ghost use Rattle.replay.specs.Telling.{ending_of};
 
 use super::Venue;
 use crate::frame::Frame;
 use crate::keep::keep;
 use crate::moment::stamp;
 use dialect::Dialect;
-use session_core::SessionFault;
+use session_core::{Ended, SessionFault};
 use std::alloc::AllocError;
 
 impl<D: Dialect + Drop> Venue<D> {
@@ -43,17 +44,19 @@ impl<D: Dialect + Drop> Venue<D> {
         }
     }
 
-    /// Nothing was heard for a while. The only refusal is want of memory.
-    pub fn silent(&mut self) -> Result<(), AllocError>
-        ensures { OnOk result (self.new ≡ called self.old (silent self.old.session)) }
+    /// Nothing was heard for a while: why the connection ended, if it did. The only refusal is want of memory.
+    pub fn silent(&mut self) -> Result<Option<Ended>, AllocError>
+        ensures now { OnOk result (self.new ≡ called self.old (silent self.old.session)) }
+        ensures ended { IfOk result (λ ended. ended ≡ ending_of (silent self.old.session)) }
     {
         match self.session.silent(&self.dialect, &stamp()) {
             Ok(step) => {
                 let connection = self.session.connection();
-                keep(&mut self.to_exchange, connection, step.out.into_vec())
+                keep(&mut self.to_exchange, connection, step.out.into_vec())?;
+                Ok(step.ended)
             }
             Err(SessionFault::OutOfMemory) => Err(AllocError),
-            Err(_) => Ok(()),
+            Err(_) => Ok(None),
         }
     }
 

@@ -2,21 +2,18 @@
 
 ghost use Rattle.std.specs.Prelude.{◌≡◌, OnOk};
 ghost use Rattle.leg.specs.Numbered.{numbered};
-ghost use Rattle.fix_text.specs.FrameFields.{fields_in};
 ghost use Rattle.fix_text.specs.Reading.{next_read};
-ghost use Rattle.fix_tags.specs.Reading.{envelope_read};
 ghost use Rattle.exchange_core.specs.Exchange.{take};
 ghost use Rattle.exchange_core.specs.Frames.{TakeGives};
-ghost use Rattle.replay.specs.Delivering.{IsMessage, IsFrameOfMessage, taken};
-ghost use Rattle.replay.specs.Network.{moment, message_of, message_in};
+ghost use Rattle.replay.specs.Delivering.{IsFrameOfMessage, taken};
+ghost use Rattle.replay.specs.Network.{moment, message_in};
 
 use super::Venue;
 use crate::keep::keep;
 use crate::moment::stamp;
-use crate::network::{frame_at, stream_of};
+use crate::network::{frame_at, next_message, stream_of};
 use dialect::Dialect;
 use exchange_core::{Exchange, ExchangeFault};
-use fix_tags::{ReadFault, read_envelope};
 use fix_text::FrameReader;
 use schedule::FrameNumber;
 use std::alloc::{AllocError, Global};
@@ -67,30 +64,8 @@ fn take_next<D: Dialect>(
         (record { order = D.order_read dialect.now; report = D.report_read dialect.now }) (next_read stream.old).frame))
         result exchange.new }
 {
-    match stream.next() {
-        Ok(Some(found)) => take_frame(alloc, dialect, exchange, connection, &found),
-        Ok(None) => unreachable!(),
-        Err(_) => Err(ExchangeFault::OutOfMemory),
-    }
-}
-
-/// An exchange takes a frame. The only refusal is want of memory, X04.
-fn take_frame<D: Dialect>(
-    alloc: Global,
-    dialect: &D,
-    exchange: &mut Exchange,
-    connection: u64,
-    frame: &fix_text::Frame<'_>,
-) -> Result<Vec<Vec<u8>>, ExchangeFault>
-    requires { IsMessage (envelope_read (fields_in frame.now)) }
-    ensures { TakeGives (record { IsOrder = D.IsOrder dialect.now; IsReport = D.IsReport dialect.now }) moment exchange.old
-        (take exchange.old connection (message_of
-        (record { order = D.order_read dialect.now; report = D.report_read dialect.now })
-        (envelope_read (fields_in frame.now)))) result exchange.new }
-{
-    match read_envelope(alloc, frame) {
+    match next_message(alloc, stream) {
         Ok(envelope) => exchange.take(alloc, dialect, connection, &envelope, &stamp()),
-        Err(ReadFault::Tag(_)) => unreachable!(),
-        Err(ReadFault::OutOfMemory) => Err(ExchangeFault::OutOfMemory),
+        Err(_) => Err(ExchangeFault::OutOfMemory),
     }
 }

@@ -3,23 +3,20 @@
 ghost use Rattle.std.specs.Prelude.{◌≡◌, OnOk, IfOk};
 ghost use Rattle.std.specs.Option.{option_map};
 ghost use Rattle.leg.specs.Numbered.{numbered};
-ghost use Rattle.fix_text.specs.FrameFields.{fields_in};
 ghost use Rattle.fix_text.specs.Reading.{next_read};
-ghost use Rattle.fix_tags.specs.Reading.{envelope_read};
 ghost use Rattle.session_core.specs.Calling.{answers};
 ghost use Rattle.session_core.specs.Given.{Gives, IsStep};
 ghost use Rattle.session_core.specs.Receiving.{receive};
-ghost use Rattle.replay.specs.Delivering.{IsMessage, IsFrameOfMessage};
-ghost use Rattle.replay.specs.Hearing.{turn_on, heard, for_book, confirmed};
-ghost use Rattle.replay.specs.Network.{moment, message_of, message_in};
+ghost use Rattle.replay.specs.Delivering.{IsFrameOfMessage};
+ghost use Rattle.replay.specs.Hearing.{turn_on, heard, news_of, confirmed};
+ghost use Rattle.replay.specs.Network.{moment, message_in};
 
 use super::Venue;
-use crate::for_book::ForBook;
 use crate::keep::keep;
 use crate::moment::stamp;
-use crate::network::{frame_at, stream_of};
+use crate::network::{frame_at, next_message, stream_of};
+use crate::news::News;
 use dialect::{Dialect, Note};
-use fix_tags::{ReadFault, read_envelope};
 use fix_text::FrameReader;
 use schedule::FrameNumber;
 use session_core::{Session, SessionFault, Step};
@@ -27,11 +24,11 @@ use std::alloc::{AllocError, Global};
 
 impl<D: Dialect + Drop> Venue<D> {
     /// A frame that the exchange wrote comes to the session, if it was written in the session's present connection. It
-    /// gives what the book is then to be told. The only refusal is want of memory.
-    pub fn hear(&mut self, number: FrameNumber) -> Result<Option<ForBook>, AllocError>
+    /// gives what the frame told. The only refusal is want of memory.
+    pub fn hear(&mut self, number: FrameNumber) -> Result<Option<News>, AllocError>
         ensures now { OnOk result (self.new ≡ heard self.old
             (turn_on self.old (numbered number self.old.from_exchange))) }
-        ensures told { IfOk result (λ told. told ≡ option_map for_book
+        ensures told { IfOk result (λ told. told ≡ option_map news_of
             (turn_on self.old (numbered number self.old.from_exchange))) }
     {
         let alloc = *self.given.allocator();
@@ -49,9 +46,10 @@ impl<D: Dialect + Drop> Venue<D> {
             Ok(step) => {
                 let connection = self.session.connection();
                 keep(&mut self.to_exchange, connection, step.out.into_vec())?;
-                Ok(Some(ForBook {
+                Ok(Some(News {
                     note: step.note,
                     withdrawn: step.withdrawn,
+                    ended: step.ended,
                 }))
             }
             Err(_) => Err(AllocError),
@@ -86,29 +84,8 @@ fn hear_next<D: Dialect>(
         (record { order = D.order_read dialect.now; report = D.report_read dialect.now }) (next_read stream.old).frame)))
         result session.new }
 {
-    match stream.next() {
-        Ok(Some(found)) => hear_frame(alloc, dialect, session, &found),
-        Ok(None) => unreachable!(),
-        Err(_) => Err(SessionFault::OutOfMemory),
-    }
-}
-
-/// A session receives a frame. The only refusal is want of memory, S04.
-fn hear_frame<D: Dialect>(
-    alloc: Global,
-    dialect: &D,
-    session: &mut Session,
-    frame: &fix_text::Frame<'_>,
-) -> Result<Step, SessionFault>
-    requires { IsMessage (envelope_read (fields_in frame.now)) }
-    ensures { Gives (IsStep (record { IsOrder = D.IsOrder dialect.now; IsReport = D.IsReport dialect.now }) moment)
-        session.old (answers (receive session.old (message_of
-        (record { order = D.order_read dialect.now; report = D.report_read dialect.now })
-        (envelope_read (fields_in frame.now))))) result session.new }
-{
-    match read_envelope(alloc, frame) {
+    match next_message(alloc, stream) {
         Ok(envelope) => session.receive(dialect, &envelope, &stamp()),
-        Err(ReadFault::Tag(_)) => unreachable!(),
-        Err(ReadFault::OutOfMemory) => Err(SessionFault::OutOfMemory),
+        Err(_) => Err(SessionFault::OutOfMemory),
     }
 }

@@ -1,10 +1,12 @@
 //! What happens when a frame comes to one end of a venue.
 
-ghost use Rattle.std.specs.Prelude.{◌≡◌, ◌<◌, length, OnOk};
+ghost use Rattle.std.specs.Prelude.{◌≡◌, ◌<◌, length, IfOk, OnOk};
 ghost use Rattle.schedule.specs.declared.event.Event.TheVariants as event;
 ghost use Rattle.schedule.specs.Happening.{happens};
+ghost use Rattle.replay.specs.Telling.{told};
 
 use super::World;
+use crate::Told;
 use crate::telling::tell;
 use dialect::Dialect;
 use leg::VenueId;
@@ -30,15 +32,20 @@ impl<D: Dialect + Drop> World<D> {
         &mut self,
         venue: VenueId,
         frame: FrameNumber,
-    ) -> Result<(), AllocError>
+    ) -> Result<Told, AllocError>
         requires { venue < length self.old.venues }
-        ensures { OnOk result (self.new ≡ happens self.old (event.ToDispatcher venue frame)) }
+        ensures world { OnOk result (self.new ≡ happens self.old (event.ToDispatcher venue frame)) }
+        ensures told { IfOk result (λ answer. answer ≡ told self.old (event.ToDispatcher venue frame)) }
     {
         let at = usize::from(venue.number());
         let Some(news) = self.venues[at].hear(frame)? else {
-            return Ok(());
+            return Ok(Told::NOTHING);
         };
-        tell(&mut self.book, venue, news.withdrawn, &news.note)?;
-        self.venues[at].confirm(news.note)
+        let answer = tell(&mut self.book, venue, news.withdrawn, &news.note)?;
+        self.venues[at].confirm(news.note)?;
+        Ok(Told {
+            answer,
+            ended: news.ended,
+        })
     }
 }

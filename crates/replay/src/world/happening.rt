@@ -1,17 +1,19 @@
 //! What happens, event by event.
 
-ghost use Rattle.std.specs.Prelude.{◌≡◌, ◌<◌, nat_lt, length, IfSome, OnOk};
+ghost use Rattle.std.specs.Prelude.{◌≡◌, ◌<◌, nat_lt, length, IfOk, IfSome, OnOk};
 ghost use Rattle.schedule.specs.Growing.{named};
 ghost use Rattle.schedule.specs.Happening.{happens};
+ghost use Rattle.replay.specs.Telling.{told};
 
 use super::World;
+use crate::Told;
 use dialect::Dialect;
 use leg::VenueId;
 use schedule::Event;
 use std::alloc::AllocError;
 
-/// The venue that an event is at, if it is at one.
-fn venue_of(event: &Event) -> Option<VenueId>
+/// The venue that an event is at, if it is at one: a release is at none.
+pub fn venue_of(event: &Event) -> Option<VenueId>
     ensures { result ≡ named event.now }
 {
     match event {
@@ -41,23 +43,26 @@ impl<D: Dialect + Drop> World<D> {
         usize::from(venue.number()) < self.venues.len()
     }
 
-    /// What an event does. At a venue that isn't there it does nothing.
-    #[tactic(auto, using(crate::proofs::Nowhere::nowhere))]
-    pub(crate) fn happen(&mut self, event: Event) -> Result<(), AllocError>
-        ensures { OnOk result (self.new ≡ happens self.old event) }
+    /// An event happens: what it told, besides the world after it. At a venue that isn't there it does nothing. The only
+    /// refusal is want of memory, and the world is then of no use: a part of the event may have happened.
+    #[tactic(auto, using(crate::proofs::Nowhere::nowhere, crate::proofs::Nowhere::nothing_is_told))]
+    pub fn happen(&mut self, event: Event) -> Result<Told, AllocError>
+        ensures world { OnOk result (self.new ≡ happens self.old event) }
+        ensures told { IfOk result (λ answer. answer ≡ told self.old event) }
     {
         if let Some(venue) = venue_of(&event) {
             if !self.has(venue) {
-                return Ok(());
+                return Ok(Told::NOTHING);
             }
         }
         self.happen_here(event)
     }
 
     /// What an event does at no venue, or at one that is there.
-    fn happen_here(&mut self, event: Event) -> Result<(), AllocError>
+    fn happen_here(&mut self, event: Event) -> Result<Told, AllocError>
         requires { IfSome (named event) (λ venue. venue < length self.old.venues) }
-        ensures { OnOk result (self.new ≡ happens self.old event) }
+        ensures world { OnOk result (self.new ≡ happens self.old event) }
+        ensures told { IfOk result (λ answer. answer ≡ told self.old event) }
     {
         match event {
             Event::Release(sweep) => self.release(sweep)?,
@@ -67,15 +72,17 @@ impl<D: Dialect + Drop> World<D> {
             Event::Take(venue) => self.take(venue)?,
             Event::Connect(venue) => self.connect(venue)?,
             Event::ToExchange { venue, frame } => self.deliver_to_exchange(venue, frame)?,
-            Event::ToDispatcher { venue, frame } => self.deliver_to_dispatcher(venue, frame)?,
+            Event::ToDispatcher { venue, frame } => {
+                return self.deliver_to_dispatcher(venue, frame);
+            }
             Event::Break(venue) => self.break_off(venue),
             Event::ExchangeBreak(venue) => self.drop_connection(venue),
             Event::Act { venue, act } => self.act(venue, &act)?,
             Event::Quiet(venue) => self.quiet(venue)?,
-            Event::Silent(venue) => self.silent(venue)?,
+            Event::Silent(venue) => return self.silent(venue),
             Event::Close(venue) => self.close(venue)?,
             Event::Abandon(venue) => self.abandon(venue),
         }
-        Ok(())
+        Ok(Told::NOTHING)
     }
 }

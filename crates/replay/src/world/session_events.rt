@@ -1,10 +1,12 @@
 //! What happens when a venue's session is called.
 
-ghost use Rattle.std.specs.Prelude.{◌≡◌, ◌<◌, length, OnOk};
+ghost use Rattle.std.specs.Prelude.{◌≡◌, ◌<◌, length, IfOk, OnOk};
 ghost use Rattle.schedule.specs.declared.event.Event.TheVariants as event;
 ghost use Rattle.schedule.specs.Happening.{may_connect, happens};
+ghost use Rattle.replay.specs.Telling.{told};
 
 use super::World;
+use crate::Told;
 use dialect::Dialect;
 use leg::VenueId;
 use std::alloc::AllocError;
@@ -31,11 +33,16 @@ impl<D: Dialect + Drop> World<D> {
     }
 
     /// The session heard nothing for a while.
-    pub(crate) fn silent(&mut self, venue: VenueId) -> Result<(), AllocError>
+    pub(crate) fn silent(&mut self, venue: VenueId) -> Result<Told, AllocError>
         requires { venue < length self.old.venues }
-        ensures { OnOk result (self.new ≡ happens self.old (event.Silent venue)) }
+        ensures world { OnOk result (self.new ≡ happens self.old (event.Silent venue)) }
+        ensures told { IfOk result (λ answer. answer ≡ told self.old (event.Silent venue)) }
     {
-        self.venues[usize::from(venue.number())].silent()
+        let ended = self.venues[usize::from(venue.number())].silent()?;
+        Ok(Told {
+            answer: None,
+            ended,
+        })
     }
 
     /// The session is to close; where that isn't refused the gate is shut.

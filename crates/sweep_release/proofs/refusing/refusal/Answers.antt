@@ -10,11 +10,11 @@ pub returns-in-Some-clause-value : goal.returns-in-Some-clause-value
 returns-in-Some-clause-value c =
     let legs = c.args.legs.now in
     sym (unknown_first c.args.desk.now.desk legs c.in-Some.fault (grind (arith, nat_tests)) (grind (arith, nat_tests))
-    (ap (λ n. refused_at UnknownVenue (λ v. nat_le n v) legs) (sym c.venues.ensures) ∙ sym c.in-Some.ensures.value))
+    (ap (λ n. refused_at UnknownVenue (λ v. nat_le n v) legs) (sym c.venues.ensures.value) ∙ sym c.in-Some.ensures.value))
 
 pub returns-in-Some-first_closed-clause-value : goal.returns-in-Some-first_closed-clause-value
 returns-in-Some-first_closed-clause-value c =
     let legs = c.args.legs.now in
     sym (closed_first c.args.desk.now.desk legs c.in-Some-first_closed.fault (grind (arith, nat_tests)) (grind (arith, nat_tests))
-    (ap (λ n. refused_at UnknownVenue (λ v. nat_le n v) legs) (sym c.venues.ensures) ∙ (sym c.first_unknown.ensures.value ∙ c.in_default.is))
+    (ap (λ n. refused_at UnknownVenue (λ v. nat_le n v) legs) (sym c.venues.ensures.value) ∙ (sym c.first_unknown.ensures.value ∙ c.in_default.is))
     (sym c.in-Some-first_closed.ensures))

@@ -11,10 +11,10 @@ use Rattle.session_core.specs.Receiving.{receive}
 use Rattle.session_core.specs.Session.{is_connected}
 use Rattle.session_core.specs.Turn.{Turn}
 use Rattle.schedule.specs.World.{VenueParts}
-use Rattle.replay.specs.declared.for_book.ForBook.{ForBook}
+use Rattle.replay.specs.declared.news.News.{News}
 use Rattle.replay.specs.Network.{moment, stream_of, message_in, said_by, all_said}
 use Rattle.replay.specs.Delivering.{IsFrameOfMessage}
-use Rattle.replay.specs.Hearing.{turn_on, heard, for_book}
+use Rattle.replay.specs.Hearing.{turn_on, heard, news_of}
 use Rattle.replay.proofs.ExchangeTakes.{written_at, is_frame}
 use Rattle.replay.proofs.SessionHears.{no_frame, not_turned, turn_is, off, on, elsewhere, heard_kept, heard_said}
 use Rattle.replay.proofs.venue.Venue.hear.Goals as goal
@@ -33,8 +33,8 @@ returns-in_default-clause-told g c =
     } in
     let absent : numbered c.args.number v.from_exchange.items ≡ None =
     sym (c.in_default.ensures ∙ ap (numbered c.args.number) c.deref.ensures.value) in
-    subst (λ (venue : VenueParts). None ≡ option_map for_book (turn_on venue (numbered c.args.number venue.from_exchange))) c.self.view_is
-    (sym (ap (option_map for_book) (no_frame r before v.from_exchange.items c.args.number refl absent)))
+    subst (λ (venue : VenueParts). None ≡ option_map news_of (turn_on venue (numbered c.args.number venue.from_exchange))) c.self.view_is
+    (sym (ap (option_map news_of) (no_frame r before v.from_exchange.items c.args.number refl absent)))
 
 pub returns-then-not-is_connected-clause-now : goal.returns-then-not-is_connected-clause-now
 returns-then-not-is_connected-clause-now g c =
@@ -70,8 +70,8 @@ returns-then-not-is_connected-clause-told g c =
     let frame = c.in-Some.frame.now in
     let there : numbered c.args.number v.from_exchange.items ≡ Some frame =
     sym (c.in-Some.ensures ∙ ap (numbered c.args.number) c.deref.ensures.value) in
-    subst (λ (venue : VenueParts). None ≡ option_map for_book (turn_on venue (numbered c.args.number venue.from_exchange))) c.self.view_is
-    (sym (ap (option_map for_book) (not_turned r before v.from_exchange.items c.args.number frame refl there
+    subst (λ (venue : VenueParts). None ≡ option_map news_of (turn_on venue (numbered c.args.number venue.from_exchange))) c.self.view_is
+    (sym (ap (option_map news_of) (not_turned r before v.from_exchange.items c.args.number frame refl there
     (off (is_connected v.session.phase) _ (sym (c.is_connected.ensures ∙ ap is_connected c.phase.ensures) ∙ c.if-not-is_connected.true)))))
 
 pub returns-then-frame-connection-clause-now : goal.returns-then-frame-connection-clause-now
@@ -108,8 +108,8 @@ returns-then-frame-connection-clause-told g c =
     let frame = c.in-Some.frame.now in
     let there : numbered c.args.number v.from_exchange.items ≡ Some frame =
     sym (c.in-Some.ensures ∙ ap (numbered c.args.number) c.deref.ensures.value) in
-    subst (λ (venue : VenueParts). None ≡ option_map for_book (turn_on venue (numbered c.args.number venue.from_exchange))) c.self.view_is
-    (sym (ap (option_map for_book) (not_turned r before v.from_exchange.items c.args.number frame refl there
+    subst (λ (venue : VenueParts). None ≡ option_map news_of (turn_on venue (numbered c.args.number venue.from_exchange))) c.self.view_is
+    (sym (ap (option_map news_of) (not_turned r before v.from_exchange.items c.args.number frame refl there
     (elsewhere (is_connected v.session.phase) frame.connection v.session.connection (λ same. c.if-frame-connection.true (same ∙ sym c.connection.ensures))))))
 
 pub hear_next-requires : goal.hear_next-requires
@@ -232,8 +232,8 @@ returns-in-Ok-clause-told g c =
     subst (λ (s : Stream). Gives (IsStep w moment) v.session (answers (receive v.session (message_in r (next_read s).frame))) (Ok c.in-Ok.step) c.hear_next.new.session) stream c.in-Ok.ensures in
     let current = on (is_connected v.session.phase) frame.connection v.session.connection
     (sym (c.is_connected.ensures ∙ ap is_connected c.phase.ensures) ∙ c.if-not-is_connected.false) (c.if-frame-connection.false ∙ c.connection.ensures) in
-    let told : Option ForBook = Some (record { note = c.in-Ok.step.note; withdrawn = c.in-Ok.step.withdrawn }) in
-    let is : told ≡ Some (for_book (receive v.session (said_by r frame.bytes.items))) =
-    λ k. Some (record { note = gives.0.note k; withdrawn = gives.0.withdrawn k }) in
-    subst (λ (venue : VenueParts). told ≡ option_map for_book (turn_on venue (numbered c.args.number venue.from_exchange))) c.self.view_is
-    (is ∙ sym (ap (option_map for_book) (turn_is r before v.from_exchange.items c.args.number frame refl there current)))
+    let told : Option News = Some (record { note = c.in-Ok.step.note; withdrawn = c.in-Ok.step.withdrawn; ended = c.in-Ok.step.ended }) in
+    let is : told ≡ Some (news_of (receive v.session (said_by r frame.bytes.items))) =
+    λ k. Some (record { note = gives.0.note k; withdrawn = gives.0.withdrawn k; ended = gives.0.ended k }) in
+    subst (λ (venue : VenueParts). told ≡ option_map news_of (turn_on venue (numbered c.args.number venue.from_exchange))) c.self.view_is
+    (is ∙ sym (ap (option_map news_of) (turn_is r before v.from_exchange.items c.args.number frame refl there current)))

@@ -1,5 +1,4 @@
-use Rattle.std.proofs.Common.{◌≡◌, rules, refl, subst}
-use Rattle.std.specs.Prelude.{OnOk}
+use Rattle.std.proofs.Common.{◌≡◌, None, rules, refl, subst}
 use Rattle.dialect.specs.Framed.{Writers}
 use Rattle.dialect.specs.Message.{Readers}
 use Rattle.dialect.proofs.FrameBack.{Agrees}
@@ -10,11 +9,23 @@ use Rattle.session_core.proofs.Promised.{silent_sound, silent_writable}
 use Rattle.schedule.specs.World.{VenueParts}
 use Rattle.replay.specs.Network.{all_said}
 use Rattle.replay.specs.AtVenue.{called}
-use Rattle.replay.proofs.SessionCalls.{given_sound, still_kept, step_kept, step_said_if, called_refused}
+use Rattle.replay.specs.Telling.{ending_of}
+use Rattle.replay.proofs.Endings.{said_ending, no_ending}
+use Rattle.replay.proofs.SessionCalls.{given_sound, still_kept, step_kept, step_said, called_refused}
 use Rattle.replay.proofs.venue.Venue.silent.Goals as goal
 
 pub invariant_of-self : goal.invariant_of-self
 invariant_of-self g c =
+    let v = c.self.inside in
+    let w : Writers = record { IsOrder = g.D.Dialect.IsOrder v.dialect; IsReport = g.D.Dialect.IsReport v.dialect } in
+    let s = v.session in
+    step_kept w s c.silent.new.self v.exchange v.to_exchange.items c.keep.new.kept.items v.from_exchange.items
+    c.stamp.result c.connection-connection.result (silent s) c.in-Ok.step c.into_vec.result.items c.keep.result c.self.invariant c.stamp.ensures
+    c.in-Ok.ensures (silent_sound s c.self.invariant.session) (silent_writable s c.self.invariant.session) c.into_vec.ensures
+    c.connection-connection.ensures c.keep.ensures.ok c.keep.ensures.err
+
+pub invariant_of-self-in-Ok : goal.invariant_of-self-in-Ok
+invariant_of-self-in-Ok g c =
     let v = c.self.inside in
     let w : Writers = record { IsOrder = g.D.Dialect.IsOrder v.dialect; IsReport = g.D.Dialect.IsReport v.dialect } in
     let s = v.session in
@@ -39,8 +50,8 @@ invariant_of-self-in-Err g c =
     let sound = given_sound (IsStep w c.stamp.result) s c.silent.new.self (silent s) c.silent.result c.silent.ensures c.self.invariant.session (silent_sound s c.self.invariant.session) in
     still_kept w s c.silent.new.self v.exchange v.to_exchange.items v.to_exchange.items v.from_exchange.items c.self.invariant sound refl
 
-pub returns-in-Ok : goal.returns-in-Ok
-returns-in-Ok g c =
+pub returns-in_ok-keep-in-Ok-clause-now : goal.returns-in_ok-keep-in-Ok-clause-now
+returns-in_ok-keep-in-Ok-clause-now g c =
     let v = c.self.inside in
     let w : Writers = record { IsOrder = g.D.Dialect.IsOrder v.dialect; IsReport = g.D.Dialect.IsReport v.dialect } in
     let r : Readers = record { order = g.D.Dialect.order_read v.dialect; report = g.D.Dialect.report_read v.dialect } in
@@ -59,13 +70,20 @@ returns-in-Ok g c =
       given = v.given.items;
     } in
     let now : VenueParts = record before { session = c.silent.new.self; to_exchange = all_said r c.keep.new.kept.items } in
-    subst (λ (venue : VenueParts). OnOk c.keep.result (now ≡ called venue (silent venue.session))) c.self.view_is
-    (step_said_if w r agrees before v.to_exchange.items c.keep.new.kept.items c.stamp.result c.connection-connection.result
-    (silent v.session) c.in-Ok.step c.into_vec.result.items c.silent.new.self c.keep.result refl c.stamp.ensures c.in-Ok.ensures
-    (silent_writable v.session c.self.invariant.session) c.into_vec.ensures c.connection-connection.ensures c.keep.ensures.ok)
+    subst (λ (venue : VenueParts). now ≡ called venue (silent venue.session)) c.self.view_is
+    (step_said w r agrees before v.to_exchange.items c.keep.new.kept.items c.stamp.result c.connection-connection.result
+    (silent v.session) c.in-Ok.step c.into_vec.result.items c.silent.new.self refl c.stamp.ensures c.in-Ok.ensures
+    (silent_writable v.session c.self.invariant.session) c.into_vec.ensures c.connection-connection.ensures c.in_ok-keep-in-Ok.ensures.ok)
 
-pub returns-in-Err : goal.returns-in-Err
-returns-in-Err g c =
+pub returns-in_ok-keep-in-Ok-clause-ended : goal.returns-in_ok-keep-in-Ok-clause-ended
+returns-in_ok-keep-in-Ok-clause-ended g c =
+    let v = c.self.inside in
+    let w : Writers = record { IsOrder = g.D.Dialect.IsOrder v.dialect; IsReport = g.D.Dialect.IsReport v.dialect } in
+    subst (λ (venue : VenueParts). c.in-Ok.step.ended ≡ ending_of (silent venue.session)) c.self.view_is
+    (said_ending w c.stamp.result v.session c.silent.new.self (silent v.session) c.in-Ok.step c.in-Ok.ensures)
+
+pub returns-in-Err-clause-now : goal.returns-in-Err-clause-now
+returns-in-Err-clause-now g c =
     let v = c.self.inside in
     let w : Writers = record { IsOrder = g.D.Dialect.IsOrder v.dialect; IsReport = g.D.Dialect.IsReport v.dialect } in
     let r : Readers = record { order = g.D.Dialect.order_read v.dialect; report = g.D.Dialect.report_read v.dialect } in
@@ -80,3 +98,11 @@ returns-in-Err g c =
     let now : VenueParts = record before { session = c.silent.new.self } in
     subst (λ (venue : VenueParts). now ≡ called venue (silent venue.session)) c.self.view_is
     (called_refused w c.stamp.result before (silent v.session) c.in-Err.field-0 c.silent.new.self other c.in-Err.ensures)
+
+pub returns-in-Err-clause-ended : goal.returns-in-Err-clause-ended
+returns-in-Err-clause-ended g c =
+    let v = c.self.inside in
+    let w : Writers = record { IsOrder = g.D.Dialect.IsOrder v.dialect; IsReport = g.D.Dialect.IsReport v.dialect } in
+    let other : c.in-Err.field-0 ≡ SessionFault.OutOfMemory → ⊥ = search rules in
+    subst (λ (venue : VenueParts). None ≡ ending_of (silent venue.session)) c.self.view_is
+    (no_ending w c.stamp.result v.session c.silent.new.self (silent v.session) c.in-Err.field-0 other c.in-Err.ensures)

@@ -1,20 +1,37 @@
-use Rattle.std.proofs.Common.{◌≡◌, ◌<◌, length, sym, subst, ◌∙◌}
-use Rattle.std.specs.Prelude.{OnOk}
+use Rattle.std.proofs.Common.{◌≡◌, ◌<◌, length, Option, Some, None, sym, ap, subst, ◌∙◌}
+use Rattle.std.specs.Option.{option_map_or}
 use Rattle.session_core.specs.Calling.{silent}
 use Rattle.schedule.specs.declared.event.Event.TheVariants as event
-use Rattle.schedule.specs.World.{World, VenueParts}
+use Rattle.schedule.specs.World.{World, VenueParts, venue_in}
 use Rattle.schedule.specs.Happening.{with_venue, happens}
-use Rattle.replay.specs.AtVenue.{called}
-use Rattle.replay.proofs.EventsHappen.{at_index, silent_happens}
+use Rattle.replay.specs.declared.told.Told.{Told}
+use Rattle.replay.specs.Telling.{ending_of, told}
+use Rattle.replay.proofs.EventsHappen.{silent_happens}
+use Rattle.replay.proofs.WorldAfter.{is_there}
 use Rattle.replay.proofs.world.World.silent.Goals as goal
 
-pub returns : goal.returns
-returns g c =
+pub returns-clause-world : goal.returns-clause-world
+returns-clause-world g c =
     let w : World = record { desk = c.self.inside.desk.desk; book = c.self.inside.book; venues = c.self.inside.venues.items } in
     let v = c.args.venue in
     let before : VenueParts = c.index_mut.result.now in
     let now : VenueParts = c.silent.new.self in
     let low : v < length w.venues = subst (λ (world : World). v < length world.venues) (sym c.self.view_is) c.requires in
-    subst (λ (world : World). OnOk c.silent.result (with_venue w c.from.result now ≡ happens world (event.Silent v))) c.self.view_is
-    (at_index w c.from.result v before now (now ≡ called before (silent before.session)) (event.Silent v) c.silent.result
-    (c.from.ensures ∙ c.number.ensures.value) low c.index_mut.ensures.value c.silent.ensures (silent_happens w v before now))
+    let same = c.from.ensures ∙ c.number.ensures.value in
+    let there = is_there w.venues c.from.result v before same low c.index_mut.ensures.value in
+    subst (λ (world : World). with_venue w c.from.result now ≡ happens world (event.Silent v)) c.self.view_is
+    ((λ k. with_venue w (same k) now) ∙ silent_happens w v before now there c.in_ok-ended.ensures.now)
+
+pub returns-clause-told : goal.returns-clause-told
+returns-clause-told g c =
+    let w : World = record { desk = c.self.inside.desk.desk; book = c.self.inside.book; venues = c.self.inside.venues.items } in
+    let v = c.args.venue in
+    let before : VenueParts = c.index_mut.result.now in
+    let low : v < length w.venues = subst (λ (world : World). v < length world.venues) (sym c.self.view_is) c.requires in
+    let there : venue_in w v ≡ Some before =
+    is_there w.venues c.from.result v before (c.from.ensures ∙ c.number.ensures.value) low c.index_mut.ensures.value in
+    let answer : Told = record { answer = None; ended = c.in_ok-ended.ended } in
+    let ends = c.in_ok-ended.ensures.ended
+    ∙ sym (ap (λ (o : Option VenueParts). option_map_or (λ (venue : VenueParts). ending_of (silent venue.session)) o None) there) in
+    subst (λ (world : World). answer ≡ told world (event.Silent v)) c.self.view_is
+    (λ k. record { answer = None; ended = ends k })

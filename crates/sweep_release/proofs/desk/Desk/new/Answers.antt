@@ -11,6 +11,7 @@ invariant_of-result c =
     kept_new _ c.loop.invariant.fresh c.in_ok-with_capacity.ensures.items refl refl
     (omega (arith, count, c.loop-test.false, c.loop.auto.counter-end))
     refl (omega (arith, c.in_ok-with_capacity.ensures.len, c.in_ok-with_capacity.ensures.capacity))
+    (omega (arith, count, c.loop-test.false, c.loop.auto.counter-end, c.from-count.ensures, c.requires.high))
 
 pub returns-clause-ok : goal.returns-clause-ok
 returns-clause-ok c =

@@ -1,0 +1,25 @@
+# Sourced by the checks that refuse a program each growth of memory in turn.
+
+place=$(mktemp -d)
+trap 'rm -rf "$place"' EXIT
+clang -O2 -shared -fPIC -o "$place/refuse_growth.so" checks/built/refuse_growth.c || exit 1
+
+# Runs a program (its words behind the name of a judge) again and again, the first run refused its first growth of memory,
+# the next its second, until a run ends without a refusal. Standard input is read anew from the file `input` for each run.
+# After each run the judge is called with the growth's number and the run's status; what the run wrote stands in
+# "$place/out" and "$place/err". How many growths were refused is left in `growths`.
+refuse_each_growth() {
+    local judge=$1
+    shift
+    local count=0
+    local met
+    while :; do
+        count=$((count + 1))
+        REFUSED=$count GROWTHS=$place/growths LD_PRELOAD=$place/refuse_growth.so "$@" \
+            < "$input" > "$place/out" 2> "$place/err"
+        "$judge" "$count" $?
+        met=$(cat "$place/growths")
+        [ "$met" -ge "$count" ] || break
+    done
+    growths=$((count - 1))
+}

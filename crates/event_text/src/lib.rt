@@ -1,0 +1,10 @@
+//! What an event did, in words: a step of a replay as an engineer reads it.
+#![tactic(auto)]
+
+mod before;
+mod deeds;
+mod note_text;
+mod phase_word;
+
+pub use before::Before;
+pub use deeds::print_deeds;

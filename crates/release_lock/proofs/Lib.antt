@@ -1,0 +1,9 @@
+pub mod Replaying
+pub mod LeftLegs
+pub mod Turning
+pub mod Placing
+pub mod Leaving
+pub mod Opening
+pub mod Past
+pub mod TakenLegs
+pub mod Raising

@@ -1,0 +1,19 @@
+use Rattle.std.proofs.Common.{rules, sym, subst}
+use Rattle.sweep_release.specs.History.{KeptDesk}
+use Rattle.release_lock.specs.Locked.{Replays, OnlyTurns}
+use Rattle.release_lock.proofs.Turning.{turned_locked}
+use Rattle.release_lock.proofs.locked_desk.LockedDesk.lend.Goals as goal
+
+pub invariant_of-self : goal.invariant_of-self
+invariant_of-self g c =
+    let turns = c.requires.turns c.args.self.now c.f.result c.f.new.arg2 (search rules) in
+    turned_locked g.L.Run.queues c.self.inside.desk c.f.new.arg2 c.self.inside.total.total c.self.inside.feeds.items
+    c.self.invariant (subst (λ (d : KeptDesk). OnlyTurns d c.f.new.arg2) (sym c.self.view_is) turns)
+
+pub returns-clause-replays : goal.returns-clause-replays
+returns-clause-replays g c =
+    let turns = c.requires.turns c.args.self.now c.f.result c.f.new.arg2 (search rules) in
+    let now = turned_locked g.L.Run.queues c.self.inside.desk c.f.new.arg2 c.self.inside.total.total
+    c.self.inside.feeds.items c.self.invariant
+    (subst (λ (d : KeptDesk). OnlyTurns d c.f.new.arg2) (sym c.self.view_is) turns) in
+    (subst Replays c.self.view_is c.self.invariant.replays, now.replays)

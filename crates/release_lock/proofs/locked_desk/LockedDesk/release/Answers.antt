@@ -1,0 +1,84 @@
+use Rattle.std.proofs.Common.{rules, Ok, Err, Result, sym, subst, ap, arith}
+use Rattle.sweep_release.specs.declared.receipt.Receipt.{Receipt}
+use Rattle.sweep_release.specs.declared.release_fault.ReleaseFault.{ReleaseFault}
+use Rattle.sweep_release.specs.History.{KeptDesk}
+use Rattle.sweep_release.proofs.Answered.{err_is}
+use Rattle.release_lock.specs.Locked.{Replays, Places}
+use Rattle.release_lock.proofs.Placing.{outcome, few_placed, released_locked, same_locked}
+use Rattle.release_lock.proofs.locked_desk.LockedDesk.release.Goals as goal
+
+pub invariant_of-self : goal.invariant_of-self
+invariant_of-self g c =
+    let gave = c.in_err-receipt.ensures in
+    let places : Places c.args.sweep.legs c.self.inside.desk (Err c.in_err-receipt.field-0.0) c.lend_beside.new.beside =
+    record { book = gave.0; book_after = gave.1; placed = search rules } in
+    same_locked g.L.Run.queues c.self.inside.desk c.lend_beside.new.beside c.self.inside.total.total
+    c.self.inside.feeds.items c.self.invariant
+    (outcome c.args.sweep.legs c.self.inside.desk c.lend_beside.new.beside (Err c.in_err-receipt.field-0.0) places)
+
+pub returns-in_err-receipt-clause-placed : goal.returns-in_err-receipt-clause-placed
+returns-in_err-receipt-clause-placed g c =
+    let gave = c.in_err-receipt.ensures in
+    let places : Places c.args.sweep.legs c.self.inside.desk (Err c.in_err-receipt.field-0.0) c.lend_beside.new.beside =
+    record { book = gave.0; book_after = gave.1; placed = search rules } in
+    let handed_on = err_is c.from_residual.result _ c.from_residual.ensures.0 c.from_residual.ensures.1 in
+    subst (λ (r : Result Receipt ReleaseFault). Places c.args.sweep.legs c.args.self.now r c.lend_beside.new.beside)
+    (sym handed_on)
+    (subst (λ (d : KeptDesk). Places c.args.sweep.legs d (Err c.in_err-receipt.field-0.0) c.lend_beside.new.beside)
+    c.self.view_is places)
+
+pub returns-in_err-receipt-clause-replays : goal.returns-in_err-receipt-clause-replays
+returns-in_err-receipt-clause-replays g c =
+    let gave = c.in_err-receipt.ensures in
+    let places : Places c.args.sweep.legs c.self.inside.desk (Err c.in_err-receipt.field-0.0) c.lend_beside.new.beside =
+    record { book = gave.0; book_after = gave.1; placed = search rules } in
+    let now = same_locked g.L.Run.queues c.self.inside.desk c.lend_beside.new.beside c.self.inside.total.total
+    c.self.inside.feeds.items c.self.invariant
+    (outcome c.args.sweep.legs c.self.inside.desk c.lend_beside.new.beside (Err c.in_err-receipt.field-0.0) places) in
+    (subst Replays c.self.view_is c.self.invariant.replays, now.replays)
+
+pub count-requires : goal.count-requires
+count-requires g c =
+    let gave = c.in_ok-receipt.ensures in
+    let places : Places c.args.sweep.legs c.self.inside.desk (Ok c.in_ok-receipt.receipt) c.lend_beside.new.beside =
+    record { book = gave.0; book_after = gave.1; placed = search rules } in
+    let it = outcome c.args.sweep.legs c.self.inside.desk c.lend_beside.new.beside (Ok c.in_ok-receipt.receipt) places in
+    let few = few_placed c.args.sweep.legs c.self.inside.desk c.in_ok-receipt.receipt c.lend_beside.new.beside it in
+    let counted = c.self.invariant.counted in
+    omega (arith, few, counted)
+
+pub invariant_of-self-2 : goal.invariant_of-self-2
+invariant_of-self-2 g c =
+    let gave = c.in_ok-receipt.ensures in
+    let places : Places c.args.sweep.legs c.self.inside.desk (Ok c.in_ok-receipt.receipt) c.lend_beside.new.beside =
+    record { book = gave.0; book_after = gave.1; placed = search rules } in
+    let it = outcome c.args.sweep.legs c.self.inside.desk c.lend_beside.new.beside (Ok c.in_ok-receipt.receipt) places in
+    released_locked g.L.Run.queues c.args.sweep.legs c.self.inside.desk c.in_ok-receipt.receipt c.lend_beside.new.beside
+    c.self.inside.total.total c.count.new.total.total c.self.inside.feeds.items c.self.invariant it c.count.ensures.total
+
+pub returns-clause-placed : goal.returns-clause-placed
+returns-clause-placed g c =
+    let gave = c.in_ok-receipt.ensures in
+    let places : Places c.args.sweep.legs c.self.inside.desk (Ok c.in_ok-receipt.receipt) c.lend_beside.new.beside =
+    record { book = gave.0; book_after = gave.1; placed = search rules } in
+    subst (λ (d : KeptDesk). Places c.args.sweep.legs d (Ok c.in_ok-receipt.receipt) c.lend_beside.new.beside)
+    c.self.view_is places
+
+pub returns-clause-replays : goal.returns-clause-replays
+returns-clause-replays g c =
+    let gave = c.in_ok-receipt.ensures in
+    let places : Places c.args.sweep.legs c.self.inside.desk (Ok c.in_ok-receipt.receipt) c.lend_beside.new.beside =
+    record { book = gave.0; book_after = gave.1; placed = search rules } in
+    let it = outcome c.args.sweep.legs c.self.inside.desk c.lend_beside.new.beside (Ok c.in_ok-receipt.receipt) places in
+    let now = released_locked g.L.Run.queues c.args.sweep.legs c.self.inside.desk c.in_ok-receipt.receipt
+    c.lend_beside.new.beside c.self.inside.total.total c.count.new.total.total c.self.inside.feeds.items
+    c.self.invariant it c.count.ensures.total in
+    (subst Replays c.self.view_is c.self.invariant.replays, now.replays)
+
+pub returns-clause-seat : goal.returns-clause-seat
+returns-clause-seat g c =
+    let gave = c.in_ok-receipt.ensures in
+    let places : Places c.args.sweep.legs c.self.inside.desk (Ok c.in_ok-receipt.receipt) c.lend_beside.new.beside =
+    record { book = gave.0; book_after = gave.1; placed = search rules } in
+    let it = outcome c.args.sweep.legs c.self.inside.desk c.lend_beside.new.beside (Ok c.in_ok-receipt.receipt) places in
+    (ap (λ r. r.shares) it.receipt_is, c.count.ensures.seat)

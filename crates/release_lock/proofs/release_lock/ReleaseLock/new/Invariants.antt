@@ -1,0 +1,8 @@
+use Rattle.std.proofs.Common.{◌≤◌, vec_capacity}
+use Rattle.release_lock.proofs.Opening.{Opening}
+use Rattle.release_lock.proofs.release_lock.ReleaseLock.new.Given as goal
+
+abbrev pub invariant-loop-number : goal.invariant-loop-number
+invariant-loop-number g l =
+    Opening g.L.Run.queues l.venues l.number l.rings.items l.feeds.items l.drains.items
+    × (l.venues ≤ vec_capacity l.drains)

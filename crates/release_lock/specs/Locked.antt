@@ -1,0 +1,50 @@
+-- What lies under the lock, and what is asked of it.
+use Rattle.std.specs.Prelude.{◌≡◌, ℕ, ◌≤◌, Bool, true, false, List, ◌++◌, length, Result}
+use Rattle.std.specs.List.{list_all}
+use Rattle.atomic_table.specs.Seated.{TableId}
+use Rattle.leg.specs.declared.sweep.Routed.{Routed}
+use Rattle.share_ledger.specs.Book.{BookParts}
+use Rattle.venue_queue.specs.Port.{Port}
+use Rattle.sweep_release.specs.declared.desk_entry.DeskEntry.{DeskEntry}
+use Rattle.sweep_release.specs.declared.desk_entry.DeskEntry.TheVariants.{Released, Up, Down, Shut, Taken, Dropped}
+use Rattle.sweep_release.specs.declared.receipt.Receipt.{Receipt}
+use Rattle.sweep_release.specs.declared.release_fault.ReleaseFault.{ReleaseFault}
+use Rattle.sweep_release.specs.Desk.{new_desk, placed_shares}
+use Rattle.sweep_release.specs.History.{KeptDesk, replay, history}
+use Rattle.sweep_release.specs.Place.{kept, place_kept, PlaceAnswers}
+use Rattle.release_lock.specs.Queues.{AreFed}
+
+-- a desk that its own history leads to
+abbrev pub Replays : KeptDesk → Type 0
+Replays kept = replay (new_desk (length kept.desk.venues)) kept.history ≡ kept.desk
+
+-- what is kept under the lock, of the run's rings, the desk, the total of the seats and the feeds
+pub record IsLocked (queues : List TableId) (desk : KeptDesk) (total : ℕ) (feeds : List Port) : Type 0 where
+  pub few : length queues ≤ 16
+  pub venues : length desk.desk.venues ≡ length queues
+  pub replays : Replays desk
+  pub counted : total ≡ placed_shares desk.desk
+  pub many : length feeds ≡ length queues
+  pub fed : AreFed queues desk.desk feeds
+
+-- a sweep was placed at the desk and opened in a book, or in neither: the answer, and the desk after it
+pub record Places (legs : List Routed) (before : KeptDesk) (answer : Result Receipt ReleaseFault) (after : KeptDesk) : Type 0 where
+  pub book : BookParts
+  pub book_after : BookParts
+  pub placed : PlaceAnswers (kept before book) (place_kept (kept before book) legs) answer (kept after book_after)
+
+-- whether a call puts a gate up or down, or shuts one
+abbrev pub is_turn : DeskEntry → Bool
+is_turn (Up venue) = true
+is_turn (Down venue) = true
+is_turn (Shut venue) = true
+is_turn (Released sweep) = false
+is_turn (Taken venue) = false
+is_turn (Dropped venue) = false
+
+-- a desk after gates were put up, put down or shut, and nothing else was asked of it that changes it
+pub record OnlyTurns (before after : KeptDesk) : Type 0 where
+  pub calls : List DeskEntry
+  pub turns : list_all is_turn calls ≡ true
+  pub desk : after.desk ≡ replay before.desk calls
+  pub history_is : after.history ≡ before.history ++ history before.desk calls

@@ -1,0 +1,143 @@
+//! The desk, the count of what its callers placed, and the feeds of the venues' rings.
+
+ghost use Rattle.std.specs.Prelude.{◌≡◌, ◌⊎◌, ◌+◌, ◌<◌, ◌≤◌, length, min, MatchResult};
+ghost use Rattle.std.specs.Fn.{FnOnceReturnsAtMut};
+ghost use Rattle.crossbeam_queue.specs.Fifo.{Held};
+ghost use Rattle.leg.specs.Answering.{Answers};
+ghost use Rattle.venue_queue.specs.Rule.{EndsWith};
+ghost use Rattle.share_ledger.specs.Entries.{sweep_shares};
+ghost use Rattle.sweep_release.specs.Desk.{placed, placed_shares};
+ghost use Rattle.sweep_release.specs.History.{KeptDesk as ADesk, without_room};
+ghost use Rattle.sweep_release.specs.Place.{kept, place_kept, PlaceAnswers};
+ghost use Rattle.exec_collector.specs.Resolved.{OnlyOpens};
+ghost use Rattle.release_lock.specs.Locked.{Replays, Places, OnlyTurns};
+ghost use Rattle.release_lock.specs.Queues.{left_to, Pumps, raise};
+
+use crate::pumping::pump;
+use crate::{CallerSeat, Run, VenueDrain};
+use exec_collector::Collector;
+use leg::{Sweep, VenueId};
+use share_ledger::Book;
+use std::marker::Model;
+use std::sync::Wait;
+use std::sync::ledger::{Book as Total, Ledger};
+use sweep_release::{Desk, Gate, GateFault, Receipt, ReleaseFault, place};
+use venue_queue::Feed;
+
+/// What lies under the lock. Contracts see the desk. It replays from its own history, the seats add up to the shares of
+/// all sweeps released, and what was pushed to a venue is the first of the legs released to it, just as many as have left
+/// the desk.
+#[derive(Drop)]
+pub struct LockedDesk<L: Run> {
+    pub(crate) desk: Desk,
+    pub(crate) total: Total<L>,
+    pub(crate) feeds: Vec<Feed>,
+}
+
+impl<L: Run> Model for LockedDesk<L> {
+    ghost use Rattle.sweep_release.specs.History.{KeptDesk};
+    ghost use Rattle.release_lock.specs.Locked.{IsLocked};
+
+    ghost Value = { KeptDesk };
+
+    ghost view = { λ locked. locked.desk };
+
+    ghost invariant = { λ locked. IsLocked L.queues locked.desk locked.total.total locked.feeds.items };
+}
+
+impl<L: Run> LockedDesk<L> {
+    /// The desk.
+    pub fn desk(&self) -> &Desk
+        ensures value { result.now ≡ self.now }
+        ensures replays { Replays self.now }
+        ensures venues { length self.now.desk.venues ≡ length L.queues }
+    {
+        &self.desk
+    }
+
+    /// Releases a sweep at the desk and opens it in the collector's book, under one number, or does neither; the seat
+    /// gains its shares. R01 to R08 in the order of `place`; a refused sweep is dropped, and nothing is as it wasn't.
+    pub fn release<M: Ledger>(
+        &mut self,
+        rt: &impl Wait,
+        collector: &Collector<M>,
+        sweep: Sweep,
+        seat: &mut CallerSeat<L>,
+    ) -> Result<Receipt, ReleaseFault>
+        ensures placed { Places sweep.legs self.old result self.new }
+        ensures replays { Replays self.old × Replays self.new }
+        ensures seat { MatchResult result (λ receipt. (receipt.shares ≡ sweep_shares sweep.legs)
+            × (seat.new.shares ≡ seat.old.shares + receipt.shares)) (λ _. seat.new ≡ seat.old) }
+        ensures parts { seat.new.parts ≡ seat.old.parts }
+    {
+        let LockedDesk {
+            desk,
+            total,
+            feeds: _,
+        } = self;
+        let receipt = collector.lend_beside(rt, desk, |desk: &mut Desk, book: &mut Book| {
+            place_in(desk, book, sweep)
+        })?;
+        seat.count(total, receipt.shares);
+        Ok(receipt)
+    }
+
+    /// Moves placed legs of a venue into its ring, in order, until none is placed or the ring was full at some moment of
+    /// the call, and gives how many were pushed to it in all. Each leg leaves the desk, taken while the gate is up and
+    /// dropped while it isn't, once it is in the ring. It takes no memory.
+    pub fn pump(&mut self, rt: &impl Wait, venue: VenueId) -> u64
+        requires { venue < length L.queues }
+        ensures desk { Pumps venue self.old self.new }
+        ensures done { (placed self.new.desk venue ≡ 0) ⊎ Held 64 (EndsWith (left_to self.new.desk venue)) }
+        ensures count { result ≡ min (length (left_to self.new.desk venue)) 18446744073709551615 }
+        ensures replays { Replays self.old × Replays self.new }
+    {
+        let LockedDesk {
+            desk,
+            total: _,
+            feeds,
+        } = self;
+        pump(rt, desk, venue, &mut feeds[usize::from(venue.number())])
+    }
+
+    /// Puts the gate of a drain's venue up, as `Desk::gate_up` does, once every leg released to it was popped: an open
+    /// gate stays so, G02 where it was shut, G01 where legs are still placed or in the ring, G03.
+    pub fn raise(&mut self, drain: &VenueDrain<L>) -> Result<(), GateFault>
+        ensures answer { Answers GateFault.OutOfMemory (without_room self.old) (raise (without_room self.old) drain.now.venue (length drain.now.popped)) result (without_room self.new) }
+        ensures replays { Replays self.old × Replays self.new }
+    {
+        let venue = drain.venue();
+        let released = self.desk.released(venue).len() as u64;
+        if self.desk.gate(venue) == Gate::Down && drain.popped() < released {
+            return Err(GateFault::NotDrained);
+        }
+        self.desk.gate_up(venue)
+    }
+
+    /// Lends the desk to a closure that only puts gates up or down or shuts them. It may ask the desk anything; it may not
+    /// release, take or drop.
+    pub fn lend<T, F: FnOnce(&mut Desk) -> T>(&mut self, f: F) -> T
+        requires call { F.IsAlwaysCallable f }
+        requires turns { (d : ADesk) (r : T) (e : ADesk) → FnOnceReturnsAtMut F.FnOnce f d r e → OnlyTurns d e }
+        ensures call { FnOnceReturnsAtMut F.FnOnce f self.old result self.new }
+        ensures replays { Replays self.old × Replays self.new }
+    {
+        f(&mut self.desk)
+    }
+
+    /// Does nothing when it runs. Its contract tells who holds the lock that a seat has at most the shares placed.
+    pub fn bounds(&mut self, seat: &mut CallerSeat<L>)
+        ensures bound { seat.old.shares ≤ placed_shares self.old.desk }
+        ensures same { (self.new ≡ self.old) × (seat.new ≡ seat.old) }
+    {
+        self.total.audit(&mut seat.share);
+    }
+}
+
+/// Places a sweep. In the book it is opened, and nothing else is asked of it.
+fn place_in(desk: &mut Desk, book: &mut Book, sweep: Sweep) -> Result<Receipt, ReleaseFault>
+    ensures placed { PlaceAnswers (kept desk.old book.old) (place_kept (kept desk.old book.old) sweep.legs) result (kept desk.new book.new) }
+    ensures opens { OnlyOpens book.old book.new }
+{
+    place(desk, book, sweep)
+}

@@ -1,0 +1,140 @@
+//! The desk behind a lock.
+
+ghost use Rattle.std.specs.Prelude.{◌≡◌, ◌+◌, ◌<◌, ◌≤◌, length, map, min, IfOk, IsOkUnless, MatchResult};
+ghost use Rattle.std.specs.List.{All};
+ghost use Rattle.std.specs.Fn.{FnOnceReturnsAtMut};
+ghost use Rattle.leg.specs.Answering.{Answers};
+ghost use Rattle.share_ledger.specs.Entries.{sweep_shares};
+ghost use Rattle.sweep_release.specs.History.{KeptDesk as ADesk, without_room};
+ghost use Rattle.release_lock.specs.Locked.{Replays, Places, OnlyTurns};
+ghost use Rattle.release_lock.specs.Queues.{IsFresh, new_drains, left_to, Pumps, raise};
+ghost use Rattle.release_lock.specs.Seats.{first_seat};
+
+use crate::{CallerSeat, LockedDesk, Run, VenueDrain};
+use exec_collector::Collector;
+use leg::{Sweep, VenueId};
+use std::alloc::Global;
+use std::collections::VecDeque;
+use std::marker::PhantomData;
+use std::sync::ledger::{Blank, Ledger};
+use std::sync::{Mutex, Wait};
+use sweep_release::{Desk, GateFault, Receipt, ReleaseFault};
+use venue_queue::{Drain, Feed};
+
+/// The desk behind a lock, which all callers and workers share. Each call may wait for the lock.
+#[derive(Drop)]
+pub struct ReleaseLock<L: Run> {
+    locked: Mutex<LockedDesk<L>>,
+}
+
+/// A new lock, the seat of its first caller, and the drains of the venues, in the order of their numbers.
+#[derive(Drop)]
+pub struct Opened<L: Run> {
+    pub lock: ReleaseLock<L>,
+    pub seat: CallerSeat<L>,
+    pub drains: Vec<VenueDrain<L>>,
+}
+
+impl<L: Run> ReleaseLock<L> {
+    /// A new desk of 1 to 16 venues behind a lock, with the feed of each venue's ring; the first seat, with all 1,024
+    /// parts; and the drain of each ring. The rings have room for 64 legs, and nothing went through them. R07, and the
+    /// rings are dropped.
+    pub fn new(
+        alloc: Global,
+        venues: u8,
+        blank: Blank,
+        rings: VecDeque<(Feed, Drain)>,
+    ) -> Result<Opened<L>, ReleaseFault>
+        requires low { 1 ≤ venues }
+        requires high { venues ≤ 16 }
+        requires rings { (length rings.items ≡ venues) × All IsFresh rings.items }
+        requires queues { L.queues ≡ map (λ ends. ends.0.table) rings.items }
+        requires name { blank.name ≡ L.name }
+        requires parts { (blank.parts ≡ L.parts) × (L.parts ≡ 1024) }
+        ensures seat { IfOk result (λ opened. opened.seat ≡ first_seat) }
+        ensures drains { IfOk result (λ opened. opened.drains.items ≡ new_drains venues) }
+        ensures only { IsOkUnless result ReleaseFault.OutOfMemory }
+    {
+        let desk = Desk::new(alloc, venues)?;
+        let mut feeds = Vec::with_capacity(alloc, usize::from(venues))?;
+        let mut drains = Vec::with_capacity(alloc, usize::from(venues))?;
+        let mut rings = rings;
+        for number in 0..venues {
+            let Some((feed, drain)) = rings.pop_front() else {
+                unreachable!()
+            };
+            let Ok(venue) = VenueId::new(number) else {
+                unreachable!()
+            };
+            feeds.push_reserved(feed);
+            drains.push_reserved(VenueDrain {
+                venue,
+                drain,
+                of: PhantomData,
+            });
+        }
+        let (total, share) = blank.open::<L>();
+        let locked = LockedDesk { desk, total, feeds };
+        let lock = ReleaseLock {
+            locked: Mutex::new(locked),
+        };
+        let seat = CallerSeat {
+            parts: 1024,
+            shares: 0,
+            share,
+        };
+        Ok(Opened { lock, seat, drains })
+    }
+
+    /// Releases a sweep under both locks, the desk's first: at the desk and in the collector's book, under one number,
+    /// or in neither; the seat gains its shares. R01 to R08 in the order of `place`.
+    pub fn release<M: Ledger>(
+        &self,
+        rt: &impl Wait,
+        collector: &Collector<M>,
+        sweep: Sweep,
+        seat: &mut CallerSeat<L>,
+    ) -> Result<Receipt, ReleaseFault>
+        ensures placed { (before : ADesk) × (after : ADesk) × Replays before × Replays after
+            × Places sweep.legs before result after }
+        ensures seat { MatchResult result (λ receipt. (receipt.shares ≡ sweep_shares sweep.legs)
+            × (seat.new.shares ≡ seat.old.shares + receipt.shares)) (λ _. seat.new ≡ seat.old) }
+        ensures parts { seat.new.parts ≡ seat.old.parts }
+    {
+        self.locked.lock(rt).release(rt, collector, sweep, seat)
+    }
+
+    /// Moves placed legs of a venue into its ring, in order, until none is placed or the ring was full at some moment of
+    /// the call, and gives how many were pushed to it in all.
+    pub fn pump(&self, rt: &impl Wait, venue: VenueId) -> u64
+        requires { venue < length L.queues }
+        ensures { (before : ADesk) × (after : ADesk) × Replays before × Replays after × Pumps venue before after
+            × (result ≡ min (length (left_to after.desk venue)) 18446744073709551615) }
+    {
+        self.locked.lock(rt).pump(rt, venue)
+    }
+
+    /// Puts the gate of a drain's venue up, once every leg released to it was popped: an open gate stays so, G02 where it
+    /// was shut, G01 where legs are still placed or in the ring, G03.
+    pub fn raise(&self, rt: &impl Wait, drain: &VenueDrain<L>) -> Result<(), GateFault>
+        ensures { (before : ADesk) × (after : ADesk) × Replays before × Replays after
+            × Answers GateFault.OutOfMemory (without_room before) (raise (without_room before) drain.now.venue (length drain.now.popped)) result (without_room after) }
+    {
+        self.locked.lock(rt).raise(drain)
+    }
+
+    /// Lends the desk to a closure that only puts gates up or down or shuts them. It may ask the desk anything; it may not
+    /// release, take or drop, nor ask for this lock.
+    pub fn with<T, F: FnOnce(&mut Desk) -> T>(&self, rt: &impl Wait, f: F) -> T
+        requires call { F.IsAlwaysCallable f }
+        requires turns { (d : ADesk) (r : T) (e : ADesk) → FnOnceReturnsAtMut F.FnOnce f d r e → OnlyTurns d e }
+        ensures { (d : ADesk) × (e : ADesk) × Replays d × Replays e × FnOnceReturnsAtMut F.FnOnce f d result e }
+    {
+        self.locked.lock(rt).lend(f)
+    }
+
+    /// The desk and its count, once no thread shares the lock any more.
+    pub fn into_locked(self) -> LockedDesk<L> {
+        self.locked.into_inner()
+    }
+}

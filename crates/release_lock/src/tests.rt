@@ -1,0 +1,571 @@
+//! What was released is read back from desk and book; a ring and a backlog at their limits; a seat that is split until it
+//! has one part; and a day in threads, after which seats and rings are compared with the desk.
+
+ghost use Rattle.std.specs.Prelude.{◌≡◌, ◌<◌, ◌≤◌, [], length, map, IfOk};
+ghost use Rattle.std.specs.List.{All};
+ghost use Rattle.release_lock.specs.Locked.{OnlyTurns};
+ghost use Rattle.release_lock.specs.Queues.{IsFresh};
+
+use super::*;
+use dialect::{ExecId, Fill, LastPx, Note, Report, ReportKind};
+use exec_collector::{Collector, WorkerSeat};
+use leg::{LegId, Legs, Routed, Side, Sweep, Symbol, Terms, Totals, VenueId};
+use share_ledger::Applied;
+use std::alloc::Global;
+use std::collections::VecDeque;
+use std::marker::Brand;
+use std::ops::Range;
+use std::sync::Wait;
+use std::sync::ledger::{Blank, Ledger};
+use std::test::Fail;
+use std::thread::{Threads, join, map_vec, yield_now};
+use sweep_release::{Desk, DeskEntry, GateFault, Receipt, ReleaseFault};
+use venue_queue::{Drain, Feed, pair};
+
+fn venue(number: u8) -> Result<VenueId, Fail> {
+    Ok(VenueId::new(number).ok().ok_or("a venue")?)
+}
+
+// Orders of these shares, each for a venue.
+fn sweep(alloc: Global, orders: &[(u8, u64)]) -> Result<Sweep, Fail> {
+    let mut legs = Vec::new(alloc);
+    for (number, shares) in orders {
+        let symbol = Symbol::new(b"IBM", b"").ok().ok_or("a symbol")?;
+        legs.push(Routed {
+            venue: venue(*number)?,
+            terms: Terms::new(symbol, Side::Buy, *shares, 100_000)
+                .ok()
+                .ok_or("terms")?,
+        })?;
+    }
+    Ok(Sweep {
+        legs: Legs::new(legs),
+    })
+}
+
+// So many legs of ten shares, to one venue.
+fn legs_to(alloc: Global, number: u8, count: usize) -> Result<Sweep, Fail> {
+    let mut orders = Vec::new(alloc);
+    for _ in 0..count {
+        orders.push((number, 10))?;
+    }
+    sweep(alloc, orders.as_slice())
+}
+
+// The rings of so many venues.
+fn rings(alloc: Global, venues: u8) -> Result<VecDeque<(Feed, Drain)>, Fail>
+    ensures { IfOk result (λ rings. (length rings.items ≡ venues) × All IsFresh rings.items) }
+{
+    let mut rings = VecDeque::new(alloc);
+    for _ in 0..venues {
+        rings.push_back(pair(alloc, 64)?)?;
+    }
+    Ok(rings)
+}
+
+// Puts a gate down, if the desk has it.
+fn lowers(desk: &mut Desk, at: VenueId)
+    ensures { OnlyTurns desk.old desk.new }
+{
+    if usize::from(at.number()) < desk.venues() {
+        desk.gate_down(at);
+    }
+}
+
+// The number of entries, the shares placed, and the number of legs of the last sweep that was released.
+fn last_sweep(desk: &mut Desk) -> (usize, u64, usize)
+    ensures { OnlyTurns desk.old desk.new }
+{
+    let legs = match desk.history().last() {
+        Some(DeskEntry::Released(sweep)) => sweep.legs.len(),
+        Some(_) => 0,
+        None => 0,
+    };
+    (desk.history().len(), desk.placed_shares(), legs)
+}
+
+fn report(exec: &[u8], kind: ReportKind) -> Result<Note, Fail> {
+    Ok(Note::Report(Report {
+        id: LegId::new(1, 1),
+        exec: ExecId::new(exec).ok_or("an id")?,
+        kind,
+    }))
+}
+
+fn open(shares: u64) -> Totals {
+    Totals {
+        filled: 0,
+        busted: 0,
+        cancelled: 0,
+        withdrawn: 0,
+        still_open: shares,
+    }
+}
+
+// A sweep of these orders is released through the lock, and the seat then has so many shares.
+fn releases<L: Run, M: Ledger>(
+    rt: &impl Wait,
+    lock: &ReleaseLock<L>,
+    collector: &Collector<M>,
+    seat: &mut CallerSeat<L>,
+    orders: Sweep,
+    wanted: Result<Receipt, ReleaseFault>,
+    shares: u64,
+) -> Result<(), Fail> {
+    if lock.release(rt, collector, orders, seat) != wanted || seat.shares() != shares {
+        return Err(Fail::from("the receipt and the seat"));
+    }
+    Ok(())
+}
+
+// The desk has so many entries and shares, and so many legs in its last sweep; the book has these totals.
+fn is_read_back<L: Run, M: Ledger>(
+    rt: &impl Wait,
+    lock: &ReleaseLock<L>,
+    collector: &Collector<M>,
+    at_desk: (usize, u64, usize),
+    number: u64,
+    totals: Totals,
+) -> Result<(), Fail> {
+    if lock.with(rt, |desk: &mut Desk| last_sweep(desk)) != at_desk {
+        return Err(Fail::from("the desk has it"));
+    }
+    if collector.totals(rt, number) != Some(totals) {
+        return Err(Fail::from("the book has it"));
+    }
+    Ok(())
+}
+
+// A trade of four shares of the first leg, the same again, and its end.
+fn trades<M: Ledger>(
+    rt: &impl Wait,
+    collector: &Collector<M>,
+    at: VenueId,
+    worker: &mut WorkerSeat<M>,
+) -> Result<(), Fail> {
+    let px = LastPx::new(b"10").ok_or("a price")?;
+    let fill = Fill::new(4, px).ok_or("a fill")?;
+    let trade = report(b"E", ReportKind::Trade(fill))?;
+    let end = report(b"F", ReportKind::Canceled)?;
+    for (note, wanted) in [
+        (&trade, Applied::Moved),
+        (&trade, Applied::Duplicate),
+        (&end, Applied::Moved),
+    ] {
+        if collector.apply(rt, at, note, worker) != Ok(wanted) {
+            return Err(Fail::from("a trade and the end"));
+        }
+    }
+    Ok(())
+}
+
+// Without the seat the count is wrong, and with it right.
+fn counts<L: Run>(
+    alloc: Global,
+    lock: ReleaseLock<L>,
+    seat: CallerSeat<L>,
+    shares: u64,
+) -> Result<(), Fail> {
+    let mut locked = lock.into_locked();
+    if check_placed(&mut locked, Vec::new(alloc)) != Err(Miscounted) {
+        return Err(Fail::from("no seat"));
+    }
+    let mut seats = Vec::new(alloc);
+    seats.push(seat)?;
+    if check_placed(&mut locked, seats) != Ok(shares) {
+        return Err(Fail::from("the seats"));
+    }
+    Ok(())
+}
+
+// A lock and a collector of one venue, its gate up; what is released is read back.
+fn reads_back<L: Run, M: Ledger>(
+    rt: &impl Wait,
+    alloc: Global,
+    callers: Blank,
+    workers: Blank,
+    rings: VecDeque<(Feed, Drain)>,
+) -> Result<(), Fail>
+    requires callers { (callers.name ≡ L.name) × (callers.parts ≡ L.parts) × (L.parts ≡ 1024) }
+    requires workers { (workers.name ≡ M.name) × (workers.parts ≡ M.parts) × (M.parts ≡ 1) }
+    requires rings { (length rings.items ≡ 1) × All IsFresh rings.items }
+    requires queues { L.queues ≡ map (λ ends. ends.0.table) rings.items }
+{
+    let opened = ReleaseLock::<L>::new(alloc, 1, callers, rings);
+    let opened = opened.ok().ok_or("a lock")?;
+    let made = Collector::<M>::new(alloc, 1, workers);
+    let (collector, worker_seats) = made.ok().ok_or("a collector")?;
+    is_told(rt, alloc, opened, &collector, worker_seats)
+}
+
+fn is_told<L: Run, M: Ledger>(
+    rt: &impl Wait,
+    alloc: Global,
+    opened: Opened<L>,
+    collector: &Collector<M>,
+    worker_seats: Vec<WorkerSeat<M>>,
+) -> Result<(), Fail> {
+    let Opened {
+        lock,
+        mut seat,
+        mut drains,
+    } = opened;
+    let mut worker_seats = worker_seats;
+    let drain = drains.pop().ok_or("a drain")?;
+    let mut worker = worker_seats.pop().ok_or("a seat")?;
+    let at = venue(0)?;
+    let down = Err(ReleaseFault::GateShut(at));
+    releases(
+        rt,
+        &lock,
+        collector,
+        &mut seat,
+        sweep(alloc, &[(0, 10)])?,
+        down,
+        0,
+    )?;
+    lock.raise(rt, &drain).ok().ok_or("a gate")?;
+    let one = sweep(alloc, &[(0, 10)])?;
+    releases(rt, &lock, collector, &mut seat, one, received(1, 10), 10)?;
+    is_read_back(rt, &lock, collector, (2, 10, 1), 1, open(10))?;
+    trades(rt, collector, at, &mut worker)?;
+    let two = sweep(alloc, &[(0, 10), (0, 20)])?;
+    releases(rt, &lock, collector, &mut seat, two, received(2, 30), 40)?;
+    is_read_back(rt, &lock, collector, (3, 40, 2), 2, open(30))?;
+    let ended = Totals {
+        filled: 4,
+        busted: 0,
+        cancelled: 6,
+        withdrawn: 0,
+        still_open: 0,
+    };
+    is_read_back(rt, &lock, collector, (3, 40, 2), 1, ended)?;
+    counts(alloc, lock, seat, 40)
+}
+
+// What is answered for a sweep that was released.
+fn received(number: u64, shares: u64) -> Result<Receipt, ReleaseFault> {
+    Ok(Receipt { number, shares })
+}
+
+#[test]
+fn release_reads_back(rt: HostRuntime) -> Result<(), Fail> {
+    let rings = rings(rt.alloc(), 1)?;
+    reads_back::<Brand, Brand>(&rt, rt.alloc(), Blank::new(1024), Blank::new(1), rings)
+}
+
+// Pops legs up to so many in all, and says whether their ordinals are the next ones.
+fn pops_to<L: Run>(rt: &impl Wait, drain: &mut VenueDrain<L>, count: u64) -> bool {
+    for _ in drain.popped()..count {
+        match drain.pop_to(rt, count) {
+            Some(leg) if leg.ordinal == drain.popped() => {}
+            Some(_) => return false,
+            None => return false,
+        }
+    }
+    drain.pop_to(rt, count).is_none()
+}
+
+// Sweeps of 32 legs are released under these numbers, and one leg more is refused.
+fn fills<L: Run, M: Ledger>(
+    rt: &impl Wait,
+    alloc: Global,
+    lock: &ReleaseLock<L>,
+    collector: &Collector<M>,
+    seat: &mut CallerSeat<L>,
+    numbers: Range<u64>,
+) -> Result<(), Fail> {
+    for number in numbers {
+        let receipt = lock.release(rt, collector, legs_to(alloc, 0, 32)?, seat);
+        if receipt != received(number, 320) {
+            return Err(Fail::from("32 legs more"));
+        }
+    }
+    let full = Err(ReleaseFault::BacklogFull(venue(0)?));
+    if lock.release(rt, collector, legs_to(alloc, 0, 1)?, seat) != full {
+        return Err(Fail::from("no leg more"));
+    }
+    Ok(())
+}
+
+// The gate stays down while legs are placed or in the ring; in each round the next 64 go through it.
+fn drains_all<L: Run>(
+    rt: &impl Wait,
+    lock: &ReleaseLock<L>,
+    drain: &mut VenueDrain<L>,
+) -> Result<(), Fail> {
+    let down = Err(GateFault::NotDrained);
+    for round in 1..=5 {
+        if lock.raise(rt, drain) != down || !pops_to(rt, drain, 64 * round) {
+            return Err(Fail::from("the next 64"));
+        }
+        if round < 5
+            && (lock.raise(rt, drain) != down || !pumps(rt, lock, drain, 64 * (round + 1)))
+        {
+            return Err(Fail::from("64 more in the ring"));
+        }
+    }
+    if lock.raise(rt, drain) != Ok(()) || drain.pop(rt).is_some() {
+        return Err(Fail::from("drained"));
+    }
+    Ok(())
+}
+
+// Whether after a pump so many legs were pushed in all.
+fn pumps<L: Run>(rt: &impl Wait, lock: &ReleaseLock<L>, drain: &VenueDrain<L>, all: u64) -> bool {
+    let at = drain.venue();
+    lock.pump(rt, at) == all
+}
+
+// A ring of 64 legs, and 256 behind it; the gate goes down, and up again once all were popped.
+fn fills_up<L: Run, M: Ledger>(
+    rt: &impl Wait,
+    alloc: Global,
+    callers: Blank,
+    workers: Blank,
+    rings: VecDeque<(Feed, Drain)>,
+) -> Result<(), Fail>
+    requires callers { (callers.name ≡ L.name) × (callers.parts ≡ L.parts) × (L.parts ≡ 1024) }
+    requires workers { (workers.name ≡ M.name) × (workers.parts ≡ M.parts) × (M.parts ≡ 1) }
+    requires rings { (length rings.items ≡ 1) × All IsFresh rings.items }
+    requires queues { L.queues ≡ map (λ ends. ends.0.table) rings.items }
+{
+    let opened = ReleaseLock::<L>::new(alloc, 1, callers, rings);
+    let opened = opened.ok().ok_or("a lock")?;
+    let made = Collector::<M>::new(alloc, 1, workers);
+    let (collector, _worker_seats) = made.ok().ok_or("a collector")?;
+    is_filled_up(rt, alloc, opened, &collector)
+}
+
+fn is_filled_up<L: Run, M: Ledger>(
+    rt: &impl Wait,
+    alloc: Global,
+    opened: Opened<L>,
+    collector: &Collector<M>,
+) -> Result<(), Fail> {
+    let Opened {
+        lock,
+        mut seat,
+        mut drains,
+    } = opened;
+    let mut drain = drains.pop().ok_or("a drain")?;
+    lock.raise(rt, &drain).ok().ok_or("a gate")?;
+    fills(rt, alloc, &lock, collector, &mut seat, 1..9)?;
+    if !pumps(rt, &lock, &drain, 64) {
+        return Err(Fail::from("64 in the ring"));
+    }
+    fills(rt, alloc, &lock, collector, &mut seat, 9..11)?;
+    if !pumps(rt, &lock, &drain, 64) || seat.shares() != 3_200 {
+        return Err(Fail::from("ring and backlog are full"));
+    }
+    let at = drain.venue();
+    lock.with(rt, |desk: &mut Desk| lowers(desk, at));
+    drains_all(rt, &lock, &mut drain)
+}
+
+#[test]
+fn sixty_four_in_the_ring(rt: HostRuntime) -> Result<(), Fail> {
+    let rings = rings(rt.alloc(), 1)?;
+    fills_up::<Brand, Brand>(&rt, rt.alloc(), Blank::new(1024), Blank::new(1), rings)
+}
+
+// Splits a seat until it has one part, and joins what was split off. How many were, and how many parts it was not.
+fn splits<L: Run>(
+    alloc: Global,
+    callers: Blank,
+    rings: VecDeque<(Feed, Drain)>,
+) -> Result<usize, Fail>
+    requires callers { (callers.name ≡ L.name) × (callers.parts ≡ L.parts) × (L.parts ≡ 1024) }
+    requires rings { (length rings.items ≡ 1) × All IsFresh rings.items }
+    requires queues { L.queues ≡ map (λ ends. ends.0.table) rings.items }
+{
+    let opened = ReleaseLock::<L>::new(alloc, 1, callers, rings);
+    let Opened { lock, seat, .. } = opened.ok().ok_or("a lock")?;
+    let mut first = seat;
+    let mut seats = Vec::new(alloc);
+    for _ in 0..1_023 {
+        seats.push(first.split().ok_or("a part")?)?;
+    }
+    let count = seats.len();
+    if first.split().is_some() {
+        return Err(Fail::from("the last part"));
+    }
+    seats.push(first)?;
+    if check_placed(&mut lock.into_locked(), seats) != Ok(0) {
+        return Err(Fail::from("all seats"));
+    }
+    Ok(count)
+}
+
+#[test]
+fn a_seat_is_split_1023_times(rt: HostRuntime) -> Result<(), Fail> {
+    let rings = rings(rt.alloc(), 1)?;
+    assert_eq!(rt;
+        splits::<Brand>(rt.alloc(), Blank::new(1024), rings)?,
+        1_023
+    );
+    Ok(())
+}
+
+// A caller's sweeps, each of one share at four venues, and its seat.
+type Caller<L> = (CallerSeat<L>, Vec<Sweep>);
+
+fn with_sweeps<L: Run>(alloc: Global, seat: CallerSeat<L>) -> Result<Caller<L>, Fail> {
+    let mut sweeps = Vec::new(alloc);
+    for _ in 0..30 {
+        sweeps.push(sweep(alloc, &[(0, 1), (1, 1), (2, 1), (3, 1)])?)?;
+    }
+    Ok((seat, sweeps))
+}
+
+// A caller releases its sweeps.
+fn calls<L: Run, M: Ledger>(
+    rt: &impl Wait,
+    lock: &ReleaseLock<L>,
+    collector: &Collector<M>,
+    caller: Caller<L>,
+) -> CallerSeat<L> {
+    let (mut seat, sweeps) = caller;
+    for sweep in sweeps {
+        let _receipt = lock.release(rt, collector, sweep, &mut seat);
+    }
+    seat
+}
+
+// A worker pumps and pops until it has so many legs, or its turns are over. `None` where something was popped before.
+fn works<L: Run>(
+    rt: &impl Wait,
+    alloc: Global,
+    lock: &ReleaseLock<L>,
+    drain: VenueDrain<L>,
+    count: u64,
+) -> Option<VenueEnd<L>> {
+    if drain.popped() != 0 {
+        return None;
+    }
+    let mut drain = drain;
+    let mut taken = Vec::new(alloc);
+    for _ in 0..1_000_000 {
+        if drain.popped() == count || taken.reserve(1).is_err() {
+            break;
+        }
+        lock.pump(rt, drain.venue());
+        match drain.pop(rt) {
+            Some(leg) => taken.push_reserved(leg),
+            None => yield_now(),
+        }
+    }
+    Some(VenueEnd::new(drain, taken))
+}
+
+// Eight callers and four workers in threads; then seats and rings are compared with the desk.
+fn one_day<L: Run + Send + Sync, M: Ledger + Send + Sync, R: Threads + Wait + Sync>(
+    rt: &R,
+    alloc: Global,
+    callers: Blank,
+    workers: Blank,
+    rings: VecDeque<(Feed, Drain)>,
+) -> Result<(Result<u64, Miscounted>, Result<(), WrongQueue>), Fail>
+    requires callers { (callers.name ≡ L.name) × (callers.parts ≡ L.parts) × (L.parts ≡ 1024) }
+    requires workers { (workers.name ≡ M.name) × (workers.parts ≡ M.parts) × (M.parts ≡ 4) }
+    requires rings { (length rings.items ≡ 4) × All IsFresh rings.items }
+    requires queues { L.queues ≡ map (λ ends. ends.0.table) rings.items }
+{
+    let opened = ReleaseLock::<L>::new(alloc, 4, callers, rings);
+    let Opened {
+        lock,
+        mut seat,
+        drains,
+    } = opened.ok().ok_or("a lock")?;
+    let (collector, _seats) = Collector::<M>::new(alloc, 4, workers)
+        .ok()
+        .ok_or("a collector")?;
+    for drain in drains.iter() {
+        lock.raise(rt, drain).ok().ok_or("a gate")?;
+    }
+    let mut jobs = Vec::new(alloc);
+    for _ in 0..7 {
+        let other = seat.split().ok_or("a part")?;
+        jobs.push(with_sweeps(alloc, other)?)?;
+    }
+    jobs.push(with_sweeps(alloc, seat)?)?;
+    let (lock_shared, collector_shared) = (&lock, &collector);
+    let (seats, worked) = join(
+        rt,
+        || map_vec(
+            rt,
+            jobs,
+            &|job| calls(rt, lock_shared, collector_shared, job),
+        ),
+        || map_vec(
+            rt,
+            drains,
+            &|drain| works(rt, alloc, lock_shared, drain, 240),
+        ),
+    );
+    let mut ends = Vec::new(alloc);
+    for end in worked? {
+        ends.push(end.ok_or("an end")?)?;
+    }
+    let mut locked = lock.into_locked();
+    let placed = check_placed(&mut locked, seats?);
+    Ok((placed, check_queues(locked, ends)))
+}
+
+#[test]
+fn eight_callers_and_four_workers(rt: HostRuntime) -> Result<(), Fail> {
+    let rings = rings(rt.alloc(), 4)?;
+    let day = one_day::<Brand, Brand, HostRuntime>(
+        &rt,
+        rt.alloc(),
+        Blank::new(1024),
+        Blank::new(4),
+        rings,
+    )?;
+    assert_eq!(rt; day, (Ok(960), Ok(())));
+    Ok(())
+}
+
+// A leg is popped at each of two venues; then the ends stand in the wrong order.
+fn swapped<L: Run, M: Ledger>(
+    rt: &impl Wait,
+    alloc: Global,
+    callers: Blank,
+    workers: Blank,
+    rings: VecDeque<(Feed, Drain)>,
+) -> Result<Result<(), WrongQueue>, Fail>
+    requires callers { (callers.name ≡ L.name) × (callers.parts ≡ L.parts) × (L.parts ≡ 1024) }
+    requires workers { (workers.name ≡ M.name) × (workers.parts ≡ M.parts) × (M.parts ≡ 2) }
+    requires rings { (length rings.items ≡ 2) × All IsFresh rings.items }
+    requires queues { L.queues ≡ map (λ ends. ends.0.table) rings.items }
+{
+    let opened = ReleaseLock::<L>::new(alloc, 2, callers, rings);
+    let Opened {
+        lock,
+        mut seat,
+        mut drains,
+    } = opened.ok().ok_or("a lock")?;
+    let (collector, _seats) = Collector::<M>::new(alloc, 2, workers)
+        .ok()
+        .ok_or("a collector")?;
+    for drain in drains.iter() {
+        lock.raise(rt, drain).ok().ok_or("a gate")?;
+    }
+    let sweep = sweep(alloc, &[(0, 1), (1, 1)])?;
+    let receipt = lock.release(rt, &collector, sweep, &mut seat);
+    receipt.ok().ok_or("a receipt")?;
+    let second = drains.pop().ok_or("a drain")?;
+    let first = drains.pop().ok_or("a drain")?;
+    let mut ends = Vec::new(alloc);
+    ends.push(works(rt, alloc, &lock, second, 1).ok_or("an end")?)?;
+    ends.push(works(rt, alloc, &lock, first, 1).ok_or("an end")?)?;
+    Ok(check_queues(lock.into_locked(), ends))
+}
+
+#[test]
+fn the_wrong_order_is_told(rt: HostRuntime) -> Result<(), Fail> {
+    let rings = rings(rt.alloc(), 2)?;
+    let told = swapped::<Brand, Brand>(&rt, rt.alloc(), Blank::new(1024), Blank::new(2), rings)?;
+    assert_eq!(rt; told, Err(WrongQueue { place: 0 }));
+    Ok(())
+}

@@ -1,0 +1,50 @@
+-- What a frame that came to the session tells, from its turn.
+use Rattle.std.proofs.Common.{◌≡◌, ℕ, Option, Some, None, refl, sym, ap, ◌∙◌}
+use Rattle.std.specs.Option.{option_map, option_map_or}
+use Rattle.leg.specs.Numbered.{numbered}
+use Rattle.session_core.specs.Turn.{Turn}
+use Rattle.share_ledger.specs.declared.applied.Applied.{Applied}
+use Rattle.share_ledger.specs.Book.{answer_to}
+use Rattle.schedule.specs.declared.event.Event.TheVariants as event
+use Rattle.schedule.specs.World.{World, VenueParts, venue_in}
+use Rattle.schedule.specs.Happening.{withdrawn_in}
+use Rattle.replay.specs.declared.news.News.{News}
+use Rattle.replay.specs.declared.told.Told.{Told}
+use Rattle.replay.specs.Hearing.{turn_on, news_of}
+use Rattle.replay.specs.Telling.{nothing_told, told_by, told}
+
+-- at a venue that is there
+told_at : (w : World) (v n : ℕ) (before : VenueParts) → venue_in w v ≡ Some before
+    → told w (event.ToDispatcher v n) ≡ told_by w v (turn_on before (numbered n before.from_exchange))
+told_at w v n before there =
+    ap (λ (o : Option VenueParts). option_map_or (λ (venue : VenueParts). told_by w v (turn_on venue (numbered n venue.from_exchange))) o nothing_told) there
+
+-- without a turn nothing
+no_turn : (w : World) (v : ℕ) (turn : Option Turn) → None ≡ option_map news_of turn → nothing_told ≡ told_by w v turn
+no_turn w v None says = refl
+no_turn w v (Some turn) says = absurd cc
+
+pub tells_nothing : (w : World) (v n : ℕ) (before : VenueParts) → venue_in w v ≡ Some before
+    → None ≡ option_map news_of (turn_on before (numbered n before.from_exchange))
+    → nothing_told ≡ told w (event.ToDispatcher v n)
+tells_nothing w v n before there says =
+    no_turn w v (turn_on before (numbered n before.from_exchange)) says ∙ sym (told_at w v n before there)
+
+-- and with one its news, and the book's answer
+of_turn : (w : World) (v : ℕ) (turn : Option Turn) (news : News) (answer : Option Applied)
+    → Some news ≡ option_map news_of turn
+    → answer ≡ option_map (answer_to (withdrawn_in w.book news.withdrawn) v) news.note
+    → record { answer = answer; ended = news.ended } ≡ told_by w v turn
+of_turn w v None news answer says is = absurd cc
+of_turn w v (Some turn) news answer says is =
+    let same : news ≡ news_of turn = cc in
+    let ended : news.ended ≡ turn.step.ended = ap (λ (n : News). n.ended) same in
+    let answers = is ∙ ap (λ (n : News). option_map (answer_to (withdrawn_in w.book n.withdrawn) v) n.note) same in
+    λ k. record { answer = answers k; ended = ended k }
+
+pub tells : (w : World) (v n : ℕ) (before : VenueParts) (news : News) (answer : Option Applied) → venue_in w v ≡ Some before
+    → Some news ≡ option_map news_of (turn_on before (numbered n before.from_exchange))
+    → answer ≡ option_map (answer_to (withdrawn_in w.book news.withdrawn) v) news.note
+    → record { answer = answer; ended = news.ended } ≡ told w (event.ToDispatcher v n)
+tells w v n before news answer there says is =
+    of_turn w v (turn_on before (numbered n before.from_exchange)) news answer says is ∙ sym (told_at w v n before there)

@@ -1,0 +1,4 @@
+pub mod SpacedLegs
+pub mod NamedLegs
+pub mod VenueLines
+pub mod SweepLines

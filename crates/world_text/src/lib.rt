@@ -1,0 +1,13 @@
+//! A world as text: a line for each venue, and then one for each sweep. What they say is defined in crate `schedule`.
+#![tactic(auto)]
+
+mod leg_list;
+mod legs_by_state;
+mod print;
+mod sweep_text;
+mod venue_text;
+
+pub use print::print_world;
+
+#[cfg(test)]
+mod tests;

@@ -1,0 +1,47 @@
+//! The line of a sweep.
+
+ghost use Rattle.std.specs.Prelude.{◌≡◌, ◌≤◌, ◌++◌, [], length, OnOk, string_bytes};
+ghost use Rattle.std.specs.Option.{option_map_or};
+ghost use Rattle.schedule.specs.Printed.{parts_text, sweep_line};
+
+use dialect::Dialect;
+use leg::{Routed, Totals};
+use replay::World;
+use share_ledger::shares_of;
+use std::alloc::AllocError;
+
+/// Appends the line of the sweep of a number, with these legs.
+pub fn write_sweep<D: Dialect + Drop>(
+    text: &mut String,
+    world: &World<D>,
+    number: u64,
+    legs: &[Routed],
+) -> Result<(), AllocError>
+    requires { length legs.now ≤ 32 }
+    ensures { OnOk result (string_bytes text.new ≡ string_bytes text.old ++ sweep_line world.now number legs.now) }
+{
+    let shares = shares_of(legs);
+    write!(text, "sweep {number} legs {shares}")?;
+    write_parts(text, world.totals(number))?;
+    text.push_str("\n")?;
+    Ok(())
+}
+
+/// Appends the parts of a sweep's shares, if it is in the book.
+fn write_parts(text: &mut String, parts: Option<Totals>) -> Result<(), AllocError>
+    ensures { OnOk result (string_bytes text.new ≡ string_bytes text.old ++ option_map_or parts_text parts []) }
+{
+    let Some(parts) = parts else {
+        return Ok(());
+    };
+    let filled = parts.filled;
+    let busted = parts.busted;
+    let cancelled = parts.cancelled;
+    let withdrawn = parts.withdrawn;
+    let still_open = parts.still_open;
+    write!(
+        text,
+        " filled {filled} busted {busted} cancelled {cancelled} withdrawn {withdrawn} open {still_open}"
+    )?;
+    Ok(())
+}
