@@ -6,6 +6,7 @@ mod command;
 mod fault;
 mod frame_text;
 mod order;
+mod out;
 mod replay_script;
 mod status;
 

@@ -18,6 +18,7 @@ use crate::order::lines::order_lines;
 use crate::order::options::{Options, read_options};
 use crate::order::request::Request;
 use crate::order::room::OrderRoom;
+use crate::out::print;
 use crate::status::finish;
 use dialect::Dialect;
 pub use option::OrderOption;
@@ -60,10 +61,7 @@ fn print_order<D: Dialect, W: Write>(
 {
     let request = Request::new(options)?;
     let text = order_text(alloc, dialect, request)?;
-    match out.write_all(&text) {
-        Ok(()) => Ok(()),
-        Err(_) => Err(ProgramFault::WriteFailed),
-    }
+    print(&text, out)
 }
 
 /// The frame of what is asked for, in this dialect, and the leg that is read back from it, each in a line. The only

@@ -1,25 +1,28 @@
 //! `dispatch replay`: a script is read, its day runs, and what became of each leg is printed.
 ghost use Rattle.std.specs.Prelude.{◌≡◌, IfOk};
+ghost use Rattle.schedule.specs.Happening.{run};
 ghost use Rattle.schedule.specs.Script.{script_of};
+ghost use Rattle.script.specs.Limits.{IsWithinLimits};
+ghost use Rattle.script.specs.Parts.{parts_of};
 ghost use Rattle.dispatch_main.specs.Replay.{EndsReplay, replayed};
 
 mod command;
 mod frames;
 mod input;
-mod out;
 mod show;
 mod shown;
 mod steps;
 
 use crate::fault::ProgramFault;
+use crate::out::print;
 use crate::replay_script::command::read_words;
 use crate::replay_script::input::read_text;
-use crate::replay_script::out::print;
 use crate::replay_script::show::show_text;
 use crate::replay_script::shown::Shown;
 use crate::status::finish;
 pub use command::replay_command;
-use replay::run;
+use dialect::AnyDialect;
+use replay::{World, run};
 use script::{Parts, Script, read_script};
 use std::alloc::{AllocError, Global};
 use std::convert::AsStr;
@@ -76,12 +79,20 @@ fn replay_text<W: Write>(alloc: Global, text: &[u8], out: &mut W) -> Result<(), 
 fn world_lines(alloc: Global, script: Script) -> Result<Vec<u8>, AllocError>
     ensures { IfOk result (λ lines. lines.items ≡ replayed script) }
 {
+    let world = run_parts(alloc, script.into_parts())?;
+    print_world(alloc, &world)
+}
+
+/// The world that the parts of a script lead to. The only refusal is want of memory.
+fn run_parts(alloc: Global, parts: Parts) -> Result<World<AnyDialect>, AllocError>
+    requires { IsWithinLimits (parts_of parts) }
+    ensures { IfOk result (λ world. world ≡ run parts.next.items parts.max_number parts.events.items) }
+{
     let Parts {
         max_number,
         dialects,
         next,
         events,
-    } = script.into_parts();
-    let world = run(alloc, dialects, &next, max_number, events)?;
-    print_world(alloc, &world)
+    } = parts;
+    run(alloc, dialects, &next, max_number, events)
 }

@@ -2,13 +2,13 @@
 
 use crate::before::{AtVenue, Before};
 use crate::note_text::{answer_text, note_text};
-use crate::phase_word::phase_word;
 use dialect::Dialect;
 use leg::Sweep;
 use replay::{Told, World};
 use share_ledger::BookEntry;
 use std::alloc::{AllocError, Global};
 use sweep_release::DeskEntry;
+use world_text::phase_name;
 
 /// What an event did, in words: what it wrote, sent, dropped, withdrew and booked, why it ended a connection, or
 /// `nothing`. It compares the world before the event with that after it; `told` is what the event told besides. The only
@@ -154,7 +154,7 @@ impl Deeds {
         let Some(phase) = now else {
             return Ok(());
         };
-        let phase = phase_word(phase);
+        let phase = phase_name(phase);
         self.add(&format!(in self.alloc; "session {phase}")?)
     }
 

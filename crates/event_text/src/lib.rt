@@ -4,7 +4,6 @@
 mod before;
 mod deeds;
 mod note_text;
-mod phase_word;
 
 pub use before::Before;
 pub use deeds::print_deeds;

@@ -30,7 +30,7 @@ pub record OnlyOpens (before after : BookParts) : Type 0 where
   pub opens : after ≡ replay before (map (λ sweep. Opened sweep) sweeps)
 
 -- how many shares are counted once a note has moved: a trade adds its own, a bust and a first report add none, and the
--- end of an order adds what was open
+-- end of an order takes none away
 abbrev pub Gains : Move → ℕ → ℕ → Type 0
 Gains (Trades trade) before after = after ≡ before + trade.shares
 Gains (Busts exec) before after = after ≡ before

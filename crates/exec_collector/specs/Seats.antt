@@ -1,4 +1,4 @@
--- The seats of the venues' workers.
+-- The seats of a count.
 use Rattle.std.specs.Prelude.{ℕ, List, sum_by}
 
 -- a seat: its parts of the count, and the shares counted on it
@@ -6,7 +6,7 @@ pub record Seat : Type 0 where
   pub parts : ℕ
   pub shares : ℕ
 
--- a worker's seat at the start
+-- a seat of one part on which nothing was counted yet
 abbrev pub new_seat : Seat
 new_seat = record { parts = 1; shares = 0 }
 

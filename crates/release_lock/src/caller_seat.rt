@@ -1,7 +1,7 @@
 //! What one caller placed.
 
 ghost use Rattle.std.specs.Prelude.{◌≡◌, ◌+◌, ◌<◌, ◌≤◌, ◌↔◌, min, IfNone, IfSome, IsSome};
-ghost use Rattle.release_lock.specs.Seats.{split_seat};
+ghost use Rattle.exec_collector.specs.Seats.{new_seat};
 
 use crate::Run;
 use std::marker::Model;
@@ -32,7 +32,7 @@ impl<L: Run> CallerSeat<L> {
     /// Gives away one of the seat's parts, with no shares; `None` where it has one. It takes no memory.
     pub fn split(&mut self) -> Option<CallerSeat<L>>
         ensures some { IsSome result ↔ (1 < self.old.parts) }
-        ensures given { IfSome result (λ seat. (seat ≡ split_seat) × (self.new.parts + 1 ≡ self.old.parts)
+        ensures given { IfSome result (λ seat. (seat ≡ new_seat) × (self.new.parts + 1 ≡ self.old.parts)
             × (self.new.shares ≡ self.old.shares)) }
         ensures none { IfNone result (self.new ≡ self.old) }
     {

@@ -6,7 +6,7 @@ ghost use Rattle.crossbeam_queue.specs.Fifo.{Held};
 ghost use Rattle.leg.specs.Answering.{Answers};
 ghost use Rattle.venue_queue.specs.Rule.{EndsWith};
 ghost use Rattle.share_ledger.specs.Entries.{sweep_shares};
-ghost use Rattle.sweep_release.specs.Desk.{placed, placed_shares};
+ghost use Rattle.sweep_release.specs.Desk.{placed};
 ghost use Rattle.sweep_release.specs.History.{KeptDesk as ADesk, without_room};
 ghost use Rattle.sweep_release.specs.Place.{kept, place_kept, PlaceAnswers};
 ghost use Rattle.exec_collector.specs.Resolved.{OnlyOpens};
@@ -56,7 +56,7 @@ impl<L: Run> LockedDesk<L> {
     }
 
     /// Releases a sweep at the desk and opens it in the collector's book, under one number, or does neither; the seat
-    /// gains its shares. R01 to R08 in the order of `place`; a refused sweep is dropped, and nothing is as it wasn't.
+    /// gains its shares. R01 to R08 in the order of `place`; a refused sweep is dropped, and nothing else changes.
     pub fn release<M: Ledger>(
         &mut self,
         rt: &impl Wait,
@@ -123,14 +123,6 @@ impl<L: Run> LockedDesk<L> {
         ensures replays { Replays self.old × Replays self.new }
     {
         f(&mut self.desk)
-    }
-
-    /// Does nothing when it runs. Its contract tells who holds the lock that a seat has at most the shares placed.
-    pub fn bounds(&mut self, seat: &mut CallerSeat<L>)
-        ensures bound { seat.old.shares ≤ placed_shares self.old.desk }
-        ensures same { (self.new ≡ self.old) × (seat.new ≡ seat.old) }
-    {
-        self.total.audit(&mut seat.share);
     }
 }
 

@@ -1,10 +1,13 @@
 //! The desk behind a lock.
 
-ghost use Rattle.std.specs.Prelude.{◌≡◌, ◌+◌, ◌<◌, ◌≤◌, length, map, min, IfOk, IsOkUnless, MatchResult};
+ghost use Rattle.std.specs.Prelude.{◌≡◌, ◌⊎◌, ◌+◌, ◌<◌, ◌≤◌, length, map, min, IfOk, IsOkUnless, MatchResult};
 ghost use Rattle.std.specs.List.{All};
 ghost use Rattle.std.specs.Fn.{FnOnceReturnsAtMut};
+ghost use Rattle.crossbeam_queue.specs.Fifo.{Held};
 ghost use Rattle.leg.specs.Answering.{Answers};
+ghost use Rattle.venue_queue.specs.Rule.{EndsWith};
 ghost use Rattle.share_ledger.specs.Entries.{sweep_shares};
+ghost use Rattle.sweep_release.specs.Desk.{placed};
 ghost use Rattle.sweep_release.specs.History.{KeptDesk as ADesk, without_room};
 ghost use Rattle.release_lock.specs.Locked.{Replays, Places, OnlyTurns};
 ghost use Rattle.release_lock.specs.Queues.{IsFresh, new_drains, left_to, Pumps, raise};
@@ -109,6 +112,7 @@ impl<L: Run> ReleaseLock<L> {
     pub fn pump(&self, rt: &impl Wait, venue: VenueId) -> u64
         requires { venue < length L.queues }
         ensures { (before : ADesk) × (after : ADesk) × Replays before × Replays after × Pumps venue before after
+            × ((placed after.desk venue ≡ 0) ⊎ Held 64 (EndsWith (left_to after.desk venue)))
             × (result ≡ min (length (left_to after.desk venue)) 18446744073709551615) }
     {
         self.locked.lock(rt).pump(rt, venue)

@@ -49,7 +49,8 @@ fn ids_of(alloc: Global, legs: &[Leg]) -> Result<Vec<LegId>, AllocError>
     Ok(ids)
 }
 
-fn phase_name(phase: Phase) -> &'static str
+/// A phase in a word, as the line of a venue has it.
+pub fn phase_name(phase: Phase) -> &'static str
     ensures { result.now ≡ phase_text phase }
 {
     match phase {

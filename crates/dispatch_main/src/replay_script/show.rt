@@ -7,12 +7,13 @@ ghost use Rattle.script.specs.Parts.{parts_of};
 ghost use Rattle.dispatch_main.specs.Replay.{EndsShown, Grows, IsOfOutput};
 
 use crate::fault::ProgramFault;
+use crate::out::print;
 use crate::replay_script::frames::frame_lines;
-use crate::replay_script::out::print;
+use crate::replay_script::run_parts;
 use crate::replay_script::shown::Shown;
 use crate::replay_script::steps::run_steps;
 use dialect::AnyDialect;
-use replay::{World, run};
+use replay::World;
 use script::{Parts, read_script};
 use std::alloc::Global;
 use std::io::Write;
@@ -51,13 +52,7 @@ fn run_shown<W: Write>(
     if shown.steps {
         return run_steps(alloc, text, parts, out);
     }
-    let Parts {
-        max_number,
-        dialects,
-        next,
-        events,
-    } = parts;
-    Ok(run(alloc, dialects, &next, max_number, events)?)
+    Ok(run_parts(alloc, parts)?)
 }
 
 /// Prints the frames that were written, where the options ask for it.

@@ -6,7 +6,7 @@ ghost use Rattle.script.specs.Parts.{parts_of};
 ghost use Rattle.dispatch_main.specs.Replay.{Grows, IsOfOutput};
 
 use crate::fault::ProgramFault;
-use crate::replay_script::out::print;
+use crate::out::print;
 use dialect::AnyDialect;
 use event_text::{Before, print_deeds};
 use replay::World;
