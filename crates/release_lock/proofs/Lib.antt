@@ -3,6 +3,7 @@ pub mod LeftLegs
 pub mod Turning
 pub mod Placing
 pub mod Leaving
+pub mod SweepVenues
 pub mod Opening
 pub mod Past
 pub mod TakenLegs

@@ -1,5 +1,5 @@
 -- What lies under the lock, and what is asked of it.
-use Rattle.std.specs.Prelude.{◌≡◌, ℕ, ◌≤◌, Bool, true, false, List, ◌++◌, length, Result}
+use Rattle.std.specs.Prelude.{◌≡◌, ℕ, ◌≤◌, Bool, true, false, List, ◌++◌, length, Result, Ok, Err}
 use Rattle.std.specs.List.{list_all}
 use Rattle.atomic_table.specs.Seated.{TableId}
 use Rattle.leg.specs.declared.sweep.Routed.{Routed}
@@ -12,7 +12,7 @@ use Rattle.sweep_release.specs.declared.release_fault.ReleaseFault.{ReleaseFault
 use Rattle.sweep_release.specs.Desk.{new_desk, placed_shares}
 use Rattle.sweep_release.specs.History.{KeptDesk, replay, history}
 use Rattle.sweep_release.specs.Place.{kept, place_kept, PlaceAnswers}
-use Rattle.release_lock.specs.Queues.{AreFed}
+use Rattle.release_lock.specs.Queues.{AreFed, is_for, PumpsEach}
 
 -- a desk that its own history leads to
 abbrev pub Replays : KeptDesk → Type 0
@@ -32,6 +32,19 @@ pub record Places (legs : List Routed) (before : KeptDesk) (answer : Result Rece
   pub book : BookParts
   pub book_after : BookParts
   pub placed : PlaceAnswers (kept before book) (place_kept (kept before book) legs) answer (kept after book_after)
+
+-- each venue of a sweep that was placed is pumped; of one that was refused none is
+abbrev pub PumpsVenues : List Routed → Result Receipt ReleaseFault → KeptDesk → KeptDesk → Type 0
+PumpsVenues legs (Ok receipt) before after =
+    PumpsEach (λ venue. is_for venue legs) (length before.desk.venues) before after
+PumpsVenues legs (Err fault) before after = after ≡ before
+
+-- a sweep was placed, or refused, and then its venues were pumped, or none was: the answer, and the desk after it
+pub record Releases (legs : List Routed) (before : KeptDesk) (answer : Result Receipt ReleaseFault) (after : KeptDesk) : Type 0 where
+  pub between : KeptDesk
+  pub placed : Places legs before answer between
+  pub replays : Replays between
+  pub pumped : PumpsVenues legs answer between after
 
 -- whether a call puts a gate up or down, or shuts one
 abbrev pub is_turn : DeskEntry → Bool

@@ -1,10 +1,14 @@
 -- The rings of the venues: what was pushed to each, what was popped, and when a gate is put up.
-use Rattle.std.specs.Prelude.{◌≡◌, ℕ, zero, suc, ◌+◌, ◌<◌, ◌&&◌, Bool, true, false, List, [], ◌∷◌, ◌++◌, length, take, replicate, slice_get, Some, Result, Err, nat_lt, if◌then◌else◌}
+use Rattle.std.specs.Prelude.{◌≡◌, ℕ, zero, suc, ◌+◌, ◌<◌, ◌&&◌, ◌⊎◌, ◌==◌, Bool, true, false, List, [], ◌∷◌, ◌++◌, length, take, replicate, slice_get, Some, Result, Err, nat_lt, if◌then◌else◌}
+use Rattle.std.specs.List.{list_any}
 use mathlib.Core.List.{IsPrefix}
+use Rattle.crossbeam_queue.specs.Fifo.{Held}
 use Rattle.atomic_table.specs.Seated.{TableId}
 use Rattle.leg.specs.declared.leg.Leg.{Leg}
 use Rattle.leg.specs.declared.placed_leg.PlacedLeg.{PlacedLeg}
+use Rattle.leg.specs.declared.sweep.Routed.{Routed}
 use Rattle.venue_queue.specs.Port.{Port}
+use Rattle.venue_queue.specs.Rule.{EndsWith}
 use Rattle.sweep_release.specs.declared.desk_entry.DeskEntry.{DeskEntry}
 use Rattle.sweep_release.specs.declared.desk_entry.DeskEntry.TheVariants.{Taken, Dropped}
 use Rattle.sweep_release.specs.declared.gate.Gate.{Gate}
@@ -72,6 +76,30 @@ pub record Pumps (venue : ℕ) (before after : KeptDesk) : Type 0 where
   pub desk : after.desk ≡ replay before.desk (replicate moved (leaving before.desk venue))
   pub history : after.history ≡ before.history ++ replicate moved (leaving before.desk venue)
   pub room : after.room ≡ before.room
+
+-- the same, until none is placed or the ring was full at some moment, of the last legs that left
+pub record PumpsOut (venue : ℕ) (before after : KeptDesk) : Type 0 where
+  pub pumps : Pumps venue before after
+  pub done : (placed after.desk venue ≡ 0) ⊎ Held 64 (EndsWith (left_to after.desk venue))
+
+-- whether one of these legs is for a venue
+abbrev pub is_for : ℕ → List Routed → Bool
+is_for venue legs = list_any (λ routed. routed.venue == venue) legs
+
+-- marks for the venues from 0 to 15: which of them pass a test
+abbrev pub AreMarks : List Bool → (ℕ → Bool) → Type 0
+AreMarks marks named = (venue : ℕ) → venue < 16 → slice_get marks venue ≡ Some (named venue)
+
+-- a venue is pumped where this is so, and else nothing is done
+abbrev pub PumpsIf : Bool → ℕ → KeptDesk → KeptDesk → Type 0
+PumpsIf true venue before after = PumpsOut venue before after
+PumpsIf false venue before after = after ≡ before
+
+-- of the venues below this one each that is named was pumped, in the order of their numbers
+abbrev pub PumpsEach : (ℕ → Bool) → ℕ → KeptDesk → KeptDesk → Type 0
+PumpsEach named zero before after = after ≡ before
+PumpsEach named (suc venue) before after =
+    (between : KeptDesk) × PumpsEach named venue before between × PumpsIf (named venue) venue between after
 
 -- whether a gate is down, and may be put up again
 abbrev pub is_down : Gate → Bool

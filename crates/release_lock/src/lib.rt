@@ -9,6 +9,7 @@ mod locked_desk;
 mod pumping;
 mod release_lock;
 mod run;
+mod sweep_venues;
 mod venue_drain;
 mod venue_end;
 

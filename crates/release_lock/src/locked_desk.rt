@@ -10,10 +10,11 @@ ghost use Rattle.sweep_release.specs.Desk.{placed};
 ghost use Rattle.sweep_release.specs.History.{KeptDesk as ADesk, without_room};
 ghost use Rattle.sweep_release.specs.Place.{kept, place_kept, PlaceAnswers};
 ghost use Rattle.exec_collector.specs.Resolved.{OnlyOpens};
-ghost use Rattle.release_lock.specs.Locked.{Replays, Places, OnlyTurns};
+ghost use Rattle.release_lock.specs.Locked.{Replays, Places, Releases, OnlyTurns};
 ghost use Rattle.release_lock.specs.Queues.{left_to, Pumps, raise};
 
-use crate::pumping::pump;
+use crate::pumping::{pump, pump_each};
+use crate::sweep_venues::SweepVenues;
 use crate::{CallerSeat, Run, VenueDrain};
 use exec_collector::Collector;
 use leg::{Sweep, VenueId};
@@ -56,8 +57,29 @@ impl<L: Run> LockedDesk<L> {
     }
 
     /// Releases a sweep at the desk and opens it in the collector's book, under one number, or does neither; the seat
-    /// gains its shares. R01 to R08 in the order of `place`; a refused sweep is dropped, and nothing else changes.
+    /// gains its shares. Then each venue of its legs is pumped, in the order of the venues' numbers. R01 to R08 in the
+    /// order of `place`; a refused sweep is dropped, no venue is pumped, and nothing else changes.
     pub fn release<M: Ledger>(
+        &mut self,
+        rt: &impl Wait,
+        collector: &Collector<M>,
+        sweep: Sweep,
+        seat: &mut CallerSeat<L>,
+    ) -> Result<Receipt, ReleaseFault>
+        ensures released { Releases sweep.legs self.old result self.new }
+        ensures replays { Replays self.old × Replays self.new }
+        ensures seat { MatchResult result (λ receipt. (receipt.shares ≡ sweep_shares sweep.legs)
+            × (seat.new.shares ≡ seat.old.shares + receipt.shares)) (λ _. seat.new ≡ seat.old) }
+        ensures parts { seat.new.parts ≡ seat.old.parts }
+    {
+        let venues = SweepVenues::of(sweep.legs.as_slice());
+        let receipt = self.place_sweep(rt, collector, sweep, seat)?;
+        pump_each(rt, self, &venues);
+        Ok(receipt)
+    }
+
+    /// Releases a sweep and opens it in the book, or does neither; the seat gains its shares.
+    fn place_sweep<M: Ledger>(
         &mut self,
         rt: &impl Wait,
         collector: &Collector<M>,

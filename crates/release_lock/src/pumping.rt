@@ -1,12 +1,15 @@
-//! Moves placed legs into a ring.
+//! Moves placed legs into a ring, and those of a sweep's venues into theirs.
 
-ghost use Rattle.std.specs.Prelude.{◌≡◌, ◌⊎◌, ◌<◌, ◌++◌, length, min};
+ghost use Rattle.std.specs.Prelude.{◌≡◌, ◌⊎◌, ◌<◌, ◌++◌, ℕ, Bool, length, min};
 ghost use Rattle.crossbeam_queue.specs.Fifo.{Held};
 ghost use Rattle.venue_queue.specs.Rule.{EndsWith};
 ghost use Rattle.sweep_release.specs.Desk.{placed, leave};
 ghost use Rattle.sweep_release.specs.History.{left_entries};
-ghost use Rattle.release_lock.specs.Queues.{left_to, leaving, Pumps};
+ghost use Rattle.release_lock.specs.Locked.{Replays};
+ghost use Rattle.release_lock.specs.Queues.{left_to, leaving, AreMarks, Pumps, PumpsEach};
 
+use crate::sweep_venues::SweepVenues;
+use crate::{LockedDesk, Run};
 use leg::VenueId;
 use std::sync::Wait;
 use sweep_release::{Desk, Gate};
@@ -44,4 +47,21 @@ fn let_leave(desk: &mut Desk, venue: VenueId)
         Gate::Down => desk.drop_next(venue),
         Gate::Shut => desk.drop_next(venue),
     };
+}
+
+/// Pumps each venue that a sweep has a leg for, in the order of their numbers.
+pub(crate) fn pump_each<L: Run>(rt: &impl Wait, locked: &mut LockedDesk<L>, venues: &SweepVenues)
+    ensures desk { (named : ℕ → Bool) → AreMarks venues.now.marks named
+        → PumpsEach named (length locked.old.desk.venues) locked.old locked.new }
+    ensures replays { Replays locked.new }
+{
+    let count = locked.desk().venues();
+    for number in 0..count {
+        let Ok(venue) = VenueId::new(number as u8) else {
+            unreachable!()
+        };
+        if venues.has(venue) {
+            locked.pump(rt, venue);
+        }
+    }
 }

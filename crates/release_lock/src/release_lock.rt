@@ -9,7 +9,7 @@ ghost use Rattle.venue_queue.specs.Rule.{EndsWith};
 ghost use Rattle.share_ledger.specs.Entries.{sweep_shares};
 ghost use Rattle.sweep_release.specs.Desk.{placed};
 ghost use Rattle.sweep_release.specs.History.{KeptDesk as ADesk, without_room};
-ghost use Rattle.release_lock.specs.Locked.{Replays, Places, OnlyTurns};
+ghost use Rattle.release_lock.specs.Locked.{Replays, Releases, OnlyTurns};
 ghost use Rattle.release_lock.specs.Queues.{IsFresh, new_drains, left_to, Pumps, raise};
 ghost use Rattle.release_lock.specs.Seats.{first_seat};
 
@@ -90,7 +90,8 @@ impl<L: Run> ReleaseLock<L> {
     }
 
     /// Releases a sweep under both locks, the desk's first: at the desk and in the collector's book, under one number,
-    /// or in neither; the seat gains its shares. R01 to R08 in the order of `place`.
+    /// or in neither; the seat gains its shares. Before it gives up the lock, each venue of the sweep's legs is pumped, so
+    /// that a worker finds them without it. R01 to R08 in the order of `place`, and no venue is pumped.
     pub fn release<M: Ledger>(
         &self,
         rt: &impl Wait,
@@ -99,7 +100,7 @@ impl<L: Run> ReleaseLock<L> {
         seat: &mut CallerSeat<L>,
     ) -> Result<Receipt, ReleaseFault>
         ensures placed { (before : ADesk) × (after : ADesk) × Replays before × Replays after
-            × Places sweep.legs before result after }
+            × Releases sweep.legs before result after }
         ensures seat { MatchResult result (λ receipt. (receipt.shares ≡ sweep_shares sweep.legs)
             × (seat.new.shares ≡ seat.old.shares + receipt.shares)) (λ _. seat.new ≡ seat.old) }
         ensures parts { seat.new.parts ≡ seat.old.parts }

@@ -1,5 +1,5 @@
-//! What was released is read back from desk and book; a ring and a backlog at their limits; a seat that is split until it
-//! has one part; and a day in threads, after which seats and rings are compared with the desk.
+//! What was released is read back from desk, book and ring; a ring and a backlog at their limits; a refused sweep; a seat
+//! that is split until it has one part; and a day in threads, after which seats and rings are compared with desk and book.
 
 ghost use Rattle.std.specs.Prelude.{◌≡◌, ◌<◌, ◌≤◌, [], length, map, IfOk};
 ghost use Rattle.std.specs.List.{All};
@@ -8,7 +8,7 @@ ghost use Rattle.release_lock.specs.Queues.{IsFresh};
 
 use super::*;
 use dialect::{ExecId, Fill, LastPx, Note, Report, ReportKind};
-use exec_collector::{Collector, WorkerSeat};
+use exec_collector::{Collector, WorkerSeat, check_count};
 use leg::{LegId, Legs, Routed, Side, Sweep, Symbol, Terms, Totals, VenueId};
 use share_ledger::Applied;
 use std::alloc::Global;
@@ -76,12 +76,24 @@ fn lowers(desk: &mut Desk, at: VenueId)
 fn last_sweep(desk: &mut Desk) -> (usize, u64, usize)
     ensures { OnlyTurns desk.old desk.new }
 {
-    let legs = match desk.history().last() {
-        Some(DeskEntry::Released(sweep)) => sweep.legs.len(),
-        Some(_) => 0,
-        None => 0,
-    };
+    let mut legs = 0;
+    for entry in desk.history() {
+        if let DeskEntry::Released(sweep) = entry {
+            legs = sweep.legs.len();
+        }
+    }
     (desk.history().len(), desk.placed_shares(), legs)
+}
+
+// How many legs are placed at a venue, if the desk has it.
+fn placed_at(desk: &mut Desk, at: VenueId) -> usize
+    ensures { OnlyTurns desk.old desk.new }
+{
+    if usize::from(at.number()) < desk.venues() {
+        desk.placed(at)
+    } else {
+        0
+    }
 }
 
 fn report(exec: &[u8], kind: ReportKind) -> Result<Note, Fail> {
@@ -211,7 +223,7 @@ fn is_told<L: Run, M: Ledger>(
         mut drains,
     } = opened;
     let mut worker_seats = worker_seats;
-    let drain = drains.pop().ok_or("a drain")?;
+    let mut drain = drains.pop().ok_or("a drain")?;
     let mut worker = worker_seats.pop().ok_or("a seat")?;
     let at = venue(0)?;
     let down = Err(ReleaseFault::GateShut(at));
@@ -227,11 +239,13 @@ fn is_told<L: Run, M: Ledger>(
     lock.raise(rt, &drain).ok().ok_or("a gate")?;
     let one = sweep(alloc, &[(0, 10)])?;
     releases(rt, &lock, collector, &mut seat, one, received(1, 10), 10)?;
-    is_read_back(rt, &lock, collector, (2, 10, 1), 1, open(10))?;
+    is_read_back(rt, &lock, collector, (3, 10, 1), 1, open(10))?;
+    are_popped(rt, &mut drain, 1)?;
     trades(rt, collector, at, &mut worker)?;
     let two = sweep(alloc, &[(0, 10), (0, 20)])?;
     releases(rt, &lock, collector, &mut seat, two, received(2, 30), 40)?;
-    is_read_back(rt, &lock, collector, (3, 40, 2), 2, open(30))?;
+    is_read_back(rt, &lock, collector, (6, 40, 2), 2, open(30))?;
+    are_popped(rt, &mut drain, 3)?;
     let ended = Totals {
         filled: 4,
         busted: 0,
@@ -239,7 +253,7 @@ fn is_told<L: Run, M: Ledger>(
         withdrawn: 0,
         still_open: 0,
     };
-    is_read_back(rt, &lock, collector, (3, 40, 2), 1, ended)?;
+    is_read_back(rt, &lock, collector, (6, 40, 2), 1, ended)?;
     counts(alloc, lock, seat, 40)
 }
 
@@ -266,7 +280,15 @@ fn pops_to<L: Run>(rt: &impl Wait, drain: &mut VenueDrain<L>, count: u64) -> boo
     drain.pop_to(rt, count).is_none()
 }
 
-// Sweeps of 32 legs are released under these numbers, and one leg more is refused.
+// The next legs are in the ring with no pump, up to so many in all.
+fn are_popped<L: Run>(rt: &impl Wait, drain: &mut VenueDrain<L>, count: u64) -> Result<(), Fail> {
+    if !pops_to(rt, drain, count) || drain.pop(rt).is_some() {
+        return Err(Fail::from("the legs released"));
+    }
+    Ok(())
+}
+
+// Sweeps of 32 legs are released under these numbers.
 fn fills<L: Run, M: Ledger>(
     rt: &impl Wait,
     alloc: Global,
@@ -281,9 +303,19 @@ fn fills<L: Run, M: Ledger>(
             return Err(Fail::from("32 legs more"));
         }
     }
-    let full = Err(ReleaseFault::BacklogFull(venue(0)?));
-    if lock.release(rt, collector, legs_to(alloc, 0, 1)?, seat) != full {
-        return Err(Fail::from("no leg more"));
+    Ok(())
+}
+
+// So many legs stay at the desk, and the ring has 64.
+fn are_behind<L: Run>(
+    rt: &impl Wait,
+    lock: &ReleaseLock<L>,
+    drain: &VenueDrain<L>,
+    count: usize,
+) -> Result<(), Fail> {
+    let at = drain.venue();
+    if lock.with(rt, |desk: &mut Desk| placed_at(desk, at)) != count || lock.pump(rt, at) != 64 {
+        return Err(Fail::from("64 in the ring, and the others behind it"));
     }
     Ok(())
 }
@@ -351,13 +383,13 @@ fn is_filled_up<L: Run, M: Ledger>(
     let mut drain = drains.pop().ok_or("a drain")?;
     lock.raise(rt, &drain).ok().ok_or("a gate")?;
     fills(rt, alloc, &lock, collector, &mut seat, 1..9)?;
-    if !pumps(rt, &lock, &drain, 64) {
-        return Err(Fail::from("64 in the ring"));
-    }
+    are_behind(rt, &lock, &drain, 192)?;
     fills(rt, alloc, &lock, collector, &mut seat, 9..11)?;
-    if !pumps(rt, &lock, &drain, 64) || seat.shares() != 3_200 {
-        return Err(Fail::from("ring and backlog are full"));
-    }
+    are_behind(rt, &lock, &drain, 256)?;
+    let full = Err(ReleaseFault::BacklogFull(venue(0)?));
+    let one = legs_to(alloc, 0, 1)?;
+    releases(rt, &lock, collector, &mut seat, one, full, 3_200)?;
+    are_behind(rt, &lock, &drain, 256)?;
     let at = drain.venue();
     lock.with(rt, |desk: &mut Desk| lowers(desk, at));
     drains_all(rt, &lock, &mut drain)
@@ -367,6 +399,64 @@ fn is_filled_up<L: Run, M: Ledger>(
 fn sixty_four_in_the_ring(rt: HostRuntime) -> Result<(), Fail> {
     let rings = rings(rt.alloc(), 1)?;
     fills_up::<Brand, Brand>(&rt, rt.alloc(), Blank::new(1024), Blank::new(1), rings)
+}
+
+// With 64 legs in the ring and 32 behind it, five are popped. A refused sweep moves none; the next one moves five.
+fn moves_on<L: Run, M: Ledger>(
+    rt: &impl Wait,
+    alloc: Global,
+    callers: Blank,
+    workers: Blank,
+    rings: VecDeque<(Feed, Drain)>,
+) -> Result<(), Fail>
+    requires callers { (callers.name ≡ L.name) × (callers.parts ≡ L.parts) × (L.parts ≡ 1024) }
+    requires workers { (workers.name ≡ M.name) × (workers.parts ≡ M.parts) × (M.parts ≡ 1) }
+    requires rings { (length rings.items ≡ 1) × All IsFresh rings.items }
+    requires queues { L.queues ≡ map (λ ends. ends.0.table) rings.items }
+{
+    let opened = ReleaseLock::<L>::new(alloc, 1, callers, rings);
+    let opened = opened.ok().ok_or("a lock")?;
+    let made = Collector::<M>::new(alloc, 1, workers);
+    let (collector, _worker_seats) = made.ok().ok_or("a collector")?;
+    is_moved_on(rt, alloc, opened, &collector)
+}
+
+fn is_moved_on<L: Run, M: Ledger>(
+    rt: &impl Wait,
+    alloc: Global,
+    opened: Opened<L>,
+    collector: &Collector<M>,
+) -> Result<(), Fail> {
+    let Opened {
+        lock,
+        mut seat,
+        mut drains,
+    } = opened;
+    let mut drain = drains.pop().ok_or("a drain")?;
+    let at = drain.venue();
+    lock.raise(rt, &drain).ok().ok_or("a gate")?;
+    fills(rt, alloc, &lock, collector, &mut seat, 1..4)?;
+    if !pops_to(rt, &mut drain, 5) {
+        return Err(Fail::from("the first five"));
+    }
+    let many = legs_to(alloc, 0, 33)?;
+    let refused = Err(ReleaseFault::TooManyLegs);
+    releases(rt, &lock, collector, &mut seat, many, refused, 960)?;
+    if lock.with(rt, |desk: &mut Desk| placed_at(desk, at)) != 32 {
+        return Err(Fail::from("none moved"));
+    }
+    let one = legs_to(alloc, 0, 1)?;
+    releases(rt, &lock, collector, &mut seat, one, received(4, 10), 970)?;
+    if lock.with(rt, |desk: &mut Desk| placed_at(desk, at)) != 28 {
+        return Err(Fail::from("five moved"));
+    }
+    Ok(())
+}
+
+#[test]
+fn a_refused_sweep_moves_no_leg(rt: HostRuntime) -> Result<(), Fail> {
+    let rings = rings(rt.alloc(), 1)?;
+    moves_on::<Brand, Brand>(&rt, rt.alloc(), Blank::new(1024), Blank::new(1), rings)
 }
 
 // Splits a seat until it has one part, and joins what was split off. How many were, and how many parts it was not.
@@ -407,15 +497,31 @@ fn a_seat_is_split_1023_times(rt: HostRuntime) -> Result<(), Fail> {
     Ok(())
 }
 
-// A caller's sweeps, each of one share at four venues, and its seat.
+// A caller's seat, and its sweeps: 30, each of one share at each of sixteen venues.
 type Caller<L> = (CallerSeat<L>, Vec<Sweep>);
 
 fn with_sweeps<L: Run>(alloc: Global, seat: CallerSeat<L>) -> Result<Caller<L>, Fail> {
+    let mut orders = Vec::new(alloc);
+    for number in 0..16 {
+        orders.push((number, 1))?;
+    }
     let mut sweeps = Vec::new(alloc);
     for _ in 0..30 {
-        sweeps.push(sweep(alloc, &[(0, 1), (1, 1), (2, 1), (3, 1)])?)?;
+        sweeps.push(sweep(alloc, orders.as_slice())?)?;
     }
     Ok((seat, sweeps))
+}
+
+// Eight callers.
+fn callers_of<L: Run>(alloc: Global, seat: CallerSeat<L>) -> Result<Vec<Caller<L>>, Fail> {
+    let mut seat = seat;
+    let mut callers = Vec::new(alloc);
+    for _ in 0..7 {
+        let other = seat.split().ok_or("a part")?;
+        callers.push(with_sweeps(alloc, other)?)?;
+    }
+    callers.push(with_sweeps(alloc, seat)?)?;
+    Ok(callers)
 }
 
 // A caller releases its sweeps.
@@ -432,7 +538,25 @@ fn calls<L: Run, M: Ledger>(
     seat
 }
 
-// A worker pumps and pops until it has so many legs, or its turns are over. `None` where something was popped before.
+// A worker's drain, and its seat at the book.
+type Worker<L, M> = (VenueDrain<L>, WorkerSeat<M>);
+
+fn workers_of<L: Run, M: Ledger>(
+    alloc: Global,
+    drains: Vec<VenueDrain<L>>,
+    seats: Vec<WorkerSeat<M>>,
+) -> Result<Vec<Worker<L, M>>, Fail> {
+    let mut seats = seats;
+    let mut workers = Vec::new(alloc);
+    for drain in drains {
+        let seat = seats.pop().ok_or("a seat")?;
+        workers.push((drain, seat))?;
+    }
+    Ok(workers)
+}
+
+// A worker pops until it has so many legs, or its turns are over; where it finds none it pumps. `None` where something
+// was popped before.
 fn works<L: Run>(
     rt: &impl Wait,
     alloc: Global,
@@ -449,80 +573,122 @@ fn works<L: Run>(
         if drain.popped() == count || taken.reserve(1).is_err() {
             break;
         }
-        lock.pump(rt, drain.venue());
         match drain.pop(rt) {
             Some(leg) => taken.push_reserved(leg),
-            None => yield_now(),
+            None => {
+                lock.pump(rt, drain.venue());
+                yield_now();
+            }
         }
     }
     Some(VenueEnd::new(drain, taken))
 }
 
-// Eight callers and four workers in threads; then seats and rings are compared with the desk.
+// What a worker took, and its seat.
+type Worked<L, M> = (VenueEnd<L>, WorkerSeat<M>);
+
+// A worker pops so many legs, and withdraws each in the book.
+fn withdraws<L: Run, M: Ledger>(
+    rt: &impl Wait,
+    alloc: Global,
+    shared: (&ReleaseLock<L>, &Collector<M>),
+    worker: Worker<L, M>,
+    count: u64,
+) -> Option<Worked<L, M>> {
+    let (lock, collector) = shared;
+    let (drain, mut seat) = worker;
+    let end = works(rt, alloc, lock, drain, count)?;
+    for placed in end.taken() {
+        let _withdrawn = collector.withdraw(rt, placed.leg.id, &mut seat);
+    }
+    Some((end, seat))
+}
+
+// The shares placed, the shares withdrawn, and whether each worker took the first legs released to its venue.
+type DayEnd = (
+    Result<u64, Miscounted>,
+    Result<u64, exec_collector::Miscounted>,
+    Result<(), WrongQueue>,
+);
+
+fn ends<L: Run, M: Ledger>(
+    alloc: Global,
+    lock: ReleaseLock<L>,
+    collector: Collector<M>,
+    callers: Vec<CallerSeat<L>>,
+    workers: Vec<Option<Worked<L, M>>>,
+) -> Result<DayEnd, Fail> {
+    let mut ends = Vec::new(alloc);
+    let mut seats = Vec::new(alloc);
+    for worker in workers {
+        let (end, seat) = worker.ok_or("an end")?;
+        ends.push(end)?;
+        seats.push(seat)?;
+    }
+    let mut locked = lock.into_locked();
+    let mut counted = collector.into_counted();
+    let placed = check_placed(&mut locked, callers);
+    let resolved = check_count(&mut counted, seats);
+    Ok((placed, resolved, check_queues(locked, ends)))
+}
+
+// Callers and workers in threads; then seats and rings are compared with desk and book.
+fn in_threads<L: Run + Send + Sync, M: Ledger + Send + Sync, R: Threads + Wait + Sync>(
+    rt: &R,
+    alloc: Global,
+    opened: Opened<L>,
+    collector: Collector<M>,
+    seats: Vec<WorkerSeat<M>>,
+) -> Result<DayEnd, Fail> {
+    let Opened { lock, seat, drains } = opened;
+    for drain in drains.iter() {
+        lock.raise(rt, drain).ok().ok_or("a gate")?;
+    }
+    let callers = callers_of(alloc, seat)?;
+    let workers = workers_of(alloc, drains, seats)?;
+    let shared = (&lock, &collector);
+    let (released, worked) = join(
+        rt,
+        || map_vec(rt, callers, &|caller| calls(rt, shared.0, shared.1, caller)),
+        || map_vec(
+            rt,
+            workers,
+            &|worker| withdraws(rt, alloc, shared, worker, 240),
+        ),
+    );
+    ends(alloc, lock, collector, released?, worked?)
+}
+
 fn one_day<L: Run + Send + Sync, M: Ledger + Send + Sync, R: Threads + Wait + Sync>(
     rt: &R,
     alloc: Global,
     callers: Blank,
     workers: Blank,
     rings: VecDeque<(Feed, Drain)>,
-) -> Result<(Result<u64, Miscounted>, Result<(), WrongQueue>), Fail>
+) -> Result<DayEnd, Fail>
     requires callers { (callers.name ≡ L.name) × (callers.parts ≡ L.parts) × (L.parts ≡ 1024) }
-    requires workers { (workers.name ≡ M.name) × (workers.parts ≡ M.parts) × (M.parts ≡ 4) }
-    requires rings { (length rings.items ≡ 4) × All IsFresh rings.items }
+    requires workers { (workers.name ≡ M.name) × (workers.parts ≡ M.parts) × (M.parts ≡ 16) }
+    requires rings { (length rings.items ≡ 16) × All IsFresh rings.items }
     requires queues { L.queues ≡ map (λ ends. ends.0.table) rings.items }
 {
-    let opened = ReleaseLock::<L>::new(alloc, 4, callers, rings);
-    let Opened {
-        lock,
-        mut seat,
-        drains,
-    } = opened.ok().ok_or("a lock")?;
-    let (collector, _seats) = Collector::<M>::new(alloc, 4, workers)
-        .ok()
-        .ok_or("a collector")?;
-    for drain in drains.iter() {
-        lock.raise(rt, drain).ok().ok_or("a gate")?;
-    }
-    let mut jobs = Vec::new(alloc);
-    for _ in 0..7 {
-        let other = seat.split().ok_or("a part")?;
-        jobs.push(with_sweeps(alloc, other)?)?;
-    }
-    jobs.push(with_sweeps(alloc, seat)?)?;
-    let (lock_shared, collector_shared) = (&lock, &collector);
-    let (seats, worked) = join(
-        rt,
-        || map_vec(
-            rt,
-            jobs,
-            &|job| calls(rt, lock_shared, collector_shared, job),
-        ),
-        || map_vec(
-            rt,
-            drains,
-            &|drain| works(rt, alloc, lock_shared, drain, 240),
-        ),
-    );
-    let mut ends = Vec::new(alloc);
-    for end in worked? {
-        ends.push(end.ok_or("an end")?)?;
-    }
-    let mut locked = lock.into_locked();
-    let placed = check_placed(&mut locked, seats?);
-    Ok((placed, check_queues(locked, ends)))
+    let opened = ReleaseLock::<L>::new(alloc, 16, callers, rings);
+    let opened = opened.ok().ok_or("a lock")?;
+    let made = Collector::<M>::new(alloc, 16, workers);
+    let (collector, seats) = made.ok().ok_or("a collector")?;
+    in_threads(rt, alloc, opened, collector, seats)
 }
 
 #[test]
-fn eight_callers_and_four_workers(rt: HostRuntime) -> Result<(), Fail> {
-    let rings = rings(rt.alloc(), 4)?;
+fn eight_callers_and_sixteen_drains(rt: HostRuntime) -> Result<(), Fail> {
+    let rings = rings(rt.alloc(), 16)?;
     let day = one_day::<Brand, Brand, HostRuntime>(
         &rt,
         rt.alloc(),
         Blank::new(1024),
-        Blank::new(4),
+        Blank::new(16),
         rings,
     )?;
-    assert_eq!(rt; day, (Ok(960), Ok(())));
+    assert_eq!(rt; day, (Ok(3_840), Ok(3_840), Ok(())));
     Ok(())
 }
 

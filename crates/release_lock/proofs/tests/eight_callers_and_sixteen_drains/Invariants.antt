@@ -1,5 +1,5 @@
 use Rattle.std.proofs.Common.{map}
-use Rattle.release_lock.proofs.tests.eight_callers_and_four_workers.Given as goal
+use Rattle.release_lock.proofs.tests.eight_callers_and_sixteen_drains.Given as goal
 
 abbrev pub ghosts-one_day-L-Run : goal.ghosts-one_day-L-Run
 ghosts-one_day-L-Run g a = record { queues = map (λ ends. ends.0.table) a.rings.items }

@@ -5,7 +5,7 @@ use Rattle.sweep_release.specs.History.{KeptDesk}
 use Rattle.sweep_release.proofs.Answered.{err_is}
 use Rattle.release_lock.specs.Locked.{Replays, Places}
 use Rattle.release_lock.proofs.Placing.{outcome, few_placed, released_locked, same_locked}
-use Rattle.release_lock.proofs.locked_desk.LockedDesk.release.Goals as goal
+use Rattle.release_lock.proofs.locked_desk.LockedDesk.place_sweep.Goals as goal
 
 pub invariant_of-self : goal.invariant_of-self
 invariant_of-self g c =
