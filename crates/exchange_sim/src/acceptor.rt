@@ -1,0 +1,137 @@
+//! The exchange's end of a session.
+
+ghost use Rattle.std.specs.Prelude.{◌≡◌, ◌<◌, ◌≤◌, [], drop, length, IfOk, IsTrue};
+ghost use Rattle.exchange_core.specs.Exchange.{new_exchange};
+
+use crate::matching_engine::MatchingEngine;
+use crate::plan::Plan;
+use clock::Clock;
+use dialect::Dialect;
+use exchange_core::Exchange;
+use fix_tags::Config;
+use fix_text::FrameReader;
+use std::alloc::{AllocError, Global};
+
+/// The exchange's end of a session: it takes the bytes that come, in any pieces, and answers with bytes. It has one
+/// connection at a time.
+#[derive(Drop)]
+pub struct Acceptor<D: Dialect, C: Clock> {
+    alloc: Global,
+    plan: Plan,
+    engine: MatchingEngine<D, C>,
+    reader: FrameReader,
+    // The connection, from 1, and whether it is still there.
+    connection: u64,
+    is_connected: bool,
+    // How many messages were read in all connections.
+    messages: u64,
+}
+
+impl<D: Dialect, C: Clock> Acceptor<D, C> {
+    /// An exchange that nobody has connected to. It takes no memory.
+    pub fn new(alloc: Global, dialect: D, clock: C, config: Config, plan: Plan) -> Acceptor<D, C>
+        ensures { result.engine.exchange ≡ new_exchange config }
+    {
+        Acceptor {
+            alloc,
+            plan,
+            engine: MatchingEngine::new(alloc, dialect, clock, config, plan.fill),
+            reader: FrameReader::new(alloc),
+            connection: 0,
+            is_connected: false,
+            messages: 0,
+        }
+    }
+
+    /// The exchange as it is.
+    pub fn exchange(&self) -> &Exchange
+        ensures { result.now ≡ self.now.engine.exchange }
+    {
+        &self.engine.exchange
+    }
+
+    /// Whether there is a connection.
+    pub fn is_connected(&self) -> bool
+        ensures { result ≡ self.now.is_connected }
+    {
+        self.is_connected
+    }
+
+    /// A new connection begins. The one before it ends, if there is one.
+    pub fn connect(&mut self) {
+        self.disconnect();
+        self.connection = self.connection.saturating_add(1);
+        self.is_connected = true;
+    }
+
+    /// The connection ends, if there is one. What was read in part is dropped, and so is what waits to be sent.
+    pub fn disconnect(&mut self) {
+        self.engine.disconnect();
+        self.reader = FrameReader::new(self.alloc);
+        self.is_connected = false;
+    }
+
+    /// Takes the bytes that come: each frame that they complete, in order. Where the plan cuts the connection behind one of
+    /// them it ends. Want of memory may come when some of them were taken.
+    pub fn receive(&mut self, bytes: &[u8]) -> Result<(), AllocError> {
+        if self.reader.feed(bytes).is_err() {
+            return Err(AllocError);
+        }
+        while self.take_next()? {
+            if self.messages == self.plan.cut_after {
+                self.disconnect();
+                break;
+            }
+        }
+        Ok(())
+    }
+
+    /// Takes the next frame that was read, and says whether there was one. The message that the plan loses is passed over.
+    fn take_next(&mut self) -> Result<bool, AllocError>
+        ensures { IfOk result (λ is_there. IsTrue is_there → length self.new.reader.rest < length self.old.reader.rest) }
+    {
+        match self.reader.next() {
+            Ok(Some(frame)) => {
+                self.messages = self.messages.saturating_add(1);
+                if self.messages != self.plan.lose {
+                    self.engine.take_frame(self.connection, &frame)?;
+                }
+                Ok(true)
+            }
+            Ok(None) => Ok(false),
+            Err(_) => Err(AllocError),
+        }
+    }
+
+    /// The bytes that wait to be sent.
+    pub fn waiting(&self) -> &[u8]
+        ensures { result.now ≡ self.now.engine.outbox }
+    {
+        self.engine.outbox.waiting()
+    }
+
+    /// Puts the first of the bytes that wait into a buffer, as many as it has room for and at most so many, and says how
+    /// many. They still wait.
+    pub fn copy_waiting(&self, most: usize, buf: &mut [u8]) -> usize
+        ensures { result ≤ length buf.new }
+    {
+        let waiting = self.waiting();
+        let count = waiting.len().min(most).min(buf.len());
+        buf[..count].copy_from_slice(&waiting[..count]);
+        count
+    }
+
+    /// So many of the bytes that wait were sent, or all of them if fewer wait.
+    pub fn pass(&mut self, count: usize)
+        ensures { self.new.engine.outbox ≡ drop count self.old.engine.outbox }
+    {
+        self.engine.outbox.pass(count);
+    }
+
+    /// All bytes that wait were sent.
+    pub fn pass_all(&mut self)
+        ensures { self.new.engine.outbox ≡ [] }
+    {
+        self.engine.outbox.clear();
+    }
+}
