@@ -4,7 +4,7 @@ use clock::Clock;
 use fix_tags::Stamp;
 
 /// A clock that tells one stamp, and counts how many times it was asked.
-#[derive(Clone, Copy, Drop)]
+#[derive(Clone, Copy)]
 pub struct FakeClock {
     pub stamp: Stamp,
     pub asked: u64,

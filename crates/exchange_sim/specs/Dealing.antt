@@ -1,5 +1,5 @@
 -- What a simulated exchange does with the orders that it accepts.
-use Rattle.std.specs.Prelude.{ℕ, suc, min, List, length, Option, Some, None, Result, Ok, Err, slice_get}
+use Rattle.std.specs.Prelude.{ℕ, ◌+◌, min, List, length, Option, Some, None, Result, Ok, Err, slice_get}
 use Rattle.fix_tags.specs.Price.{price_short}
 use Rattle.fix_tags.specs.declared.envelope.Envelope.{Envelope}
 use Rattle.fix_tags.specs.declared.tag_fault.TagFault.{TagFault}
@@ -8,6 +8,14 @@ use Rattle.dialect.specs.declared.message.Message.{Message}
 use Rattle.dialect.specs.Message.{Readers, seen}
 use Rattle.exchange_core.specs.Acts as acts
 use Rattle.exchange_core.specs.Exchange.{ExchangeParts, accepted_by, take}
+use Rattle.exchange_core.specs.Frames.{ActResult}
+use Rattle.exchange_core.specs.declared.exchange_fault.ExchangeFault.TheVariants.{OutOfMemory}
+
+-- an act was done or refused, and no memory was wanted
+abbrev pub IsKnown : ActResult → Type 0
+IsKnown (Ok frame) = Unit {0}
+IsKnown (Err OutOfMemory) = ⊥
+IsKnown (Err refusal) = Unit {0}
 
 -- so many shares of the order at a place are traded at this price, and the rest of it is cancelled
 unfoldable pub dealt : ℕ → ℕ → List ℕ → ExchangeParts → ExchangeParts
@@ -20,7 +28,7 @@ dealt_with fill place (Some leg) x = dealt place (min fill leg.terms.shares) (pr
 
 -- the order behind so many is dealt with, if it was accepted
 abbrev pub dealt_behind : ℕ → ℕ → ExchangeParts → ExchangeParts
-dealt_behind fill count x = dealt_with fill (suc count) (slice_get (accepted_by x) count) x
+dealt_behind fill count x = dealt_with fill (count + 1) (slice_get (accepted_by x) count) x
 
 -- a message is taken, and its order is dealt with
 unfoldable pub takes : ℕ → ℕ → ExchangeParts → Message → ExchangeParts

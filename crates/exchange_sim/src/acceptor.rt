@@ -1,7 +1,9 @@
 //! The exchange's end of a session.
 
-ghost use Rattle.std.specs.Prelude.{◌≡◌, ◌<◌, ◌≤◌, [], drop, length, IfOk, IsTrue};
-ghost use Rattle.exchange_core.specs.Exchange.{new_exchange};
+ghost use Rattle.std.specs.Prelude.{◌≡◌, ◌<◌, ◌≤◌, [], true, false, drop, length, is_some, IfOk, IsTrue, OnOk};
+ghost use Rattle.fix_text.specs.Reading.{fed, next_read};
+ghost use Rattle.exchange_core.specs.Exchange.{new_exchange, drop_connection};
+ghost use Rattle.exchange_sim.specs.Hearing.{Hears, next_heard, one_more};
 
 use crate::matching_engine::MatchingEngine;
 use crate::plan::Plan;
@@ -58,29 +60,52 @@ impl<D: Dialect, C: Clock> Acceptor<D, C> {
     }
 
     /// A new connection begins. The one before it ends, if there is one.
-    pub fn connect(&mut self) {
+    pub fn connect(&mut self)
+        ensures exchange { self.new.engine.exchange ≡ drop_connection self.old.engine.exchange }
+        ensures outbox { self.new.engine.outbox ≡ [] }
+        ensures reader { self.new.reader ≡ record { rest = []; skipped = 0; garbled = 0 } }
+        ensures messages { self.new.messages ≡ self.old.messages }
+        ensures connection { self.new.connection ≡ one_more self.old.connection }
+        ensures connected { self.new.is_connected ≡ true }
+    {
         self.disconnect();
         self.connection = self.connection.saturating_add(1);
         self.is_connected = true;
     }
 
     /// The connection ends, if there is one. What was read in part is dropped, and so is what waits to be sent.
-    pub fn disconnect(&mut self) {
+    pub fn disconnect(&mut self)
+        ensures exchange { self.new.engine.exchange ≡ drop_connection self.old.engine.exchange }
+        ensures outbox { self.new.engine.outbox ≡ [] }
+        ensures reader { self.new.reader ≡ record { rest = []; skipped = 0; garbled = 0 } }
+        ensures messages { self.new.messages ≡ self.old.messages }
+        ensures connection { self.new.connection ≡ self.old.connection }
+        ensures connected { self.new.is_connected ≡ false }
+    {
         self.engine.disconnect();
         self.reader = FrameReader::new(self.alloc);
         self.is_connected = false;
     }
 
     /// Takes the bytes that come: each frame that they complete, in order. Where the plan cuts the connection behind one of
-    /// them it ends. Want of memory may come when some of them were taken.
-    pub fn receive(&mut self, bytes: &[u8]) -> Result<(), AllocError> {
-        if self.reader.feed(bytes).is_err() {
-            return Err(AllocError);
+    /// them it ends. Where there is no connection they are dropped. Want of memory may come when some of them were taken.
+    pub fn receive(&mut self, bytes: &[u8]) -> Result<(), AllocError>
+        ensures dropped { self.old.is_connected ≡ false → self.new ≡ self.old }
+        ensures hears { self.old.is_connected ≡ true → OnOk result (Hears (record { readers = record { order = D.order_read self.old.engine.dialect; report = D.report_read self.old.engine.dialect }; fill = self.old.engine.fill; lose = self.old.plan.lose; connection = self.old.connection }) self.old.plan.cut_after
+            (record { stream = fed self.old.reader bytes.now; messages = self.old.messages; exchange = self.old.engine.exchange }) self.new.is_connected
+            (record { stream = self.new.reader; messages = self.new.messages; exchange = self.new.engine.exchange })) }
+    {
+        if !self.is_connected {
+            return Ok(());
+        }
+        match self.reader.feed(bytes) {
+            Ok(()) => {}
+            Err(_) => return Err(AllocError),
         }
         while self.take_next()? {
             if self.messages == self.plan.cut_after {
                 self.disconnect();
-                break;
+                return Ok(());
             }
         }
         Ok(())
@@ -88,14 +113,19 @@ impl<D: Dialect, C: Clock> Acceptor<D, C> {
 
     /// Takes the next frame that was read, and says whether there was one. The message that the plan loses is passed over.
     fn take_next(&mut self) -> Result<bool, AllocError>
-        ensures { IfOk result (λ is_there. IsTrue is_there → length self.new.reader.rest < length self.old.reader.rest) }
+        ensures heard { OnOk result (record { stream = self.new.reader; messages = self.new.messages; exchange = self.new.engine.exchange }
+            ≡ next_heard (record { readers = record { order = D.order_read self.old.engine.dialect; report = D.report_read self.old.engine.dialect }; fill = self.old.engine.fill; lose = self.old.plan.lose; connection = self.old.connection })
+            (record { stream = self.old.reader; messages = self.old.messages; exchange = self.old.engine.exchange })) }
+        ensures there { IfOk result (λ is_there. is_there ≡ is_some (next_read self.old.reader).frame) }
+        ensures same { (self.new.engine.dialect ≡ self.old.engine.dialect) × (self.new.engine.fill ≡ self.old.engine.fill)
+            × (self.new.plan ≡ self.old.plan) × (self.new.connection ≡ self.old.connection) × (self.new.is_connected ≡ self.old.is_connected) }
+        ensures shorter { IfOk result (λ is_there. IsTrue is_there → length self.new.reader.rest < length self.old.reader.rest) }
     {
         match self.reader.next() {
             Ok(Some(frame)) => {
                 self.messages = self.messages.saturating_add(1);
-                if self.messages != self.plan.lose {
-                    self.engine.take_frame(self.connection, &frame)?;
-                }
+                let is_lost = self.messages == self.plan.lose;
+                self.engine.take_unless(is_lost, self.connection, &frame)?;
                 Ok(true)
             }
             Ok(None) => Ok(false),

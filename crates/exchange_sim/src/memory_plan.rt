@@ -5,7 +5,7 @@ ghost use Rattle.std.specs.Prelude.{◌≡◌};
 use crate::plan::Plan;
 
 /// How a link in memory carries bytes, and what the exchange behind it does.
-#[derive(Clone, Copy, Debug, PartialEq, Eq)]
+#[derive(Clone, Copy, Debug)]
 pub struct MemoryPlan {
     /// What the exchange does.
     pub exchange: Plan,

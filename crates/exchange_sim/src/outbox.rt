@@ -53,9 +53,11 @@ impl Outbox {
     pub fn pass(&mut self, count: usize)
         ensures { self.new ≡ drop count self.old }
     {
-        self.sent += count.min(self.bytes.len() - self.sent);
-        if self.sent == self.bytes.len() {
-            self.clear();
+        if count < self.bytes.len() - self.sent {
+            self.sent += count;
+        } else {
+            self.bytes.clear();
+            self.sent = 0;
         }
     }
 

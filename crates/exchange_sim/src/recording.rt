@@ -1,6 +1,6 @@
 //! What a link in memory tells of itself.
 
-ghost use Rattle.std.specs.Prelude.{◌≡◌, [], MatchResult};
+ghost use Rattle.std.specs.Prelude.{◌≡◌, ◌+◌, min, [], MatchResult};
 ghost use Rattle.link.specs.Counts.{Rises};
 ghost use Rattle.link.specs.Traffic.{Dials, Takes, GivesBytes, Stays};
 
@@ -48,7 +48,7 @@ impl Recording {
     /// A call failed.
     pub fn fault(&mut self) -> LinkFault
         ensures traffic { self.new.traffic ≡ self.old.traffic }
-        ensures faults { Rises (Err result) self.old.faults self.new.faults }
+        ensures faults { self.new.faults ≡ min (self.old.faults + 1) 18446744073709551615 }
     {
         LinkFault::counted(&mut self.faults)
     }
@@ -58,17 +58,20 @@ impl Recording {
         ensures traffic { MatchResult result (λ _. Dials self.old.traffic self.new.traffic) (λ _. Stays self.old.traffic self.new.traffic) }
         ensures faults { Rises result self.old.faults self.new.faults }
     {
-        if let Some(last) = self.last.take() {
-            match self.earlier.push_front(last) {
-                Ok(()) => {}
-                Err(refused) => {
-                    self.last = Some(refused.value);
-                    return Err(self.fault());
-                }
+        let Some(last) = self.last.take() else {
+            self.last = Some(Recorded::new(self.alloc));
+            return Ok(());
+        };
+        match self.earlier.push_front(last) {
+            Ok(()) => {
+                self.last = Some(Recorded::new(self.alloc));
+                Ok(())
+            }
+            Err(refused) => {
+                self.last = Some(refused.value);
+                Err(LinkFault::counted(&mut self.faults))
             }
         }
-        self.last = Some(Recorded::new(self.alloc));
-        Ok(())
     }
 
     /// A write took these bytes. It fails where nothing was dialled yet, and for want of memory.

@@ -35,7 +35,7 @@ fn accept<N: Net>(listener: &N::Listener) -> io::Result<N::Stream> {
 }
 
 /// What a client said in a turn.
-#[derive(Clone, Copy, Debug, PartialEq, Eq)]
+#[derive(Clone, Copy)]
 pub enum Heard {
     /// So many bytes, at the front of the buffer.
     Bytes(usize),
