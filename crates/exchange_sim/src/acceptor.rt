@@ -1,6 +1,6 @@
 //! The exchange's end of a session.
 
-ghost use Rattle.std.specs.Prelude.{◌≡◌, ◌<◌, ◌≤◌, [], true, false, drop, length, is_some, IfOk, IsTrue, OnOk};
+ghost use Rattle.std.specs.Prelude.{◌≡◌, ◌<◌, ◌≤◌, [], true, false, drop, length, option_map, IfOk, IfSome, OnOk};
 ghost use Rattle.fix_text.specs.Reading.{fed, next_read};
 ghost use Rattle.exchange_core.specs.Exchange.{new_exchange, drop_connection};
 ghost use Rattle.exchange_sim.specs.Hearing.{Hears, next_heard, one_more};
@@ -102,8 +102,8 @@ impl<D: Dialect, C: Clock> Acceptor<D, C> {
             Ok(()) => {}
             Err(_) => return Err(AllocError),
         }
-        while self.take_next()? {
-            if self.messages == self.plan.cut_after {
+        while let Some(number) = self.take_next()? {
+            if number == self.plan.cut_after {
                 self.disconnect();
                 return Ok(());
             }
@@ -111,24 +111,25 @@ impl<D: Dialect, C: Clock> Acceptor<D, C> {
         Ok(())
     }
 
-    /// Takes the next frame that was read, and says whether there was one. The message that the plan loses is passed over.
-    fn take_next(&mut self) -> Result<bool, AllocError>
+    /// Takes the next frame that was read, and gives its number, if there is one. The message that the plan loses is passed
+    /// over.
+    fn take_next(&mut self) -> Result<Option<u64>, AllocError>
         ensures heard { OnOk result (record { stream = self.new.reader; messages = self.new.messages; exchange = self.new.engine.exchange }
             ≡ next_heard (record { readers = record { order = D.order_read self.old.engine.dialect; report = D.report_read self.old.engine.dialect }; fill = self.old.engine.fill; lose = self.old.plan.lose; connection = self.old.connection })
             (record { stream = self.old.reader; messages = self.old.messages; exchange = self.old.engine.exchange })) }
-        ensures there { IfOk result (λ is_there. is_there ≡ is_some (next_read self.old.reader).frame) }
+        ensures number { IfOk result (λ number. number ≡ option_map (λ _. self.new.messages) (next_read self.old.reader).frame) }
         ensures same { (self.new.engine.dialect ≡ self.old.engine.dialect) × (self.new.engine.fill ≡ self.old.engine.fill)
             × (self.new.plan ≡ self.old.plan) × (self.new.connection ≡ self.old.connection) × (self.new.is_connected ≡ self.old.is_connected) }
-        ensures shorter { IfOk result (λ is_there. IsTrue is_there → length self.new.reader.rest < length self.old.reader.rest) }
+        ensures shorter { IfOk result (λ number. IfSome number (λ _. length self.new.reader.rest < length self.old.reader.rest)) }
     {
         match self.reader.next() {
             Ok(Some(frame)) => {
                 self.messages = self.messages.saturating_add(1);
                 let is_lost = self.messages == self.plan.lose;
                 self.engine.take_unless(is_lost, self.connection, &frame)?;
-                Ok(true)
+                Ok(Some(self.messages))
             }
-            Ok(None) => Ok(false),
+            Ok(None) => Ok(None),
             Err(_) => Err(AllocError),
         }
     }

@@ -1,5 +1,7 @@
 //! A server round a simulated exchange.
 
+ghost use Rattle.std.specs.Prelude.{◌≡◌, false, OnOk};
+
 use crate::acceptor::Acceptor;
 use crate::stream::{Heard, hear, wait_for_client};
 use clock::Clock;
@@ -19,7 +21,9 @@ pub fn serve<N: Net + time::Clock, D: Dialect, C: Clock>(
     listener: &N::Listener,
     acceptor: &mut Acceptor<D, C>,
     turn_limit: u64,
-) -> Result<(), AllocError> {
+) -> Result<(), AllocError>
+    ensures { OnOk result (acceptor.new.is_connected ≡ false) }
+{
     let mut client = None;
     for _ in 0..turn_limit {
         client = match client {
