@@ -8,10 +8,10 @@ mod memory_link;
 mod memory_plan;
 mod outbox;
 mod plan;
+mod raw_server;
 mod recorded;
 mod recording;
-mod serve;
-mod serve_raw;
+mod server;
 mod stream;
 mod trade_price;
 
@@ -19,8 +19,8 @@ pub use acceptor::Acceptor;
 pub use memory_link::MemoryLink;
 pub use memory_plan::MemoryPlan;
 pub use plan::Plan;
-pub use serve::serve;
-pub use serve_raw::serve_raw;
+pub use raw_server::serve_raw;
+pub use server::serve;
 
 #[cfg(test)]
 mod tests;

@@ -9,4 +9,4 @@ pub unwrap-requires : goal.unwrap-requires
 unwrap-requires c =
     let text : c.as_slice.result.now ≡ price_short c.args.leg.now.terms.price = search rules in
     made 20 c.as_slice.result.now c.new.result c.new.ensures
-    (subst (IsFreeText 20) (sym text) (price_is_text c.args.leg.now.terms.price c.price.ensures.in_range.price))
+    (subst (IsFreeText 20) (sym text) (price_is_text c.args.leg.now.terms.price c.price-price.ensures.in_range.price))
