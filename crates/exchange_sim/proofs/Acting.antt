@@ -1,5 +1,7 @@
 -- What an exchange is after an act, and after a message whose order is dealt with.
-use Rattle.std.proofs.Common.{◌≡◌, ℕ, ◌+◌, min, List, length, Result, Ok, Err, Option, Some, None, slice_get, OnOk}
+use Rattle.std.proofs.Common.{◌≡◌, ℕ, ◌+◌, min, true, false, nat_lt, List, length, get_or, Result, Ok, Err, Option, Some, None, slice_get, OnOk, refl, sym}
+use Rattle.std.proofs.lemmas.Bool.{ltb-true, ltb-false}
+use Rattle.std.proofs.lemmas.Option.{slice_get_read, slice_get_past}
 use Rattle.std.specs.Global.{Vec}
 use Rattle.fix_tags.specs.Price.{price_short}
 use Rattle.fix_tags.specs.Stamp.{StampParts}
@@ -22,6 +24,16 @@ acted w s x (Ok written, after) (Err fault) y gives known = absurd (rw gives.0 a
 pub taken : (w : Writers) (s : StampParts) (x : ExchangeParts) (answer : Answer) (frames : Vec (Vec ℕ)) (y : ExchangeParts)
     → TakeGives w s x answer (Ok frames) y → y ≡ answer.1
 taken w s x (written, after) frames y gives = gives.1
+
+-- the leg that stands behind so many, if one does
+pub leg_there : (legs accepted : List Leg) (count : ℕ) (leg : Leg) → legs ≡ accepted → true ≡ nat_lt count (length legs)
+    → leg ≡ get_or legs count leg → slice_get accepted count ≡ Some leg
+leg_there legs accepted count leg same below is =
+    rw (sym same) (slice_get_read legs (length legs) count leg refl (ltb-true count (length legs) (sym below)) is)
+
+pub no_leg_there : (legs accepted : List Leg) (count : ℕ) → legs ≡ accepted → false ≡ nat_lt count (length legs)
+    → slice_get accepted count ≡ None
+no_leg_there legs accepted count same past = rw (sym same) (slice_get_past legs count (ltb-false count (length legs) (sym past)))
 
 -- a message whose order was accepted and dealt with
 pub taken_and_dealt : (fill connection : ℕ) (x y z : ExchangeParts) (m : Message) (count shares : ℕ) (leg : Leg) (px : List ℕ)

@@ -26,7 +26,7 @@ heard_more how count start h next before is = is ∙ ap (λ (k : Hearing). next_
 
 -- the number of a frame that was read
 pub number_is : {A : Type 0} (number messages : ℕ) (frame : Option A) → Some number ≡ option_map (λ _. messages) frame → number ≡ messages
-number_is number messages (Some fields) is = same_Some is
+number_is number messages (Some fields) is = same_Some _ _ is
 number_is number messages None is = absurd cc
 
 -- the connection is cut behind so many frames
