@@ -1,5 +1,5 @@
 -- The values of the options of `dispatch order`, each as it was written.
-use Rattle.std.specs.Prelude.{◌≡◌, ℕ, List, Option, Some, option_and_then}
+use Rattle.std.specs.Prelude.{◌≡◌, ℕ, List, Option, Some, option_and_then, option_map}
 use Rattle.clap.specs.Matches.{found_of, first_value}
 use Rattle.clap.specs.declared.parser.matches.ArgMatches.{ArgMatches}
 use Rattle.dialect.specs.DialectName.{dialect_named}
@@ -24,7 +24,8 @@ use Rattle.dispatch_main.specs.OrderOption.{option_name}
 abbrev pub matched : ArgMatches → OrderOption → Option (List ℕ)
 matched matches option = first_value (found_of matches) (option_name option)
 
--- each option has the value that the command line gave under its name, and the dialect is the one of its name
+-- each option has the value that the command line gave under its name, if it gave one, and the dialect is the one of
+-- its name
 pub record AreOptions (matches : ArgMatches) (options : Options) : Type 0 where
   pub dialect : option_and_then dialect_named (matched matches Dialect) ≡ Some options.dialect
   pub sweep : matched matches Sweep ≡ Some options.sweep.now
@@ -36,4 +37,4 @@ pub record AreOptions (matches : ArgMatches) (options : Options) : Type 0 where
   pub number : matched matches Number ≡ Some options.number.now
   pub from : matched matches From ≡ Some options.from.now
   pub to : matched matches To ≡ Some options.to.now
-  pub at : matched matches At ≡ Some options.at.now
+  pub at : matched matches At ≡ option_map (λ text. text.now) options.at

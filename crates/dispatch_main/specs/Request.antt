@@ -15,6 +15,7 @@ use Rattle.std.specs.Prelude.{
   nat_le,
   if◌then◌else◌,
   option_and_then,
+  option_map,
 }
 use Rattle.std.specs.Option.{ok_or}
 use Rattle.std.specs.Str.{bytes_eq}
@@ -54,9 +55,15 @@ side_named word =
 abbrev pub full_stamp : List ℕ → Option StampParts
 full_stamp text = if length text == 21 then stamp_read text else None
 
--- the leg and the header of its order, or the first bad value in the order of the options
-unfoldable pub request_of : Options → Result Request ProgramFault
-request_of options = do
+-- the stamp of the text, or where there is none the one that the clock told
+abbrev pub moment_of : StampParts → Option (List ℕ) → Option StampParts
+moment_of told (Some text) = full_stamp text
+moment_of told None = Some told
+
+-- the leg and the header of its order, or the first bad value in the order of the options, where the clock told this
+-- stamp
+unfoldable pub request_of : StampParts → Options → Result Request ProgramFault
+request_of told options = do
   sweep ← given Of.Sweep (number_up_to 999999999999 options.sweep.now)
   place ← given Of.Leg (number_up_to 32 options.leg.now)
   symbol ← given Of.Symbol (joined_symbol_of 46 options.symbol.now)
@@ -66,7 +73,7 @@ request_of options = do
   number ← given Of.Number (number_up_to 999999998 options.number.now)
   from ← given Of.From (comp_id_of options.from.now)
   to ← given Of.To (comp_id_of options.to.now)
-  at ← given Of.At (full_stamp options.at.now)
+  at ← given Of.At (moment_of told (option_map (λ text. text.now) options.at))
   Ok (record {
     leg = record {
       id = record { sweep = sweep; place = place };

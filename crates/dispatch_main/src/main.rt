@@ -15,12 +15,15 @@ use crate::fault::ProgramFault;
 use crate::order::order_run;
 use crate::replay_script::replay_run;
 use crate::status::tell;
+use clock::{Clock, UtcClock};
 use std::alloc::Global;
 use std::convert::AsStr;
 use std::io::{Read, Write};
 use std::process::ExitCode;
 use std::{env, io};
 
+#[cfg(test)]
+mod fake_clock;
 #[cfg(test)]
 mod tests;
 
@@ -34,16 +37,17 @@ fn words(rt: &HostRuntime) -> Result<Vec<String>, ProgramFault> {
 }
 
 /// Runs the command that the words ask for, and gives the exit status.
-fn run<S: AsStr, R: Read, W: Write, E: Write>(
+fn run<S: AsStr, C: Clock, R: Read, W: Write, E: Write>(
     alloc: Global,
     words: &[S],
+    clock: &mut C,
     input: &mut R,
     out: &mut W,
     err: &mut E,
 ) -> u8 {
     match words {
         [_, command, ..] if command.as_str() == "order" => {
-            order_run(alloc, &words[1..], out, err)
+            order_run(alloc, &words[1..], clock, out, err)
         }
         [_, command, ..] if command.as_str() == "replay" => {
             replay_run(alloc, &words[1..], input, out, err)
@@ -53,11 +57,19 @@ fn run<S: AsStr, R: Read, W: Write, E: Write>(
 }
 
 fn main(rt: HostRuntime) -> ExitCode {
+    let mut clock = UtcClock::new(&rt);
     let mut input = rt.stdin();
     let mut out = rt.stdout();
     let mut err = rt.stderr();
     let status = match words(&rt) {
-        Ok(words) => run(rt.alloc(), words.as_slice(), &mut input, &mut out, &mut err),
+        Ok(words) => run(
+            rt.alloc(),
+            words.as_slice(),
+            &mut clock,
+            &mut input,
+            &mut out,
+            &mut err,
+        ),
         Err(fault) => tell(&fault, &mut err),
     };
     ExitCode::from(status)

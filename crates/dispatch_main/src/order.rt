@@ -20,6 +20,7 @@ use crate::order::request::Request;
 use crate::order::room::OrderRoom;
 use crate::out::print;
 use crate::status::finish;
+use clock::Clock;
 use dialect::Dialect;
 pub use option::OrderOption;
 pub use options::order_command;
@@ -33,33 +34,40 @@ mod tests;
 /// Runs `dispatch order` on its words, of which the first is the command's own name.
 ///
 /// It writes the frame with `|` for SOH, and then the leg that was read back from it; faults go to
-/// `err`. The answer is the exit status: 0, or that of the fault.
-pub fn order_run<S: AsStr, W: Write, E: Write>(
+/// `err`. Without `--at` the order is sent at the clock's moment. The answer is the exit status: 0, or that of the fault.
+pub fn order_run<S: AsStr, C: Clock, W: Write, E: Write>(
     alloc: Global,
     words: &[S],
+    clock: &mut C,
     out: &mut W,
     err: &mut E,
 ) -> u8 {
-    finish(order(alloc, words, out), err)
+    finish(order(alloc, words, clock, out), err)
 }
 
-fn order<S: AsStr, W: Write>(alloc: Global, words: &[S], out: &mut W) -> Result<(), ProgramFault> {
+fn order<S: AsStr, C: Clock, W: Write>(
+    alloc: Global,
+    words: &[S],
+    clock: &mut C,
+    out: &mut W,
+) -> Result<(), ProgramFault> {
     let options = read_options(alloc, words)?;
-    print_order(alloc, &options.dialect, &options, out)
+    print_order(alloc, &options.dialect, &options, clock, out)
 }
 
-/// Prints the order that the options ask for, in this dialect.
-fn print_order<D: Dialect, W: Write>(
+/// Prints the order that the options ask for, in this dialect, at the clock's moment where they name none.
+fn print_order<D: Dialect, C: Clock, W: Write>(
     alloc: Global,
     dialect: &D,
     options: &Options<'_>,
+    clock: &mut C,
     out: &mut W,
 ) -> Result<(), ProgramFault>
     ensures { EndsOrder (λ request. PrintsText (IsOrderText
         (record { IsOrder = D.IsOrder dialect.now; IsReport = D.IsReport dialect.now }) (D.order_read dialect.now) request)
-        (W.contents out.old) (W.contents out.new)) (request_of options.now) result }
+        (W.contents out.old) (W.contents out.new)) (request_of (C.last clock.new) options.now) result }
 {
-    let request = Request::new(options)?;
+    let request = Request::new(options, clock)?;
     let text = order_text(alloc, dialect, request)?;
     print(&text, out)
 }

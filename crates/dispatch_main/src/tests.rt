@@ -1,7 +1,8 @@
 //! The program on its words: its help, and words that are no command.
 
+use crate::fake_clock::FakeClock;
 use crate::run;
-use std::alloc::{AllocError, Global};
+use std::alloc::Global;
 use std::test::Fail;
 
 /// The help that lists the commands, as clap 4 writes it.
@@ -16,12 +17,20 @@ struct Run {
     err: Vec<u8>,
 }
 
-fn run_line(alloc: Global, line: &str) -> Result<Run, AllocError> {
+fn run_line(alloc: Global, line: &str) -> Result<Run, Fail> {
     let words: Vec<&str> = line.split(' ').collect(alloc)?;
     let mut out = Vec::new(alloc);
     let mut err = Vec::new(alloc);
     let mut input: &[u8] = b"";
-    let status = run(alloc, words.as_slice(), &mut input, &mut out, &mut err);
+    let mut clock = FakeClock::new().ok_or("a clock")?;
+    let status = run(
+        alloc,
+        words.as_slice(),
+        &mut clock,
+        &mut input,
+        &mut out,
+        &mut err,
+    );
     Ok(Run { status, out, err })
 }
 
@@ -71,7 +80,7 @@ fn help_of_order_lists_its_options(rt: HostRuntime) -> Result<(), Fail> {
         assert_eq!(rt; run.status, 2, "at {line}");
         assert!(rt;
             run.err.as_slice().starts_with(
-                b"dispatch: Writes a leg as an order frame, with | for SOH, and the leg that is read back from it\n\nUsage: dispatch order --dialect <D> --sweep <N>"
+                b"dispatch: Writes a leg as an order frame, with | for SOH, and the leg that is read back from it\n\nUsage: dispatch order [OPTIONS] --dialect <D> --sweep <N>"
             ),
             "at {line}"
         );

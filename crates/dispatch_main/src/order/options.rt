@@ -12,7 +12,7 @@ use std::convert::AsStr;
 /// The dialects that `--dialect` takes.
 static DIALECTS: [&str; 3] = ["plain", "split", "coded"];
 
-/// The values of the options, each as it was written.
+/// The values of the options, each as it was written. All but `at` are required.
 #[derive(Drop)]
 pub struct Options<'a> {
     pub dialect: AnyDialect,
@@ -25,7 +25,7 @@ pub struct Options<'a> {
     pub number: &'a str,
     pub from: &'a str,
     pub to: &'a str,
-    pub at: &'a str,
+    pub at: Option<&'a str>,
 }
 
 fn option<'a>(alloc: Global, name: &'a str, value: &'a str, help: &'a str) -> Arg<'a> {
@@ -45,6 +45,13 @@ pub fn order_command<'a>(alloc: Global) -> Result<Command<'a>, AllocError> {
         "how the order is spelled",
     )
     .value_parser(DIALECTS.as_slice());
+    let at = option(
+        alloc,
+        OrderOption::At.name(),
+        "STAMP",
+        "the sending time, as 20240102-14:30:00.000; else the clock's, in UTC",
+    )
+    .required(false);
     Command::new(alloc, "order")
         .about(
             "Writes a leg as an order frame, with | for SOH, and the leg that is read back from it",
@@ -89,12 +96,7 @@ pub fn order_command<'a>(alloc: Global) -> Result<Command<'a>, AllocError> {
             "the sender's comp id",
         ))?
         .arg(option(alloc, OrderOption::To.name(), "ID", "the target's comp id"))?
-        .arg(option(
-            alloc,
-            OrderOption::At.name(),
-            "STAMP",
-            "the sending time, as 20240102-14:30:00.000",
-        ))
+        .arg(at)
 }
 
 fn value<'a>(matches: &ArgMatches<'a>, option: OrderOption) -> Result<&'a str, ProgramFault>
@@ -124,7 +126,7 @@ fn options_of<'a>(matches: &ArgMatches<'a>) -> Result<Options<'a>, ProgramFault>
         number: value(matches, OrderOption::Number)?,
         from: value(matches, OrderOption::From)?,
         to: value(matches, OrderOption::To)?,
-        at: value(matches, OrderOption::At)?,
+        at: matches.get_str(OrderOption::At.name()),
     })
 }
 

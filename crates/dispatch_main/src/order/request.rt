@@ -1,13 +1,14 @@
 //! What `dispatch order` is asked to write.
-ghost use Rattle.std.specs.Prelude.{◌≡◌, ◌≤◌, IfOk};
+ghost use Rattle.std.specs.Prelude.{◌≡◌, ◌≤◌, IfOk, option_map};
 ghost use Rattle.fix_tags.specs.CompId.{comp_id_of};
 ghost use Rattle.dialect.specs.JoinedSymbol.{joined_symbol_of};
-ghost use Rattle.dispatch_main.specs.Request.{given, number_up_to, side_named, full_stamp, request_of};
+ghost use Rattle.dispatch_main.specs.Request.{given, number_up_to, side_named, full_stamp, moment_of, request_of};
 
 use crate::fault::ProgramFault;
 use crate::order::header::Header;
 use crate::order::option::OrderOption;
 use crate::order::options::Options;
+use clock::Clock;
 use dialect::read_symbol;
 use fix_tags::{CompId, MAX_MESSAGE_NUMBER, Stamp, read_number, read_stamp};
 use leg::{Leg, LegId, MAX_PLACE, MAX_PRICE, MAX_SHARES, MAX_SWEEP, Side, Symbol, Terms};
@@ -63,12 +64,22 @@ fn stamp_of(text: &str) -> Result<Stamp, ProgramFault>
     read_stamp(text.as_bytes()).ok_or(ProgramFault::BadValue(OrderOption::At))
 }
 
+/// The stamp of this text, or where there is none the clock's moment.
+fn moment_of<C: Clock>(text: Option<&str>, clock: &mut C) -> Result<Stamp, ProgramFault>
+    ensures { result ≡ given OrderOption.At (moment_of (C.last clock.new) (option_map (λ s. s.now) text.entry)) }
+{
+    match text {
+        Some(text) => stamp_of(text),
+        None => Ok(clock.now()),
+    }
+}
+
 impl Request {
-    /// The request that these options make. A value that isn't of its form or within its limits is a bad
-    /// value, and the first in the order of the options is named.
+    /// The request that these options make, at the clock's moment where they name none. A value that isn't of its form or
+    /// within its limits is a bad value, and the first in the order of the options is named.
     #[tactic(auto, unfolding(crate::specs::Request::request_of))]
-    pub fn new(options: &Options<'_>) -> Result<Request, ProgramFault>
-        ensures { result ≡ request_of options.now }
+    pub fn new<C: Clock>(options: &Options<'_>, clock: &mut C) -> Result<Request, ProgramFault>
+        ensures { result ≡ request_of (C.last clock.new) options.now }
     {
         let sweep = number_of(options.sweep, OrderOption::Sweep, MAX_SWEEP)?;
         let place = number_of(options.leg, OrderOption::Leg, u64::from(MAX_PLACE))?;
@@ -79,7 +90,7 @@ impl Request {
         let number = number_of(options.number, OrderOption::Number, MAX_MESSAGE_NUMBER)?;
         let from = comp_id_of(options.from, OrderOption::From)?;
         let to = comp_id_of(options.to, OrderOption::To)?;
-        let at = stamp_of(options.at)?;
+        let at = moment_of(options.at, clock)?;
         let terms = Terms::new(symbol, side, shares, price).unwrap();
         let id = LegId::new(sweep, place as u8);
         Ok(Request {

@@ -1,31 +1,40 @@
 //! `dispatch order` on its words: what it writes, and its faults.
 
+use crate::fake_clock::FakeClock;
 use crate::order::order_run;
-use std::alloc::{AllocError, Global};
+use std::alloc::Global;
 use std::test::Fail;
 
 /// The words of the worked order of sweep 12, leg 3.
 const WORKED: &str =
     "order --dialect plain --sweep 12 --leg 3 --symbol BRK.B --side buy --shares 100 --price 102500 --number 4 --from A --to B --at 20240102-14:30:00.000";
 
-/// What a run gave: its status, and what it wrote.
+/// What a run gave: its status, what it wrote, and how many times it asked the clock.
 #[derive(Drop)]
 struct Run {
     status: u8,
     out: Vec<u8>,
     err: Vec<u8>,
+    asked: u64,
 }
 
-fn run_line(alloc: Global, line: &str) -> Result<Run, AllocError> {
+fn run_line(alloc: Global, line: &str) -> Result<Run, Fail> {
     let words: Vec<&str> = line.split(' ').collect(alloc)?;
     let mut out = Vec::new(alloc);
     let mut err = Vec::new(alloc);
-    let status = order_run(alloc, &words, &mut out, &mut err);
-    Ok(Run { status, out, err })
+    let mut clock = FakeClock::new().ok_or("a clock")?;
+    let status = order_run(alloc, &words, &mut clock, &mut out, &mut err);
+    let asked = clock.asked;
+    Ok(Run {
+        status,
+        out,
+        err,
+        asked,
+    })
 }
 
 /// Runs the worked order with other words in the place of some of its own.
-fn run_changed(alloc: Global, own: &str, other: &str) -> Result<Run, AllocError> {
+fn run_changed(alloc: Global, own: &str, other: &str) -> Result<Run, Fail> {
     let line = WORKED.replace(alloc, own, other)?;
     run_line(alloc, line.as_str())
 }
@@ -40,6 +49,7 @@ fn writes_the_worked_orders(rt: HostRuntime) -> Result<(), Fail> {
         b"8=FIX.4.4|9=124|35=D|49=A|56=B|34=4|52=20240102-14:30:00.000|11=S12L3|18=f|38=100|40=2|44=10.25|54=1|55=BRK.B|59=3|60=20240102-14:30:00.000|10=112|\nS12L3 BRK.B buy 100 102500\n".as_slice()
     );
     assert!(rt; sweep_12.err.is_empty());
+    assert_eq!(rt; sweep_12.asked, 0);
     let sweep_1 = run_changed(
         alloc,
         "--sweep 12 --leg 3 --symbol BRK.B --side buy --shares 100 --price 102500",
@@ -50,6 +60,18 @@ fn writes_the_worked_orders(rt: HostRuntime) -> Result<(), Fail> {
         sweep_1.out.as_slice(),
         b"8=FIX.4.4|9=116|35=D|49=A|56=B|34=4|52=20240102-14:30:00.000|11=S1L1|18=f|38=1|40=2|44=10|54=2|55=IBM|59=3|60=20240102-14:30:00.000|10=210|\nS1L1 IBM sell 1 100000\n".as_slice()
     );
+    Ok(())
+}
+
+#[test]
+fn without_at_the_clock_tells_the_moment(rt: HostRuntime) -> Result<(), Fail> {
+    let run = run_changed(rt.alloc(), " --at 20240102-14:30:00.000", "")?;
+    assert_eq!(rt; run.status, 0);
+    assert_eq!(rt;
+        run.out.as_slice(),
+        b"8=FIX.4.4|9=124|35=D|49=A|56=B|34=4|52=20311231-23:59:59.999|11=S12L3|18=f|38=100|40=2|44=10.25|54=1|55=BRK.B|59=3|60=20311231-23:59:59.999|10=220|\nS12L3 BRK.B buy 100 102500\n".as_slice()
+    );
+    assert_eq!(rt; run.asked, 1);
     Ok(())
 }
 
@@ -157,7 +179,7 @@ fn takes_the_limits(rt: HostRuntime) -> Result<(), Fail> {
 }
 
 #[test]
-fn every_option_is_required(rt: HostRuntime) -> Result<(), Fail> {
+fn every_option_but_the_moment_is_required(rt: HostRuntime) -> Result<(), Fail> {
     let alloc = rt.alloc();
     let options = [
         " --dialect plain",
@@ -170,7 +192,6 @@ fn every_option_is_required(rt: HostRuntime) -> Result<(), Fail> {
         " --number 4",
         " --from A",
         " --to B",
-        " --at 20240102-14:30:00.000",
     ];
     for option in &options {
         let run = run_changed(alloc, option, "")?;
@@ -203,7 +224,7 @@ fn a_command_line_that_is_none(rt: HostRuntime) -> Result<(), Fail> {
         ),
         (
             "order --help",
-            b"dispatch: Writes a leg as an order frame, with | for SOH, and the leg that is read back from it\n\nUsage: dispatch order --dialect <D> --sweep <N>",
+            b"dispatch: Writes a leg as an order frame, with | for SOH, and the leg that is read back from it\n\nUsage: dispatch order [OPTIONS] --dialect <D> --sweep <N>",
         ),
     ];
     for (line, text) in &cases {

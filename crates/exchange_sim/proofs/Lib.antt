@@ -1,0 +1,4 @@
+pub mod Acting
+pub mod Listening
+pub mod Prices
+pub mod Written

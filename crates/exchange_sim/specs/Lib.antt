@@ -1,0 +1,5 @@
+pub mod Dealing
+pub mod Heard
+pub mod Hearing
+pub mod Recording
+pub mod Sending

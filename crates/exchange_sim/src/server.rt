@@ -1,0 +1,80 @@
+//! A server round a simulated exchange.
+
+ghost use Rattle.std.specs.Prelude.{◌≡◌, false, OnOk};
+
+use crate::acceptor::Acceptor;
+use crate::stream::{Heard, hear, wait_for_client};
+use clock::Clock;
+use dialect::Dialect;
+use std::alloc::AllocError;
+use std::io::{Read, Write};
+use std::net::Net;
+use std::time;
+
+/// How many bytes a turn reads at most.
+const MOST_READ: usize = 1_024;
+
+/// Serves one client after another for so many turns, each of which waits a millisecond for a client or its bytes. Where a
+/// connection fails, or the plan cuts it, the next client is waited for. The only refusal is want of memory.
+pub fn serve<N: Net + time::Clock, D: Dialect, C: Clock>(
+    net: &N,
+    listener: &N::Listener,
+    acceptor: &mut Acceptor<D, C>,
+    turn_limit: u64,
+) -> Result<(), AllocError>
+    ensures { OnOk result (acceptor.new.is_connected ≡ false) }
+{
+    let mut client = None;
+    for _ in 0..turn_limit {
+        client = match client {
+            Some(stream) => served(stream, acceptor)?,
+            None => greeted(wait_for_client(net, listener), acceptor),
+        };
+    }
+    acceptor.disconnect();
+    Ok(())
+}
+
+/// Where a client came its connection begins.
+fn greeted<S, D: Dialect, C: Clock>(client: Option<S>, acceptor: &mut Acceptor<D, C>) -> Option<S> {
+    if client.is_some() {
+        acceptor.connect();
+    }
+    client
+}
+
+/// Serves a client for a turn, and gives it back unless its connection ended.
+fn served<S: Read + Write + Drop, D: Dialect, C: Clock>(
+    mut stream: S,
+    acceptor: &mut Acceptor<D, C>,
+) -> Result<Option<S>, AllocError> {
+    if goes_on(&mut stream, acceptor)? {
+        Ok(Some(stream))
+    } else {
+        acceptor.disconnect();
+        Ok(None)
+    }
+}
+
+/// Reads once, takes what came and writes what is answered. It says whether the connection goes on.
+fn goes_on<S: Read + Write, D: Dialect, C: Clock>(
+    stream: &mut S,
+    acceptor: &mut Acceptor<D, C>,
+) -> Result<bool, AllocError> {
+    let mut buf = [0; MOST_READ];
+    match hear(stream, &mut buf) {
+        Heard::Bytes(count) => acceptor.receive(&buf[..count])?,
+        Heard::Nothing => {}
+        Heard::Gone => return Ok(false),
+    }
+    if !acceptor.is_connected() {
+        return Ok(false);
+    }
+    match stream.write_all(acceptor.waiting()) {
+        Ok(()) => {
+            acceptor.pass_all();
+            Ok(true)
+        }
+        Err(_) => Ok(false),
+    }
+}

@@ -1,0 +1,97 @@
+//! Servers over loopback, and a session over TCP.
+
+use super::client::{Client, Told};
+use super::support::{Stopped, TRADES_6, end, stopped_clock, worked_leg};
+use crate::{Acceptor, Plan, serve, serve_raw};
+use dialect::Plain;
+use link::{Got, Link, LinkFault, TcpLink};
+use std::alloc::{AllocError, Global};
+use std::net::{Net, SocketAddr, TcpListener};
+use std::test::Fail;
+use std::thread;
+
+/// An exchange of this plan.
+fn exchange_of(alloc: Global, plan: Plan) -> Result<Acceptor<Plain, Stopped>, Fail> {
+    Ok(Acceptor::new(alloc, Plain, stopped_clock()?, end(b"B", b"A")?, plan))
+}
+
+/// What a session over TCP is told of its leg.
+fn told<N: Net>(alloc: Global, net: &N, addr: SocketAddr) -> Result<Told, Fail> {
+    let mut client = Client::new(alloc, TcpLink::new(net, addr))?;
+    client.log_on(1_000)?;
+    client.send(&worked_leg()?)?;
+    client.finish(1_000)?;
+    let _ = client.link.shut();
+    Ok(client.told)
+}
+
+#[test]
+fn a_leg_over_tcp(rt: HostRuntime) -> Result<(), Fail> {
+    for cut_after in [0, 3] {
+        let listener = TcpListener::bind(&rt, "127.0.0.1:0")?;
+        let addr = listener.local_addr()?;
+        let plan = Plan {
+            cut_after,
+            ..TRADES_6
+        };
+        let mut exchange = exchange_of(rt.alloc(), plan)?;
+        let (served, told) = thread::join(
+            &rt,
+            || serve(&rt, &listener, &mut exchange, 1_000),
+            || told(rt.alloc(), &rt, addr),
+        );
+        let told = told?;
+        served?;
+        assert_eq!(rt; told.accepted, 1);
+        assert_eq!(rt; told.filled, 6);
+        assert_eq!(rt; told.cancelled, 1);
+    }
+    Ok(())
+}
+
+#[test]
+fn a_server_with_no_client(rt: HostRuntime) -> Result<(), Fail> {
+    let listener = TcpListener::bind(&rt, "127.0.0.1:0")?;
+    let mut exchange = exchange_of(rt.alloc(), TRADES_6)?;
+    assert_eq!(rt; serve(&rt, &listener, &mut exchange, 5), Ok(()));
+    assert!(rt; !serve_raw(&rt, &listener, &[], 5));
+    Ok(())
+}
+
+/// What a client is sent that writes one byte.
+fn sent<N: Net>(alloc: Global, net: &N, addr: SocketAddr) -> Result<Vec<u8>, AllocError> {
+    let mut link = TcpLink::new(net, addr);
+    let mut bytes = Vec::new(alloc);
+    let mut buf = [0; 3];
+    if link.dial().is_err() || link.write(b"x").is_err() {
+        return Ok(bytes);
+    }
+    for _turn in 0..1_000 {
+        match link.read(&mut buf) {
+            Ok(Got::Bytes(count)) => bytes.extend_from_slice(&buf[..count])?,
+            Ok(Got::Nothing) => {}
+            Ok(Got::End) | Err(_) => break,
+        }
+    }
+    Ok(bytes)
+}
+
+#[test]
+fn a_server_that_keeps_no_rules(rt: HostRuntime) -> Result<(), Fail> {
+    let alloc = rt.alloc();
+    let listener = TcpListener::bind(&rt, "127.0.0.1:0")?;
+    let addr = listener.local_addr()?;
+    let frames = vec![in alloc;
+        Vec::from_slice(alloc, b"8=FIX")?,
+        Vec::new(alloc),
+        Vec::from_slice(alloc, b".4.4")?,
+    ]?;
+    let (served, sent) = thread::join(
+        &rt,
+        || serve_raw(&rt, &listener, &frames, 1_000),
+        || sent(alloc, &rt, addr),
+    );
+    assert!(rt; served);
+    assert_eq!(rt; sent?.as_slice(), b"8=FIX.4.4".as_slice());
+    Ok(())
+}
