@@ -1,0 +1,106 @@
+//! The worker of one venue.
+
+ghost use Rattle.std.specs.Prelude.{◌≡◌, []};
+ghost use Rattle.session_core.specs.Session.{new_session};
+ghost use Rattle.session_worker.specs.Events.{parts_of};
+ghost use Rattle.session_worker.specs.Ends.{Runs};
+
+use crate::gates::close;
+use crate::linked::Linked;
+use crate::post::Post;
+use crate::takings::Takings;
+use crate::{EndReason, Pace, WorkerEnd};
+use clock::Clock;
+use dialect::Dialect;
+use exec_collector::{Collector, WorkerSeat};
+use fix_tags::Config;
+use link::Link;
+use release_lock::{ReleaseLock, Run, VenueDrain};
+use std::alloc::Global;
+use std::marker::Model;
+use std::sync::Wait;
+use std::sync::ledger::Ledger;
+
+/// The worker of one venue: its session over its link, the end of the venue's ring, and its seat. Contracts see its
+/// session, what it took, its seat's parts, and how its dialect is read.
+#[derive(Drop)]
+pub struct Worker<D: Dialect + Drop, K: Link, C: Clock + Drop, L: Run, M: Ledger> {
+    pub(crate) dialect: D,
+    pub(crate) post: Post<K, C, L, M>,
+}
+
+impl<D: Dialect + Drop, K: Link, C: Clock + Drop, L: Run, M: Ledger> Model
+    for Worker<D, K, C, L, M> {
+    ghost use Rattle.session_worker.specs.Events.{parts_of};
+    ghost use Rattle.session_worker.specs.Ends.{WorkerStart};
+
+    ghost Value = { WorkerStart };
+
+    ghost view = { λ w. record {
+      read = record { order = D.order_read w.dialect; report = D.report_read w.dialect };
+      parts = parts_of w.post.linked.session w.post.takings w.post.seat;
+    } };
+}
+
+impl<D: Dialect + Drop, K: Link, C: Clock + Drop, L: Run, M: Ledger> Worker<D, K, C, L, M> {
+    /// The worker of a drain's venue, with a session that has done nothing. Nothing was popped from the drain yet.
+    pub fn new(
+        alloc: Global,
+        dialect: D,
+        link: K,
+        clock: C,
+        config: Config,
+        seat: WorkerSeat<M>,
+        drain: VenueDrain<L>,
+        pace: Pace,
+    ) -> Worker<D, K, C, L, M>
+        requires { drain.popped ≡ [] }
+        ensures { result ≡ record {
+          read = record { order = D.order_read dialect; report = D.report_read dialect };
+          parts = parts_of (new_session config) (record { venue = drain.venue; taken = [] }) seat;
+        } }
+    {
+        Worker {
+            dialect,
+            post: Post {
+                linked: Linked::new(alloc, link, clock, config, pace),
+                takings: Takings::new(alloc, drain),
+                seat,
+            },
+        }
+    }
+
+    /// Takes its turns, until one leaves the session closed or so many were taken; then the session is over, and what is
+    /// placed at the venue is dropped. It may wait for the locks and for the link.
+    pub fn run(
+        self,
+        rt: &impl Wait,
+        lock: &ReleaseLock<L>,
+        collector: &Collector<M>,
+        turn_limit: u64,
+    ) -> WorkerEnd<K, L, M>
+        ensures { Runs self.read self.parts (parts_of result.session result.took result.seat) result.reason }
+    {
+        let Worker { dialect, post } = self;
+        let mut post = post;
+        let reason = post.turns(rt, &dialect, lock, collector, turn_limit);
+        if reason == EndReason::TurnLimit {
+            post.linked.abandon();
+        }
+        close(rt, lock, post.takings.venue());
+        post.drain(rt, lock, collector);
+        let Post {
+            linked,
+            takings,
+            seat,
+        } = post;
+        let (session, link) = linked.into_parts();
+        WorkerEnd {
+            session,
+            took: takings.into_end(),
+            seat,
+            link,
+            reason,
+        }
+    }
+}
