@@ -30,9 +30,11 @@ taken-append (event ∷ first) more =
 allowed-append : (read : Readers) (s : SessionParts) (first more : List WorkerEvent) → AreAllowed read s first
     → AreAllowed read (after_calls read s (calls_of first)) more → AreAllowed read s (first ++ more)
 allowed-append read s [] more all rest = rest
-allowed-append read s (event ∷ first) more all rest =
-    (all.0, allowed-append read (after_calls read s (calls_in event)) first more all.1
-    (subst (λ (t : SessionParts). AreAllowed read t more) (after-append read s (calls_in event) (calls_of first)) rest))
+allowed-append read s (event ∷ first) more all rest = (
+  all.0,
+  allowed-append read (after_calls read s (calls_in event)) first more all.1
+      (subst (λ (t : SessionParts). AreAllowed read t more) (after-append read s (calls_in event) (calls_of first)) rest),
+)
 
 pub goes_on : (read : Readers) (a b c : WorkerParts) (first more : List WorkerEvent) → Goes read a first b
     → Goes read b more c → Goes read a (first ++ more) c

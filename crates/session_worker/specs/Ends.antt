@@ -35,3 +35,16 @@ pub record Runs (read : Readers) (before after : WorkerParts) (why : EndReason) 
   pub dropped : List PlacedLeg
   pub last : Goes read at (last_calls at.session.phase ++ map (λ leg. Drops leg) dropped) after
   pub over : after.session.phase ≡ Closed
+
+-- what a worker leaves, and why
+pub record WorkerLeft : Type 0 where
+  pub parts : WorkerParts
+  pub reason : EndReason
+
+-- each worker ran, and left this, in order
+abbrev pub AllRan : List WorkerStart → List WorkerLeft → Type 0
+AllRan [] [] = Unit {0}
+AllRan [] (left ∷ ends) = ⊥
+AllRan (start ∷ starts) [] = ⊥
+AllRan (start ∷ starts) (left ∷ ends) =
+    Runs start.read start.parts left.parts left.reason × AllRan starts ends

@@ -118,21 +118,22 @@ impl<K: Link, C: Clock + Drop> Linked<K, C> {
     fn write(&mut self, frame: &[u8])
         ensures { MayBreak self.old.session self.new.session }
     {
-        match write_whole(&mut self.link, frame) {
-            Ok(()) => self.unwritten = 0,
-            Err(_) => self.break_off(),
+        if write_whole(&mut self.link, frame).is_err() {
+            return self.break_off();
         }
+        self.unwritten = 0;
     }
 
     /// Writes frames, in order, until one fails.
     pub(crate) fn write_all(&mut self, frames: Frames)
         ensures { MayBreak self.old.session self.new.session }
     {
-        for frame in &frames.into_vec() {
-            match write_whole(&mut self.link, frame.as_slice()) {
-                Ok(()) => self.unwritten = 0,
-                Err(_) => return self.break_off(),
+        let frames = frames.into_vec();
+        for frame in &frames {
+            if write_whole(&mut self.link, frame.as_slice()).is_err() {
+                return self.break_off();
             }
+            self.unwritten = 0;
         }
     }
 

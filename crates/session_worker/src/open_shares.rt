@@ -11,10 +11,10 @@ pub(crate) fn open_shares(book: &Book) -> u64
     requires { Replays book.now }
     ensures { result ≡ still_open book.now }
 {
-    let mut shares: u64 = 0;
+    let mut shares = 0;
     for sweep in 0..book.history().len() {
         match book.totals(sweep as u64 + 1) {
-            Some(totals) => shares = shares.saturating_add(totals.still_open),
+            Some(totals) => shares += totals.still_open,
             None => return shares,
         }
     }

@@ -3,8 +3,8 @@
 ghost use Rattle.std.specs.Prelude.{◌≡◌, MatchOption, MatchResult};
 ghost use Rattle.dialect.specs.Message.{Readers};
 ghost use Rattle.session_core.specs.declared.phase.Phase.TheVariants as phase;
-ghost use Rattle.session_worker.specs.Events.{Does, Drains, parts_of};
-ghost use Rattle.session_worker.specs.Ends.{reason_of};
+ghost use Rattle.session_worker.specs.Events.{Does, Drains, Goes, Hands, parts_of};
+ghost use Rattle.session_worker.specs.Ends.{reason_of, last_calls};
 ghost use Rattle.session_worker.specs.Taking.{with_taken};
 
 use crate::EndReason;
@@ -58,6 +58,17 @@ impl<K: Link, C: Clock + Drop, L: Run, M: Ledger> Post<K, C, L, M> {
         reason_in(self.linked.phase())
     }
 
+    /// The session is over, also where no turn has left it so.
+    pub(crate) fn finish(&mut self)
+        ensures goes { (read : Readers) → Goes read (parts_of self.old.linked.session self.old.takings self.old.seat) (last_calls self.old.linked.session.phase) (parts_of self.new.linked.session self.new.takings self.new.seat) }
+        ensures over { self.new.linked.session.phase ≡ phase.Closed }
+    {
+        match reason_in(self.linked.phase()) {
+            EndReason::Closed => {}
+            EndReason::TurnLimit => self.linked.abandon(),
+        }
+    }
+
     /// One turn.
     pub(crate) fn turn<D: Dialect>(
         &mut self,
@@ -69,6 +80,23 @@ impl<K: Link, C: Clock + Drop, L: Run, M: Ledger> Post<K, C, L, M> {
         ensures { Does (record { order = D.order_read dialect.now; report = D.report_read dialect.now }) (parts_of self.old.linked.session self.old.takings self.old.seat) (parts_of self.new.linked.session self.new.takings self.new.seat) }
     {
         self.linked.count_turn();
+        self.begin(rt, dialect, lock, collector);
+        self.close_if_shut(rt, dialect, lock, collector);
+        self.listen(rt, dialect, collector);
+        self.write_if_quiet(rt, dialect, collector);
+        self.ask_if_silent(rt, dialect, collector);
+    }
+
+    /// What a turn begins with, by how far the session has come.
+    fn begin<D: Dialect>(
+        &mut self,
+        rt: &impl Wait,
+        dialect: &D,
+        lock: &ReleaseLock<L>,
+        collector: &Collector<M>,
+    )
+        ensures { Does (record { order = D.order_read dialect.now; report = D.report_read dialect.now }) (parts_of self.old.linked.session self.old.takings self.old.seat) (parts_of self.new.linked.session self.new.takings self.new.seat) }
+    {
         match self.linked.phase() {
             Phase::Down => self.start(rt, dialect, lock, collector),
             Phase::Up => self.send_next(rt, dialect, lock, collector),
@@ -78,9 +106,6 @@ impl<K: Link, C: Clock + Drop, L: Run, M: Ledger> Post<K, C, L, M> {
             Phase::LoggedOut => {}
             Phase::Closed => {}
         }
-        self.close_if_shut(rt, dialect, lock, collector);
-        self.listen(rt, dialect, collector);
-        self.keep_pace(rt, dialect, collector);
     }
 
     /// In `Down`: the gate goes down, and what is placed is dropped. Once nothing is left the session connects, or is
@@ -101,12 +126,14 @@ impl<K: Link, C: Clock + Drop, L: Run, M: Ledger> Post<K, C, L, M> {
             return;
         }
         if is_closed(rt, lock, venue) && !self.linked.in_doubt() {
-            self.linked.abandon();
-        } else if !self.linked.connect(dialect) {
-            close(rt, lock, venue);
-            self.drain(rt, lock, collector);
-            self.linked.abandon();
+            return self.linked.abandon();
         }
+        if self.linked.connect(dialect) {
+            return;
+        }
+        close(rt, lock, venue);
+        self.drain(rt, lock, collector);
+        self.linked.abandon();
     }
 
     /// In `Up`: the gate is put up, and the next leg is sent. Where that is refused the next turn tries again.
@@ -124,14 +151,30 @@ impl<K: Link, C: Clock + Drop, L: Run, M: Ledger> Post<K, C, L, M> {
             return;
         }
         match next_leg(rt, lock, &mut self.takings) {
-            Ok(Some(leg)) => {
-                if !self.linked.send(dialect, &leg) {
-                    self.withdraw(rt, collector, leg.leg.id);
-                }
-            }
-            Ok(None) => {}
+            Ok(next) => self.send(rt, dialect, collector, next),
             Err(_) => self.linked.break_off(),
         }
+    }
+
+    /// Sends the leg that was taken, if one was. One that the session doesn't take is withdrawn in the book.
+    fn send<D: Dialect>(
+        &mut self,
+        rt: &impl Wait,
+        dialect: &D,
+        collector: &Collector<M>,
+        next: Option<PlacedLeg>,
+    )
+        ensures linked { MatchOption next (self.new.linked.session ≡ self.old.linked.session) (λ leg. Hands (record { order = D.order_read dialect.now; report = D.report_read dialect.now }) leg self.old.linked.session self.new.linked.session) }
+        ensures takings { self.new.takings ≡ self.old.takings }
+        ensures seat { self.new.seat.parts ≡ self.old.seat.parts }
+    {
+        let Some(leg) = next else {
+            return;
+        };
+        if self.linked.send(dialect, &leg) {
+            return;
+        }
+        self.withdraw(rt, collector, leg.leg.id);
     }
 
     /// With the gate shut the session is to close while it is connected, and what is placed is dropped.
@@ -167,15 +210,23 @@ impl<K: Link, C: Clock + Drop, L: Run, M: Ledger> Post<K, C, L, M> {
         }
     }
 
-    /// Where nothing was written or read for so many turns, the session says what is to be done.
-    fn keep_pace<D: Dialect>(&mut self, rt: &impl Wait, dialect: &D, collector: &Collector<M>)
+    /// After so many turns without a write the session writes a Heartbeat.
+    fn write_if_quiet<D: Dialect>(&mut self, rt: &impl Wait, dialect: &D, collector: &Collector<M>)
         ensures { Does (record { order = D.order_read dialect.now; report = D.report_read dialect.now }) (parts_of self.old.linked.session self.old.takings self.old.seat) (parts_of self.new.linked.session self.new.takings self.new.seat) }
     {
-        if let Some(step) = self.linked.on_quiet(dialect) {
-            self.carry_out(rt, collector, step);
+        match self.linked.on_quiet(dialect) {
+            Some(step) => self.carry_out(rt, collector, step),
+            None => {}
         }
-        if let Some(step) = self.linked.on_silence(dialect) {
-            self.carry_out(rt, collector, step);
+    }
+
+    /// After so many turns without a read the session writes a fence, and the second time the connection ends.
+    fn ask_if_silent<D: Dialect>(&mut self, rt: &impl Wait, dialect: &D, collector: &Collector<M>)
+        ensures { Does (record { order = D.order_read dialect.now; report = D.report_read dialect.now }) (parts_of self.old.linked.session self.old.takings self.old.seat) (parts_of self.new.linked.session self.new.takings self.new.seat) }
+    {
+        match self.linked.on_silence(dialect) {
+            Some(step) => self.carry_out(rt, collector, step),
+            None => {}
         }
     }
 
@@ -191,16 +242,22 @@ impl<K: Link, C: Clock + Drop, L: Run, M: Ledger> Post<K, C, L, M> {
             ended,
         } = step;
         self.withdraw_all(rt, collector, withdrawn);
-        let booked = match note {
-            Some(note) => self.book(rt, collector, &note),
-            None => true,
-        };
-        if !booked {
+        if !self.take_note(rt, collector, note) {
             return;
         }
         self.linked.write_all(out);
         if ended.is_some() {
             self.linked.hang_up();
+        }
+    }
+
+    /// Books the note, if there is one, and says whether the session may go on.
+    fn take_note(&mut self, rt: &impl Wait, collector: &Collector<M>, note: Option<Note>) -> bool
+        ensures { (read : Readers) → Does read (parts_of self.old.linked.session self.old.takings self.old.seat) (parts_of self.new.linked.session self.new.takings self.new.seat) }
+    {
+        match note {
+            Some(note) => self.book(rt, collector, &note),
+            None => true,
         }
     }
 

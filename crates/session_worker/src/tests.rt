@@ -4,12 +4,13 @@ ghost use Rattle.std.specs.Prelude.{◌≡◌, length, map};
 ghost use Rattle.std.specs.List.{All};
 ghost use Rattle.release_lock.specs.Queues.{IsFresh};
 
+mod audits;
 mod days;
 mod script;
 
 use super::*;
 use crate::gates::close;
-use days::{Day, new_day, rings, sweep};
+use days::{Day, new_day, releases, rings, turns};
 use dialect::Plain;
 use leg::{Totals, VenueId};
 use release_lock::Run;
@@ -91,27 +92,6 @@ fn totals(filled: u64, cancelled: u64, withdrawn: u64) -> Totals {
         withdrawn,
         still_open: 0,
     }
-}
-
-// So many turns of the day's first worker.
-fn turns<L: Run, M: Ledger>(rt: &impl Wait, day: &mut Day<L, M>, count: u64) {
-    for worker in day.workers.iter_mut() {
-        worker
-            .post
-            .turns(rt, &Plain, &day.lock, &day.collector, count);
-    }
-}
-
-fn releases<L: Run, M: Ledger>(
-    rt: &impl Wait,
-    alloc: Global,
-    day: &mut Day<L, M>,
-    orders: &[(u8, u64)],
-) -> Result<(), Fail> {
-    let sweep = sweep(alloc, orders)?;
-    let receipt = day.lock.release(rt, &day.collector, sweep, &mut day.seat);
-    receipt.ok().ok_or("a release")?;
-    Ok(())
 }
 
 // A leg is sent and booked; then the gate is shut, and the next one is dropped.

@@ -9,7 +9,7 @@ use crate::gates::close;
 use crate::linked::Linked;
 use crate::post::Post;
 use crate::takings::Takings;
-use crate::{EndReason, Pace, WorkerEnd};
+use crate::{Pace, WorkerEnd};
 use clock::Clock;
 use dialect::Dialect;
 use exec_collector::{Collector, WorkerSeat};
@@ -84,9 +84,7 @@ impl<D: Dialect + Drop, K: Link, C: Clock + Drop, L: Run, M: Ledger> Worker<D, K
         let Worker { dialect, post } = self;
         let mut post = post;
         let reason = post.turns(rt, &dialect, lock, collector, turn_limit);
-        if reason == EndReason::TurnLimit {
-            post.linked.abandon();
-        }
+        post.finish();
         close(rt, lock, post.takings.venue());
         post.drain(rt, lock, collector);
         let Post {

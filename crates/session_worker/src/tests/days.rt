@@ -13,6 +13,7 @@ use leg::{Legs, Routed, Side, Sweep, Symbol, Terms, VenueId};
 use release_lock::{CallerSeat, Opened, ReleaseLock, Run, VenueDrain};
 use std::alloc::Global;
 use std::collections::VecDeque;
+use std::sync::Wait;
 use std::sync::ledger::{Blank, Ledger};
 use std::test::Fail;
 use venue_queue::{Drain, Feed, pair};
@@ -111,7 +112,7 @@ fn all_workers<L: Run, M: Ledger>(
 }
 
 /// A sweep of orders of these shares, each for a venue.
-pub(super) fn sweep(alloc: Global, orders: &[(u8, u64)]) -> Result<Sweep, Fail> {
+fn sweep(alloc: Global, orders: &[(u8, u64)]) -> Result<Sweep, Fail> {
     let mut legs = Vec::new(alloc);
     for (number, shares) in orders {
         let symbol = Symbol::new(b"IBM", b"").ok().ok_or("a symbol")?;
@@ -125,4 +126,26 @@ pub(super) fn sweep(alloc: Global, orders: &[(u8, u64)]) -> Result<Sweep, Fail> 
     Ok(Sweep {
         legs: Legs::new(legs),
     })
+}
+
+/// So many turns of each of the day's workers.
+pub(super) fn turns<L: Run, M: Ledger>(rt: &impl Wait, day: &mut Day<L, M>, count: u64) {
+    for worker in day.workers.iter_mut() {
+        worker
+            .post
+            .turns(rt, &Plain, &day.lock, &day.collector, count);
+    }
+}
+
+/// A sweep of orders of these shares, each for a venue, is released.
+pub(super) fn releases<L: Run, M: Ledger>(
+    rt: &impl Wait,
+    alloc: Global,
+    day: &mut Day<L, M>,
+    orders: &[(u8, u64)],
+) -> Result<(), Fail> {
+    let sweep = sweep(alloc, orders)?;
+    let receipt = day.lock.release(rt, &day.collector, sweep, &mut day.seat);
+    receipt.ok().ok_or("a release")?;
+    Ok(())
 }
