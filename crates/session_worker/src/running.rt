@@ -1,8 +1,8 @@
 //! Workers in threads.
 
-ghost use Rattle.std.specs.Prelude.{IfOk};
+ghost use Rattle.std.specs.Prelude.{IfOk, map};
 ghost use Rattle.session_worker.specs.Events.{parts_of};
-ghost use Rattle.session_worker.specs.Ends.{Runs};
+ghost use Rattle.session_worker.specs.Ends.{Runs, AllRan};
 
 use crate::{RunFault, Worker, WorkerEnd};
 use clock::Clock;
@@ -46,11 +46,14 @@ where
     L: Run + Send + Sync,
     M: Ledger + Send + Sync,
     R: Threads + Wait + Sync,
+    ensures { IfOk result (λ ends. AllRan workers.items (map (λ e. record { parts = parts_of e.session e.took e.seat; reason = e.reason }) ends.items)) }
 {
     thread::scope(
         thread::scope_env(),
         rt,
-        |scope| -> Result<Vec<WorkerEnd<K, L, M>>, RunFault> {
+        |scope| -> Result<Vec<WorkerEnd<K, L, M>>, RunFault>
+            ensures { IfOk result (λ ends. AllRan workers.items (map (λ e. record { parts = parts_of e.session e.took e.seat; reason = e.reason }) ends.items)) }
+        {
             let mut workers = VecDeque::from(workers);
             let mut handles = Vec::new(alloc);
             while let Some(worker) = workers.pop_front() {

@@ -10,6 +10,7 @@ use dialect::Plain;
 use exec_collector::{Collector, WorkerSeat};
 use fix_tags::{CompId, Config};
 use leg::{Legs, Routed, Side, Sweep, Symbol, Terms, VenueId};
+use link::Link;
 use release_lock::{CallerSeat, Opened, ReleaseLock, Run, VenueDrain};
 use std::alloc::Global;
 use std::collections::VecDeque;
@@ -45,13 +46,13 @@ fn config() -> Result<Config, Fail> {
     Ok(Config::new(me, peer, 30, 1000).ok_or("a configuration")?)
 }
 
-/// A worker of a drain's venue, whose link gives what the script says.
-fn worker<L: Run, M: Ledger>(
+/// A worker of a drain's venue.
+pub(super) fn new_worker<K: Link, L: Run, M: Ledger>(
     alloc: Global,
-    script: Script,
+    link: K,
     seat: WorkerSeat<M>,
     drain: VenueDrain<L>,
-) -> Result<Worker<Plain, Script, Still, L, M>, Fail> {
+) -> Result<Worker<Plain, K, Still, L, M>, Fail> {
     if drain.popped() != 0 {
         return Err(Fail::from("a new drain"));
     }
@@ -61,7 +62,7 @@ fn worker<L: Run, M: Ledger>(
     };
     let clock = Still::new()?;
     let config = config()?;
-    Ok(Worker::new(alloc, Plain, script, clock, config, seat, drain, pace))
+    Ok(Worker::new(alloc, Plain, link, clock, config, seat, drain, pace))
 }
 
 /// A day with a worker for each script, the last venue's first.
@@ -106,7 +107,7 @@ fn all_workers<L: Run, M: Ledger>(
     for script in scripts {
         let drain = drains.pop().ok_or("a drain")?;
         let seat = seats.pop().ok_or("a seat")?;
-        workers.push(worker(alloc, script, seat, drain)?)?;
+        workers.push(new_worker(alloc, script, seat, drain)?)?;
     }
     Ok(workers)
 }

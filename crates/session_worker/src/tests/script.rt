@@ -19,7 +19,7 @@ pub(super) struct Script {
     pieces: VecDeque<Vec<u8>>,
     written: Vec<u8>,
     dials: u64,
-    faults: u64,
+    pub(super) faults: u64,
 }
 
 impl Script {
