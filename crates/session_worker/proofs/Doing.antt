@@ -1,15 +1,19 @@
 -- What a worker's events do, one after the other.
 use Rattle.std.proofs.Common.{◌≡◌, ◌⊎◌, ℕ, List, [], ◌∷◌, ◌++◌, map, refl, sym, ap, subst, ◌∙◌, inl, inr, append_assoc}
+use Rattle.std.specs.Prelude.{Option, Some, None, MatchOption}
 use Rattle.std.proofs.lemmas.List.{append-nil}
 use Rattle.leg.specs.declared.placed_leg.PlacedLeg.{PlacedLeg}
 use Rattle.dialect.specs.Message.{Readers}
-use Rattle.session_core.specs.declared.phase.Phase.TheVariants.{Up, Closed}
+use Rattle.session_core.specs.declared.phase.Phase.{Phase}
+use Rattle.session_core.specs.declared.phase.Phase.TheVariants.{Down, LoggingOn, Settling, Up, Closing, LoggedOut, Closed}
 use Rattle.session_core.specs.declared.session_call.SessionCall.{SessionCall}
 use Rattle.session_core.specs.declared.session_call.SessionCall.TheVariants as call
 use Rattle.session_core.specs.Session.{SessionParts}
-use Rattle.session_core.specs.Calling.{broken}
+use Rattle.session_core.specs.Calling.{abandon}
 use Rattle.session_core.specs.Trial.{called, after_calls}
 use Rattle.session_core.proofs.CallsMade.{after-append}
+use Rattle.session_worker.specs.declared.end_reason.EndReason.TheVariants as reason
+use Rattle.session_worker.specs.Ends.{reason_of, last_calls}
 use Rattle.session_worker.specs.Taking.{with_taken}
 use Rattle.session_worker.specs.Events.{WorkerEvent, calls_in, calls_of, leg_in, legs_in, taken_in, taken_of, IsIdle, IsAllowedCall, IsAllowed, AreAllowed, WorkerParts, Goes, Does, Moves, Hands, Drains}
 use Rattle.session_worker.specs.Events.WorkerEvent.{Calls, Drops, Fails}
@@ -184,6 +188,13 @@ drains_on a b c first next = record {
   seat = next.seat ∙ first.seat;
 }
 
+-- the next leg, if there was one
+pub drains_next : (a b : WorkerParts) (next : Option PlacedLeg)
+    → MatchOption next (b.took ≡ a.took) (λ leg. b.took ≡ with_taken a.took leg) → b.session ≡ a.session
+    → b.seat_parts ≡ a.seat_parts → Drains a b
+drains_next a b None took session seat = drains_none a b session took seat
+drains_next a b (Some leg) took session seat = drains_one a b leg session took seat
+
 -- a leg that was taken and handed to the session
 handed : (read : Readers) (s : SessionParts) (leg : PlacedLeg) (event : WorkerEvent)
     → (event ≡ Calls (call.SendLeg leg.ordinal leg.leg)) ⊎ (event ≡ Fails leg) → s.phase ≡ Up
@@ -211,3 +222,60 @@ does_hands read a b leg hands up took seat =
     } in
     does_on read a middle b (record { events = hands.event ∷ []; goes = first })
     (does_moves read middle b hands.rest refl seat)
+
+-- a leg that was taken, if one was, and what the session did with it
+pub does_sent : (read : Readers) (a b d : WorkerParts) (next : Option PlacedLeg) → a.session.phase ≡ Up
+    → MatchOption next (b.took ≡ a.took) (λ leg. b.took ≡ with_taken a.took leg) → b.session ≡ a.session
+    → b.seat_parts ≡ a.seat_parts
+    → MatchOption next (d.session ≡ b.session) (λ leg. Hands read leg b.session d.session) → d.took ≡ b.took
+    → d.seat_parts ≡ b.seat_parts → Does read a d
+does_sent read a b d None up took session parts sent same seat =
+    does_same read a d (sent ∙ session) (same ∙ took) (seat ∙ parts)
+does_sent read a b d (Some leg) up took session parts sent same seat =
+    does_hands read a d leg (subst (λ (s : SessionParts). Hands read leg s d.session) session sent) up (same ∙ took)
+    (seat ∙ parts)
+
+-- a session that a turn left closed, and one that is abandoned
+pub closed_in : (phase : Phase) → reason_of phase ≡ reason.Closed → phase ≡ Closed
+closed_in Closed e = refl
+closed_in Down e = absurd cc
+closed_in LoggingOn e = absurd cc
+closed_in Settling e = absurd cc
+closed_in Up e = absurd cc
+closed_in Closing e = absurd cc
+closed_in LoggedOut e = absurd cc
+
+no_call : (phase : Phase) → reason_of phase ≡ reason.Closed → last_calls phase ≡ []
+no_call Closed e = refl
+no_call Down e = absurd cc
+no_call LoggingOn e = absurd cc
+no_call Settling e = absurd cc
+no_call Up e = absurd cc
+no_call Closing e = absurd cc
+no_call LoggedOut e = absurd cc
+
+one_call : (phase : Phase) → reason_of phase ≡ reason.TurnLimit → last_calls phase ≡ Calls call.Abandon ∷ []
+one_call Closed e = absurd cc
+one_call Down e = refl
+one_call LoggingOn e = refl
+one_call Settling e = refl
+one_call Up e = refl
+one_call Closing e = refl
+one_call LoggedOut e = refl
+
+pub finish_closed : (read : Readers) (a b : WorkerParts) → b.session ≡ a.session → b.took ≡ a.took
+    → b.seat_parts ≡ a.seat_parts → reason_of a.session.phase ≡ reason.Closed
+    → Goes read a (last_calls a.session.phase) b
+finish_closed read a b session took seat e =
+    subst (λ (events : List WorkerEvent). Goes read a events b) (sym (no_call a.session.phase e))
+    (goes_none read a b session took seat)
+
+pub finish_abandoned : (read : Readers) (a b : WorkerParts) → b.session ≡ abandon a.session → b.took ≡ a.took
+    → b.seat_parts ≡ a.seat_parts → reason_of a.session.phase ≡ reason.TurnLimit
+    → Goes read a (last_calls a.session.phase) b
+finish_abandoned read a b session took seat e =
+    subst (λ (events : List WorkerEvent). Goes read a events b) (sym (one_call a.session.phase e))
+    (goes_moves read a b (record { calls = call.Abandon ∷ []; session = session; no_leg = refl }) took seat)
+
+pub abandoned_closed : (s t : SessionParts) → t ≡ abandon s → t.phase ≡ Closed
+abandoned_closed s t e = ap (λ (u : SessionParts). u.phase) e

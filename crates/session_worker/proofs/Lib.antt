@@ -1,4 +1,4 @@
 pub mod Calling
 pub mod Doing
 pub mod Shares
-pub mod Running
+pub mod Ran

@@ -201,18 +201,23 @@ impl<K: Link, C: Clock + Drop> Linked<K, C> {
         }
     }
 
+    /// Hands bytes that were read to the reader.
+    fn take_in(&mut self, bytes: &[u8])
+        ensures { MayBreak self.old.session self.new.session }
+    {
+        self.unread = 0;
+        if self.reader.feed(bytes).is_err() {
+            return self.break_off();
+        }
+    }
+
     /// Reads once. Where that fails, or no byte comes any more, the connection is given up.
     pub(crate) fn read(&mut self)
         ensures { MayBreak self.old.session self.new.session }
     {
         let mut buf = [0; READ_SIZE];
         match self.link.read(&mut buf) {
-            Ok(Got::Bytes(count)) => {
-                self.unread = 0;
-                if self.reader.feed(&buf[..count]).is_err() {
-                    self.break_off();
-                }
-            }
+            Ok(Got::Bytes(count)) => self.take_in(&buf[..count]),
             Ok(Got::Nothing) => {}
             Ok(Got::End) => self.break_off(),
             Err(_) => self.break_off(),

@@ -17,29 +17,14 @@ use fix_tags::Config;
 use link::Link;
 use release_lock::{ReleaseLock, Run, VenueDrain};
 use std::alloc::Global;
-use std::marker::Model;
 use std::sync::Wait;
 use std::sync::ledger::Ledger;
 
-/// The worker of one venue: its session over its link, the end of the venue's ring, and its seat. Contracts see its
-/// session, what it took, its seat's parts, and how its dialect is read.
+/// The worker of one venue: its dialect, and its session over its link, the end of the venue's ring, and its seat.
 #[derive(Drop)]
 pub struct Worker<D: Dialect + Drop, K: Link, C: Clock + Drop, L: Run, M: Ledger> {
     pub(crate) dialect: D,
     pub(crate) post: Post<K, C, L, M>,
-}
-
-impl<D: Dialect + Drop, K: Link, C: Clock + Drop, L: Run, M: Ledger> Model
-    for Worker<D, K, C, L, M> {
-    ghost use Rattle.session_worker.specs.Events.{parts_of};
-    ghost use Rattle.session_worker.specs.Ends.{WorkerStart};
-
-    ghost Value = { WorkerStart };
-
-    ghost view = { λ w. record {
-      read = record { order = D.order_read w.dialect; report = D.report_read w.dialect };
-      parts = parts_of w.post.linked.session w.post.takings w.post.seat;
-    } };
 }
 
 impl<D: Dialect + Drop, K: Link, C: Clock + Drop, L: Run, M: Ledger> Worker<D, K, C, L, M> {
@@ -55,10 +40,8 @@ impl<D: Dialect + Drop, K: Link, C: Clock + Drop, L: Run, M: Ledger> Worker<D, K
         pace: Pace,
     ) -> Worker<D, K, C, L, M>
         requires { drain.popped ≡ [] }
-        ensures { result ≡ record {
-          read = record { order = D.order_read dialect; report = D.report_read dialect };
-          parts = parts_of (new_session config) (record { venue = drain.venue; taken = [] }) seat;
-        } }
+        ensures dialect { result.dialect ≡ dialect }
+        ensures parts { parts_of result.post.linked.session result.post.takings result.post.seat ≡ parts_of (new_session config) (record { venue = drain.venue; taken = [] }) seat }
     {
         Worker {
             dialect,
@@ -79,7 +62,7 @@ impl<D: Dialect + Drop, K: Link, C: Clock + Drop, L: Run, M: Ledger> Worker<D, K
         collector: &Collector<M>,
         turn_limit: u64,
     ) -> WorkerEnd<K, L, M>
-        ensures { Runs self.read self.parts (parts_of result.session result.took result.seat) result.reason }
+        ensures { Runs (record { order = D.order_read self.dialect; report = D.report_read self.dialect }) (parts_of self.post.linked.session self.post.takings self.post.seat) (parts_of result.session result.took result.seat) result.reason }
     {
         let Worker { dialect, post } = self;
         let mut post = post;
