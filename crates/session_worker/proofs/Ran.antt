@@ -1,5 +1,6 @@
 -- Threads that were joined, and what their workers left.
-use Rattle.std.proofs.Common.{◌≡◌, ℕ, zero, suc, ◌+◌, ◌<◌, List, [], ◌∷◌, length, map, refl, sym, ap, subst, ◌∙◌, arith}
+use Rattle.std.proofs.lemmas.List.{map-append}
+use Rattle.std.proofs.Common.{◌≡◌, ℕ, zero, suc, ◌+◌, ◌<◌, List, [], ◌∷◌, ◌++◌, append_assoc, length, map, refl, sym, ap, subst, ◌∙◌, arith}
 use Rattle.std.specs.Prelude.{slice_index_or}
 use Rattle.std.specs.PromisedHandle.{KeepsAt}
 use Rattle.std.specs.declared.thread.PromisedHandle.{PromisedHandle}
@@ -22,3 +23,12 @@ module _ {T P : Type 0} (g : Promise.Ghosts P T) (start : P → WorkerStart) (le
         keeps h.promise r kept,
         all_ran handles results (omega arith) (λ i d below. each (suc i) d (omega (arith, below))),
       )
+
+-- one worker more was started
+pub started_more : {A B : Type 0} (f : A → WorkerStart) (s : B → WorkerStart) (handles : List A) (handle : A) (worker : B)
+    (workers : List B) (all : List WorkerStart) → map f handles ++ map s (worker ∷ workers) ≡ all → f handle ≡ s worker
+    → map f (handles ++ handle ∷ []) ++ map s workers ≡ all
+started_more f s handles handle worker workers all so_far same =
+    ap (λ l. l ++ map s workers) (map-append f handles (handle ∷ []))
+    ∙ (append_assoc (map f handles) (f handle ∷ []) (map s workers)
+    ∙ (ap (λ (x : WorkerStart). map f handles ++ x ∷ map s workers) same ∙ so_far))
