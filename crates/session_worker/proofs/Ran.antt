@@ -1,6 +1,6 @@
 -- Threads that were joined, and what their workers left.
-use Rattle.std.proofs.lemmas.List.{map-append}
-use Rattle.std.proofs.Common.{◌≡◌, ℕ, zero, suc, ◌+◌, ◌<◌, List, [], ◌∷◌, ◌++◌, append_assoc, length, map, refl, sym, ap, subst, ◌∙◌, arith}
+use Rattle.std.proofs.lemmas.List.{append-nil}
+use Rattle.std.proofs.Common.{◌≡◌, ℕ, zero, suc, ◌+◌, ◌<◌, List, [], ◌∷◌, ◌++◌, length, map, refl, sym, ap, subst, ◌∙◌, arith}
 use Rattle.std.specs.Prelude.{slice_index_or}
 use Rattle.std.specs.PromisedHandle.{KeepsAt}
 use Rattle.std.specs.declared.thread.PromisedHandle.{PromisedHandle}
@@ -21,14 +21,13 @@ module _ {T P : Type 0} (g : Promise.Ghosts P T) (start : P → WorkerStart) (le
       let first = each 0 r (omega arith) in
       let kept : g.kept_by h.promise r = subst (λ (x : PromisedHandle T P). g.kept_by x.promise r) first.handle_is first.kept in (
         keeps h.promise r kept,
-        all_ran handles results (omega arith) (λ i d below. each (suc i) d (omega (arith, below))),
+        all_ran handles results (omega arith) (λ i d below. (let next = each (suc i) d (omega (arith, below)) in
+            record { handle = next.handle; handle_is = next.handle_is; kept = next.kept })),
       )
 
--- one worker more was started
-pub started_more : {A B : Type 0} (f : A → WorkerStart) (s : B → WorkerStart) (handles : List A) (handle : A) (worker : B)
-    (workers : List B) (all : List WorkerStart) → map f handles ++ map s (worker ∷ workers) ≡ all → f handle ≡ s worker
-    → map f (handles ++ handle ∷ []) ++ map s workers ≡ all
-started_more f s handles handle worker workers all so_far same =
-    ap (λ l. l ++ map s workers) (map-append f handles (handle ∷ []))
-    ∙ (append_assoc (map f handles) (f handle ∷ []) (map s workers)
-    ∙ (ap (λ (x : WorkerStart). map f handles ++ x ∷ map s workers) same ∙ so_far))
+-- all workers were started
+pub all_started : {A B : Type 0} (f : A → WorkerStart) (s : B → WorkerStart) (handles : List A) (rest first workers : List B)
+    → map f handles ++ map s rest ≡ map s first → rest ≡ [] → first ≡ workers → map f handles ≡ map s workers
+all_started f s handles rest first workers so_far none from =
+    sym (append-nil (map f handles))
+    ∙ (ap (λ l. map f handles ++ map s l) (sym none) ∙ (so_far ∙ ap (map s) from))
