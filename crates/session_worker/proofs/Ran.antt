@@ -1,7 +1,7 @@
 -- Threads that were joined, and what their workers left.
 use Rattle.std.proofs.lemmas.List.{append-nil}
-use Rattle.std.proofs.Common.{◌≡◌, ℕ, zero, suc, ◌+◌, ◌<◌, List, [], ◌∷◌, ◌++◌, length, map, refl, sym, ap, subst, ◌∙◌, arith}
-use Rattle.std.specs.Prelude.{slice_index_or}
+use Rattle.std.proofs.Common.{◌≡◌, ℕ, zero, suc, ◌+◌, ◌<◌, List, [], ◌∷◌, ◌++◌, length, map, drop, refl, sym, ap, subst, ◌∙◌, arith}
+use Rattle.std.specs.Prelude.{Option, Some, None, option_to_list, slice_index_or}
 use Rattle.std.specs.PromisedHandle.{KeepsAt}
 use Rattle.std.specs.declared.thread.PromisedHandle.{PromisedHandle}
 use Rattle.std.specs.declared.thread.Promise as Promise
@@ -31,3 +31,13 @@ pub all_started : {A B : Type 0} (f : A → WorkerStart) (s : B → WorkerStart)
 all_started f s handles rest first workers so_far none from =
     sym (append-nil (map f handles))
     ∙ (ap (λ l. map f handles ++ map s l) (sym none) ∙ (so_far ∙ ap (map s) from))
+
+nothing_first : {A : Type 0} (xs : List A) → xs ≡ drop 1 xs → xs ≡ []
+nothing_first [] e = refl
+nothing_first (x ∷ xs) e = let same = ap length e in absurd (omega (arith, same))
+
+-- a list of which nothing was taken
+pub nothing_left : {A : Type 0} (result : Option A) (old new : List A) → ((x : A) → result ≡ Some x → ⊥)
+    → old ≡ option_to_list result ++ new → new ≡ drop 1 old → old ≡ []
+nothing_left None old new not items rest = nothing_first old (items ∙ rest)
+nothing_left (Some x) old new not items rest = absurd (not x refl)

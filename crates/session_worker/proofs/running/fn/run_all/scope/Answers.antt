@@ -1,12 +1,12 @@
 use Rattle.std.proofs.Common.{◌≡◌, rules, [], List, length, map, subst, arith}
 use Rattle.session_worker.specs.Events.{parts_of}
 use Rattle.session_worker.specs.Ends.{WorkerStart, WorkerLeft, AllRan}
-use Rattle.session_worker.proofs.Ran.{all_ran, all_started}
+use Rattle.session_worker.proofs.Ran.{all_ran, all_started, nothing_left}
 use Rattle.session_worker.proofs.running.fn.run_all.scope.Goals as goal
 
 pub returns-in-Ok-join_promised : goal.returns-in-Ok-join_promised
 returns-in-Ok-join_promised g c =
-    let none : c.loop-worker.workers.items ≡ [] = search rules in
+    let none = nothing_left c.pop_front.result c.loop-worker.workers.items c.pop_front.new.self.items c.in_default.not-Some c.pop_front.ensures.items c.pop_front.ensures.rest in
     let from : c.from-workers.result.items ≡ c.captures.workers.items = search rules in
     let joined = c.in-Ok-join_promised.ensures in
     let left : List WorkerLeft = map (λ e. record { parts = parts_of e.session e.took e.seat; reason = e.reason }) c.in-Ok-join_promised.ends.items in
