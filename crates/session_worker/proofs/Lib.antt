@@ -1,0 +1,4 @@
+pub mod Calling
+pub mod Doing
+pub mod Shares
+pub mod Ran

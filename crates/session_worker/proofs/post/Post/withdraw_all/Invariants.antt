@@ -1,0 +1,7 @@
+use Rattle.std.proofs.Common.{◌≡◌}
+use Rattle.session_worker.proofs.post.Post.withdraw_all.Given as goal
+
+abbrev pub invariant-loop-id : goal.invariant-loop-id
+invariant-loop-id g l =
+    (l.self.linked.session ≡ l.initial.self.linked.session) × (l.self.takings ≡ l.initial.self.takings)
+    × (l.self.seat.parts ≡ l.initial.self.seat.parts)

@@ -1,0 +1,23 @@
+use Rattle.std.proofs.Common.{◌≡◌, rules, [], List, length, map, subst, arith}
+use Rattle.session_worker.specs.Events.{parts_of}
+use Rattle.session_worker.specs.Ends.{WorkerStart, WorkerLeft, AllRan}
+use Rattle.session_worker.proofs.Ran.{all_ran, all_started, nothing_left}
+use Rattle.session_worker.proofs.running.fn.run_all.scope.Goals as goal
+
+pub returns-in-Ok-join_promised : goal.returns-in-Ok-join_promised
+returns-in-Ok-join_promised g c =
+    let none = nothing_left c.pop_front.result c.loop-worker.workers.items c.pop_front.new.self.items c.in_default.not-Some c.pop_front.ensures.items c.pop_front.ensures.rest in
+    let from : c.from-workers.result.items ≡ c.captures.workers.items = search rules in
+    let joined = c.in-Ok-join_promised.ensures in
+    let left : List WorkerLeft = map (λ e. record { parts = parts_of e.session e.took e.seat; reason = e.reason }) c.in-Ok-join_promised.ends.items in
+    let many : length c.in-Ok-join_promised.ends.items ≡ length c.loop-worker.handles.items =
+    omega (arith, joined.len, c.in-Ok-join_promised.ends.ok.0, c.loop-worker.handles.ok.0) in
+    subst (λ (starts : List WorkerStart). AllRan starts left)
+    (all_started _ _ c.loop-worker.handles.items c.loop-worker.workers.items c.from-workers.result.items c.captures.workers.items
+    c.loop-worker.invariant none from)
+    (all_ran _ (λ p. record {
+      read = record { order = g.D.Dialect.order_read p.0.value.dialect; report = g.D.Dialect.report_read p.0.value.dialect };
+      parts = parts_of p.0.value.post.linked.session p.0.value.post.takings p.0.value.post.seat;
+    }) (λ e. record { parts = parts_of e.session e.took e.seat; reason = e.reason })
+    (λ p e kept. kept) c.loop-worker.handles.items c.in-Ok-join_promised.ends.items many
+    (λ i d below. (joined.each i d (omega (arith, below, c.loop-worker.handles.ok.0))).1))

@@ -1,0 +1,65 @@
+-- What is compared once a day's threads have ended.
+use Rattle.std.specs.Prelude.{◌≡◌, ◌⊎◌, ℕ, List, length, sum_by, Result, Ok, Err}
+use Rattle.share_ledger.specs.Book.{BookParts, all_booked_from}
+use Rattle.share_ledger.specs.Entries.{opened}
+use Rattle.sweep_release.specs.Desk.{placed_shares}
+use Rattle.sweep_release.specs.History.{KeptDesk}
+use Rattle.exec_collector.specs.Resolved.{resolved, Replays as BookReplays}
+use Rattle.exec_collector.specs.Seats.{Seat, shares_of}
+use Rattle.release_lock.specs.Locked.{Replays as DeskReplays}
+use Rattle.release_lock.specs.Queues.{Took, AllTookFirst, IsFirstWrong}
+use Rattle.session_worker.specs.declared.audit_fault.AuditFault.{AuditFault}
+use Rattle.session_worker.specs.declared.audit_fault.AuditFault.TheVariants.{MismatchQueue, MismatchShares, MismatchPlaced, OutOfMemory}
+use Rattle.session_worker.specs.declared.day_report.DayReport.{DayReport}
+
+-- the shares that are open, over all sweeps of a book
+abbrev pub still_open : BookParts → ℕ
+still_open book = sum_by (λ leg. leg.parts.still_open) (all_booked_from book 1 (opened book.entries))
+
+-- what a day left behind: the desk and the book, the seats of the callers, and what each worker took and its seat
+pub record DayParts : Type 0 where
+  pub desk : KeptDesk
+  pub book : BookParts
+  pub callers : List Seat
+  pub queues : List Took
+  pub seats : List Seat
+
+-- each worker took the first legs released to the venue at its place; the workers' seats add up to what is resolved; the
+-- callers' add up to what was placed
+abbrev pub AreQueues : DayParts → Type 0
+AreQueues day = AllTookFirst day.desk.desk day.queues (length day.queues)
+
+abbrev pub AreResolved : DayParts → Type 0
+AreResolved day = shares_of day.seats ≡ resolved day.book
+
+abbrev pub ArePlaced : DayParts → Type 0
+ArePlaced day = shares_of day.callers ≡ placed_shares day.desk.desk
+
+-- what is told of a day
+abbrev pub report_of : DayParts → DayReport
+report_of day = record {
+  placed = placed_shares day.desk.desk;
+  resolved = resolved day.book;
+  still_open = still_open day.book;
+}
+
+-- what the audit answers: Ok where all three hold, and else the first that doesn't. It wants no memory
+abbrev pub Audits : DayParts → Result DayReport AuditFault → Type 0
+Audits day (Ok report) = AreQueues day × AreResolved day × ArePlaced day × (report ≡ report_of day)
+Audits day (Err (MismatchQueue place)) = IsFirstWrong day.desk.desk day.queues place
+Audits day (Err MismatchShares) = AreQueues day × (AreResolved day → ⊥)
+Audits day (Err MismatchPlaced) = AreQueues day × AreResolved day × (ArePlaced day → ⊥)
+Audits day (Err OutOfMemory) = ⊥
+
+-- what it answers of a desk and a book that their own histories lead to; or there was no memory to take the ends apart
+pub record AuditedDay (callers : List Seat) (queues : List Took) (seats : List Seat)
+    (answer : Result DayReport AuditFault) : Type 0 where
+  pub desk : KeptDesk
+  pub book : BookParts
+  pub desk_replays : DeskReplays desk
+  pub book_replays : BookReplays book
+  pub audits :
+      Audits (record { desk = desk; book = book; callers = callers; queues = queues; seats = seats }) answer
+
+abbrev pub AuditsOf : List Seat → List Took → List Seat → Result DayReport AuditFault → Type 0
+AuditsOf callers queues seats answer = AuditedDay callers queues seats answer ⊎ (answer ≡ Err OutOfMemory)

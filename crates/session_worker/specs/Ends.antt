@@ -1,0 +1,50 @@
+-- How a worker ends.
+use Rattle.std.specs.Prelude.{◌≡◌, List, [], ◌∷◌, ◌++◌, map}
+use Rattle.leg.specs.declared.placed_leg.PlacedLeg.{PlacedLeg}
+use Rattle.dialect.specs.Message.{Readers}
+use Rattle.session_core.specs.declared.phase.Phase.{Phase}
+use Rattle.session_core.specs.declared.phase.Phase.TheVariants.{Closed}
+use Rattle.session_core.specs.declared.session_call.SessionCall.TheVariants as call
+use Rattle.session_worker.specs.declared.end_reason.EndReason.{EndReason}
+use Rattle.session_worker.specs.declared.end_reason.EndReason.TheVariants as reason
+use Rattle.session_worker.specs.Events.{WorkerEvent, WorkerParts, Goes}
+use Rattle.session_worker.specs.Events.WorkerEvent.{Calls, Drops}
+
+-- a worker with the way in which its dialect is read
+pub record WorkerStart : Type 0 where
+  pub read : Readers
+  pub parts : WorkerParts
+
+-- why a worker ends whose last turn left its session in this phase
+abbrev pub reason_of : Phase → EndReason
+reason_of Closed = reason.Closed
+reason_of _ = reason.TurnLimit
+
+-- what is done with the session then: unless it is closed it is abandoned
+abbrev pub last_calls : Phase → List WorkerEvent
+last_calls Closed = []
+last_calls _ = Calls call.Abandon ∷ []
+
+-- a worker before its turns and after them, and why it ended: after the last turn its session was as the reason says,
+-- and all that it took then was dropped
+pub record Runs (read : Readers) (before after : WorkerParts) (why : EndReason) : Type 0 where
+  pub turns : List WorkerEvent
+  pub at : WorkerParts
+  pub goes : Goes read before turns at
+  pub reason_is : why ≡ reason_of at.session.phase
+  pub dropped : List PlacedLeg
+  pub last : Goes read at (last_calls at.session.phase ++ map (λ leg. Drops leg) dropped) after
+  pub over : after.session.phase ≡ Closed
+
+-- what a worker leaves, and why
+pub record WorkerLeft : Type 0 where
+  pub parts : WorkerParts
+  pub reason : EndReason
+
+-- each worker ran, and left this, in order
+abbrev pub AllRan : List WorkerStart → List WorkerLeft → Type 0
+AllRan [] [] = Unit {0}
+AllRan [] (left ∷ ends) = ⊥
+AllRan (start ∷ starts) [] = ⊥
+AllRan (start ∷ starts) (left ∷ ends) =
+    Runs start.read start.parts left.parts left.reason × AllRan starts ends

@@ -1,0 +1,4 @@
+pub mod Taking
+pub mod Events
+pub mod Ends
+pub mod Audit

@@ -1,0 +1,106 @@
+//! The audit of a day, once its threads have ended.
+
+ghost use Rattle.std.specs.Prelude.{◌≡◌, ◌<◌, IfOk, IsOk, IsOkUnless, map};
+ghost use Rattle.exec_collector.specs.Resolved.{Replays as BookReplays};
+ghost use Rattle.exec_collector.specs.Seats.{parts_of};
+ghost use Rattle.sweep_release.specs.History.{KeptDesk as ADesk};
+ghost use Rattle.share_ledger.specs.Book.{BookParts};
+ghost use Rattle.release_lock.specs.Locked.{Replays};
+ghost use Rattle.release_lock.specs.Queues.{AreInOrder};
+ghost use Rattle.session_worker.specs.Audit.{Audits, AuditsOf};
+
+use crate::open_shares::open_shares;
+use crate::{AuditFault, DayReport, WorkerEnd};
+use exec_collector::{Collector, CountedBook, WorkerSeat, check_count};
+use link::Link;
+use release_lock::{
+    CallerSeat, LockedDesk, ReleaseLock, Run, VenueEnd, check_placed, check_queues,
+};
+use std::alloc::{AllocError, Global};
+use std::collections::VecDeque;
+use std::sync::ledger::Ledger;
+
+/// Compares what is left of a day: what the workers took with the sweeps released, the workers' seats with the book, and
+/// the callers' seats with the desk. A01, A02, A03 in this order; A04 where there is no memory to take the ends apart. With
+/// the seats of all callers, and one end for each venue, in order, it is none of the first three, whatever the threads
+/// did.
+pub fn audit<K: Link, L: Run, M: Ledger>(
+    alloc: Global,
+    lock: ReleaseLock<L>,
+    collector: Collector<M>,
+    callers: Vec<CallerSeat<L>>,
+    ends: Vec<WorkerEnd<K, L, M>>,
+) -> Result<DayReport, AuditFault>
+    ensures audits { AuditsOf callers.items (map (λ e. e.took) ends.items) (map (λ e. e.seat) ends.items) result }
+    ensures whole { AreInOrder (map (λ e. e.took) ends.items) → parts_of (map (λ e. e.seat) ends.items) ≡ M.parts
+        → 0 < M.parts → parts_of callers.items ≡ 1024 → IsOkUnless result AuditFault.OutOfMemory }
+{
+    match parted(alloc, ends) {
+        Ok((queues, seats)) => audit_of(
+            lock.into_locked(),
+            collector.into_counted(),
+            callers,
+            queues,
+            seats,
+        ),
+        Err(_) => Err(AuditFault::OutOfMemory),
+    }
+}
+
+/// The same of an opened desk and an opened book. It takes no memory.
+fn audit_of<L: Run, M: Ledger>(
+    locked: LockedDesk<L>,
+    counted: CountedBook<M>,
+    callers: Vec<CallerSeat<L>>,
+    queues: Vec<VenueEnd<L>>,
+    seats: Vec<WorkerSeat<M>>,
+) -> Result<DayReport, AuditFault>
+    ensures audits { Audits (record { desk = locked; book = counted; callers = callers.items; queues = queues.items; seats = seats.items }) result }
+    ensures replays { Replays locked × BookReplays counted }
+    ensures whole { AreInOrder queues.items → parts_of seats.items ≡ M.parts → 0 < M.parts → parts_of callers.items ≡ 1024 → IsOk result }
+{
+    let mut locked = locked;
+    let mut counted = counted;
+    let placed = check_placed(&mut locked, callers);
+    let resolved = check_count(&mut counted, seats);
+    let still_open = open_shares(counted.book());
+    let _ = locked.desk();
+    if let Err(wrong) = check_queues(locked, queues) {
+        return Err(AuditFault::MismatchQueue(wrong.place));
+    }
+    let Ok(resolved) = resolved else {
+        return Err(AuditFault::MismatchShares);
+    };
+    let Ok(placed) = placed else {
+        return Err(AuditFault::MismatchPlaced);
+    };
+    Ok(DayReport {
+        placed,
+        resolved,
+        still_open,
+    })
+}
+
+/// What the workers took, and their seats, each in the order of the ends.
+fn parted<K: Link, L: Run, M: Ledger>(
+    alloc: Global,
+    ends: Vec<WorkerEnd<K, L, M>>,
+) -> Result<(Vec<VenueEnd<L>>, Vec<WorkerSeat<M>>), AllocError>
+    ensures { IfOk result (λ parts. (parts.0.items ≡ map (λ e. e.took) ends.items) × (parts.1.items ≡ map (λ e. e.seat) ends.items)) }
+{
+    let mut queues = Vec::with_capacity(alloc, ends.len())?;
+    let mut seats = Vec::with_capacity(alloc, ends.len())?;
+    let mut ends = VecDeque::from(ends);
+    while let Some(end) = ends.pop_front() {
+        let WorkerEnd {
+            session: _,
+            took,
+            seat,
+            link: _,
+            reason: _,
+        } = end;
+        queues.push(took)?;
+        seats.push(seat)?;
+    }
+    Ok((queues, seats))
+}

@@ -1,0 +1,45 @@
+//! What a worker asks of its venue's gate.
+
+ghost use Rattle.release_lock.specs.Locked.{OnlyTurns};
+
+use leg::VenueId;
+use release_lock::{ReleaseLock, Run};
+use std::sync::Wait;
+use sweep_release::{Desk, Gate};
+
+/// Puts the gate of a venue down, if it is up.
+pub(crate) fn lower<L: Run>(rt: &impl Wait, lock: &ReleaseLock<L>, venue: VenueId) {
+    lock.with(rt, |desk: &mut Desk| let_down(desk, venue));
+}
+
+/// Shuts the gate of a venue, for good.
+pub(crate) fn close<L: Run>(rt: &impl Wait, lock: &ReleaseLock<L>, venue: VenueId) {
+    lock.with(rt, |desk: &mut Desk| let_shut(desk, venue));
+}
+
+/// Whether the gate of a venue was shut.
+pub(crate) fn is_closed<L: Run>(rt: &impl Wait, lock: &ReleaseLock<L>, venue: VenueId) -> bool {
+    lock.with(rt, |desk: &mut Desk| finds_shut(desk, venue))
+}
+
+fn let_down(desk: &mut Desk, venue: VenueId)
+    ensures { OnlyTurns desk.old desk.new }
+{
+    if usize::from(venue.number()) < desk.venues() {
+        desk.gate_down(venue);
+    }
+}
+
+fn let_shut(desk: &mut Desk, venue: VenueId)
+    ensures { OnlyTurns desk.old desk.new }
+{
+    if usize::from(venue.number()) < desk.venues() {
+        desk.shut(venue);
+    }
+}
+
+fn finds_shut(desk: &mut Desk, venue: VenueId) -> bool
+    ensures { OnlyTurns desk.old desk.new }
+{
+    usize::from(venue.number()) < desk.venues() && desk.gate(venue) == Gate::Shut
+}

@@ -1,0 +1,32 @@
+//! The worker of one venue: it owns the session with the venue's exchange and the link, takes the venue's legs from its
+//! ring, sends them, reads the exchange, books what comes, and ends with the day. Beside it the audit of a whole day.
+#![tactic(auto)]
+
+mod audit_fault;
+mod auditing;
+mod day_report;
+mod end_reason;
+mod gates;
+mod linked;
+mod open_shares;
+mod pace;
+mod post;
+mod reading;
+mod run_fault;
+mod running;
+mod takings;
+mod worker;
+mod worker_end;
+
+pub use audit_fault::AuditFault;
+pub use auditing::audit;
+pub use day_report::DayReport;
+pub use end_reason::EndReason;
+pub use pace::Pace;
+pub use run_fault::RunFault;
+pub use running::run_all;
+pub use worker::Worker;
+pub use worker_end::WorkerEnd;
+
+#[cfg(test)]
+mod tests;

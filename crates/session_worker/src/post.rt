@@ -1,0 +1,366 @@
+//! What a worker does in its turns.
+
+ghost use Rattle.std.specs.Prelude.{◌≡◌, MatchOption, MatchResult};
+ghost use Rattle.dialect.specs.Message.{Readers};
+ghost use Rattle.session_core.specs.declared.phase.Phase.TheVariants as phase;
+ghost use Rattle.session_worker.specs.Events.{Does, Drains, Goes, Hands, parts_of};
+ghost use Rattle.session_worker.specs.Ends.{reason_of, last_calls};
+ghost use Rattle.session_worker.specs.Taking.{with_taken};
+
+use crate::EndReason;
+use crate::gates::{close, is_closed, lower};
+use crate::linked::Linked;
+use crate::takings::Takings;
+use clock::Clock;
+use dialect::{Dialect, Note};
+use exec_collector::{Collector, WorkerSeat};
+use leg::{LegId, PlacedLeg};
+use link::Link;
+use release_lock::{ReleaseLock, Run};
+use session_core::{LegIds, Phase, Step};
+use std::alloc::AllocError;
+use std::sync::Wait;
+use std::sync::ledger::Ledger;
+
+/// In how many rounds a turn drains a ring at most.
+const DRAIN_ROUNDS: usize = 8;
+
+/// How many messages a turn takes at most; the others are taken in the next one.
+const MESSAGES_A_TURN: usize = 512;
+
+/// What a worker works with: its session over its link, what it took from the ring, and its seat.
+#[derive(Drop)]
+pub(crate) struct Post<K: Link, C: Clock + Drop, L: Run, M: Ledger> {
+    pub(crate) linked: Linked<K, C>,
+    pub(crate) takings: Takings<L>,
+    pub(crate) seat: WorkerSeat<M>,
+}
+
+impl<K: Link, C: Clock + Drop, L: Run, M: Ledger> Post<K, C, L, M> {
+    /// Takes its turns, until one leaves the session closed or so many were taken.
+    pub(crate) fn turns<D: Dialect>(
+        &mut self,
+        rt: &impl Wait,
+        dialect: &D,
+        lock: &ReleaseLock<L>,
+        collector: &Collector<M>,
+        turn_limit: u64,
+    ) -> EndReason
+        ensures does { Does (record { order = D.order_read dialect.now; report = D.report_read dialect.now }) (parts_of self.old.linked.session self.old.takings self.old.seat) (parts_of self.new.linked.session self.new.takings self.new.seat) }
+        ensures reason { result ≡ reason_of self.new.linked.session.phase }
+    {
+        for _ in 0..turn_limit {
+            match reason_in(self.linked.phase()) {
+                EndReason::Closed => return EndReason::Closed,
+                EndReason::TurnLimit => self.turn(rt, dialect, lock, collector),
+            }
+        }
+        reason_in(self.linked.phase())
+    }
+
+    /// The session is over, also where no turn has left it so.
+    pub(crate) fn finish(&mut self)
+        ensures goes { (read : Readers) → Goes read (parts_of self.old.linked.session self.old.takings self.old.seat) (last_calls self.old.linked.session.phase) (parts_of self.new.linked.session self.new.takings self.new.seat) }
+        ensures over { self.new.linked.session.phase ≡ phase.Closed }
+    {
+        match reason_in(self.linked.phase()) {
+            EndReason::Closed => {}
+            EndReason::TurnLimit => self.linked.abandon(),
+        }
+    }
+
+    /// One turn.
+    pub(crate) fn turn<D: Dialect>(
+        &mut self,
+        rt: &impl Wait,
+        dialect: &D,
+        lock: &ReleaseLock<L>,
+        collector: &Collector<M>,
+    )
+        ensures { Does (record { order = D.order_read dialect.now; report = D.report_read dialect.now }) (parts_of self.old.linked.session self.old.takings self.old.seat) (parts_of self.new.linked.session self.new.takings self.new.seat) }
+    {
+        self.linked.count_turn();
+        self.begin(rt, dialect, lock, collector);
+        self.close_if_shut(rt, dialect, lock, collector);
+        self.listen(rt, dialect, collector);
+        self.write_if_quiet(rt, dialect, collector);
+        self.ask_if_silent(rt, dialect, collector);
+    }
+
+    /// What a turn begins with, by how far the session has come.
+    fn begin<D: Dialect>(
+        &mut self,
+        rt: &impl Wait,
+        dialect: &D,
+        lock: &ReleaseLock<L>,
+        collector: &Collector<M>,
+    )
+        ensures { Does (record { order = D.order_read dialect.now; report = D.report_read dialect.now }) (parts_of self.old.linked.session self.old.takings self.old.seat) (parts_of self.new.linked.session self.new.takings self.new.seat) }
+    {
+        match self.linked.phase() {
+            Phase::Down => self.start(rt, dialect, lock, collector),
+            Phase::Up => self.send_next(rt, dialect, lock, collector),
+            Phase::LoggingOn => {}
+            Phase::Settling => {}
+            Phase::Closing => {}
+            Phase::LoggedOut => {}
+            Phase::Closed => {}
+        }
+    }
+
+    /// In `Down`: the gate goes down, and what is placed is dropped. Once nothing is left the session connects, or is
+    /// over where the gate was shut and no leg is in doubt, or where no number is left for a Logon.
+    fn start<D: Dialect>(
+        &mut self,
+        rt: &impl Wait,
+        dialect: &D,
+        lock: &ReleaseLock<L>,
+        collector: &Collector<M>,
+    )
+        requires { self.old.linked.session.phase ≡ phase.Down }
+        ensures { Does (record { order = D.order_read dialect.now; report = D.report_read dialect.now }) (parts_of self.old.linked.session self.old.takings self.old.seat) (parts_of self.new.linked.session self.new.takings self.new.seat) }
+    {
+        let venue = self.takings.venue();
+        lower(rt, lock, venue);
+        if !self.drain(rt, lock, collector) {
+            return;
+        }
+        if is_closed(rt, lock, venue) && !self.linked.in_doubt() {
+            return self.linked.abandon();
+        }
+        if self.linked.connect(dialect) {
+            return;
+        }
+        close(rt, lock, venue);
+        self.drain(rt, lock, collector);
+        self.linked.abandon();
+    }
+
+    /// In `Up`: the gate is put up, and the next leg is sent. Where that is refused the next turn tries again.
+    fn send_next<D: Dialect>(
+        &mut self,
+        rt: &impl Wait,
+        dialect: &D,
+        lock: &ReleaseLock<L>,
+        collector: &Collector<M>,
+    )
+        requires { self.old.linked.session.phase ≡ phase.Up }
+        ensures { Does (record { order = D.order_read dialect.now; report = D.report_read dialect.now }) (parts_of self.old.linked.session self.old.takings self.old.seat) (parts_of self.new.linked.session self.new.takings self.new.seat) }
+    {
+        if self.takings.raise(rt, lock).is_err() {
+            return;
+        }
+        match next_leg(rt, lock, &mut self.takings) {
+            Ok(next) => self.send(rt, dialect, collector, next),
+            Err(_) => self.linked.break_off(),
+        }
+    }
+
+    /// Sends the leg that was taken, if one was. One that the session doesn't take is withdrawn in the book.
+    fn send<D: Dialect>(
+        &mut self,
+        rt: &impl Wait,
+        dialect: &D,
+        collector: &Collector<M>,
+        next: Option<PlacedLeg>,
+    )
+        ensures linked { MatchOption next (self.new.linked.session ≡ self.old.linked.session) (λ leg. Hands (record { order = D.order_read dialect.now; report = D.report_read dialect.now }) leg self.old.linked.session self.new.linked.session) }
+        ensures takings { self.new.takings ≡ self.old.takings }
+        ensures seat { self.new.seat.parts ≡ self.old.seat.parts }
+    {
+        let Some(leg) = next else {
+            return;
+        };
+        if self.linked.send(dialect, &leg) {
+            return;
+        }
+        self.withdraw(rt, collector, leg.leg.id);
+    }
+
+    /// With the gate shut the session is to close while it is connected, and what is placed is dropped.
+    fn close_if_shut<D: Dialect>(
+        &mut self,
+        rt: &impl Wait,
+        dialect: &D,
+        lock: &ReleaseLock<L>,
+        collector: &Collector<M>,
+    )
+        ensures { Does (record { order = D.order_read dialect.now; report = D.report_read dialect.now }) (parts_of self.old.linked.session self.old.takings self.old.seat) (parts_of self.new.linked.session self.new.takings self.new.seat) }
+    {
+        if !self.linked.is_connected() || !is_closed(rt, lock, self.takings.venue()) {
+            return;
+        }
+        self.linked.close(dialect);
+        self.drain(rt, lock, collector);
+    }
+
+    /// Reads once, while there is a connection, and does what the messages want.
+    fn listen<D: Dialect>(&mut self, rt: &impl Wait, dialect: &D, collector: &Collector<M>)
+        ensures { Does (record { order = D.order_read dialect.now; report = D.report_read dialect.now }) (parts_of self.old.linked.session self.old.takings self.old.seat) (parts_of self.new.linked.session self.new.takings self.new.seat) }
+    {
+        if !self.linked.is_connected() {
+            return;
+        }
+        self.linked.read();
+        for _ in 0..MESSAGES_A_TURN {
+            match self.linked.hear(dialect) {
+                Some(step) => self.carry_out(rt, collector, step),
+                None => return,
+            }
+        }
+    }
+
+    /// After so many turns without a write the session writes a Heartbeat.
+    fn write_if_quiet<D: Dialect>(&mut self, rt: &impl Wait, dialect: &D, collector: &Collector<M>)
+        ensures { Does (record { order = D.order_read dialect.now; report = D.report_read dialect.now }) (parts_of self.old.linked.session self.old.takings self.old.seat) (parts_of self.new.linked.session self.new.takings self.new.seat) }
+    {
+        match self.linked.on_quiet(dialect) {
+            Some(step) => self.carry_out(rt, collector, step),
+            None => {}
+        }
+    }
+
+    /// After so many turns without a read the session writes a fence, and the second time the connection ends.
+    fn ask_if_silent<D: Dialect>(&mut self, rt: &impl Wait, dialect: &D, collector: &Collector<M>)
+        ensures { Does (record { order = D.order_read dialect.now; report = D.report_read dialect.now }) (parts_of self.old.linked.session self.old.takings self.old.seat) (parts_of self.new.linked.session self.new.takings self.new.seat) }
+    {
+        match self.linked.on_silence(dialect) {
+            Some(step) => self.carry_out(rt, collector, step),
+            None => {}
+        }
+    }
+
+    /// Does what a step of the session wants: the legs that it names are withdrawn in the book, its note is booked and
+    /// then confirmed, and its frames are written. Where the book wants memory the connection is given up.
+    fn carry_out(&mut self, rt: &impl Wait, collector: &Collector<M>, step: Step)
+        ensures { (read : Readers) → Does read (parts_of self.old.linked.session self.old.takings self.old.seat) (parts_of self.new.linked.session self.new.takings self.new.seat) }
+    {
+        let Step {
+            out,
+            note,
+            withdrawn,
+            ended,
+        } = step;
+        self.withdraw_all(rt, collector, withdrawn);
+        if !self.take_note(rt, collector, note) {
+            return;
+        }
+        self.linked.write_all(out);
+        if ended.is_some() {
+            self.linked.hang_up();
+        }
+    }
+
+    /// Books the note, if there is one, and says whether the session may go on.
+    fn take_note(&mut self, rt: &impl Wait, collector: &Collector<M>, note: Option<Note>) -> bool
+        ensures { (read : Readers) → Does read (parts_of self.old.linked.session self.old.takings self.old.seat) (parts_of self.new.linked.session self.new.takings self.new.seat) }
+    {
+        match note {
+            Some(note) => self.book(rt, collector, &note),
+            None => true,
+        }
+    }
+
+    /// Books a note, and says whether the book took it. Where it wants memory the connection is given up.
+    fn book(&mut self, rt: &impl Wait, collector: &Collector<M>, note: &Note) -> bool
+        ensures { (read : Readers) → Does read (parts_of self.old.linked.session self.old.takings self.old.seat) (parts_of self.new.linked.session self.new.takings self.new.seat) }
+    {
+        match collector.apply(rt, self.takings.venue(), note, &mut self.seat) {
+            Ok(_) => {
+                self.linked.confirm();
+                true
+            }
+            Err(_) => {
+                self.linked.break_off();
+                false
+            }
+        }
+    }
+
+    /// Drops what is placed at the venue, in at most eight rounds, and says whether nothing was left. It is `false` too
+    /// where there is no room for a leg, which is then left in the ring.
+    pub(crate) fn drain(
+        &mut self,
+        rt: &impl Wait,
+        lock: &ReleaseLock<L>,
+        collector: &Collector<M>,
+    ) -> bool
+        ensures { Drains (parts_of self.old.linked.session self.old.takings self.old.seat) (parts_of self.new.linked.session self.new.takings self.new.seat) }
+    {
+        for _ in 0..DRAIN_ROUNDS {
+            let pushed = lock.pump(rt, self.takings.venue());
+            if self.takings.count() == pushed {
+                return true;
+            }
+            if !self.drop_to(rt, collector, pushed) {
+                return false;
+            }
+        }
+        false
+    }
+
+    /// Drops legs until so many were taken in all or the ring is empty, and says whether there was room for each.
+    fn drop_to(&mut self, rt: &impl Wait, collector: &Collector<M>, count: u64) -> bool
+        ensures { Drains (parts_of self.old.linked.session self.old.takings self.old.seat) (parts_of self.new.linked.session self.new.takings self.new.seat) }
+    {
+        for _ in self.takings.count()..count {
+            match self.takings.next_to(rt, count) {
+                Ok(Some(leg)) => self.withdraw(rt, collector, leg.leg.id),
+                Ok(None) => return true,
+                Err(_) => return false,
+            }
+        }
+        true
+    }
+
+    /// Withdraws legs in the book.
+    fn withdraw_all(&mut self, rt: &impl Wait, collector: &Collector<M>, ids: LegIds)
+        ensures linked { self.new.linked.session ≡ self.old.linked.session }
+        ensures takings { self.new.takings ≡ self.old.takings }
+        ensures seat { self.new.seat.parts ≡ self.old.seat.parts }
+    {
+        let ids = ids.into_vec();
+        for id in &ids {
+            let _ = collector.withdraw(rt, *id, &mut self.seat);
+        }
+    }
+
+    /// Withdraws a leg in the book. Where the book has moved it already nothing happens.
+    fn withdraw(&mut self, rt: &impl Wait, collector: &Collector<M>, id: LegId)
+        ensures linked { self.new.linked.session ≡ self.old.linked.session }
+        ensures takings { self.new.takings ≡ self.old.takings }
+        ensures seat { self.new.seat.parts ≡ self.old.seat.parts }
+    {
+        let _ = collector.withdraw(rt, id, &mut self.seat);
+    }
+}
+
+/// Why a worker ends whose last turn left its session in this phase.
+fn reason_in(phase: Phase) -> EndReason
+    ensures { result ≡ reason_of phase }
+{
+    match phase {
+        Phase::Closed => EndReason::Closed,
+        Phase::Down => EndReason::TurnLimit,
+        Phase::LoggingOn => EndReason::TurnLimit,
+        Phase::Settling => EndReason::TurnLimit,
+        Phase::Up => EndReason::TurnLimit,
+        Phase::Closing => EndReason::TurnLimit,
+        Phase::LoggedOut => EndReason::TurnLimit,
+    }
+}
+
+/// The next leg of a ring, if there is one once the placed legs were moved into it.
+fn next_leg<L: Run>(
+    rt: &impl Wait,
+    lock: &ReleaseLock<L>,
+    takings: &mut Takings<L>,
+) -> Result<Option<PlacedLeg>, AllocError>
+    ensures { MatchResult result (λ next. MatchOption next (takings.new ≡ takings.old) (λ leg. takings.new ≡ with_taken takings.old leg)) (λ _. takings.new ≡ takings.old) }
+{
+    if let Some(leg) = takings.next(rt)? {
+        return Ok(Some(leg));
+    }
+    lock.pump(rt, takings.venue());
+    takings.next(rt)
+}

@@ -1,0 +1,50 @@
+//! What came over a link is handed to a session.
+
+ghost use Rattle.session_worker.specs.Events.{Moves};
+
+use dialect::Dialect;
+use fix_tags::{ReadFault, Stamp, read_envelope};
+use fix_text::FrameReader;
+use session_core::{Session, Step};
+use std::alloc::Global;
+
+/// What came of the next message.
+#[derive(Drop)]
+pub(crate) enum Heard {
+    /// More bytes are needed.
+    Nothing,
+    /// The session received it, and this is to be done.
+    Step(Step),
+    /// The frame was no message, and the session ended the connection.
+    Malformed,
+    /// The frame or the message wanted memory, and the session hasn't received it.
+    OutOfMemory,
+}
+
+/// Hands the next message that was read to a session.
+pub(crate) fn hear<D: Dialect>(
+    alloc: Global,
+    dialect: &D,
+    reader: &mut FrameReader,
+    session: &mut Session,
+    stamp: &Stamp,
+) -> Heard
+    ensures { Moves (record { order = D.order_read dialect.now; report = D.report_read dialect.now }) session.old session.new }
+{
+    let frame = match reader.next() {
+        Ok(Some(frame)) => frame,
+        Ok(None) => return Heard::Nothing,
+        Err(_) => return Heard::OutOfMemory,
+    };
+    match read_envelope(alloc, &frame) {
+        Ok(envelope) => match session.receive(dialect, &envelope, stamp) {
+            Ok(step) => Heard::Step(step),
+            Err(_) => Heard::OutOfMemory,
+        },
+        Err(ReadFault::Tag(_)) => {
+            let _ = session.malformed();
+            Heard::Malformed
+        }
+        Err(ReadFault::OutOfMemory) => Heard::OutOfMemory,
+    }
+}

@@ -1,0 +1,95 @@
+//! Workers in threads.
+
+ghost use Rattle.std.specs.Prelude.{IfOk, map};
+ghost use Rattle.session_worker.specs.Events.{parts_of};
+ghost use Rattle.session_worker.specs.Ends.{Runs, AllRan};
+
+use crate::{RunFault, Worker, WorkerEnd};
+use clock::Clock;
+use dialect::Dialect;
+use exec_collector::Collector;
+use link::Link;
+use release_lock::{ReleaseLock, Run};
+use std::alloc::Global;
+use std::collections::VecDeque;
+use std::snapshot::Snapshot;
+use std::sync::Wait;
+use std::sync::ledger::Ledger;
+use std::thread;
+use std::thread::{Promise, PromisedHandle, Threads, join_promised};
+
+/// What the thread of a worker promises: an end of that worker.
+#[derive(Drop)]
+struct EndOf<D: Dialect + Drop, K: Link, C: Clock + Drop, L: Run, M: Ledger>(
+    Snapshot<Worker<D, K, C, L, M>>,
+);
+
+impl<D: Dialect + Drop, K: Link, C: Clock + Drop, L: Run, M: Ledger> Promise<WorkerEnd<K, L, M>>
+    for EndOf<D, K, C, L, M> {
+    ghost kept_by = { λ p e. Runs (record { order = D.order_read p.0.value.dialect; report = D.report_read p.0.value.dialect }) (parts_of p.0.value.post.linked.session p.0.value.post.takings p.0.value.post.seat) (parts_of e.session e.took e.seat) e.reason };
+}
+
+/// Runs each worker in a thread of its own, and gives their ends in order. Where memory is wanted or no thread can be made,
+/// it gives none, once those that were started have ended.
+pub fn run_all<D, K, C, L, M, R>(
+    rt: &R,
+    alloc: Global,
+    lock: &ReleaseLock<L>,
+    collector: &Collector<M>,
+    workers: Vec<Worker<D, K, C, L, M>>,
+    turn_limit: u64,
+) -> Result<Vec<WorkerEnd<K, L, M>>, RunFault>
+where
+    D: Dialect + Drop + Send,
+    K: Link + Send,
+    C: Clock + Drop + Send,
+    L: Run + Send + Sync,
+    M: Ledger + Send + Sync,
+    R: Threads + Wait + Sync,
+    ensures { IfOk result (λ ends. AllRan (map (λ w. record { read = record { order = D.order_read w.dialect; report = D.report_read w.dialect }; parts = parts_of w.post.linked.session w.post.takings w.post.seat }) workers.items) (map (λ e. record { parts = parts_of e.session e.took e.seat; reason = e.reason }) ends.items)) }
+{
+    thread::scope(
+        thread::scope_env(),
+        rt,
+        |scope| -> Result<Vec<WorkerEnd<K, L, M>>, RunFault>
+            ensures { IfOk result (λ ends. AllRan (map (λ w. record { read = record { order = D.order_read w.dialect; report = D.report_read w.dialect }; parts = parts_of w.post.linked.session w.post.takings w.post.seat }) workers.items) (map (λ e. record { parts = parts_of e.session e.took e.seat; reason = e.reason }) ends.items)) }
+        {
+            let mut workers = VecDeque::from(workers);
+            let mut handles = Vec::new(alloc);
+            while let Some(worker) = workers.pop_front() {
+                if handles.reserve(1).is_err() {
+                    join_each(rt, handles);
+                    return Err(RunFault::OutOfMemory);
+                }
+                let promise = EndOf(Snapshot::of(&worker));
+                match scope.spawn_with(
+                    promise,
+                    move || worker.run(rt, lock, collector, turn_limit),
+                ) {
+                    Ok(handle) => handles.push_reserved(handle),
+                    Err(_) => {
+                        join_each(rt, handles);
+                        return Err(RunFault::NoThread);
+                    }
+                }
+            }
+            match join_promised(rt, handles) {
+                Ok(ends) => Ok(ends),
+                Err(refused) => {
+                    join_each(rt, refused.value);
+                    Err(RunFault::OutOfMemory)
+                }
+            }
+        },
+    )
+}
+
+/// Waits for each of these threads, and drops what it gives.
+fn join_each<T: Drop, P: Promise<T> + Drop, R: Threads>(
+    rt: &R,
+    handles: Vec<PromisedHandle<T, P>>,
+) {
+    for handle in handles {
+        drop(handle.join(rt));
+    }
+}
