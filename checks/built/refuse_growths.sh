@@ -23,3 +23,27 @@ refuse_each_growth() {
     done
     growths=$((count - 1))
 }
+
+same_lines() {
+    if [ "$2" -ne 0 ] || ! cmp -s "$place/out" "$stored"; then
+        echo "growth $1 refused: status $2: $(head -n 1 "$place/err")"
+        status=1
+    fi
+}
+
+# A program of this name, which makes each call again that is refused memory, must print its stored lines whichever growth is
+# refused, and be refused at least so many.
+must_print_the_same() {
+    local program=crates/$1/out/$1
+    stored=crates/$1/stdout
+    status=0
+    if [ ! -x "$program" ]; then
+        echo "not built: $program"
+        return 1
+    fi
+    input=/dev/null
+    refuse_each_growth same_lines "$program"
+    echo "$1: $growths growths refused in turn"
+    [ "$growths" -ge "$2" ] || status=1
+    return $status
+}
