@@ -131,7 +131,7 @@ pub refused_connect : {Y : Type 0} (Is : Message → Y → Type 0) (s now : Sess
     → Gives Is s (connect s) (Err why) now → now ≡ s
 refused_connect Is s now why gives = refused Is (IsConnection s) s now (connect s) why (connect_keeps s) gives
 
-refused_send : {Y : Type 0} (Is : Message → Y → Type 0) (s now : SessionParts) (leg : PlacedLeg) (why : SessionFault)
+pub refused_send : {Y : Type 0} (Is : Message → Y → Type 0) (s now : SessionParts) (leg : PlacedLeg) (why : SessionFault)
     → Gives Is s (send_leg s leg.ordinal leg.leg) (Err why) now → now ≡ s
 refused_send Is s now leg why gives =
     refused Is (SendsLeg s leg.ordinal leg.leg) s now (send_leg s leg.ordinal leg.leg) why

@@ -2,3 +2,4 @@ pub mod Calling
 pub mod Doing
 pub mod Shares
 pub mod Ran
+pub mod Spoken

@@ -3,7 +3,9 @@
 ghost use Rattle.std.specs.Prelude.{◌≡◌, false};
 ghost use Rattle.session_core.specs.Session.{new_session, is_connected, has_doubt};
 ghost use Rattle.session_core.specs.Receiving.{confirm};
-ghost use Rattle.session_core.specs.Calling.{broken, abandon};
+ghost use Rattle.session_core.specs.Calling.{broken, abandon, connect, send_leg};
+ghost use Rattle.link.specs.Traffic.{Tells, Stays};
+ghost use Rattle.session_worker.specs.Speaking.{joined, Writes, MaySend, MayDial};
 ghost use Rattle.session_worker.specs.Events.{Moves, Hands, IsIdle, MayBreak};
 
 use crate::Pace;
@@ -101,7 +103,8 @@ impl<K: Link, C: Clock + Drop> Linked<K, C> {
 
     /// The connection is given up.
     pub(crate) fn break_off(&mut self)
-        ensures { self.new.session ≡ broken self.old.session }
+        ensures session { self.new.session ≡ broken self.old.session }
+        ensures wire { Tells (K.wire self.old.link) (K.wire self.new.link) Stays }
     {
         self.session.broken();
         let _ = self.link.shut();
@@ -109,31 +112,34 @@ impl<K: Link, C: Clock + Drop> Linked<K, C> {
 
     /// The session ended the connection: the link ends it too.
     pub(crate) fn hang_up(&mut self)
-        ensures { self.new.session ≡ self.old.session }
+        ensures session { self.new.session ≡ self.old.session }
+        ensures wire { Tells (K.wire self.old.link) (K.wire self.new.link) Stays }
     {
         let _ = self.link.shut();
     }
 
     /// Writes a frame. Where that fails the connection is given up.
     fn write(&mut self, frame: &[u8])
-        ensures { MayBreak self.old.session self.new.session }
+        ensures session { MayBreak self.old.session self.new.session }
+        ensures wire { Writes frame.now self.old.session (K.wire self.old.link) self.new.session (K.wire self.new.link) }
     {
-        if write_whole(&mut self.link, frame).is_err() {
-            return self.break_off();
+        match write_whole(&mut self.link, frame) {
+            Ok(()) => self.unwritten = 0,
+            Err(_) => self.break_off(),
         }
-        self.unwritten = 0;
     }
 
     /// Writes frames, in order, until one fails.
     pub(crate) fn write_all(&mut self, frames: Frames)
-        ensures { MayBreak self.old.session self.new.session }
+        ensures session { MayBreak self.old.session self.new.session }
+        ensures wire { Writes (joined frames) self.old.session (K.wire self.old.link) self.new.session (K.wire self.new.link) }
     {
         let frames = frames.into_vec();
         for frame in &frames {
-            if write_whole(&mut self.link, frame.as_slice()).is_err() {
-                return self.break_off();
+            match write_whole(&mut self.link, frame.as_slice()) {
+                Ok(()) => self.unwritten = 0,
+                Err(_) => return self.break_off(),
             }
-            self.unwritten = 0;
         }
     }
 
@@ -141,11 +147,21 @@ impl<K: Link, C: Clock + Drop> Linked<K, C> {
     /// go on: it may not where no number is left for the Logon.
     pub(crate) fn connect<D: Dialect>(&mut self, dialect: &D) -> bool
         ensures moves { Moves (record { order = D.order_read dialect.now; report = D.report_read dialect.now }) self.old.session self.new.session }
+        ensures wire { MayDial (record { IsOrder = D.IsOrder dialect.now; IsReport = D.IsReport dialect.now }) (connect self.old.session) self.old.session (K.wire self.old.link) self.new.session (K.wire self.new.link) }
         ensures spent { result ≡ false → self.new.session ≡ self.old.session }
     {
-        if self.link.dial().is_err() {
-            return true;
+        match self.link.dial() {
+            Ok(()) => self.log_on(dialect),
+            Err(_) => true,
         }
+    }
+
+    /// Logs on over a link that was dialled, and says whether the session may go on.
+    fn log_on<D: Dialect>(&mut self, dialect: &D) -> bool
+        ensures moves { Moves (record { order = D.order_read dialect.now; report = D.report_read dialect.now }) self.old.session self.new.session }
+        ensures wire { MaySend (record { IsOrder = D.IsOrder dialect.now; IsReport = D.IsReport dialect.now }) (connect self.old.session) self.old.session (K.wire self.old.link) self.new.session (K.wire self.new.link) }
+        ensures spent { result ≡ false → self.new.session ≡ self.old.session }
+    {
         self.reader = FrameReader::new(self.alloc);
         self.unwritten = 0;
         self.unread = 0;
@@ -169,7 +185,8 @@ impl<K: Link, C: Clock + Drop> Linked<K, C> {
     /// Sends a leg, and says whether the session took it. Where it wanted memory for that, or the order can't be written,
     /// the connection is given up.
     pub(crate) fn send<D: Dialect>(&mut self, dialect: &D, placed: &PlacedLeg) -> bool
-        ensures { Hands (record { order = D.order_read dialect.now; report = D.report_read dialect.now }) placed.now self.old.session self.new.session }
+        ensures wire { MaySend (record { IsOrder = D.IsOrder dialect.now; IsReport = D.IsReport dialect.now }) (send_leg self.old.session placed.now.ordinal placed.now.leg) self.old.session (K.wire self.old.link) self.new.session (K.wire self.new.link) }
+        ensures hands { Hands (record { order = D.order_read dialect.now; report = D.report_read dialect.now }) placed.now self.old.session self.new.session }
     {
         let stamp = self.clock.now();
         match self

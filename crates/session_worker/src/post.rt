@@ -28,6 +28,17 @@ const DRAIN_ROUNDS: usize = 8;
 /// How many messages a turn takes at most; the others are taken in the next one.
 const MESSAGES_A_TURN: usize = 512;
 
+/// How far a ring was drained.
+#[derive(Clone, Copy)]
+pub(crate) enum Drained {
+    /// Nothing was left.
+    Everything,
+    /// The rounds of a turn weren't enough.
+    SomeLeft,
+    /// There was no room for a leg, which is left in the ring.
+    NoRoom,
+}
+
 /// What a worker works with: its session over its link, what it took from the ring, and its seat.
 #[derive(Drop)]
 pub(crate) struct Post<K: Link, C: Clock + Drop, L: Run, M: Ledger> {
@@ -108,8 +119,7 @@ impl<K: Link, C: Clock + Drop, L: Run, M: Ledger> Post<K, C, L, M> {
         }
     }
 
-    /// In `Down`: the gate goes down, and what is placed is dropped. Once nothing is left the session connects, or is
-    /// over where the gate was shut and no leg is in doubt, or where no number is left for a Logon.
+    /// In `Down`: the gate goes down, and what is placed is dropped. Once nothing is left the session may connect.
     fn start<D: Dialect>(
         &mut self,
         rt: &impl Wait,
@@ -120,11 +130,27 @@ impl<K: Link, C: Clock + Drop, L: Run, M: Ledger> Post<K, C, L, M> {
         requires { self.old.linked.session.phase ≡ phase.Down }
         ensures { Does (record { order = D.order_read dialect.now; report = D.report_read dialect.now }) (parts_of self.old.linked.session self.old.takings self.old.seat) (parts_of self.new.linked.session self.new.takings self.new.seat) }
     {
-        let venue = self.takings.venue();
-        lower(rt, lock, venue);
-        if !self.drain(rt, lock, collector) {
-            return;
+        lower(rt, lock, self.takings.venue());
+        match self.drain(rt, lock, collector) {
+            Drained::Everything => self.connect(rt, dialect, lock, collector),
+            Drained::SomeLeft => {}
+            Drained::NoRoom => {}
         }
+    }
+
+    /// The session connects. It is over where the gate was shut and no leg is in doubt, or where no number is left for a
+    /// Logon.
+    fn connect<D: Dialect>(
+        &mut self,
+        rt: &impl Wait,
+        dialect: &D,
+        lock: &ReleaseLock<L>,
+        collector: &Collector<M>,
+    )
+        requires { self.old.linked.session.phase ≡ phase.Down }
+        ensures { Does (record { order = D.order_read dialect.now; report = D.report_read dialect.now }) (parts_of self.old.linked.session self.old.takings self.old.seat) (parts_of self.new.linked.session self.new.takings self.new.seat) }
+    {
+        let venue = self.takings.venue();
         if is_closed(rt, lock, venue) && !self.linked.in_doubt() {
             return self.linked.abandon();
         }
@@ -177,7 +203,8 @@ impl<K: Link, C: Clock + Drop, L: Run, M: Ledger> Post<K, C, L, M> {
         self.withdraw(rt, collector, leg.leg.id);
     }
 
-    /// With the gate shut the session is to close while it is connected, and what is placed is dropped.
+    /// With the gate shut the session is to close while it is connected, and what is placed is dropped. Where there is no
+    /// room for a leg the connection is given up.
     fn close_if_shut<D: Dialect>(
         &mut self,
         rt: &impl Wait,
@@ -191,7 +218,11 @@ impl<K: Link, C: Clock + Drop, L: Run, M: Ledger> Post<K, C, L, M> {
             return;
         }
         self.linked.close(dialect);
-        self.drain(rt, lock, collector);
+        match self.drain(rt, lock, collector) {
+            Drained::Everything => {}
+            Drained::SomeLeft => {}
+            Drained::NoRoom => self.linked.break_off(),
+        }
     }
 
     /// Reads once, while there is a connection, and does what the messages want.
@@ -277,26 +308,25 @@ impl<K: Link, C: Clock + Drop, L: Run, M: Ledger> Post<K, C, L, M> {
         }
     }
 
-    /// Drops what is placed at the venue, in at most eight rounds, and says whether nothing was left. It is `false` too
-    /// where there is no room for a leg, which is then left in the ring.
+    /// Drops what is placed at the venue, in at most eight rounds, and says how far it came.
     pub(crate) fn drain(
         &mut self,
         rt: &impl Wait,
         lock: &ReleaseLock<L>,
         collector: &Collector<M>,
-    ) -> bool
+    ) -> Drained
         ensures { Drains (parts_of self.old.linked.session self.old.takings self.old.seat) (parts_of self.new.linked.session self.new.takings self.new.seat) }
     {
         for _ in 0..DRAIN_ROUNDS {
             let pushed = lock.pump(rt, self.takings.venue());
             if self.takings.count() == pushed {
-                return true;
+                return Drained::Everything;
             }
             if !self.drop_to(rt, collector, pushed) {
-                return false;
+                return Drained::NoRoom;
             }
         }
-        false
+        Drained::SomeLeft
     }
 
     /// Drops legs until so many were taken in all or the ring is empty, and says whether there was room for each.

@@ -14,7 +14,7 @@ returns-in-Ok-clause-moves g c =
     let s = c.args.self.now.session in
     moves_on read s c.close.new.self c.write_all.new.self.session
     (moves_close (IsStep w c.now-stamp.result) read s c.close.new.self c.close.result c.close.ensures)
-    (moves_may_break read c.close.new.self c.write_all.new.self.session c.write_all.ensures)
+    (moves_may_break read c.close.new.self c.write_all.new.self.session c.write_all.ensures.session)
 
 pub returns-in-Ok-clause-idle : goal.returns-in-Ok-clause-idle
 returns-in-Ok-clause-idle g c =
@@ -22,7 +22,7 @@ returns-in-Ok-clause-idle g c =
     let w : Writers = record { IsOrder = g.D.Dialect.IsOrder c.args.dialect.now; IsReport = g.D.Dialect.IsReport c.args.dialect.now } in
     let s = c.args.self.now.session in
     idle_may_break c.close.new.self c.write_all.new.self.session
-    (idle_closed (IsStep w c.now-stamp.result) s c.close.new.self c.in-Ok.step c.in-Ok.ensures) c.write_all.ensures
+    (idle_closed (IsStep w c.now-stamp.result) s c.close.new.self c.in-Ok.step c.in-Ok.ensures) c.write_all.ensures.session
 
 pub returns-in-Err-OutOfMemory-clause-moves : goal.returns-in-Err-OutOfMemory-clause-moves
 returns-in-Err-OutOfMemory-clause-moves g c =
@@ -31,10 +31,10 @@ returns-in-Err-OutOfMemory-clause-moves g c =
     let s = c.args.self.now.session in
     moves_on read s c.close.new.self c.break_off.new.self.session
     (moves_close (IsStep w c.now-stamp.result) read s c.close.new.self c.close.result c.close.ensures)
-    (moves_broken read c.close.new.self c.break_off.new.self.session c.break_off.ensures)
+    (moves_broken read c.close.new.self c.break_off.new.self.session c.break_off.ensures.session)
 
 pub returns-in-Err-OutOfMemory-clause-idle : goal.returns-in-Err-OutOfMemory-clause-idle
-returns-in-Err-OutOfMemory-clause-idle g c = subst IsIdle (sym c.break_off.ensures) (idle_broken c.close.new.self)
+returns-in-Err-OutOfMemory-clause-idle g c = subst IsIdle (sym c.break_off.ensures.session) (idle_broken c.close.new.self)
 
 pub returns-in-Err-clause-moves : goal.returns-in-Err-clause-moves
 returns-in-Err-clause-moves g c =

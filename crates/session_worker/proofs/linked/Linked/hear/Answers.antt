@@ -17,11 +17,11 @@ returns-in-Malformed g c =
     let read : Readers = record { order = g.D.Dialect.order_read c.args.dialect.now; report = g.D.Dialect.report_read c.args.dialect.now } in
     let s = c.args.self.now.session in
     moves_on read s c.hear.new.session c.hang_up.new.self.session c.hear.ensures
-    (moves_same read c.hear.new.session c.hang_up.new.self.session c.hang_up.ensures)
+    (moves_same read c.hear.new.session c.hang_up.new.self.session c.hang_up.ensures.session)
 
 pub returns-in-OutOfMemory : goal.returns-in-OutOfMemory
 returns-in-OutOfMemory g c =
     let read : Readers = record { order = g.D.Dialect.order_read c.args.dialect.now; report = g.D.Dialect.report_read c.args.dialect.now } in
     let s = c.args.self.now.session in
     moves_on read s c.hear.new.session c.break_off.new.self.session c.hear.ensures
-    (moves_broken read c.hear.new.session c.break_off.new.self.session c.break_off.ensures)
+    (moves_broken read c.hear.new.session c.break_off.new.self.session c.break_off.ensures.session)

@@ -22,7 +22,7 @@ returns-in-Err-OutOfMemory g c =
     let s = c.args.self.now.session in
     moves_on read s c.quiet.new.self c.break_off.new.self.session
     (moves_quiet (IsStep w c.now-stamp.result) read s c.quiet.new.self c.quiet.result c.quiet.ensures)
-    (moves_broken read c.quiet.new.self c.break_off.new.self.session c.break_off.ensures)
+    (moves_broken read c.quiet.new.self c.break_off.new.self.session c.break_off.ensures.session)
 
 pub returns-in-Err : goal.returns-in-Err
 returns-in-Err g c =

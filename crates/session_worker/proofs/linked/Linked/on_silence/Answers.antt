@@ -22,7 +22,7 @@ returns-in-Err-OutOfMemory g c =
     let s = c.args.self.now.session in
     moves_on read s c.silent.new.self c.break_off.new.self.session
     (moves_silent (IsStep w c.now-stamp.result) read s c.silent.new.self c.silent.result c.silent.ensures)
-    (moves_broken read c.silent.new.self c.break_off.new.self.session c.break_off.ensures)
+    (moves_broken read c.silent.new.self c.break_off.new.self.session c.break_off.ensures.session)
 
 pub returns-in-Err : goal.returns-in-Err
 returns-in-Err g c =

@@ -8,7 +8,7 @@ pub returns-in-Ok-Nothing : goal.returns-in-Ok-Nothing
 returns-in-Ok-Nothing g c = inl refl
 
 pub returns-in-Ok-End : goal.returns-in-Ok-End
-returns-in-Ok-End g c = inr c.break_off.ensures
+returns-in-Ok-End g c = inr c.break_off.ensures.session
 
 pub returns-in-Err : goal.returns-in-Err
-returns-in-Err g c = inr c.break_off-in-Err.ensures
+returns-in-Err g c = inr c.break_off-in-Err.ensures.session

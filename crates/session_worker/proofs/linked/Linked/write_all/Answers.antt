@@ -1,9 +1,51 @@
-use Rattle.std.proofs.Common.{inl, inr, ap, ◌∙◌}
+use Rattle.std.proofs.Common.{◌≡◌, ℕ, List, length, inl, inr, refl, ap, subst, ◌∙◌}
+use Rattle.link.specs.Traffic.{Tells, Takes, TakesPart}
+use Rattle.link.proofs.Taking.{tells_nothing}
 use Rattle.session_core.specs.Calling.{broken}
+use Rattle.session_worker.specs.Speaking.{Wire, joined}
+use Rattle.session_worker.proofs.Spoken.{texts, stays_last, frame_more, frame_part, frames_all}
 use Rattle.session_worker.proofs.linked.Linked.write_all.Goals as goal
 
-pub returns-then-is_err : goal.returns-then-is_err
-returns-then-is_err g c = inr (c.break_off.ensures ∙ ap broken c.loop-frame.invariant)
+pub loop-frame-init : goal.loop-frame-init
+loop-frame-init g c = (refl, tells_nothing _)
 
-pub returns : goal.returns
-returns g c = inl c.loop-frame.invariant
+pub loop-frame-preserved : goal.loop-frame-preserved
+loop-frame-preserved g c =
+    let a : Wire = g.K.Link.wire c.args.self.now.link in
+    let b : Wire = g.K.Link.wire c.loop-frame.self.link in
+    let d : Wire = g.K.Link.wire c.write_whole.new.link in
+    let wrote : Tells b d (Takes c.frame-item.result.items) =
+    subst (λ (bytes : List ℕ). Tells b d (Takes bytes)) c.as_slice.ensures.value c.in-Ok.ensures.wire in (
+      c.loop-frame.invariant.0,
+      frame_more c.deref-frame-items.result.now c.loop-frame.frame-index c.frame-item.result c.loop-frame-test.true
+          c.frame-item.is a b d c.loop-frame.invariant.1 wrote,
+    )
+
+pub returns-in-Err-clause-session : goal.returns-in-Err-clause-session
+returns-in-Err-clause-session g c = inr (c.break_off.ensures.session ∙ ap broken c.loop-frame.invariant.0)
+
+pub returns-in-Err-clause-wire : goal.returns-in-Err-clause-wire
+returns-in-Err-clause-wire g c =
+    let a : Wire = g.K.Link.wire c.args.self.now.link in
+    let b : Wire = g.K.Link.wire c.loop-frame.self.link in
+    let d : Wire = g.K.Link.wire c.write_whole.new.link in
+    let e : Wire = g.K.Link.wire c.break_off.new.self.link in
+    let wrote : Tells b d (TakesPart c.frame-item.result.items) =
+    subst (λ (bytes : List ℕ). Tells b d (TakesPart bytes)) c.as_slice.ensures.value c.in-Err.ensures.wire in
+    let part : Tells a d (TakesPart (joined c.args.frames)) =
+    subst (λ (frames : List (List ℕ)). Tells a d (TakesPart (joined frames))) (ap texts c.deref-frame-items.ensures.value ∙ c.into_vec-frames.ensures)
+    (frame_part c.deref-frame-items.result.now c.loop-frame.frame-index c.frame-item.result c.loop-frame-test.true
+    c.frame-item.is a b d c.loop-frame.invariant.1 wrote) in
+    inr (c.break_off.ensures.session ∙ ap broken c.loop-frame.invariant.0,
+    stays_last (TakesPart (joined c.args.frames)) a d e part c.break_off.ensures.wire)
+
+pub returns-clause-session : goal.returns-clause-session
+returns-clause-session g c = inl c.loop-frame.invariant.0
+
+pub returns-clause-wire : goal.returns-clause-wire
+returns-clause-wire g c =
+    let a : Wire = g.K.Link.wire c.args.self.now.link in
+    let b : Wire = g.K.Link.wire c.loop-frame.self.link in
+    inl (c.loop-frame.invariant.0,
+    subst (λ (frames : List (List ℕ)). Tells a b (Takes (joined frames))) (ap texts c.deref-frame-items.ensures.value ∙ c.into_vec-frames.ensures)
+    (frames_all c.deref-frame-items.result.now c.loop-frame.frame-index a b c.loop-frame-test.false c.loop-frame.invariant.1))

@@ -1,5 +1,11 @@
-use Rattle.std.proofs.Common.{◌≡◌}
+use Rattle.std.proofs.Common.{◌≡◌, take}
+use Rattle.link.specs.Traffic.{Tells, Takes}
+use Rattle.session_worker.specs.Speaking.{joined}
+use Rattle.session_worker.proofs.Spoken.{texts}
 use Rattle.session_worker.proofs.linked.Linked.write_all.Given as goal
 
 abbrev pub invariant-loop-frame : goal.invariant-loop-frame
-invariant-loop-frame g l = l.self.session ≡ l.initial.self.session
+invariant-loop-frame g l =
+    (l.self.session ≡ l.initial.self.session)
+    × Tells (g.K.Link.wire l.initial.self.link) (g.K.Link.wire l.self.link)
+    (Takes (joined (texts (take l.frame-index l.frame-items))))

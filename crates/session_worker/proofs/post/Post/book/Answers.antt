@@ -10,4 +10,4 @@ returns-in-Ok g c =
 
 pub returns-in-Err : goal.returns-in-Err
 returns-in-Err g c =
-    λ read. does_moves read _ _ (moves_broken read _ _ c.break_off.ensures) refl c.apply.ensures.parts
+    λ read. does_moves read _ _ (moves_broken read _ _ c.break_off.ensures.session) refl c.apply.ensures.parts

@@ -22,7 +22,7 @@ returns-else-is_some g c = λ (read : Readers).
     let e : WorkerParts = parts_of c.write_all.new.self.session c.take_note.new.self.takings c.take_note.new.self.seat in
     let first = does_on read a b d (does_same read a b c.withdraw_all.ensures.linked c.withdraw_all.ensures.takings c.withdraw_all.ensures.seat)
     (c.take_note.ensures read) in
-    does_on read a d e first (does_moves read d e (moves_may_break read _ _ c.write_all.ensures) refl refl)
+    does_on read a d e first (does_moves read d e (moves_may_break read _ _ c.write_all.ensures.session) refl refl)
 
 pub returns-then-is_some : goal.returns-then-is_some
 returns-then-is_some g c = λ (read : Readers).
@@ -33,4 +33,4 @@ returns-then-is_some g c = λ (read : Readers).
     let first = does_on read a b d (does_same read a b c.withdraw_all.ensures.linked c.withdraw_all.ensures.takings c.withdraw_all.ensures.seat)
     (c.take_note.ensures read) in
     does_on read a d e first (does_moves read d e
-    (moves_on read _ _ _ (moves_may_break read _ _ c.write_all.ensures) (moves_same read _ _ c.hang_up.ensures)) refl refl)
+    (moves_on read _ _ _ (moves_may_break read _ _ c.write_all.ensures.session) (moves_same read _ _ c.hang_up.ensures.session)) refl refl)

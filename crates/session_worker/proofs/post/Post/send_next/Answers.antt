@@ -17,4 +17,4 @@ returns-in-Ok g c =
     does_sent read a b d c.in-Ok.next c.requires c.in-Ok.ensures refl refl c.send.ensures.linked c.send.ensures.takings c.send.ensures.seat
 
 pub returns-in-Err : goal.returns-in-Err
-returns-in-Err g c = does_moves _ _ _ (moves_broken _ _ _ c.break_off.ensures) c.in-Err.ensures refl
+returns-in-Err g c = does_moves _ _ _ (moves_broken _ _ _ c.break_off.ensures.session) c.in-Err.ensures refl
