@@ -1,5 +1,5 @@
 -- What calls of a session leave, one after the other.
-use Rattle.std.proofs.Common.{◌≡◌, ◌⊎◌, ℕ, Bool, true, false, List, [], ◌∷◌, ◌++◌, refl, sym, ap, subst, ◌∙◌, inl, inr, append_assoc, if◌then◌else◌}
+use Rattle.std.proofs.Common.{◌≡◌, ◌⊎◌, Bool, true, false, List, [], ◌∷◌, ◌++◌, refl, sym, ap, subst, ◌∙◌, inl, inr, append_assoc, if◌then◌else◌}
 use Rattle.std.specs.Prelude.{Result, Ok, Err}
 use Rattle.leg.specs.declared.placed_leg.PlacedLeg.{PlacedLeg}
 use Rattle.fix_tags.specs.declared.envelope.Envelope.{Envelope}
@@ -21,7 +21,7 @@ use Rattle.session_core.specs.Onward.{OrUnchanged, IsConnection, SendsLeg}
 use Rattle.session_core.proofs.Adding.{chosen}
 use Rattle.session_core.proofs.Called.{connect_keeps, send_leg_keeps}
 use Rattle.session_core.proofs.CallsMade.{after-append}
-use Rattle.session_worker.specs.Events.{WorkerEvent, calls_in, leg_in, legs_in, Moves, Hands, MayBreak, IsIdle}
+use Rattle.session_worker.specs.Events.{leg_in, legs_in, Moves, Hands, MayBreak, IsIdle}
 use Rattle.session_worker.specs.Events.WorkerEvent.{Calls, Fails}
 
 -- the legs of calls and then others

@@ -1,11 +1,10 @@
 -- Threads that were joined, and what their workers left.
 use Rattle.std.proofs.lemmas.List.{append-nil}
-use Rattle.std.proofs.Common.{◌≡◌, ℕ, zero, suc, ◌+◌, ◌<◌, List, [], ◌∷◌, ◌++◌, length, map, drop, refl, sym, ap, subst, ◌∙◌, arith}
+use Rattle.std.proofs.Common.{◌≡◌, ℕ, suc, ◌<◌, List, [], ◌∷◌, ◌++◌, length, map, drop, refl, sym, ap, subst, ◌∙◌, arith}
 use Rattle.std.specs.Prelude.{Option, Some, None, option_to_list, slice_index_or}
 use Rattle.std.specs.PromisedHandle.{KeepsAt}
 use Rattle.std.specs.declared.thread.PromisedHandle.{PromisedHandle}
 use Rattle.std.specs.declared.thread.Promise as Promise
-use Rattle.session_worker.specs.Events.{WorkerParts}
 use Rattle.session_worker.specs.Ends.{WorkerStart, WorkerLeft, Runs, AllRan}
 
 module _ {T P : Type 0} (g : Promise.Ghosts P T) (start : P → WorkerStart) (left : T → WorkerLeft)

@@ -1,22 +1,19 @@
 -- What goes over a link, one call after another.
-use Rattle.std.proofs.Common.{◌≡◌, ◌⊎◌, ℕ, suc, ◌+◌, ◌<◌, ◌≤◌, List, [], ◌∷◌, ◌++◌, length, Option, Some, None, map, take, drop, get_or, refl, sym, ap, subst, ◌∙◌, inl, inr, append_assoc, add-one, arith, length-append}
-use Rattle.std.specs.Prelude.{Result, Ok, Err}
+use Rattle.std.proofs.Common.{◌≡◌, ℕ, suc, ◌+◌, ◌<◌, ◌≤◌, List, [], ◌∷◌, ◌++◌, length, Some, None, map, take, drop, get_or, refl, sym, ap, subst, ◌∙◌, inl, inr, append_assoc, arith, length-append}
+use Rattle.std.specs.Prelude.{Ok, Err}
 use Rattle.std.specs.Global.{Vec}
 use Rattle.std.proofs.lemmas.List.{append-nil, map-append, take_all, take_more, take-append-drop}
 use Rattle.std.proofs.Math.Seq.{drop-cons}
-use mathlib.Core.List.{IsPrefix}
 use Rattle.fix_tags.specs.Stamp.{StampParts}
 use Rattle.dialect.specs.declared.message.Message.{Message}
 use Rattle.dialect.specs.Framed.{Writers, IsFramed}
 use Rattle.dialect.specs.Outgoing.{alone}
-use Rattle.link.specs.Traffic.{Traffic, Tells, Dials, Takes, TakesPart, Stays}
-use Rattle.link.proofs.Taking.{tells_nothing, tells_more}
-use Rattle.session_core.specs.declared.session_fault.SessionFault.{SessionFault}
+use Rattle.link.specs.Traffic.{Traffic, Tells, Takes, TakesPart, Stays}
+use Rattle.link.proofs.Taking.{tells_more}
 use Rattle.session_core.specs.Session.{SessionParts}
 use Rattle.session_core.specs.Calling.{SessionAnswer, broken}
 use Rattle.session_core.specs.Given.{Gives}
-use Rattle.session_worker.specs.Events.{MayBreak}
-use Rattle.session_worker.specs.Speaking.{Wire, joined, Writes, Sends, MaySend}
+use Rattle.session_worker.specs.Speaking.{Wire, joined, Writes, Sends}
 
 pub stays_last : (R : List Traffic → List Traffic → Type 0) (a b c : Wire) → Tells a b R → Tells b c Stays → Tells a c R
 stays_last R None None None p q = tt

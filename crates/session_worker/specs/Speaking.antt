@@ -1,13 +1,12 @@
 -- What goes over a worker's link in one call.
-use Rattle.std.specs.Prelude.{◌≡◌, ◌⊎◌, ℕ, List, [], ◌∷◌, ◌++◌, map, Option, Result, Ok, Err}
+use Rattle.std.specs.Prelude.{◌≡◌, ◌⊎◌, ℕ, List, [], ◌∷◌, ◌++◌, Option, Ok}
 use Rattle.fix_tags.specs.Stamp.{StampParts}
 use Rattle.fix_text.specs.Reading.{Stream, fed}
 use Rattle.dialect.specs.declared.message.Message.{Message}
-use Rattle.dialect.specs.Framed.{Writers, IsFramed, AreFramed}
+use Rattle.dialect.specs.Framed.{Writers, IsFramed}
 use Rattle.dialect.specs.Outgoing.{alone}
 use Rattle.link.specs.Traffic.{Traffic, Tells, Dials, Takes, TakesPart, GivesBytes, Stays}
 use Rattle.session_core.specs.Session.{SessionParts}
-use Rattle.session_core.specs.Turn.{StepParts}
 use Rattle.session_core.specs.Calling.{SessionAnswer, broken}
 use Rattle.session_worker.specs.Events.{MayBreak}
 

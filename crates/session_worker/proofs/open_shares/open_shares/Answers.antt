@@ -1,4 +1,4 @@
-use Rattle.std.proofs.Common.{◌≡◌, ◌+◌, ◌≤◌, length, sym, ap, ◌∙◌, arith}
+use Rattle.std.proofs.Common.{◌+◌, ◌≤◌, length, sym, ap, ◌∙◌, arith}
 use Rattle.session_worker.proofs.Shares.{few_first, totals_some, totals_none, totals_all}
 use Rattle.session_worker.proofs.open_shares.open_shares.Goals as goal
 

@@ -1,4 +1,4 @@
-use Rattle.std.proofs.Common.{sym, ap}
+use Rattle.std.proofs.Common.{ap}
 use Rattle.dialect.specs.Framed.{Writers}
 use Rattle.dialect.specs.Message.{Readers}
 use Rattle.session_core.specs.Given.{IsStep}

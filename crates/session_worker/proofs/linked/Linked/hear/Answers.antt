@@ -1,4 +1,3 @@
-use Rattle.std.proofs.Common.{◌∙◌}
 use Rattle.dialect.specs.Message.{Readers}
 use Rattle.session_worker.proofs.Calling.{moves_none, moves_on, moves_same, moves_broken}
 use Rattle.session_worker.proofs.linked.Linked.hear.Goals as goal

@@ -4,7 +4,6 @@ use Rattle.dialect.specs.declared.message.Message.{Message}
 use Rattle.dialect.specs.Framed.{Writers, IsFramed}
 use Rattle.dialect.specs.Message.{Readers}
 use Rattle.dialect.specs.Outgoing.{alone}
-use Rattle.link.specs.Traffic.{Tells}
 use Rattle.session_core.specs.Calling.{broken, connect}
 use Rattle.session_worker.specs.Speaking.{Writes}
 use Rattle.session_worker.proofs.Spoken.{sends_given}

@@ -1,5 +1,5 @@
 use Rattle.std.proofs.Common.{inl, inr, refl}
-use Rattle.session_worker.proofs.Spoken.{writes_all, writes_part}
+use Rattle.session_worker.proofs.Spoken.{writes_part}
 use Rattle.session_worker.proofs.linked.Linked.write.Goals as goal
 
 pub returns-in-Ok-clause-session : goal.returns-in-Ok-clause-session

@@ -1,4 +1,4 @@
-use Rattle.std.proofs.Common.{◌≡◌, ℕ, List, length, inl, inr, refl, ap, subst, ◌∙◌}
+use Rattle.std.proofs.Common.{ℕ, List, inl, inr, refl, ap, subst, ◌∙◌}
 use Rattle.link.specs.Traffic.{Tells, Takes, TakesPart}
 use Rattle.link.proofs.Taking.{tells_nothing}
 use Rattle.session_core.specs.Calling.{broken}
@@ -36,8 +36,10 @@ returns-in-Err-clause-wire g c =
     subst (λ (frames : List (List ℕ)). Tells a d (TakesPart (joined frames))) (ap texts c.deref-frame-items.ensures.value ∙ c.into_vec-frames.ensures)
     (frame_part c.deref-frame-items.result.now c.loop-frame.frame-index c.frame-item.result c.loop-frame-test.true
     c.frame-item.is a b d c.loop-frame.invariant.1 wrote) in
-    inr (c.break_off.ensures.session ∙ ap broken c.loop-frame.invariant.0,
-    stays_last (TakesPart (joined c.args.frames)) a d e part c.break_off.ensures.wire)
+    inr (
+      c.break_off.ensures.session ∙ ap broken c.loop-frame.invariant.0,
+      stays_last (TakesPart (joined c.args.frames)) a d e part c.break_off.ensures.wire,
+    )
 
 pub returns-clause-session : goal.returns-clause-session
 returns-clause-session g c = inl c.loop-frame.invariant.0
@@ -46,6 +48,8 @@ pub returns-clause-wire : goal.returns-clause-wire
 returns-clause-wire g c =
     let a : Wire = g.K.Link.wire c.args.self.now.link in
     let b : Wire = g.K.Link.wire c.loop-frame.self.link in
-    inl (c.loop-frame.invariant.0,
-    subst (λ (frames : List (List ℕ)). Tells a b (Takes (joined frames))) (ap texts c.deref-frame-items.ensures.value ∙ c.into_vec-frames.ensures)
-    (frames_all c.deref-frame-items.result.now c.loop-frame.frame-index a b c.loop-frame-test.false c.loop-frame.invariant.1))
+    inl (
+      c.loop-frame.invariant.0,
+      subst (λ (frames : List (List ℕ)). Tells a b (Takes (joined frames))) (ap texts c.deref-frame-items.ensures.value ∙ c.into_vec-frames.ensures)
+          (frames_all c.deref-frame-items.result.now c.loop-frame.frame-index a b c.loop-frame-test.false c.loop-frame.invariant.1),
+    )

@@ -1,4 +1,3 @@
-use Rattle.session_worker.specs.Events.{WorkerParts, parts_of}
 use Rattle.session_worker.proofs.Doing.{does_none}
 use Rattle.session_worker.proofs.post.Post.begin.Goals as goal
 

@@ -1,5 +1,4 @@
 use Rattle.std.proofs.Common.{refl}
-use Rattle.session_worker.specs.Events.{WorkerParts, parts_of}
 use Rattle.session_worker.proofs.Calling.{moves_confirm, moves_broken}
 use Rattle.session_worker.proofs.Doing.{does_moves}
 use Rattle.session_worker.proofs.post.Post.book.Goals as goal

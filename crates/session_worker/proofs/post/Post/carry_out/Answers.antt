@@ -1,4 +1,4 @@
-use Rattle.std.proofs.Common.{refl, ◌∙◌}
+use Rattle.std.proofs.Common.{refl}
 use Rattle.session_worker.specs.Events.{WorkerParts, parts_of}
 use Rattle.dialect.specs.Message.{Readers}
 use Rattle.session_worker.proofs.Calling.{moves_may_break, moves_on, moves_same}

@@ -1,4 +1,4 @@
-use Rattle.std.proofs.Common.{refl, sym, subst, ◌∙◌}
+use Rattle.std.proofs.Common.{refl, sym, subst}
 use Rattle.dialect.specs.Message.{Readers}
 use Rattle.session_worker.specs.Events.{WorkerParts, IsIdle, parts_of}
 use Rattle.session_core.specs.declared.phase.Phase.TheVariants.{Down}

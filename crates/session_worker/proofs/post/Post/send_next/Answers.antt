@@ -1,4 +1,4 @@
-use Rattle.std.proofs.Common.{Some, None, refl, rules}
+use Rattle.std.proofs.Common.{refl}
 use Rattle.dialect.specs.Message.{Readers}
 use Rattle.session_worker.specs.Events.{WorkerParts, parts_of}
 use Rattle.session_worker.proofs.Calling.{moves_broken}

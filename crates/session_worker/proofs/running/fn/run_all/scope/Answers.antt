@@ -1,4 +1,4 @@
-use Rattle.std.proofs.Common.{◌≡◌, rules, [], List, length, map, subst, arith}
+use Rattle.std.proofs.Common.{◌≡◌, rules, List, length, map, subst, arith}
 use Rattle.session_worker.specs.Events.{parts_of}
 use Rattle.session_worker.specs.Ends.{WorkerStart, WorkerLeft, AllRan}
 use Rattle.session_worker.proofs.Ran.{all_ran, all_started, nothing_left}
