@@ -18,7 +18,7 @@ loop-number-preserved g c =
     let same : c.in-Ok.venue ≡ number = venue_is number c.in-Ok.venue (sym c.new.ensures ∙ c.in-Ok.is) in
     let marked = ap (slice_get c.args.venues.now.marks) (sym same) ∙ c.has.ensures in
     elim c.if-has.branch [
-      then-has w ↦ (
+      | then-has w ↦ (
         (λ named are_marks.
             subst (λ (d : KeptDesk). PumpsEach named (number + 1) before d) (sym w.locked-is)
             (pumps_next named number true before between w.pump.new.self
@@ -27,7 +27,7 @@ loop-number-preserved g c =
             (record { pumps = w.pump.ensures.desk; done = w.pump.ensures.done })))),
         subst Replays (sym w.locked-is) w.pump.ensures.replays.1,
       )
-    | else-has w ↦ (
+      | else-has w ↦ (
         (λ named are_marks.
             pumps_next named number false before between c.if-has.locked
             (sym (are_marks number low) ∙ (marked ∙ ap (λ b. Some b) w.if-has.false)) (so_far.0 named are_marks)
