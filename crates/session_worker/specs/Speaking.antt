@@ -1,11 +1,10 @@
 -- What goes over a worker's link in one call.
 use Rattle.std.specs.Prelude.{◌≡◌, ◌⊎◌, ℕ, List, [], ◌∷◌, ◌++◌, Option, Ok}
 use Rattle.fix_tags.specs.Stamp.{StampParts}
-use Rattle.fix_text.specs.Reading.{Stream, fed}
 use Rattle.dialect.specs.declared.message.Message.{Message}
 use Rattle.dialect.specs.Framed.{Writers, IsFramed}
 use Rattle.dialect.specs.Outgoing.{alone}
-use Rattle.link.specs.Traffic.{Traffic, Tells, Dials, Takes, TakesPart, GivesBytes, Stays}
+use Rattle.link.specs.Traffic.{Traffic, Tells, Dials, Takes, TakesPart, Stays}
 use Rattle.session_core.specs.Session.{SessionParts}
 use Rattle.session_core.specs.Calling.{SessionAnswer, broken}
 use Rattle.session_worker.specs.Events.{MayBreak}
@@ -36,7 +35,7 @@ pub record Sends (w : Writers) (answer : SessionAnswer Message) (wire : Wire) (a
   pub framed : IsFramed w stamp (alone message) bytes
   pub writes : Writes bytes session wire after wire_after
 
--- it was, or the call was refused and nothing was written
+-- it was, or nothing was written, and the connection may have been given up
 abbrev pub MaySend : Writers → SessionAnswer Message → SessionParts → Wire → SessionParts → Wire → Type 0
 MaySend w answer before wire after wire_after =
     Sends w answer wire after wire_after ⊎ (MayBreak before after × Tells wire wire_after Stays)
@@ -51,9 +50,3 @@ pub record Dialled (w : Writers) (answer : SessionAnswer Message) (before : Sess
 abbrev pub MayDial : Writers → SessionAnswer Message → SessionParts → Wire → SessionParts → Wire → Type 0
 MayDial w answer before wire after wire_after =
     Dialled w answer before wire after wire_after ⊎ ((after ≡ before) × Tells wire wire_after Stays)
-
--- bytes were read, and stand behind those that the reader had; or none were, or the connection was given up
-abbrev pub Reads : SessionParts → Wire → Stream → SessionParts → Wire → Stream → Type 0
-Reads before wire stream after wire_after stream_after =
-    ((bytes : List ℕ) × (after ≡ before) × Tells wire wire_after (GivesBytes bytes) × (stream_after ≡ fed stream bytes))
-    ⊎ ((after ≡ broken before) × (stream_after ≡ stream))
