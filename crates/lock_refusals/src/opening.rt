@@ -1,30 +1,19 @@
 //! A day from its rings on.
 
-ghost use Rattle.std.specs.Prelude.{◌≡◌, length, map, IfOk};
+ghost use Rattle.std.specs.Prelude.{◌≡◌, length, map};
 ghost use Rattle.std.specs.List.{All};
 ghost use Rattle.release_lock.specs.Queues.{IsFresh};
 
 use crate::day::LockDay;
 use crate::day_fault::DayFault;
 use crate::turn::DAY;
-use release_lock::Run;
+use release_lock::{Run, rings};
 use std::alloc::Global;
 use std::collections::VecDeque;
 use std::marker::Brand;
 use std::sync::Wait;
 use std::sync::ledger::{Blank, Ledger};
-use venue_queue::{Drain, Feed, pair};
-
-/// The rings of so many venues.
-fn rings(alloc: Global, venues: u8) -> Result<VecDeque<(Feed, Drain)>, DayFault>
-    ensures { IfOk result (λ rings. (length rings.items ≡ venues) × All IsFresh rings.items) }
-{
-    let mut rings = VecDeque::new(alloc);
-    for _ in 0..venues {
-        rings.push_back(pair(alloc, 64)?)?;
-    }
-    Ok(rings)
-}
+use venue_queue::{Drain, Feed};
 
 /// Opens a lock over the rings, and tells the day, turn by turn.
 fn tell_day<L: Run, M: Ledger>(

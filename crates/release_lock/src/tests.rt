@@ -1,7 +1,7 @@
 //! What was released is read back from desk, book and ring; a ring and a backlog at their limits; a refused sweep; a seat
 //! that is split until it has one part; and a day in threads, after which seats and rings are compared with desk and book.
 
-ghost use Rattle.std.specs.Prelude.{◌≡◌, ◌<◌, ◌≤◌, [], length, map, IfOk};
+ghost use Rattle.std.specs.Prelude.{◌≡◌, ◌<◌, ◌≤◌, [], length, map};
 ghost use Rattle.std.specs.List.{All};
 ghost use Rattle.release_lock.specs.Locked.{OnlyTurns};
 ghost use Rattle.release_lock.specs.Queues.{IsFresh};
@@ -20,7 +20,7 @@ use std::sync::ledger::{Blank, Ledger};
 use std::test::Fail;
 use std::thread::{Threads, join, map_vec, yield_now};
 use sweep_release::{Desk, DeskEntry, GateFault, Receipt, ReleaseFault};
-use venue_queue::{Drain, Feed, pair};
+use venue_queue::{Drain, Feed};
 
 fn venue(number: u8) -> Result<VenueId, Fail> {
     Ok(VenueId::new(number).ok().ok_or("a venue")?)
@@ -50,17 +50,6 @@ fn legs_to(alloc: Global, number: u8, count: usize) -> Result<Sweep, Fail> {
         orders.push((number, 10))?;
     }
     sweep(alloc, orders.as_slice())
-}
-
-// The rings of so many venues.
-fn rings(alloc: Global, venues: u8) -> Result<VecDeque<(Feed, Drain)>, Fail>
-    ensures { IfOk result (λ rings. (length rings.items ≡ venues) × All IsFresh rings.items) }
-{
-    let mut rings = VecDeque::new(alloc);
-    for _ in 0..venues {
-        rings.push_back(pair(alloc, 64)?)?;
-    }
-    Ok(rings)
 }
 
 // Puts a gate down, if the desk has it.

@@ -11,10 +11,10 @@ mod script;
 
 use super::*;
 use crate::gates::close;
-use days::{Day, new_day, releases, rings, turns};
+use days::{Day, new_day, releases, turns};
 use dialect::Plain;
 use leg::{Totals, VenueId};
-use release_lock::Run;
+use release_lock::{Run, rings};
 use script::{Script, Text};
 use std::alloc::Global;
 use std::collections::VecDeque;

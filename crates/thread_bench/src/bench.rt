@@ -1,35 +1,19 @@
 //! The same load at the lock and at plain queues, with the line that tells of both.
 
-ghost use Rattle.std.specs.Prelude.{◌≡◌, length, IfOk};
-ghost use Rattle.std.specs.List.{All};
-ghost use Rattle.release_lock.specs.Queues.{IsFresh};
-
 use crate::fault::{BenchFault, tell};
 use crate::locked::at_lock;
 use crate::outcome::Outcome;
 use crate::plain::at_queues;
 use crate::request::{Load, Part, read_request};
 use crate::worked::VENUES;
+use release_lock::rings;
 use std::alloc::Global;
-use std::collections::VecDeque;
 use std::io::Write;
 use std::marker::Brand;
 use std::sync::Wait;
 use std::sync::ledger::Blank;
 use std::thread::Threads;
 use std::time::Clock;
-use venue_queue::{Drain, Feed, pair};
-
-/// The rings of so many venues.
-fn rings(alloc: Global, venues: u8) -> Result<VecDeque<(Feed, Drain)>, BenchFault>
-    ensures { IfOk result (λ rings. (length rings.items ≡ venues) × All IsFresh rings.items) }
-{
-    let mut rings = VecDeque::new(alloc);
-    for _ in 0..venues {
-        rings.push_back(pair(alloc, 64)?)?;
-    }
-    Ok(rings)
-}
 
 /// The load at a lock of its own.
 fn with_lock<R: Threads + Wait + Clock + Sync>(

@@ -4,14 +4,14 @@ ghost use Rattle.std.specs.Prelude.{◌≡◌, None, length, map};
 ghost use Rattle.std.specs.List.{All};
 ghost use Rattle.release_lock.specs.Queues.{IsFresh};
 
-use super::days::{new_worker, rings};
+use super::days::new_worker;
 use super::script::{Script, Still, Text};
 use super::{FENCE, LOGON};
 use crate::{EndReason, Worker, run_all};
 use dialect::Plain;
 use exec_collector::{Collector, WorkerSeat};
 use link::{Got, Link, LinkFault};
-use release_lock::{Opened, ReleaseLock, Run, VenueDrain};
+use release_lock::{Opened, ReleaseLock, Run, VenueDrain, rings};
 use std::alloc::Global;
 use std::collections::VecDeque;
 use std::marker::Brand;

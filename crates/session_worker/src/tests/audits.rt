@@ -4,13 +4,13 @@ ghost use Rattle.std.specs.Prelude.{◌≡◌, length, map};
 ghost use Rattle.std.specs.List.{All};
 ghost use Rattle.release_lock.specs.Queues.{IsFresh};
 
-use super::days::{Day, new_day, releases, rings, turns};
+use super::days::{Day, new_day, releases, turns};
 use super::script::Script;
 use super::{FENCE, LOGON};
 use crate::gates::close;
 use crate::{AuditFault, DayReport, WorkerEnd, audit};
 use leg::VenueId;
-use release_lock::{CallerSeat, Run};
+use release_lock::{CallerSeat, Run, rings};
 use std::alloc::Global;
 use std::collections::VecDeque;
 use std::marker::Brand;

@@ -1,6 +1,6 @@
 //! Days of one venue or two: a lock, a collector, the first caller's seat, and the workers.
 
-ghost use Rattle.std.specs.Prelude.{◌≡◌, ◌<◌, ◌≤◌, length, map, IfOk};
+ghost use Rattle.std.specs.Prelude.{◌≡◌, ◌<◌, ◌≤◌, length, map};
 ghost use Rattle.std.specs.List.{All};
 ghost use Rattle.release_lock.specs.Queues.{IsFresh};
 
@@ -17,7 +17,7 @@ use std::collections::VecDeque;
 use std::sync::Wait;
 use std::sync::ledger::{Blank, Ledger};
 use std::test::Fail;
-use venue_queue::{Drain, Feed, pair};
+use venue_queue::{Drain, Feed};
 
 /// A day, its worker of venue 0 the last.
 #[derive(Drop)]
@@ -26,17 +26,6 @@ pub(super) struct Day<L: Run, M: Ledger> {
     pub(super) collector: Collector<M>,
     pub(super) seat: CallerSeat<L>,
     pub(super) workers: Vec<Worker<Plain, Script, Still, L, M>>,
-}
-
-/// The rings of so many venues.
-pub(super) fn rings(alloc: Global, venues: u8) -> Result<VecDeque<(Feed, Drain)>, Fail>
-    ensures { IfOk result (λ rings. (length rings.items ≡ venues) × All IsFresh rings.items) }
-{
-    let mut rings = VecDeque::new(alloc);
-    for _ in 0..venues {
-        rings.push_back(pair(alloc, 64)?)?;
-    }
-    Ok(rings)
 }
 
 /// A is the session's end, and B the exchange.
