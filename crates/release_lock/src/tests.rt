@@ -179,13 +179,24 @@ fn counts<L: Run>(
     Ok(())
 }
 
-// A lock and a collector of one venue, its gate up; what is released is read back.
-fn reads_back<L: Run, M: Ledger>(
+// What is tried at a lock and a collector of one venue.
+#[derive(Clone, Copy)]
+enum Trial {
+    /// What is released is read back.
+    ReadsBack,
+    /// A ring of 64 legs, and 256 behind it.
+    FillsUp,
+    /// A ring that is full, and legs behind it that move on.
+    MovesOn,
+}
+
+fn at_one_venue<L: Run, M: Ledger>(
     rt: &impl Wait,
     alloc: Global,
     callers: Blank,
     workers: Blank,
     rings: VecDeque<(Feed, Drain)>,
+    trial: Trial,
 ) -> Result<(), Fail>
     requires callers { (callers.name ≡ L.name) × (callers.parts ≡ L.parts) × (L.parts ≡ 1024) }
     requires workers { (workers.name ≡ M.name) × (workers.parts ≡ M.parts) × (M.parts ≡ 1) }
@@ -196,10 +207,20 @@ fn reads_back<L: Run, M: Ledger>(
     let opened = opened.ok().ok_or("a lock")?;
     let made = Collector::<M>::new(alloc, 1, workers);
     let (collector, worker_seats) = made.ok().ok_or("a collector")?;
-    is_told(rt, alloc, opened, &collector, worker_seats)
+    match trial {
+        Trial::ReadsBack => reads_back(rt, alloc, opened, &collector, worker_seats),
+        Trial::FillsUp => fills_up(rt, alloc, opened, &collector),
+        Trial::MovesOn => moves_on(rt, alloc, opened, &collector),
+    }
 }
 
-fn is_told<L: Run, M: Ledger>(
+fn tries(rt: &impl Wait, alloc: Global, trial: Trial) -> Result<(), Fail> {
+    let rings = rings(alloc, 1)?;
+    at_one_venue::<Brand, Brand>(rt, alloc, Blank::new(1024), Blank::new(1), rings, trial)
+}
+
+// Behind a gate that goes up, what is released is read back.
+fn reads_back<L: Run, M: Ledger>(
     rt: &impl Wait,
     alloc: Global,
     opened: Opened<L>,
@@ -253,8 +274,7 @@ fn received(number: u64, shares: u64) -> Result<Receipt, ReleaseFault> {
 
 #[test]
 fn release_reads_back(rt: HostRuntime) -> Result<(), Fail> {
-    let rings = rings(rt.alloc(), 1)?;
-    reads_back::<Brand, Brand>(&rt, rt.alloc(), Blank::new(1024), Blank::new(1), rings)
+    tries(&rt, rt.alloc(), Trial::ReadsBack)
 }
 
 // Pops legs up to so many in all, and says whether their ordinals are the next ones.
@@ -342,25 +362,6 @@ fn pumps<L: Run>(rt: &impl Wait, lock: &ReleaseLock<L>, drain: &VenueDrain<L>, a
 fn fills_up<L: Run, M: Ledger>(
     rt: &impl Wait,
     alloc: Global,
-    callers: Blank,
-    workers: Blank,
-    rings: VecDeque<(Feed, Drain)>,
-) -> Result<(), Fail>
-    requires callers { (callers.name ≡ L.name) × (callers.parts ≡ L.parts) × (L.parts ≡ 1024) }
-    requires workers { (workers.name ≡ M.name) × (workers.parts ≡ M.parts) × (M.parts ≡ 1) }
-    requires rings { (length rings.items ≡ 1) × All IsFresh rings.items }
-    requires queues { L.queues ≡ map (λ ends. ends.0.table) rings.items }
-{
-    let opened = ReleaseLock::<L>::new(alloc, 1, callers, rings);
-    let opened = opened.ok().ok_or("a lock")?;
-    let made = Collector::<M>::new(alloc, 1, workers);
-    let (collector, _worker_seats) = made.ok().ok_or("a collector")?;
-    is_filled_up(rt, alloc, opened, &collector)
-}
-
-fn is_filled_up<L: Run, M: Ledger>(
-    rt: &impl Wait,
-    alloc: Global,
     opened: Opened<L>,
     collector: &Collector<M>,
 ) -> Result<(), Fail> {
@@ -386,31 +387,11 @@ fn is_filled_up<L: Run, M: Ledger>(
 
 #[test]
 fn sixty_four_in_the_ring(rt: HostRuntime) -> Result<(), Fail> {
-    let rings = rings(rt.alloc(), 1)?;
-    fills_up::<Brand, Brand>(&rt, rt.alloc(), Blank::new(1024), Blank::new(1), rings)
+    tries(&rt, rt.alloc(), Trial::FillsUp)
 }
 
 // With 64 legs in the ring and 32 behind it, five are popped. A refused sweep moves none; the next one moves five.
 fn moves_on<L: Run, M: Ledger>(
-    rt: &impl Wait,
-    alloc: Global,
-    callers: Blank,
-    workers: Blank,
-    rings: VecDeque<(Feed, Drain)>,
-) -> Result<(), Fail>
-    requires callers { (callers.name ≡ L.name) × (callers.parts ≡ L.parts) × (L.parts ≡ 1024) }
-    requires workers { (workers.name ≡ M.name) × (workers.parts ≡ M.parts) × (M.parts ≡ 1) }
-    requires rings { (length rings.items ≡ 1) × All IsFresh rings.items }
-    requires queues { L.queues ≡ map (λ ends. ends.0.table) rings.items }
-{
-    let opened = ReleaseLock::<L>::new(alloc, 1, callers, rings);
-    let opened = opened.ok().ok_or("a lock")?;
-    let made = Collector::<M>::new(alloc, 1, workers);
-    let (collector, _worker_seats) = made.ok().ok_or("a collector")?;
-    is_moved_on(rt, alloc, opened, &collector)
-}
-
-fn is_moved_on<L: Run, M: Ledger>(
     rt: &impl Wait,
     alloc: Global,
     opened: Opened<L>,
@@ -444,8 +425,7 @@ fn is_moved_on<L: Run, M: Ledger>(
 
 #[test]
 fn a_refused_sweep_moves_no_leg(rt: HostRuntime) -> Result<(), Fail> {
-    let rings = rings(rt.alloc(), 1)?;
-    moves_on::<Brand, Brand>(&rt, rt.alloc(), Blank::new(1024), Blank::new(1), rings)
+    tries(&rt, rt.alloc(), Trial::MovesOn)
 }
 
 // Splits a seat until it has one part, and joins what was split off. How many were, and how many parts it was not.
