@@ -8,21 +8,21 @@ mod counting;
 mod locked_desk;
 mod pumping;
 mod release_lock;
-mod rings;
 mod run;
 mod sweep_venues;
 mod venue_drain;
 mod venue_end;
+mod venue_rings;
 
 pub use caller_seat::CallerSeat;
 pub use checking::{WrongQueue, check_queues};
 pub use counting::{Miscounted, check_placed};
 pub use locked_desk::LockedDesk;
 pub use release_lock::{Opened, ReleaseLock};
-pub use rings::rings;
 pub use run::Run;
 pub use venue_drain::VenueDrain;
 pub use venue_end::VenueEnd;
+pub use venue_rings::rings;
 
 #[cfg(test)]
 mod tests;

@@ -2,7 +2,7 @@ use Rattle.std.proofs.Common.{◌≡◌, ◌∷◌, [], arith}
 use Rattle.std.proofs.lemmas.List.{length-append}
 use Rattle.std.proofs.lemmas.List.Elements.{All-push}
 use Rattle.release_lock.specs.Queues.{IsFresh}
-use Rattle.release_lock.proofs.rings.rings.Goals as goal
+use Rattle.release_lock.proofs.venue_rings.rings.Goals as goal
 
 pub loop-preserved : goal.loop-preserved
 loop-preserved c =

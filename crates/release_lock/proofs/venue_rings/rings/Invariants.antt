@@ -1,6 +1,6 @@
 use Rattle.std.proofs.Common.{◌≡◌, length, All}
 use Rattle.release_lock.specs.Queues.{IsFresh}
-use Rattle.release_lock.proofs.rings.rings.Given as goal
+use Rattle.release_lock.proofs.venue_rings.rings.Given as goal
 
 abbrev pub invariant-loop : goal.invariant-loop
 invariant-loop l = (length l.rings.items ≡ l.counter) × All IsFresh l.rings.items
