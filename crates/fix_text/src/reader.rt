@@ -24,9 +24,10 @@ pub struct FrameReader {
 }
 
 impl Model for FrameReader {
-    ghost use Rattle.std.specs.Prelude.{◌≤◌, ◌<◌, ◌-◌, length, vec_capacity};
+    ghost use Rattle.std.specs.Prelude.{◌≤◌, ◌<◌, ◌-◌, length, drop, vec_capacity};
     ghost use Rattle.fix_text.specs.Reading.{Stream};
     ghost use Rattle.fix_text.specs.Passing.{left_of, most_kept};
+    ghost use Rattle.fix_text.specs.Waiting.{WaitsFor};
 
     ghost Value = { Stream };
 
@@ -34,7 +35,8 @@ impl Model for FrameReader {
 
     ghost invariant = { λ reader. (reader.passed.end ≤ length reader.kept.buffer.items)
         × (length reader.kept.buffer.items ≤ most_kept (length reader.kept.buffer.items - reader.passed.end))
-        × (0 < length reader.kept.buffer.items → 64 ≤ vec_capacity reader.kept.places) };
+        × (0 < length reader.kept.buffer.items → 64 ≤ vec_capacity reader.kept.places)
+        × WaitsFor reader.passed.waits_for (drop reader.passed.end reader.kept.buffer.items) };
 }
 
 impl FrameReader {
@@ -103,6 +105,9 @@ impl FrameReader {
         ensures full { OnErr result (AreMore 64 (next_read self.old).frame) }
     {
         let bytes = self.kept.buffer.as_slice();
+        if bytes.len() - self.passed.end < self.passed.waits_for {
+            return Ok(None);
+        }
         let found = self.passed.pass(bytes, &mut self.kept.places)?;
         let found = found.let_go(&mut self.kept.buffer);
         self.passed = found.passed;

@@ -9,6 +9,7 @@ use Rattle.fix_text.specs.FrameFields.{fields_in}
 use Rattle.fix_text.specs.Reading.{NextFrame, Stream, next_read}
 use Rattle.fix_text.specs.Passing.{IsBody, left_of, found_in}
 use Rattle.fix_text.specs.declared.passed.Body.{Body}
+use Rattle.fix_text.proofs.Waits.{waits_behind, read_waits, nothing_found}
 use Rattle.fix_text.proofs.Lent.{is_next, shortens, begins, more_than_free}
 use Rattle.fix_text.proofs.reader.FrameReader.next.Goals as goal
 
@@ -19,18 +20,30 @@ frame-requires c =
     subst (λ (body : Option Body). IfSome body (λ body. IsBody c.let_go-found.new.buffer.items body places)) c.in-Some.is within
 
 pub invariant_of-self-in-Some : goal.invariant_of-self-in-Some
-invariant_of-self-in-Some c = (
-  c.let_go-found.ensures.end,
-  c.let_go-found.ensures.few,
-  λ some. omega (arith, c.self.invariant.2 (omega (arith, some, c.let_go-found.ensures.no_more)), c.pass.ensures.room),
-)
+invariant_of-self-in-Some c =
+    let stream = c.args.self.now in
+    let places = c.pass.new.places.items in
+    let found = c.let_go-found.result in
+    let read = rw c.as_slice-bytes.ensures.value at c.in_ok-found.ensures.read in
+    let waits = rw c.as_slice-bytes.ensures.value at c.in_ok-found.ensures.waits in (
+      c.let_go-found.ensures.end,
+      c.let_go-found.ensures.few,
+      λ some. omega (arith, c.self.invariant.2 (omega (arith, some, c.let_go-found.ensures.no_more)), c.pass.ensures.room),
+      read_waits stream _ _ (c.let_go-found.ensures.same places ∙ read ∙ ap next_read c.self.view_is) (c.let_go-found.ensures.waits ∙ waits ∙ ap waits_behind c.self.view_is),
+    )
 
 pub invariant_of-self-in-None : goal.invariant_of-self-in-None
-invariant_of-self-in-None c = (
-  c.let_go-found.ensures.end,
-  c.let_go-found.ensures.few,
-  λ some. omega (arith, c.self.invariant.2 (omega (arith, some, c.let_go-found.ensures.no_more)), c.pass.ensures.room),
-)
+invariant_of-self-in-None c =
+    let stream = c.args.self.now in
+    let places = c.pass.new.places.items in
+    let found = c.let_go-found.result in
+    let read = rw c.as_slice-bytes.ensures.value at c.in_ok-found.ensures.read in
+    let waits = rw c.as_slice-bytes.ensures.value at c.in_ok-found.ensures.waits in (
+      c.let_go-found.ensures.end,
+      c.let_go-found.ensures.few,
+      λ some. omega (arith, c.self.invariant.2 (omega (arith, some, c.let_go-found.ensures.no_more)), c.pass.ensures.room),
+      read_waits stream _ _ (c.let_go-found.ensures.same places ∙ read ∙ ap next_read c.self.view_is) (c.let_go-found.ensures.waits ∙ waits ∙ ap waits_behind c.self.view_is),
+    )
 
 pub returns-in_err-found : goal.returns-in_err-found
 returns-in_err-found c =
@@ -49,6 +62,26 @@ returns-in_err-found c =
         written = λ fields rest begins. search rules;
         refusal = search rules;
         full = on_err c.from_residual.result _ (more_than_free stream 64 _ always more);
+      },
+    )
+
+pub returns-then-bytes-self : goal.returns-then-bytes-self
+returns-then-bytes-self c =
+    let stream = c.args.self.now in
+    let inside = c.self.inside in
+    let frame : Option (List Tagged) = None in
+    let left = left_of inside.kept.buffer.items inside.passed in
+    let few : length left.rest < inside.passed.waits_for = omega (arith, c.if-bytes-self.true, ap length c.as_slice-bytes.ensures.value, length-drop inside.passed.end inside.kept.buffer.items) in
+    let is : record { frame = frame; stream = left } ≡ next_read stream = nothing_found inside.passed.waits_for left c.self.invariant.3 few ∙ ap next_read c.self.view_is in (
+      (refl, (λ _. tt), ap (λ (next : NextFrame). next.stream) is),
+      record {
+        lender = tt;
+        fields = ap (λ (next : NextFrame). next.frame) is;
+        next = is_next frame left stream is;
+        shorter = tt;
+        written = begins frame left stream is;
+        refusal = tt;
+        full = tt;
       },
     )
 
