@@ -87,6 +87,7 @@ fn digit_at(bytes: &[u8]) -> Result<(u32, &[u8]), Stop>
 
 /// BodyLength, behind `9=`.
 #[tactic(auto, unfolding(crate::specs::Reading::length_at))]
+#[inline(always)]
 fn length_at(bytes: &[u8]) -> Result<(usize, &[u8]), Stop>
     ensures found { result_map_both (λ found. (found.0, found.1.now)) (λ stop. stop) result ≡ length_at 6 0 bytes.now }
     ensures positive { IfOk result (λ found. 0 < found.0) }
@@ -200,6 +201,7 @@ fn trailer_by_steps(bytes: &[u8]) -> Result<(u32, &[u8]), Stop>
 
 /// What follows the opening of a frame: BeginString (8) of FIX 4.4, and tag 9.
 #[tactic(auto, unfolding(crate::specs::Reading::literal_at))]
+#[inline(always)]
 fn opening_at(bytes: &[u8]) -> Result<&[u8], Stop>
     ensures found { result_map_both (λ rest. rest.now) (λ stop. stop) result ≡ literal_at opening bytes.now }
     ensures within { IfOk result (λ rest. length rest.now ≤ length bytes.now) }
@@ -255,6 +257,7 @@ fn body_missing(bytes: &[u8]) -> Result<usize, Stop>
 
 /// The least length at which the beginning of a frame may turn out to be a whole one, or none: before its body is there
 /// it can't.
+#[inline(never)]
 pub fn least_length(bytes: &[u8]) -> usize
     ensures { result ≡ least_length bytes.now }
 {

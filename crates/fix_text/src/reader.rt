@@ -104,10 +104,21 @@ impl FrameReader {
         // The frame would else have been given.
         ensures full { OnErr result (AreMore 64 (next_read self.old).frame) }
     {
-        let bytes = self.kept.buffer.as_slice();
-        if bytes.len() - self.passed.end < self.passed.waits_for {
+        if self.kept.buffer.len() - self.passed.end < self.passed.waits_for {
             return Ok(None);
         }
+        self.look()
+    }
+
+    /// Looks for the next valid frame in what is kept. It stays a call, so that `next` is short where it only waits.
+    #[inline(never)]
+    fn look(&mut self) -> Result<Option<Frame<'_>>, ReaderFault>
+        ensures* lender { sem 𝓛 (LeavesNext self.entry result) }
+        ensures fields { IfOk result (λ frame. option_map fields_in frame ≡ (next_read self.old).frame) }
+        ensures refusal { IsOkUnless result ReaderFault.OutOfMemory }
+        ensures full { OnErr result (AreMore 64 (next_read self.old).frame) }
+    {
+        let bytes = self.kept.buffer.as_slice();
         let found = self.passed.pass(bytes, &mut self.kept.places)?;
         let found = found.let_go(&mut self.kept.buffer);
         self.passed = found.passed;
