@@ -1,7 +1,9 @@
 -- What a call for the next frame says, once its frame and the stream after it are those that are read.
-use Rattle.std.proofs.Common.{◌≡◌, ℕ, ◌<◌, ◌≤◌, true, List, length, Option, Some, sym, ap, subst, ◌∙◌, arith}
-use Rattle.std.specs.Prelude.{is_some}
+use Rattle.std.proofs.Common.{◌≡◌, ℕ, ◌<◌, ◌≤◌, true, List, length, Option, Some, None, Result, Ok, Err, sym, ap, subst, ◌∙◌, arith}
+use Rattle.std.specs.Prelude.{is_some, option_map, IfOk, IfSome}
 use Rattle.fix_text.specs.Tagged.{Tagged}
+use Rattle.fix_text.specs.declared.frame.Frame.{Frame}
+use Rattle.fix_text.specs.FrameFields.{fields_in}
 use Rattle.fix_text.specs.Reading.{Stream, NextFrame, next_read, BeginsWritten}
 use Rattle.fix_text.specs.Deciding.{IsNext}
 use Rattle.fix_text.specs.Placing.{AreMore}
@@ -31,3 +33,17 @@ pub more_than_free : (stream : Stream) (free room : ℕ) → (0 < length stream.
 more_than_free stream free room always more =
     let shorter = (next_shortens stream).shorter (more_some room (next_read stream).frame more) in
     more_than_fewer free room (next_read stream).frame (always (omega (arith, shorter))) more
+
+-- what holds of each answer that was given
+pub of_ok : {A E : Type 0} (result : Result A E) (P Q : A → Type 0) → ((x : A) → P x → Q x) → IfOk result P → IfOk result Q
+of_ok (Ok x) P Q so p = so x p
+of_ok (Err e) P Q so p = tt
+
+module _ (stream : Stream) where
+  -- a frame with the fields that are read is the one that is read
+  pub same_frame : (frame : Option (List Tagged)) → frame ≡ (next_read stream).frame → with_next frame stream ≡ next_read stream
+  same_frame frame is = ap (λ (f : Option (List Tagged)). with_next f stream) is
+
+  pub same_shortens : (frame : Option Frame) → option_map fields_in frame ≡ (next_read stream).frame → IfSome frame (λ _. length (next_read stream).stream.rest < length stream.rest)
+  same_shortens (Some frame) is = (next_shortens stream).shorter (ap (λ (f : Option (List Tagged)). is_some f) (sym is))
+  same_shortens None is = tt

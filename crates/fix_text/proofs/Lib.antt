@@ -17,6 +17,7 @@ pub mod Typed
 pub mod FrameTexts
 pub mod NextFrames
 pub mod Streams
+pub mod Waits
 pub mod Lent
 pub mod Replays
 pub mod NoSoh

@@ -4,6 +4,7 @@ pub mod Frame
 pub mod Grammar
 pub mod Then
 pub mod Reading
+pub mod Waiting
 pub mod Placing
 pub mod FrameFields
 pub mod Passing

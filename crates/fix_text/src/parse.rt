@@ -3,6 +3,7 @@ ghost use Rattle.std.specs.Prelude.{◌≡◌, ◌<◌, ◌≤◌, ◌*◌, ◌+
 ghost use Rattle.std.specs.Result.{result_map_both};
 ghost use Rattle.fix_text.specs.Grammar.{opening};
 ghost use Rattle.fix_text.specs.Reading.{literal_at, digit_at, length_at, body_at, trailer_at, frame_at};
+ghost use Rattle.fix_text.specs.Waiting.{body_missing, least_length};
 
 use crate::refusal::MAX_BODY;
 use std::marker::Model;
@@ -86,9 +87,11 @@ fn digit_at(bytes: &[u8]) -> Result<(u32, &[u8]), Stop>
 
 /// BodyLength, behind `9=`.
 #[tactic(auto, unfolding(crate::specs::Reading::length_at))]
+#[inline(always)]
 fn length_at(bytes: &[u8]) -> Result<(usize, &[u8]), Stop>
     ensures found { result_map_both (λ found. (found.0, found.1.now)) (λ stop. stop) result ≡ length_at 6 0 bytes.now }
     ensures positive { IfOk result (λ found. 0 < found.0) }
+    ensures bound { IfOk result (λ found. found.0 ≤ 4096) }
     ensures within { IfOk result (λ found. length found.1.now ≤ length bytes.now) }
 {
     match bytes {
@@ -114,6 +117,7 @@ fn length_at(bytes: &[u8]) -> Result<(usize, &[u8]), Stop>
 fn length_by_digits(bytes: &[u8]) -> Result<(usize, &[u8]), Stop>
     ensures found { result_map_both (λ found. (found.0, found.1.now)) (λ stop. stop) result ≡ length_at 6 0 bytes.now }
     ensures positive { IfOk result (λ found. 0 < found.0) }
+    ensures bound { IfOk result (λ found. found.0 ≤ 4096) }
     ensures within { IfOk result (λ found. length found.1.now ≤ length bytes.now) }
 {
     let mut rest = bytes;
@@ -197,6 +201,7 @@ fn trailer_by_steps(bytes: &[u8]) -> Result<(u32, &[u8]), Stop>
 
 /// What follows the opening of a frame: BeginString (8) of FIX 4.4, and tag 9.
 #[tactic(auto, unfolding(crate::specs::Reading::literal_at))]
+#[inline(always)]
 fn opening_at(bytes: &[u8]) -> Result<&[u8], Stop>
     ensures found { result_map_both (λ rest. rest.now) (λ stop. stop) result ≡ literal_at opening bytes.now }
     ensures within { IfOk result (λ rest. length rest.now ≤ length bytes.now) }
@@ -237,4 +242,27 @@ pub fn frame_at(bytes: &[u8]) -> Result<Whole<'_>, Stop>
         check,
         rest,
     })
+}
+
+/// How many bytes of its body are still to come, once its BodyLength (9) is there.
+#[tactic(auto, unfolding(crate::specs::Waiting::body_missing))]
+fn body_missing(bytes: &[u8]) -> Result<usize, Stop>
+    ensures found { result ≡ body_missing bytes.now }
+    ensures bound { IfOk result (λ missing. missing ≤ 4096) }
+{
+    let digits = opening_at(bytes)?;
+    let (size, rest) = length_at(digits)?;
+    Ok(size.saturating_sub(rest.len()))
+}
+
+/// The least length at which the beginning of a frame may turn out to be a whole one, or none: before its body is there
+/// it can't.
+#[inline(never)]
+pub fn least_length(bytes: &[u8]) -> usize
+    ensures { result ≡ least_length bytes.now }
+{
+    match body_missing(bytes) {
+        Ok(missing) => bytes.len() + missing.max(1),
+        Err(_) => bytes.len() + 1,
+    }
 }

@@ -3,9 +3,10 @@ ghost use Rattle.std.specs.Prelude.{◌≡◌, ◌≤◌, ◌<◌, ◌-◌, ℕ,
 ghost use Rattle.fix_text.specs.Placing.{AreMore};
 ghost use Rattle.fix_text.specs.declared.place.Place.{Place};
 ghost use Rattle.fix_text.specs.Reading.{next_read};
+ghost use Rattle.fix_text.specs.Waiting.{waits_after};
 
 use crate::fields::place_valid_fields;
-use crate::parse::{Stop, frame_at};
+use crate::parse::{Stop, frame_at, least_length};
 use crate::place::Place;
 use crate::reader_fault::ReaderFault;
 use memchr::memchr;
@@ -13,12 +14,14 @@ use memchr::memchr;
 /// Fewer bytes than these, once they are of no more use, are not worth a move of the others.
 const LEAST_MOVE: usize = 8_192;
 
-/// What was passed: the place behind it, and the counts.
+/// What was passed: the place behind it, and the counts; and how many bytes must lie behind that place before another
+/// look at them can find more.
 #[derive(Clone, Copy)]
 pub struct Passed {
     pub end: usize,
     pub skipped: u64,
     pub garbled: u64,
+    pub waits_for: usize,
 }
 
 /// Where the body of a frame lies.
@@ -40,12 +43,13 @@ impl Passed {
 
     /// Nothing yet.
     pub const fn new() -> Passed
-        ensures { result ≡ record { end = 0; skipped = 0; garbled = 0 } }
+        ensures { result ≡ record { end = 0; skipped = 0; garbled = 0; waits_for = 0 } }
     {
         Passed {
             end: 0,
             skipped: 0,
             garbled: 0,
+            waits_for: 0,
         }
     }
 
@@ -53,6 +57,8 @@ impl Passed {
     pub fn pass(self, bytes: &[u8], places: &mut Vec<Place>) -> Result<Found, ReaderFault>
         requires { self.end ≤ length bytes.now }
         ensures read { IfOk result (λ found. found_in bytes.now places.new.items found.body found.passed ≡ next_read (left_of bytes.now self)) }
+        ensures waits { IfOk result (λ found. let next = next_read (left_of bytes.now self) in
+            found.passed.waits_for ≡ waits_after next.frame next.stream.rest) }
         ensures within { IfOk result (λ found. IfSome found.body (λ body. IsBody bytes.now body places.new.items)) }
         ensures lies { IfOk result (λ found. LiesWithin bytes.now found) }
         ensures refusal { IsOkUnless result ReaderFault.OutOfMemory }
@@ -63,6 +69,7 @@ impl Passed {
             end: mut at,
             mut skipped,
             mut garbled,
+            waits_for: _,
         } = self;
         loop {
             match frame_at(&bytes[at..]) {
@@ -72,6 +79,7 @@ impl Passed {
                         end: at,
                         skipped,
                         garbled,
+                        waits_for: least_length(&bytes[at..]),
                     },
                 }),
                 Err(Stop::Differs) => {
@@ -93,6 +101,7 @@ impl Passed {
                                 end,
                                 skipped,
                                 garbled,
+                                waits_for: 0,
                             },
                         });
                     }
@@ -145,6 +154,7 @@ impl Found {
         ensures same { (places : List Place) → found_in buffer.new.items places result.body result.passed ≡ found_in buffer.old.items places self.body self.passed }
         ensures body { (places : List Place) → IfSome self.body (λ body. IsBody buffer.old.items body places)
             → IfSome result.body (λ body. IsBody buffer.new.items body places) }
+        ensures waits { result.passed.waits_for ≡ self.passed.waits_for }
         ensures end { result.passed.end ≤ length buffer.new.items }
         ensures few { length buffer.new.items ≤ most_kept (length buffer.new.items - result.passed.end) }
         ensures no_more { length buffer.new.items ≤ length buffer.old.items }

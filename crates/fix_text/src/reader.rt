@@ -24,9 +24,10 @@ pub struct FrameReader {
 }
 
 impl Model for FrameReader {
-    ghost use Rattle.std.specs.Prelude.{◌≤◌, ◌<◌, ◌-◌, length, vec_capacity};
+    ghost use Rattle.std.specs.Prelude.{◌≤◌, ◌<◌, ◌-◌, length, drop, vec_capacity};
     ghost use Rattle.fix_text.specs.Reading.{Stream};
     ghost use Rattle.fix_text.specs.Passing.{left_of, most_kept};
+    ghost use Rattle.fix_text.specs.Waiting.{WaitsFor};
 
     ghost Value = { Stream };
 
@@ -34,7 +35,8 @@ impl Model for FrameReader {
 
     ghost invariant = { λ reader. (reader.passed.end ≤ length reader.kept.buffer.items)
         × (length reader.kept.buffer.items ≤ most_kept (length reader.kept.buffer.items - reader.passed.end))
-        × (0 < length reader.kept.buffer.items → 64 ≤ vec_capacity reader.kept.places) };
+        × (0 < length reader.kept.buffer.items → 64 ≤ vec_capacity reader.kept.places)
+        × WaitsFor reader.passed.waits_for (drop reader.passed.end reader.kept.buffer.items) };
 }
 
 impl FrameReader {
@@ -100,6 +102,20 @@ impl FrameReader {
             → IfOk result (λ frame. next_frame frame (next_read self.old).stream ≡ record { frame = Some fields; stream = record self.old { rest = rest } }) }
         ensures refusal { IsOkUnless result ReaderFault.OutOfMemory }
         // The frame would else have been given.
+        ensures full { OnErr result (AreMore 64 (next_read self.old).frame) }
+    {
+        if self.kept.buffer.len() - self.passed.end < self.passed.waits_for {
+            return Ok(None);
+        }
+        self.look()
+    }
+
+    /// Looks for the next valid frame in what is kept. It stays a call, so that `next` is short where it only waits.
+    #[inline(never)]
+    fn look(&mut self) -> Result<Option<Frame<'_>>, ReaderFault>
+        ensures* lender { sem 𝓛 (LeavesNext self.entry result) }
+        ensures fields { IfOk result (λ frame. option_map fields_in frame ≡ (next_read self.old).frame) }
+        ensures refusal { IsOkUnless result ReaderFault.OutOfMemory }
         ensures full { OnErr result (AreMore 64 (next_read self.old).frame) }
     {
         let bytes = self.kept.buffer.as_slice();

@@ -2,6 +2,7 @@ use Rattle.std.proofs.Common.{◌≡◌, ◌+◌, ◌≤◌, List, ℕ, length, 
 use Rattle.std.specs.Vec.{vec_capacity}
 use Rattle.std.proofs.lemmas.List.{drop-drop, take_rest, length-drop}
 use Rattle.fix_text.specs.Reading.{Stream, NextFrame, valid_fields, frame_at}
+use Rattle.fix_text.specs.Waiting.{least_length, waits_after}
 use Rattle.fix_text.specs.Placing.{fields_at, AreMore, AreWithin, ArePlaced}
 use Rattle.fix_text.proofs.Places.{lies_at, lies_length, body_found, rest_found}
 use Rattle.fix_text.proofs.Turns.{waits, skips_all, some_left, gives, garbles, on_err, more_some, more_than_fewer}
@@ -12,6 +13,15 @@ returns-in-Err-Short-clause-read c =
     let bytes = c.args.bytes.now in
     let now : Stream = record { rest = drop c.loop-count.at bytes; skipped = c.loop-count.skipped; garbled = c.loop-count.garbled } in
     waits now _ _ c.in-Err-Short.field-0-is (c.in-Err-Short.ensures ∙ ap frame_at (take_rest bytes c.loop-count.at)) c.loop-count.invariant.read
+
+pub returns-in-Err-Short-clause-waits : goal.returns-in-Err-Short-clause-waits
+returns-in-Err-Short-clause-waits c =
+    let bytes = c.args.bytes.now in
+    let now : Stream = record { rest = drop c.loop-count.at bytes; skipped = c.loop-count.skipped; garbled = c.loop-count.garbled } in
+    c.least_length.ensures
+    ∙ ap least_length (take_rest bytes c.loop-count.at)
+    ∙ ap (λ (next : NextFrame). waits_after next.frame next.stream.rest)
+    (waits now _ _ c.in-Err-Short.field-0-is (c.in-Err-Short.ensures ∙ ap frame_at (take_rest bytes c.loop-count.at)) c.loop-count.invariant.read)
 
 pub loop-count-smaller-in-Err-Differs : goal.loop-count-smaller-in-Err-Differs
 loop-count-smaller-in-Err-Differs c =
@@ -73,6 +83,16 @@ returns-then-branch-clause-read c =
     let placed = subst (λ (b : Bool). ArePlaced b whole.body places (valid_fields whole)) c.if-branch.true c.in_ok-place_valid_fields-in-Ok.ensures.placed in
     rw (c.before-then-branch.ensures, c.body.ensures, c.rest.ensures, body_found bytes c.loop-count.at whole lies, rest_found bytes c.loop-count.at whole lies)
     (gives now _ whole (Some (fields_at whole.body places)) _ is placed.0 refl refl c.loop-count.invariant.read)
+
+pub returns-then-branch-clause-waits : goal.returns-then-branch-clause-waits
+returns-then-branch-clause-waits c =
+    let bytes = c.args.bytes.now in
+    let whole = c.in-Ok.frame in
+    let places = c.place_valid_fields.new.places.items in
+    let now : Stream = record { rest = drop c.loop-count.at bytes; skipped = c.loop-count.skipped; garbled = c.loop-count.garbled } in
+    let is = c.in-Ok.ensures ∙ ap frame_at (take_rest bytes c.loop-count.at) in
+    let placed = subst (λ (b : Bool). ArePlaced b whole.body places (valid_fields whole)) c.if-branch.true c.in_ok-place_valid_fields-in-Ok.ensures.placed in
+    ap (λ (next : NextFrame). waits_after next.frame next.stream.rest) (gives now _ whole (Some (fields_at whole.body places)) _ is placed.0 refl refl c.loop-count.invariant.read)
 
 pub returns-then-branch-clause-within : goal.returns-then-branch-clause-within
 returns-then-branch-clause-within c =

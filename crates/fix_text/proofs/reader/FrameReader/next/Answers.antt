@@ -1,102 +1,46 @@
-use Rattle.std.proofs.Common.{rules, ◌≡◌, ◌<◌, ◌≤◌, length, List, Option, Some, None, ap, sym, refl, subst, ◌∙◌, arith}
-use Rattle.std.specs.Prelude.{IfSome}
-use Rattle.std.specs.Vec.{vec_capacity}
+use Rattle.std.proofs.Common.{◌≡◌, ◌<◌, length, List, Option, None, ap, refl, subst, arith}
 use Rattle.std.proofs.lemmas.List.{length-drop}
-use Rattle.fix_text.specs.Placing.{AreMore}
-use Rattle.fix_text.proofs.Turns.{on_err}
 use Rattle.fix_text.specs.Tagged.{Tagged}
-use Rattle.fix_text.specs.FrameFields.{fields_in}
 use Rattle.fix_text.specs.Reading.{NextFrame, Stream, next_read}
-use Rattle.fix_text.specs.Passing.{IsBody, left_of, found_in}
-use Rattle.fix_text.specs.declared.passed.Body.{Body}
-use Rattle.fix_text.proofs.Lent.{is_next, shortens, begins, more_than_free}
+use Rattle.fix_text.specs.Passing.{left_of}
+use Rattle.fix_text.proofs.Waits.{nothing_found}
+use Rattle.fix_text.proofs.Lent.{is_next, begins, of_ok, same_frame, same_shortens}
 use Rattle.fix_text.proofs.reader.FrameReader.next.Goals as goal
 
-pub frame-requires : goal.frame-requires
-frame-requires c =
-    let places = c.pass.new.places.items in
-    let within = c.let_go-found.ensures.body places (rw c.as_slice-bytes.ensures.value at c.in_ok-found.ensures.within) in
-    subst (λ (body : Option Body). IfSome body (λ body. IsBody c.let_go-found.new.buffer.items body places)) c.in-Some.is within
-
-pub invariant_of-self-in-Some : goal.invariant_of-self-in-Some
-invariant_of-self-in-Some c = (
-  c.let_go-found.ensures.end,
-  c.let_go-found.ensures.few,
-  λ some. omega (arith, c.self.invariant.2 (omega (arith, some, c.let_go-found.ensures.no_more)), c.pass.ensures.room),
-)
-
-pub invariant_of-self-in-None : goal.invariant_of-self-in-None
-invariant_of-self-in-None c = (
-  c.let_go-found.ensures.end,
-  c.let_go-found.ensures.few,
-  λ some. omega (arith, c.self.invariant.2 (omega (arith, some, c.let_go-found.ensures.no_more)), c.pass.ensures.room),
-)
-
-pub returns-in_err-found : goal.returns-in_err-found
-returns-in_err-found c =
+pub returns-then-len-self : goal.returns-then-len-self
+returns-then-len-self c =
     let stream = c.args.self.now in
     let inside = c.self.inside in
-    let full = rw c.as_slice-bytes.ensures.value at c.in_err-found.ensures.full in
-    let more = subst (λ (s : Stream). AreMore (vec_capacity inside.kept.places) (next_read s).frame) c.self.view_is full in
-    let always : 0 < length stream.rest → 64 ≤ vec_capacity inside.kept.places =
-    λ some. c.self.invariant.2 (omega (arith, some, ap (λ (s : Stream). length s.rest) c.self.view_is, length-drop inside.passed.end inside.kept.buffer.items)) in (
-      (refl, (λ _. tt), search rules),
-      record {
-        lender = tt;
-        fields = search rules;
-        next = search rules;
-        shorter = search rules;
-        written = λ fields rest begins. search rules;
-        refusal = search rules;
-        full = on_err c.from_residual.result _ (more_than_free stream 64 _ always more);
-      },
-    )
-
-pub returns-in-Some : goal.returns-in-Some
-returns-in-Some c =
-    let stream = c.args.self.now in
-    let buffer = c.let_go-found.new.buffer.items in
-    let places = c.pass.new.places.items in
-    let passed = c.let_go-found.result.passed in
-    let frame : Option (List Tagged) = Some (fields_in c.frame.result) in
-    let is : record { frame = frame; stream = left_of buffer passed } ≡ next_read stream =
-    ap (λ (fields : List Tagged). let next : NextFrame = record { frame = Some fields; stream = left_of buffer passed } in next) c.frame.ensures
-    ∙ ap (λ (body : Option Body). found_in buffer places body passed) (sym c.in-Some.is)
-    ∙ c.let_go-found.ensures.same places
-    ∙ rw c.as_slice-bytes.ensures.value at c.in_ok-found.ensures.read
-    ∙ ap next_read c.self.view_is in (
-      (refl, (λ _. tt), ap (λ (next : NextFrame). next.stream) is),
-      record {
-        lender = tt;
-        fields = ap (λ (next : NextFrame). next.frame) is;
-        next = is_next frame (left_of buffer passed) stream is;
-        shorter = shortens frame (left_of buffer passed) stream is refl;
-        written = begins frame (left_of buffer passed) stream is;
-        refusal = tt;
-        full = tt;
-      },
-    )
-
-pub returns-in-None : goal.returns-in-None
-returns-in-None c =
-    let stream = c.args.self.now in
-    let buffer = c.let_go-found.new.buffer.items in
-    let places = c.pass.new.places.items in
-    let passed = c.let_go-found.result.passed in
+    let left = left_of inside.kept.buffer.items inside.passed in
+    let few : length left.rest < inside.passed.waits_for = omega (arith, c.if-len-self.true, c.len.ensures, length-drop inside.passed.end inside.kept.buffer.items) in
     let frame : Option (List Tagged) = None in
-    let is : record { frame = frame; stream = left_of buffer passed } ≡ next_read stream =
-    ap (λ (body : Option Body). found_in buffer places body passed) (sym c.in-None.is)
-    ∙ c.let_go-found.ensures.same places
-    ∙ rw c.as_slice-bytes.ensures.value at c.in_ok-found.ensures.read
-    ∙ ap next_read c.self.view_is in (
+    let is : record { frame = frame; stream = stream } ≡ next_read stream =
+    subst (λ (s : Stream). record { frame = frame; stream = s } ≡ next_read s) c.self.view_is (nothing_found inside.passed.waits_for left c.self.invariant.3 few) in (
       (refl, (λ _. tt), ap (λ (next : NextFrame). next.stream) is),
       record {
         lender = tt;
         fields = ap (λ (next : NextFrame). next.frame) is;
-        next = is_next frame (left_of buffer passed) stream is;
+        next = is_next frame stream stream is;
         shorter = tt;
-        written = begins frame (left_of buffer passed) stream is;
+        written = begins frame stream stream is;
         refusal = tt;
         full = tt;
+      },
+    )
+
+pub returns : goal.returns
+returns c =
+    let stream = c.args.self.now in
+    let all = (next_read stream).stream in
+    let looked = c.look.ensures in (
+      (refl, (λ _. tt), c.look.follows.holds-at-none),
+      record {
+        lender = tt;
+        fields = looked.fields;
+        next = of_ok c.look.result _ _ (λ frame is. is_next _ all stream (same_frame stream _ is)) looked.fields;
+        shorter = of_ok c.look.result _ _ (same_shortens stream) looked.fields;
+        written = λ fields rest written. of_ok c.look.result _ _ (λ frame is. begins _ all stream (same_frame stream _ is) fields rest written) looked.fields;
+        refusal = looked.refusal;
+        full = looked.full;
       },
     )
