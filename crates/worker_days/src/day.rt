@@ -101,7 +101,15 @@ fn play_at<K: Shown, L: Run, M: Ledger>(
     callers.push(seat)?;
     let mut ends = Vec::with_capacity(alloc, 1)?;
     ends.push(end)?;
-    outcome(rt, alloc, lock, collector, callers, receipts.as_slice(), ends)
+    outcome(
+        rt,
+        alloc,
+        lock,
+        collector,
+        callers,
+        receipts.as_slice(),
+        ends,
+    )
 }
 
 /// The day of one worker over a link, as the course goes, and what became of it.
@@ -112,5 +120,13 @@ pub fn play<K: Shown>(
     course: Course,
 ) -> Result<Outcome, DayFault> {
     let rings = rings(alloc, 1)?;
-    play_at::<K, Brand, Brand>(rt, alloc, Blank::new(1024), Blank::new(1), rings, link, course)
+    play_at::<K, Brand, Brand>(
+        rt,
+        alloc,
+        Blank::new(1024),
+        Blank::new(1),
+        rings,
+        link,
+        course,
+    )
 }

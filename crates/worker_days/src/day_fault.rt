@@ -30,6 +30,9 @@ pub enum DayFault {
     /// The exchange accepted a leg twice, out of order, or one that wasn't taken from the ring.
     #[error("the exchange accepted other legs")]
     Accepted,
+    /// The exchanges took every Logout, and the book hasn't got just the trades that they reported.
+    #[error("the book has other trades than were reported")]
+    Trades,
     /// The audit found something else than the sums over the sweeps.
     #[error("the audit tells other sums")]
     Sums,

@@ -17,11 +17,10 @@ mod outcome;
 mod shown;
 mod stopped_clock;
 mod sums;
-mod venue_checks;
-mod worked;
-
 #[cfg(test)]
 mod tests;
+mod venue_checks;
+mod worked;
 
 use crate::day::play;
 use crate::day_fault::DayFault;

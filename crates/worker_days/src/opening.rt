@@ -63,5 +63,14 @@ pub fn worker_of<K: Link, L: Run, M: Ledger>(
         return Err(DayFault::Impossible);
     }
     let config = end(b"A", b"B", max_number)?;
-    Ok(Worker::new(alloc, Plain, link, stopped_clock()?, config, seat, drain, pace))
+    Ok(Worker::new(
+        alloc,
+        Plain,
+        link,
+        stopped_clock()?,
+        config,
+        seat,
+        drain,
+        pace,
+    ))
 }

@@ -19,6 +19,8 @@ pub struct VenueEnd {
     /// How many legs it took from the ring, and how many the exchange accepted, if that can be looked at.
     pub taken: usize,
     pub accepted: Option<usize>,
+    /// The shares of all trades that the exchange reported, if it took the session's Logout.
+    pub traded: Option<u64>,
     /// How many legs are in doubt.
     pub in_doubt: usize,
     /// How many connections its session had, and the number of the next message.

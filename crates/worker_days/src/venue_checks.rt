@@ -4,6 +4,7 @@ use crate::day_fault::DayFault;
 use crate::outcome::VenueEnd;
 use crate::shown::Shown;
 use crate::sums::is_withdrawn;
+use dialect::ReportKind;
 use exchange_core::Exchange;
 use leg::{LegState, PlacedLeg};
 use release_lock::Run;
@@ -38,6 +39,17 @@ fn compare(session: &Session, taken: &[PlacedLeg], exchange: &Exchange) -> Resul
     }
 }
 
+/// The shares of all trades that an exchange reported.
+fn traded(exchange: &Exchange) -> u64 {
+    let mut shares: u64 = 0;
+    for report in exchange.reports() {
+        if let ReportKind::Trade(fill) = &report.kind {
+            shares = shares.saturating_add(fill.shares());
+        }
+    }
+    shares
+}
+
 /// How many of these legs are in doubt.
 fn in_doubt(session: &Session, taken: &[PlacedLeg]) -> usize {
     let doubt = |placed: &&PlacedLeg| session.leg_state(placed.ordinal) == Some(LegState::Doubt);
@@ -50,14 +62,17 @@ pub fn venue_end<K: Shown, L: Run, M: Ledger>(
 ) -> Result<VenueEnd, DayFault> {
     let taken = end.took.taken();
     let mut accepted = None;
+    let mut reported = None;
     if let Some(exchange) = end.link.exchange() {
         compare(&end.session, taken, exchange)?;
         accepted = Some(exchange.accepted().len());
+        reported = exchange.closed_at().map(|_| traded(exchange));
     }
     Ok(VenueEnd {
         reason: end.reason,
         taken: taken.len(),
         accepted,
+        traded: reported,
         in_doubt: in_doubt(&end.session, taken),
         connections: end.session.connection(),
         next_out: end.session.next_out(),

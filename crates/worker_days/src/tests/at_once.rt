@@ -174,11 +174,22 @@ fn play_at<L: Run + Send + Sync, M: Ledger + Send + Sync, R: Threads + Wait + Cl
     let mut seats = Vec::new(alloc);
     let mut receipts = Vec::new(alloc);
     for caller in callers? {
-        let CallerEnd { seat, receipts: placed } = caller;
+        let CallerEnd {
+            seat,
+            receipts: placed,
+        } = caller;
         seats.push(seat)?;
         receipts.extend_from_slice(placed.as_slice())?;
     }
-    outcome(rt, alloc, lock, collector, seats, receipts.as_slice(), ends?)
+    outcome(
+        rt,
+        alloc,
+        lock,
+        collector,
+        seats,
+        receipts.as_slice(),
+        ends?,
+    )
 }
 
 /// A day of so many venues and callers: every sweep is placed, and every worker closes.
@@ -223,7 +234,14 @@ fn two_venues(rt: HostRuntime) -> Result<(), Fail> {
 #[test]
 fn sixteen_venues(rt: HostRuntime) -> Result<(), Fail> {
     for callers in [1, 8] {
-        plays(&rt, rt.alloc(), Size { venues: 16, callers })?;
+        plays(
+            &rt,
+            rt.alloc(),
+            Size {
+                venues: 16,
+                callers,
+            },
+        )?;
     }
     Ok(())
 }

@@ -122,7 +122,7 @@ fn each_call_fails_in_turn(rt: HostRuntime) -> Result<(), Fail> {
             }
             failed = fails_at;
         }
-            assert!(rt; failed > 60 && failed < 999, "{failed}");
+        assert!(rt; failed > 60 && failed < 999, "{failed}");
     }
     Ok(())
 }

@@ -63,12 +63,7 @@ const ONE_CONNECTION: Course = Course {
 };
 
 /// The day of a worker whose exchange says this.
-fn day_of<R>(
-    rt: &R,
-    alloc: Global,
-    says: &[Said],
-    turn_limit: u64,
-) -> Result<Outcome, Fail>
+fn day_of<R>(rt: &R, alloc: Global, says: &[Said], turn_limit: u64) -> Result<Outcome, Fail>
 where
     R: Net + Threads + Wait + Clock + Sync,
     R::Listener: Sync,
@@ -95,12 +90,7 @@ where
 }
 
 /// The worker gives up its connection, having written so many messages.
-fn gives_up<R>(
-    rt: &R,
-    alloc: Global,
-    says: &[Said],
-    written: u64,
-) -> Result<(), Fail>
+fn gives_up<R>(rt: &R, alloc: Global, says: &[Said], written: u64) -> Result<(), Fail>
 where
     R: Net + Threads + Wait + Clock + Sync + Abort,
     R::Listener: Sync,
