@@ -10,9 +10,11 @@ use crate::course::Course;
 use crate::day_fault::DayFault;
 use crate::ending::outcome;
 use crate::opening::{rings, worker_of};
+use crate::order::Order;
 use crate::outcome::Outcome;
 use crate::shown::Shown;
-use exec_collector::{Collector, WorkerSeat};
+use exec_collector::Collector;
+use link::Link;
 use release_lock::{CallerSeat, Opened, ReleaseLock, Run, VenueDrain};
 use session_worker::WorkerEnd;
 use std::alloc::Global;
@@ -22,35 +24,37 @@ use std::sync::Wait;
 use std::sync::ledger::{Blank, Ledger};
 use venue_queue::{Drain, Feed};
 
-/// The worker takes its turns over this link, while a caller makes its calls.
-fn run<K: Shown, L: Run, M: Ledger>(
-    rt: &impl Wait,
+/// A caller that has placed the early sweep of a course, if it has orders: the gate is up for that.
+fn early_caller<'a, R: Wait, L: Run, M: Ledger>(
+    rt: &'a R,
     alloc: Global,
-    lock: &ReleaseLock<L>,
-    collector: &Collector<M>,
-    link: K,
-    course: Course,
-    caller: CallerSeat<L>,
-    drain: VenueDrain<L>,
-    seat: WorkerSeat<M>,
-) -> Result<(WorkerEnd<K, L, M>, CallerEnd<L>), DayFault> {
-    let venue = drain.venue();
-    let mut caller = Caller::new(rt, alloc, lock, collector, caller);
-    if !course.early.is_empty() {
-        lock.raise(rt, &drain).ok().ok_or(DayFault::OutOfMemory)?;
-        if !caller.release(course.early) {
+    lock: &'a ReleaseLock<L>,
+    collector: &'a Collector<M>,
+    seat: CallerSeat<L>,
+    drain: &VenueDrain<L>,
+    early: &[Order],
+) -> Result<Caller<'a, R, L, M>, DayFault> {
+    let mut caller = Caller::new(rt, alloc, lock, collector, seat);
+    if !early.is_empty() {
+        lock.raise(rt, drain).ok().ok_or(DayFault::OutOfMemory)?;
+        if !caller.release(early) {
             return Err(DayFault::OutOfMemory);
         }
     }
-    let link = CalledLink::new(link, caller, venue, course);
-    let worker = worker_of(alloc, link, course.max_number, course.pace, seat, drain)?;
+    Ok(caller)
+}
+
+/// The end of a worker over its own link, and that of the caller.
+fn parted<R: Wait, K: Link, L: Run, M: Ledger>(
+    end: WorkerEnd<CalledLink<'_, R, K, L, M>, L, M>,
+) -> (WorkerEnd<K, L, M>, CallerEnd<L>) {
     let WorkerEnd {
         session,
         took,
         seat,
         link,
         reason,
-    } = worker.run(rt, lock, collector, course.turn_limit);
+    } = end;
     let (link, caller) = link.into_parts();
     let end = WorkerEnd {
         session,
@@ -59,7 +63,7 @@ fn run<K: Shown, L: Run, M: Ledger>(
         link,
         reason,
     };
-    Ok((end, caller.into_end()))
+    (end, caller.into_end())
 }
 
 /// The day at a lock and a collector over these rings.
@@ -81,21 +85,20 @@ fn play_at<K: Shown, L: Run, M: Ledger>(
     let Opened { lock, seat, drains } = opened.ok().ok_or(DayFault::OutOfMemory)?;
     let made = Collector::<M>::new(alloc, 1, workers);
     let (collector, seats) = made.ok().ok_or(DayFault::OutOfMemory)?;
-    let mut drains = drains;
-    let mut seats = seats;
+    let (mut drains, mut seats) = (drains, seats);
     let drain = drains.pop().ok_or(DayFault::Impossible)?;
     let worker_seat = seats.pop().ok_or(DayFault::Impossible)?;
-    let (end, caller) = run(
-        rt,
+    let caller = early_caller(rt, alloc, &lock, &collector, seat, &drain, course.early)?;
+    let link = CalledLink::new(link, caller, drain.venue(), course);
+    let worker = worker_of(
         alloc,
-        &lock,
-        &collector,
         link,
-        course,
-        seat,
-        drain,
+        course.max_number,
+        course.pace,
         worker_seat,
+        drain,
     )?;
+    let (end, caller) = parted(worker.run(rt, &lock, &collector, course.turn_limit));
     let CallerEnd { seat, receipts } = caller;
     let mut callers = Vec::with_capacity(alloc, 1)?;
     callers.push(seat)?;

@@ -4,7 +4,6 @@ ghost use Rattle.std.specs.Prelude.{◌≡◌, length, IfOk};
 ghost use Rattle.std.specs.List.{All};
 ghost use Rattle.release_lock.specs.Queues.{IsFresh};
 
-use crate::course::Course;
 use crate::day_fault::DayFault;
 use crate::stopped_clock::StoppedClock;
 use dialect::Plain;

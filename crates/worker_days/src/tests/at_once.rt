@@ -204,9 +204,12 @@ fn plays<R: Threads + Wait + Clock + Sync + Abort>(
     let rings = rings(alloc, size.venues)?;
     let parts = Blank::new(u64::from(size.venues));
     let outcome = play_at::<Brand, Brand, R>(rt, alloc, Blank::new(1024), parts, rings, size)?;
-    let sweeps = size.callers * SWEEPS;
+    let sweeps = size.callers.saturating_mul(SWEEPS);
     assert_eq!(rt; outcome.sweeps.len() as u64, sweeps);
-    assert_eq!(rt; outcome.report.placed, sweeps * u64::from(size.venues) * 10);
+    assert_eq!(rt;
+        outcome.report.placed,
+        sweeps.saturating_mul(10 * u64::from(size.venues))
+    );
     assert_eq!(rt; outcome.report.still_open, 0);
     for end in outcome.venues.iter() {
         assert_eq!(rt; end.reason, EndReason::Closed);

@@ -76,7 +76,7 @@ fn numbers_are_spent(rt: HostRuntime) -> Result<(), Fail> {
         max_number: 16,
         ..COURSE
     };
-    for (fails_at, cut_after, still_open) in [(60, 0, 0), (0, 15, 1)] {
+    for (fails_at, cut_after, filled, still_open) in [(60, 0, 13, 0), (0, 15, 12, 1)] {
         let exchange = Plan {
             cut_after,
             ..TRADES_SIX
@@ -93,7 +93,7 @@ fn numbers_are_spent(rt: HostRuntime) -> Result<(), Fail> {
         assert_eq!(rt; end.in_doubt, 13);
         assert_eq!(rt; end.next_out, 16);
         let want = Totals {
-            filled: 13 - still_open,
+            filled,
             busted: 0,
             cancelled: 0,
             withdrawn: 1,

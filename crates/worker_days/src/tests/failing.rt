@@ -51,12 +51,12 @@ fn dealt(orders: &[Order]) -> Totals {
 
 /// The early sweep is dropped and the others are dealt with, over one connection.
 fn is_dealt_with(rt: &impl Abort, outcome: &Outcome) -> Result<(), Fail> {
-    assert_eq!(rt; outcome.sweeps.len(), 6);
-    for (end, orders) in outcome.sweeps[1..].iter().zip(SWEEPS) {
+    let (early, others) = outcome.sweeps.split_first().ok_or("an early sweep")?;
+    assert_eq!(rt; early.totals.withdrawn, early.receipt.shares);
+    assert_eq!(rt; others.len(), SWEEPS.len());
+    for (end, orders) in others.iter().zip(SWEEPS) {
         assert_eq!(rt; end.totals, dealt(orders));
     }
-    let early = outcome.sweeps[0];
-    assert_eq!(rt; early.totals.withdrawn, early.receipt.shares);
     let end = only(outcome)?;
     assert_eq!(rt; end.reason, EndReason::Closed);
     assert_eq!(rt; end.taken, 24);
@@ -66,31 +66,48 @@ fn is_dealt_with(rt: &impl Abort, outcome: &Outcome) -> Result<(), Fail> {
     Ok(())
 }
 
+/// The worker writes 26 messages: the Logon, a fence, 22 orders, a fence and the Logout. Behind one more the connection would
+/// be cut.
 #[test]
 fn all_is_dealt_with(rt: HostRuntime) -> Result<(), Fail> {
-    let outcome = day_of(&rt, rt.alloc(), MemoryPlan::faultless(TRADES_SIX))?;
-    is_dealt_with(&rt, &outcome)
+    let exchange = Plan {
+        cut_after: 27,
+        ..TRADES_SIX
+    };
+    let outcome = day_of(&rt, rt.alloc(), MemoryPlan::faultless(exchange))?;
+    is_dealt_with(&rt, &outcome)?;
+    assert_eq!(rt; only(&outcome)?.next_out, 27);
+    Ok(())
+}
+
+/// A link of this exchange that takes a byte a write and gives one a read.
+fn by_the_byte(exchange: Plan) -> MemoryPlan {
+    MemoryPlan {
+        most_written: 1,
+        most_read: 1,
+        ..MemoryPlan::faultless(exchange)
+    }
 }
 
 #[test]
 fn a_byte_a_call(rt: HostRuntime) -> Result<(), Fail> {
-    let plan = MemoryPlan {
-        most_written: 1,
-        most_read: 1,
-        ..MemoryPlan::faultless(TRADES_SIX)
-    };
-    let outcome = day_of(&rt, rt.alloc(), plan)?;
+    let outcome = day_of(&rt, rt.alloc(), by_the_byte(TRADES_SIX))?;
     is_dealt_with(&rt, &outcome)
 }
 
+/// Legs are lost with the message and with the connection, and the others are dealt with.
 #[test]
 fn a_loss_and_a_cut(rt: HostRuntime) -> Result<(), Fail> {
-    let outcome = day_of(&rt, rt.alloc(), MemoryPlan::faultless(PLAN))?;
-    let end = only(&outcome)?;
-    assert_eq!(rt; end.reason, EndReason::Closed);
-    assert_eq!(rt; end.taken, 24);
-    assert_eq!(rt; end.faults, 0);
-    assert!(rt; end.connections > 1);
+    for plan in [MemoryPlan::faultless(PLAN), by_the_byte(PLAN)] {
+        let outcome = day_of(&rt, rt.alloc(), plan)?;
+        let end = only(&outcome)?;
+        assert_eq!(rt; end.reason, EndReason::Closed, "{plan:?}");
+        assert_eq!(rt; end.taken, 24, "{plan:?}");
+        assert!(rt; end.accepted < Some(22), "{plan:?}");
+        assert!(rt; end.connections > 1, "{plan:?}");
+        assert_eq!(rt; end.in_doubt, 0, "{plan:?}");
+        assert_eq!(rt; outcome.report.still_open, 0, "{plan:?}");
+    }
     Ok(())
 }
 

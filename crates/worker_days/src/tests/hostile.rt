@@ -10,7 +10,7 @@ use crate::worked::COURSE;
 use exchange_core::Exchange;
 use exchange_sim::serve_raw;
 use link::TcpLink;
-use session_worker::EndReason;
+use session_worker::{EndReason, Pace};
 use std::alloc::Global;
 use std::net::{Net, OpenListener, TcpListener};
 use std::process::Abort;
@@ -49,21 +49,36 @@ const ENDING: [Said; 9] = [
     ("0", "49=B|"),
 ];
 
-/// A Logout.
+/// A Logout, which the session answers with its own.
 const LOGOUT: Said = ("5", "49=B|34=3|");
 
-/// Messages after which the connection goes on: a repeated one, and a ResendRequest of what was sent.
-const HARMLESS: [Said; 2] = [("0", "49=B|34=2|43=Y|"), ("2", "49=B|34=3|7=1|16=1|")];
+const LATER_LOGOUT: Said = ("5", "49=B|34=4|");
 
-/// A sweep is placed before the worker's first turn, and the gate is shut once a connection is given up.
+/// Messages after which the connection goes on: a repeated one, and a ResendRequest of what was sent.
+const REPEATED: Said = ("0", "49=B|34=2|43=Y|");
+
+const RESEND: Said = ("2", "49=B|34=3|7=1|16=1|");
+
+/// How many turns the worker takes at most, each of which waits a millisecond for a byte.
+const MOST_TURNS: u64 = 2_000;
+
+/// A sweep is placed before the worker's first turn, and the gate is shut once the connection is given up.
 const ONE_CONNECTION: Course = Course {
     sweeps: &[],
     shuts: Shuts::AfterConnection,
+    pace: Pace {
+        quiet_turns: MOST_TURNS,
+        silent_turns: MOST_TURNS,
+    },
+    turn_limit: MOST_TURNS,
     ..COURSE
 };
 
+/// How many turns the exchange serves: more than the worker takes, so that it doesn't end the connection.
+const MOST_SERVED: u64 = 3 * MOST_TURNS;
+
 /// The day of a worker whose exchange says this.
-fn day_of<R>(rt: &R, alloc: Global, says: &[Said], turn_limit: u64) -> Result<Outcome, Fail>
+fn day_of<R>(rt: &R, alloc: Global, says: &[Said]) -> Result<Outcome, Fail>
 where
     R: Net + Threads + Wait + Clock + Sync,
     R::Listener: Sync,
@@ -74,14 +89,10 @@ where
     }
     let listener = TcpListener::bind(rt, "127.0.0.1:0")?;
     let addr = listener.local_addr()?;
-    let course = Course {
-        turn_limit,
-        ..ONE_CONNECTION
-    };
     let (served, outcome) = join(
         rt,
-        || serve_raw(rt, &listener, frames.as_slice(), 4_000),
-        || play(rt, alloc, TcpLink::new(rt, addr), course),
+        || serve_raw(rt, &listener, frames.as_slice(), MOST_SERVED),
+        || play(rt, alloc, TcpLink::new(rt, addr), ONE_CONNECTION),
     );
     if !served {
         return Err(Fail::from("the frames weren't taken"));
@@ -95,7 +106,7 @@ where
     R: Net + Threads + Wait + Clock + Sync + Abort,
     R::Listener: Sync,
 {
-    let outcome = day_of(rt, alloc, says, 2_000)?;
+    let outcome = day_of(rt, alloc, says)?;
     let end = only(&outcome)?;
     assert_eq!(rt; end.reason, EndReason::Closed, "{says:?}");
     assert_eq!(rt; end.connections, 1, "{says:?}");
@@ -113,13 +124,9 @@ fn what_ends_a_connection(rt: HostRuntime) -> Result<(), Fail> {
     gives_up(&rt, rt.alloc(), &[FENCE], 1)
 }
 
+/// The Logout behind the message is heard, and answered.
 #[test]
 fn what_ends_no_connection(rt: HostRuntime) -> Result<(), Fail> {
-    for said in HARMLESS {
-        let outcome = day_of(&rt, rt.alloc(), &[LOGON, FENCE, said], 15)?;
-        let end = only(&outcome)?;
-        assert_eq!(rt; end.reason, EndReason::TurnLimit, "{said:?}");
-        assert_eq!(rt; end.connections, 1, "{said:?}");
-    }
-    Ok(())
+    gives_up(&rt, rt.alloc(), &[LOGON, FENCE, REPEATED, LOGOUT], 3)?;
+    gives_up(&rt, rt.alloc(), &[LOGON, FENCE, RESEND, LATER_LOGOUT], 3)
 }
