@@ -18,6 +18,8 @@ pub struct CalledLink<'a, R: Wait, K: Link, L: Run, M: Ledger> {
     caller: Caller<'a, R, L, M>,
     venue: VenueId,
     course: Course,
+    // How many of the sweeps were placed.
+    placed: usize,
     // How many reads pass before the next call.
     waits: u64,
 }
@@ -35,6 +37,7 @@ impl<'a, R: Wait, K: Link, L: Run, M: Ledger> CalledLink<'a, R, K, L, M> {
             caller,
             venue,
             course,
+            placed: 0,
             waits: 0,
         }
     }
@@ -46,6 +49,7 @@ impl<'a, R: Wait, K: Link, L: Run, M: Ledger> CalledLink<'a, R, K, L, M> {
             caller,
             venue: _,
             course: _,
+            placed: _,
             waits: _,
         } = self;
         (link, caller)
@@ -59,10 +63,10 @@ impl<'a, R: Wait, K: Link, L: Run, M: Ledger> CalledLink<'a, R, K, L, M> {
             self.waits -= 1;
             return;
         }
-        match self.course.sweeps.split_first() {
-            Some((orders, later)) => {
+        match self.course.sweeps.get(self.placed) {
+            Some(orders) => {
                 if self.caller.release(orders) {
-                    self.course.sweeps = later;
+                    self.placed += 1;
                     self.waits = self.course.pause;
                 }
             }
