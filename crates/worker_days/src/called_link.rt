@@ -13,25 +13,25 @@ use std::sync::ledger::Ledger;
 /// A link to a venue's exchange, and a caller that makes its calls while the link is read. So one thread plays a day in
 /// which sweeps are released while the worker takes its turns.
 #[derive(Drop)]
-pub struct CalledLink<'a, R: Wait, K: Link, L: Run, M: Ledger> {
+pub struct CalledLink<'a, 'c, R: Wait, K: Link, L: Run, M: Ledger> {
     link: K,
     caller: Caller<'a, R, L, M>,
     venue: VenueId,
-    course: Course,
+    course: Course<'c>,
     // How many of the sweeps were placed.
     placed: usize,
     // How many reads pass before the next call.
     waits: u64,
 }
 
-impl<'a, R: Wait, K: Link, L: Run, M: Ledger> CalledLink<'a, R, K, L, M> {
+impl<'a, 'c, R: Wait, K: Link, L: Run, M: Ledger> CalledLink<'a, 'c, R, K, L, M> {
     /// A link whose caller hasn't begun the calls of the course.
     pub fn new(
         link: K,
         caller: Caller<'a, R, L, M>,
         venue: VenueId,
-        course: Course,
-    ) -> CalledLink<'a, R, K, L, M> {
+        course: Course<'c>,
+    ) -> CalledLink<'a, 'c, R, K, L, M> {
         CalledLink {
             link,
             caller,
@@ -84,7 +84,7 @@ impl<'a, R: Wait, K: Link, L: Run, M: Ledger> CalledLink<'a, R, K, L, M> {
     }
 }
 
-impl<'a, R: Wait, K: Link, L: Run, M: Ledger> Link for CalledLink<'a, R, K, L, M> {
+impl<'a, 'c, R: Wait, K: Link, L: Run, M: Ledger> Link for CalledLink<'a, 'c, R, K, L, M> {
     ghost wire = { λ called. K.wire called.link };
 
     ghost fault_count = { λ called. K.fault_count called.link };

@@ -5,11 +5,11 @@ use session_worker::Pace;
 
 /// How the day of one worker goes.
 #[derive(Clone, Copy, Debug)]
-pub struct Course {
+pub struct Course<'c> {
     /// The sweep that is placed before the worker's first turn; with no orders there is none.
-    pub early: &'static [Order],
+    pub early: &'c [Order],
     /// The sweeps that are released while the worker takes its turns.
-    pub sweeps: &'static [&'static [Order]],
+    pub sweeps: &'c [&'c [Order]],
     /// How many reads of the link pass between two of them, and before the gate is shut.
     pub pause: u64,
     pub shuts: Shuts,

@@ -46,7 +46,7 @@ fn early_caller<'a, R: Wait, L: Run, M: Ledger>(
 
 /// The end of a worker over its own link, and that of the caller.
 fn parted<R: Wait, K: Link, L: Run, M: Ledger>(
-    end: WorkerEnd<CalledLink<'_, R, K, L, M>, L, M>,
+    end: WorkerEnd<CalledLink<'_, '_, R, K, L, M>, L, M>,
 ) -> (WorkerEnd<K, L, M>, CallerEnd<L>) {
     let WorkerEnd {
         session,
@@ -74,7 +74,7 @@ fn play_at<K: Shown, L: Run, M: Ledger>(
     workers: Blank,
     rings: VecDeque<(Feed, Drain)>,
     link: K,
-    course: Course,
+    course: Course<'_>,
 ) -> Result<Outcome, DayFault>
     requires callers { (callers.name ≡ L.name) × (callers.parts ≡ L.parts) × (L.parts ≡ 1024) }
     requires workers { (workers.name ≡ M.name) × (workers.parts ≡ M.parts) × (M.parts ≡ 1) }
@@ -120,7 +120,7 @@ pub fn play<K: Shown>(
     rt: &impl Wait,
     alloc: Global,
     link: K,
-    course: Course,
+    course: Course<'_>,
 ) -> Result<Outcome, DayFault> {
     let rings = rings(alloc, 1)?;
     play_at::<K, Brand, Brand>(

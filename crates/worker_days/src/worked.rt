@@ -28,7 +28,7 @@ pub const SWEEPS: &[&[Order]] = &[
 ];
 
 /// The day.
-pub const COURSE: Course = Course {
+pub const COURSE: Course<'static> = Course {
     early: EARLY,
     sweeps: SWEEPS,
     pause: 6,

@@ -4,6 +4,7 @@ use super::failing::only;
 use super::frames::framed;
 use crate::course::{Course, Shuts};
 use crate::day::play;
+use crate::day_fault::DayFault;
 use crate::outcome::Outcome;
 use crate::shown::Shown;
 use crate::worked::COURSE;
@@ -12,7 +13,7 @@ use exchange_sim::serve_raw;
 use link::TcpLink;
 use session_worker::{EndReason, Pace};
 use std::alloc::Global;
-use std::net::{Net, OpenListener, TcpListener};
+use std::net::{Net, OpenListener, SocketAddr, TcpListener};
 use std::process::Abort;
 use std::sync::Wait;
 use std::test::Fail;
@@ -63,7 +64,7 @@ const RESEND: Said = ("2", "49=B|34=3|7=1|16=1|");
 const MOST_TURNS: u64 = 2_000;
 
 /// A sweep is placed before the worker's first turn, and the gate is shut once the connection is given up.
-const ONE_CONNECTION: Course = Course {
+const ONE_CONNECTION: Course<'static> = Course {
     sweeps: &[],
     shuts: Shuts::AfterConnection,
     pace: Pace {
@@ -76,6 +77,11 @@ const ONE_CONNECTION: Course = Course {
 
 /// How many turns the exchange serves: more than the worker takes, so that it doesn't end the connection.
 const MOST_SERVED: u64 = 3 * MOST_TURNS;
+
+/// The day of a worker over a socket.
+fn worker_day<R: Net + Wait>(rt: &R, alloc: Global, addr: SocketAddr) -> Result<Outcome, DayFault> {
+    play(rt, alloc, TcpLink::new(rt, addr), ONE_CONNECTION)
+}
 
 /// The day of a worker whose exchange says this.
 fn day_of<R>(rt: &R, alloc: Global, says: &[Said]) -> Result<Outcome, Fail>
@@ -92,7 +98,7 @@ where
     let (served, outcome) = join(
         rt,
         || serve_raw(rt, &listener, frames.as_slice(), MOST_SERVED),
-        || play(rt, alloc, TcpLink::new(rt, addr), ONE_CONNECTION),
+        || worker_day(rt, alloc, addr),
     );
     if !served {
         return Err(Fail::from("the frames weren't taken"));
