@@ -58,8 +58,13 @@ fn a_server_with_no_client(rt: HostRuntime) -> Result<(), Fail> {
     Ok(())
 }
 
-/// What a client is sent that writes one byte.
-fn sent<N: Net>(alloc: Global, net: &N, addr: SocketAddr) -> Result<Vec<u8>, AllocError> {
+/// What a client is sent that writes one byte, and leaves once it has so many.
+fn sent<N: Net>(
+    alloc: Global,
+    net: &N,
+    addr: SocketAddr,
+    count: usize,
+) -> Result<Vec<u8>, AllocError> {
     let mut link = TcpLink::new(net, addr);
     let mut bytes = Vec::new(alloc);
     let mut buf = [0; 3];
@@ -67,6 +72,9 @@ fn sent<N: Net>(alloc: Global, net: &N, addr: SocketAddr) -> Result<Vec<u8>, All
         return Ok(bytes);
     }
     for _turn in 0..1_000 {
+        if bytes.len() >= count {
+            break;
+        }
         match link.read(&mut buf) {
             Ok(Got::Bytes(count)) => bytes.extend_from_slice(&buf[..count])?,
             Ok(Got::Nothing) => {}
@@ -89,7 +97,7 @@ fn a_server_that_keeps_no_rules(rt: HostRuntime) -> Result<(), Fail> {
     let (served, sent) = thread::join(
         &rt,
         || serve_raw(&rt, &listener, &frames, 1_000),
-        || sent(alloc, &rt, addr),
+        || sent(alloc, &rt, addr, 9),
     );
     assert!(rt; served);
     assert_eq!(rt; sent?.as_slice(), b"8=FIX.4.4".as_slice());

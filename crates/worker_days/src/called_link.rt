@@ -1,0 +1,113 @@
+//! A link beside which a caller makes its calls.
+
+ghost use Rattle.std.specs.Prelude.{◌≡◌};
+
+use crate::caller::Caller;
+use crate::course::{Course, Shuts};
+use leg::VenueId;
+use link::{Got, Link, LinkFault};
+use release_lock::Run;
+use std::sync::Wait;
+use std::sync::ledger::Ledger;
+
+/// A link to a venue's exchange, and a caller that makes its calls while the link is read. So one thread plays a day in
+/// which sweeps are released while the worker takes its turns.
+#[derive(Drop)]
+pub struct CalledLink<'a, 'c, R: Wait, K: Link, L: Run, M: Ledger> {
+    link: K,
+    caller: Caller<'a, R, L, M>,
+    venue: VenueId,
+    course: Course<'c>,
+    // How many of the sweeps were placed.
+    placed: usize,
+    // How many reads pass before the next call.
+    waits: u64,
+}
+
+impl<'a, 'c, R: Wait, K: Link, L: Run, M: Ledger> CalledLink<'a, 'c, R, K, L, M> {
+    /// A link whose caller hasn't begun the calls of the course.
+    pub fn new(
+        link: K,
+        caller: Caller<'a, R, L, M>,
+        venue: VenueId,
+        course: Course<'c>,
+    ) -> CalledLink<'a, 'c, R, K, L, M> {
+        CalledLink {
+            link,
+            caller,
+            venue,
+            course,
+            placed: 0,
+            waits: 0,
+        }
+    }
+
+    /// The link and the caller, at the end.
+    pub fn into_parts(self) -> (K, Caller<'a, R, L, M>) {
+        let CalledLink {
+            link,
+            caller,
+            venue: _,
+            course: _,
+            placed: _,
+            waits: _,
+        } = self;
+        (link, caller)
+    }
+
+    /// The caller makes its next call, if one is due. A sweep that is refused is left for the next read.
+    fn call(&mut self)
+        ensures { self.new.link ≡ self.old.link }
+    {
+        if self.waits > 0 {
+            self.waits -= 1;
+            return;
+        }
+        match self.course.sweeps.get(self.placed) {
+            Some(orders) => {
+                if self.caller.release(orders) {
+                    self.placed += 1;
+                    self.waits = self.course.pause;
+                }
+            }
+            None => self.shut_if(Shuts::AfterSweeps),
+        }
+    }
+
+    /// The caller shuts the gate, if this is when it does.
+    fn shut_if(&mut self, now: Shuts)
+        ensures { self.new.link ≡ self.old.link }
+    {
+        if self.course.shuts == now {
+            self.caller.shut(self.venue);
+        }
+    }
+}
+
+impl<'a, 'c, R: Wait, K: Link, L: Run, M: Ledger> Link for CalledLink<'a, 'c, R, K, L, M> {
+    ghost wire = { λ called. K.wire called.link };
+
+    ghost fault_count = { λ called. K.fault_count called.link };
+
+    fn dial(&mut self) -> Result<(), LinkFault> {
+        self.link.dial()
+    }
+
+    fn read(&mut self, buf: &mut [u8]) -> Result<Got, LinkFault> {
+        self.call();
+        self.link.read(buf)
+    }
+
+    fn write(&mut self, bytes: &[u8]) -> Result<usize, LinkFault> {
+        self.link.write(bytes)
+    }
+
+    fn shut(&mut self) -> Result<(), LinkFault> {
+        self.shut_if(Shuts::AfterConnection);
+        self.link.shut()
+    }
+
+    fn faults(&self) -> u64 {
+        self.link.faults()
+    }
+}
