@@ -1,9 +1,5 @@
 //! What a day begins with.
 
-ghost use Rattle.std.specs.Prelude.{◌≡◌, length, IfOk};
-ghost use Rattle.std.specs.List.{All};
-ghost use Rattle.release_lock.specs.Queues.{IsFresh};
-
 use crate::day_fault::DayFault;
 use crate::stopped_clock::StoppedClock;
 use dialect::Plain;
@@ -14,20 +10,7 @@ use link::Link;
 use release_lock::{Run, VenueDrain};
 use session_worker::{Pace, Worker};
 use std::alloc::Global;
-use std::collections::VecDeque;
 use std::sync::ledger::Ledger;
-use venue_queue::{Drain, Feed, pair};
-
-/// The rings of so many venues.
-pub fn rings(alloc: Global, venues: u8) -> Result<VecDeque<(Feed, Drain)>, DayFault>
-    ensures { IfOk result (λ rings. (length rings.items ≡ venues) × All IsFresh rings.items) }
-{
-    let mut rings = VecDeque::new(alloc);
-    for _ in 0..venues {
-        rings.push_back(pair(alloc, 64)?)?;
-    }
-    Ok(rings)
-}
 
 /// One end of a session.
 fn end(me: &[u8], peer: &[u8], max_number: u64) -> Result<Config, DayFault> {
