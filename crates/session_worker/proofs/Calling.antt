@@ -245,12 +245,12 @@ moves_not_connected Is w read s now why a b y other gives dials same stays =
 down_connects : (s : SessionParts) (phase : Phase) (m : Message) (after : SessionParts) → connect_in phase s ≡ (Ok m, after)
     → phase ≡ Down
 down_connects s Down m after is = refl
-down_connects s Closed m after is = absurd cc
-down_connects s LoggingOn m after is = absurd cc
-down_connects s Settling m after is = absurd cc
-down_connects s Up m after is = absurd cc
-down_connects s Closing m after is = absurd cc
-down_connects s LoggedOut m after is = absurd cc
+down_connects s Closed m after is = absurd (let e = ap (λ p. p.0) is in cc)
+down_connects s LoggingOn m after is = absurd (let e = ap (λ p. p.0) is in cc)
+down_connects s Settling m after is = absurd (let e = ap (λ p. p.0) is in cc)
+down_connects s Up m after is = absurd (let e = ap (λ p. p.0) is in cc)
+down_connects s Closing m after is = absurd (let e = ap (λ p. p.0) is in cc)
+down_connects s LoggedOut m after is = absurd (let e = ap (λ p. p.0) is in cc)
 
 -- or where it was given up
 pub moves_gone : {Y : Type 0} (Is : Message → Y → Type 0) (w : Writers) (read : Readers) (s now : SessionParts)

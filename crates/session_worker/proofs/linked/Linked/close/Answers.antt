@@ -39,7 +39,7 @@ returns-in-Err-OutOfMemory-clause-moves g c =
     let old : LinkedParts = linked_of c.args.self.now.session (g.K.Link.wire c.args.self.now.link) in
     let between : LinkedParts = linked_of c.close.new.self old.wire in
     moves_on w read old between now
-    (moves_refused (IsStep w c.now-stamp.result) w read old between call.Close (close old.session) SessionFault.OutOfMemory tt refl
+    (moves_refused (IsStep w c.now-stamp.result) w read old between call.Close (close old.session) _ tt refl
     c.in-Err-OutOfMemory.ensures (stays_here old.wire))
     (moves_broken w read between now c.break_off.ensures.session c.break_off.ensures.wire)
 

@@ -1,4 +1,4 @@
-use Rattle.std.proofs.Common.{◌≡◌, ℕ, List, true≢false, subst, ◌∙◌}
+use Rattle.std.proofs.Common.{◌≡◌, ℕ, List, true≢false, sym, subst, ◌∙◌}
 use Rattle.std.specs.Global.{Vec}
 use Rattle.dialect.specs.declared.message.Message.{Message}
 use Rattle.dialect.specs.Framed.{Writers, IsFramed}
@@ -33,8 +33,9 @@ returns-in-Err-NumbersSpent-clause-moves g c =
     let now : LinkedParts = linked_of c.hang_up.new.self.session (g.K.Link.wire c.hang_up.new.self.link) in
     let s = c.args.self.now.session in
     let b : Wire = g.K.Link.wire c.args.self.now.link in
+    let other : c.in-Err-NumbersSpent.field-0 ≡ SessionFault.OutOfMemory → ⊥ = λ e. let same = sym c.in-Err-NumbersSpent.field-0-is ∙ e in absurd cc in
     λ (before : Wire) (dials : Tells before b Dials).
-    moves_not_connected (λ (m : Message) (bytes : Vec ℕ). IsFramed w c.now-stamp.result (alone m) bytes.items) w read s c.connect.new.self SessionFault.NumbersSpent before b now (λ e. cc)
+    moves_not_connected (λ (m : Message) (bytes : Vec ℕ). IsFramed w c.now-stamp.result (alone m) bytes.items) w read s c.connect.new.self _ before b now other
     c.in-Err-NumbersSpent.ensures dials c.hang_up.ensures.session c.hang_up.ensures.wire
 
 pub returns-in-Err-NumbersSpent-clause-spent : goal.returns-in-Err-NumbersSpent-clause-spent

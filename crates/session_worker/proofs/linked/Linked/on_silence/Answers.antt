@@ -2,7 +2,6 @@ use Rattle.std.proofs.Common.{refl}
 use Rattle.dialect.specs.Framed.{Writers}
 use Rattle.dialect.specs.Message.{Readers}
 use Rattle.session_core.specs.declared.session_call.SessionCall.TheVariants as call
-use Rattle.session_core.specs.declared.session_fault.SessionFault.{SessionFault}
 use Rattle.session_core.specs.Calling.{silent}
 use Rattle.session_core.specs.Given.{IsStep}
 use Rattle.session_worker.specs.Speaking.{Wire}
@@ -32,7 +31,7 @@ returns-in-Err-OutOfMemory g c =
     let old : LinkedParts = linked_of c.args.self.now.session (g.K.Link.wire c.args.self.now.link) in
     let between : LinkedParts = linked_of c.silent.new.self old.wire in
     moves_on w read old between now
-    (moves_refused (IsStep w c.now-stamp.result) w read old between call.Silent (silent old.session) SessionFault.OutOfMemory tt refl
+    (moves_refused (IsStep w c.now-stamp.result) w read old between call.Silent (silent old.session) _ tt refl
     c.in-Err-OutOfMemory.ensures (stays_here old.wire))
     (moves_broken w read between now c.break_off.ensures.session c.break_off.ensures.wire)
 
