@@ -10,7 +10,7 @@ returns-then-not-take_note g c =
     let b : WorkerParts = parts_of c.withdraw_all.new.self.linked.session c.withdraw_all.new.self.takings c.withdraw_all.new.self.seat (g.K.Link.wire c.withdraw_all.new.self.linked.link) in
     let d : WorkerParts = parts_of c.take_note.new.self.linked.session c.take_note.new.self.takings c.take_note.new.self.seat (g.K.Link.wire c.take_note.new.self.linked.link) in
     carries_none _ a b d c.withdraw_all.ensures.linked c.withdraw_all.ensures.wire c.withdraw_all.ensures.takings c.withdraw_all.ensures.seat
-    (c.take_note.ensures.broken c.if-take_note.false) c.take_note.ensures.wire c.take_note.ensures.takings c.take_note.ensures.seat
+    (c.take_note.ensures.broken c.if-not-take_note.true) c.take_note.ensures.wire c.take_note.ensures.takings c.take_note.ensures.seat
 
 pub returns-else-is_some : goal.returns-else-is_some
 returns-else-is_some g c =
@@ -19,7 +19,7 @@ returns-else-is_some g c =
     let d : WorkerParts = parts_of c.take_note.new.self.linked.session c.take_note.new.self.takings c.take_note.new.self.seat (g.K.Link.wire c.take_note.new.self.linked.link) in
     let e : WorkerParts = parts_of c.write_all.new.self.session c.take_note.new.self.takings c.take_note.new.self.seat (g.K.Link.wire c.write_all.new.self.link) in
     carries_all _ a b d e c.withdraw_all.ensures.linked c.withdraw_all.ensures.wire c.withdraw_all.ensures.takings c.withdraw_all.ensures.seat
-    (c.take_note.ensures.confirmed c.if-take_note.true) c.take_note.ensures.wire c.take_note.ensures.takings c.take_note.ensures.seat
+    (c.take_note.ensures.confirmed c.if-not-take_note.false) c.take_note.ensures.wire c.take_note.ensures.takings c.take_note.ensures.seat
     c.write_all.ensures refl refl
 
 pub returns-then-is_some : goal.returns-then-is_some
@@ -30,5 +30,5 @@ returns-then-is_some g c =
     let e : WorkerParts = parts_of c.write_all.new.self.session c.take_note.new.self.takings c.take_note.new.self.seat (g.K.Link.wire c.write_all.new.self.link) in
     let f : WorkerParts = parts_of c.hang_up.new.self.session c.take_note.new.self.takings c.take_note.new.self.seat (g.K.Link.wire c.hang_up.new.self.link) in
     carries_ended _ a e f (carries_all _ a b d e c.withdraw_all.ensures.linked c.withdraw_all.ensures.wire c.withdraw_all.ensures.takings c.withdraw_all.ensures.seat
-    (c.take_note.ensures.confirmed c.if-take_note.true) c.take_note.ensures.wire c.take_note.ensures.takings c.take_note.ensures.seat
+    (c.take_note.ensures.confirmed c.if-not-take_note.false) c.take_note.ensures.wire c.take_note.ensures.takings c.take_note.ensures.seat
     c.write_all.ensures refl refl) c.hang_up.ensures.session c.hang_up.ensures.wire refl refl
