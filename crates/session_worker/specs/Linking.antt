@@ -1,5 +1,5 @@
 -- What a worker does at its link in one step of a turn.
-use Rattle.std.specs.Prelude.{◌≡◌, ◌⊎◌, ℕ, List, [], ◌++◌, Option, Some}
+use Rattle.std.specs.Prelude.{◌≡◌, ◌⊎◌, ℕ, List, [], ◌++◌, Some}
 use Rattle.leg.specs.declared.placed_leg.PlacedLeg.{PlacedLeg}
 use Rattle.fix_tags.specs.Stamp.{StampParts}
 use Rattle.dialect.specs.Framed.{Writers}

@@ -1,7 +1,6 @@
-use Rattle.std.proofs.Common.{refl, ◌∙◌}
+use Rattle.std.proofs.Common.{◌∙◌}
 use Rattle.dialect.specs.Framed.{Writers}
 use Rattle.dialect.specs.Message.{Readers}
-use Rattle.session_worker.specs.Speaking.{Wire}
 use Rattle.session_worker.specs.Linking.{LinkedParts, linked_of}
 use Rattle.session_worker.proofs.Spoken.{stays_here}
 use Rattle.session_worker.proofs.Calling.{moves_none, moves_on, moves_same, moves_malformed, moves_broken}

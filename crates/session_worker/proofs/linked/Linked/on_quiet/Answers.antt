@@ -4,7 +4,6 @@ use Rattle.dialect.specs.Message.{Readers}
 use Rattle.session_core.specs.declared.session_call.SessionCall.TheVariants as call
 use Rattle.session_core.specs.Calling.{quiet}
 use Rattle.session_core.specs.Given.{IsStep}
-use Rattle.session_worker.specs.Speaking.{Wire}
 use Rattle.session_worker.specs.Linking.{LinkedParts, linked_of}
 use Rattle.session_worker.proofs.Spoken.{stays_here}
 use Rattle.session_worker.proofs.Calling.{moves_none, moves_on, moves_refused, gave_step, moves_broken}

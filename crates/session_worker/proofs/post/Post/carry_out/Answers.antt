@@ -1,6 +1,5 @@
-use Rattle.std.proofs.Common.{refl, ◌∙◌}
+use Rattle.std.proofs.Common.{refl}
 use Rattle.session_worker.specs.Events.{WorkerParts, parts_of}
-use Rattle.session_worker.specs.Speaking.{joined}
 use Rattle.session_worker.proofs.Carrying.{carries_none, carries_all, carries_ended}
 use Rattle.session_worker.proofs.post.Post.carry_out.Goals as goal
 
