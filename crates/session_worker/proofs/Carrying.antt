@@ -1,5 +1,5 @@
 -- What a step wanted, done one after the other.
-use Rattle.std.proofs.Common.{◌≡◌, ◌⊎◌, ℕ, List, refl, sym, ap, subst, ◌∙◌, inl, inr}
+use Rattle.std.proofs.Common.{◌≡◌, ℕ, List, refl, ap, subst, ◌∙◌, inl, inr}
 use Rattle.link.specs.Traffic.{Tells, Takes, Stays}
 use Rattle.session_core.specs.Session.{SessionParts}
 use Rattle.session_core.specs.Calling.{broken}
