@@ -1,12 +1,8 @@
-<<<<<<< HEAD
 use Rattle.std.proofs.Common.{◌≡◌, Option, Some, None, refl, sym, ap, ◌∙◌, subst}
 use Rattle.std.specs.Prelude.{option_map}
 use Rattle.fix_text.specs.Tagged.{Tagged}
 use Rattle.fix_text.specs.FrameFields.{fields_in}
 use Rattle.fix_text.specs.Reading.{next_read}
-=======
-use Rattle.std.proofs.Common.{refl}
->>>>>>> wire
 use Rattle.dialect.specs.Framed.{Writers}
 use Rattle.dialect.specs.Message.{Readers, seen}
 use Rattle.session_core.specs.declared.session_call.SessionCall.TheVariants as call

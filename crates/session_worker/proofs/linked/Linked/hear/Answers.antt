@@ -1,14 +1,8 @@
-<<<<<<< HEAD
 use Rattle.std.proofs.Common.{◌≡◌, true, refl, sym, ap, ◌∙◌}
 use Rattle.dialect.specs.Framed.{Writers}
 use Rattle.dialect.specs.Message.{Readers}
 use Rattle.session_core.specs.Session.{is_connected}
 use Rattle.session_core.specs.Calling.{broken}
-=======
-use Rattle.std.proofs.Common.{◌∙◌}
-use Rattle.dialect.specs.Framed.{Writers}
-use Rattle.dialect.specs.Message.{Readers}
->>>>>>> wire
 use Rattle.session_worker.specs.Linking.{LinkedParts, linked_of}
 use Rattle.session_worker.proofs.Spoken.{stays_here}
 use Rattle.session_worker.proofs.Calling.{moves_none, moves_broken, heard_nothing, heard_step, heard_malformed}

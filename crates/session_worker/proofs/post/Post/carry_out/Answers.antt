@@ -1,10 +1,5 @@
-<<<<<<< HEAD
 use Rattle.std.proofs.Common.{refl, ◌∙◌}
 use Rattle.session_worker.specs.Linking.{PostParts, post_of}
-=======
-use Rattle.std.proofs.Common.{refl}
-use Rattle.session_worker.specs.Events.{WorkerParts, parts_of}
->>>>>>> wire
 use Rattle.session_worker.proofs.Carrying.{carries_none, carries_all, carries_ended}
 use Rattle.session_worker.proofs.post.Post.carry_out.Goals as goal
 
