@@ -6,9 +6,11 @@ use Rattle.leg.specs.declared.placed_leg.PlacedLeg.{PlacedLeg}
 use Rattle.fix_text.specs.Tagged.{Tagged}
 use Rattle.fix_text.specs.Reading.{Stream, next_read}
 use Rattle.fix_text.specs.Calls.{new_stream}
-use Rattle.fix_tags.specs.Reading.{envelope_read}
+use Rattle.fix_tags.specs.Reading.{ReadsEnvelope, envelope_read}
 use Rattle.fix_tags.specs.Stamp.{StampParts}
 use Rattle.fix_tags.specs.declared.envelope.Envelope.{Envelope}
+use Rattle.fix_tags.specs.declared.read_fault.ReadFault.{ReadFault}
+use Rattle.fix_tags.specs.declared.read_fault.ReadFault.TheVariants as read_fault
 use Rattle.fix_tags.specs.declared.tag_fault.TagFault.{TagFault}
 use Rattle.dialect.specs.declared.message.Message.{Message}
 use Rattle.dialect.specs.Framed.{Writers, IsFramed, AreFramed}
@@ -50,16 +52,20 @@ legs-append (made ∷ first) more =
 
 -- ---- no call, and calls after others
 
+pub speaks_same : (w : Writers) (read : Readers) (x y : LinkedParts) → y.session ≡ x.session → Tells x.wire y.wire Stays
+    → y.stream ≡ x.stream → SpeaksOn w read x [] y
+speaks_same w read x y same stays stream = λ (said : Said) (hearing : IsHearing said x). (
+  speak_none w read x.session said x.wire y.wire stays,
+  hearing_same said x y (λ on. subst (λ (s : SessionParts). is_connected s.phase ≡ true) same on) stays stream hearing,
+)
+
 pub moves_same : (w : Writers) (read : Readers) (x y : LinkedParts) → y.session ≡ x.session → Tells x.wire y.wire Stays
     → y.stream ≡ x.stream → Moves w read x y
 moves_same w read x y same stays stream = record {
   calls = [];
   session = same;
   no_leg = refl;
-  speaks = λ (said : Said) (hearing : IsHearing said x). (
-    speak_none w read x.session said x.wire y.wire stays,
-    hearing_same said x y (λ on. subst (λ (s : SessionParts). is_connected s.phase ≡ true) same on) stays stream hearing,
-  );
+  speaks = speaks_same w read x y same stays stream;
 }
 
 pub moves_none : (w : Writers) (read : Readers) (x : LinkedParts) → Moves w read x x
@@ -258,6 +264,12 @@ moves_written w read x m y step asks (inr part) stream =
     ))
 
 -- ---- what comes of the next message
+
+-- a frame that was read and is no message
+pub no_message : (f : ReadFault) (said : Result Envelope TagFault) → ReadsEnvelope (Err f) said
+    → (f ≡ read_fault.OutOfMemory → ⊥) → (fault : TagFault) × (said ≡ Err fault)
+no_message (read_fault.Tag fault) said reads other = (fault, reads)
+no_message read_fault.OutOfMemory said reads other = absurd (other refl)
 
 pub heard_nothing : (w : Writers) (read : Readers) (x y : LinkedParts) → y.session ≡ x.session → Tells x.wire y.wire Stays
     → (next_read x.stream).frame ≡ None → y.stream ≡ (next_read x.stream).stream → Moves w read x y

@@ -27,7 +27,7 @@ use Rattle.session_worker.specs.Events.WorkerEvent.{Calls, Drops, Fails}
 use Rattle.session_worker.proofs.Spoken.{stays_here}
 use Rattle.session_worker.proofs.Speech.{stays_first, stays_same, speak_on, speak_none, speak_silent, speak_broken}
 use Rattle.session_worker.proofs.Connected.{gone, confirm_on, hearing_takes, hearing_gone}
-use Rattle.session_worker.proofs.Calling.{moves_same, moves_gave, speaks_then}
+use Rattle.session_worker.proofs.Calling.{speaks_same, moves_same, moves_gave, speaks_then}
 
 -- events and then others
 calls-append : (first more : List WorkerEvent) → calls_of (first ++ more) ≡ calls_of first ++ calls_of more
@@ -238,7 +238,7 @@ does_drains w read a b drains idle = record {
   goes = goes_drains read a b drains idle;
   speaks = subst (λ (calls : List SessionCall). SpeaksOn w read (linked_in a) calls (linked_in b))
       (sym (dropping-calls drains.legs))
-      (moves_same w read (linked_in a) (linked_in b) drains.session (stays_same a.wire b.wire drains.wire) drains.stream).speaks;
+      (speaks_same w read (linked_in a) (linked_in b) drains.session (stays_same a.wire b.wire drains.wire) drains.stream);
 }
 
 pub drains_none : (a b : PostParts) → b.session ≡ a.session → b.took ≡ a.took → b.seat_parts ≡ a.seat_parts

@@ -8,7 +8,11 @@ use Rattle.session_worker.proofs.Connected.{gone, hearing_same, hearing_gone, he
 use Rattle.session_worker.proofs.linked.Linked.read.Goals as goal
 
 pub returns-in-Ok-Bytes-clause-session : goal.returns-in-Ok-Bytes-clause-session
-returns-in-Ok-Bytes-clause-session g c = fed_breaks _ _ _ c.take_in.ensures.fed
+returns-in-Ok-Bytes-clause-session g c =
+    let b : Wire = g.K.Link.wire c.read.new.self in
+    let old : LinkedParts = linked_of c.args.self.now.session b c.args.self.now.reader in
+    let now : LinkedParts = linked_of c.take_in.new.self.session (g.K.Link.wire c.take_in.new.self.link) c.take_in.new.self.reader in
+    fed_breaks (take c.in-Ok-Bytes.count c.read.new.buf) old now c.take_in.ensures.fed
 
 pub returns-in-Ok-Bytes-clause-wire : goal.returns-in-Ok-Bytes-clause-wire
 returns-in-Ok-Bytes-clause-wire g c =
@@ -57,7 +61,7 @@ returns-in-Ok-End-clause-wire g c =
 pub returns-in-Ok-End-clause-hears : goal.returns-in-Ok-End-clause-hears
 returns-in-Ok-End-clause-hears g c =
     let now : LinkedParts = linked_of c.break_off.new.self.session (g.K.Link.wire c.break_off.new.self.link) c.break_off.new.self.reader in
-    λ said hearing. hearing_gone said now (gone _ now.session c.break_off.ensures.session)
+    λ said hearing. hearing_gone said now (gone c.args.self.now.session now.session c.break_off.ensures.session)
 
 pub returns-in-Err-clause-session : goal.returns-in-Err-clause-session
 returns-in-Err-clause-session g c = inr c.break_off-in-Err.ensures.session
@@ -72,4 +76,4 @@ returns-in-Err-clause-wire g c =
 pub returns-in-Err-clause-hears : goal.returns-in-Err-clause-hears
 returns-in-Err-clause-hears g c =
     let now : LinkedParts = linked_of c.break_off-in-Err.new.self.session (g.K.Link.wire c.break_off-in-Err.new.self.link) c.break_off-in-Err.new.self.reader in
-    λ said hearing. hearing_gone said now (gone _ now.session c.break_off-in-Err.ensures.session)
+    λ said hearing. hearing_gone said now (gone c.args.self.now.session now.session c.break_off-in-Err.ensures.session)

@@ -8,4 +8,4 @@ returns-in-Ok-clause-wire g c = inl (refl, c.in-Ok.ensures.wire)
 pub returns-in-Err-clause-wire : goal.returns-in-Err-clause-wire
 returns-in-Err-clause-wire g c =
     writes_part c.args.frame.now c.args.self.now.session c.break_off.new.self.session _ _ _ c.in-Err.ensures.wire
-    c.break_off.ensures.session c.break_off.ensures.wire _ _
+    c.break_off.ensures.session c.break_off.ensures.wire c.args.self.now.reader c.break_off.new.self.reader
