@@ -1,28 +1,47 @@
 -- What calls of a session leave, one after the other.
-use Rattle.std.proofs.Common.{◌≡◌, ◌⊎◌, Bool, true, false, List, [], ◌∷◌, ◌++◌, refl, sym, ap, subst, ◌∙◌, inl, inr, append_assoc, if◌then◌else◌}
-use Rattle.std.specs.Prelude.{Result, Ok, Err}
+use Rattle.std.proofs.Common.{◌≡◌, ◌⊎◌, ℕ, Bool, true, false, List, [], ◌∷◌, ◌++◌, map, refl, sym, ap, subst, ◌∙◌, inl, inr, append_assoc, if◌then◌else◌}
+use Rattle.std.specs.Prelude.{Option, Some, None, Result, Ok, Err}
+use Rattle.std.specs.Global.{Vec}
 use Rattle.leg.specs.declared.placed_leg.PlacedLeg.{PlacedLeg}
+use Rattle.fix_text.specs.Tagged.{Tagged}
+use Rattle.fix_text.specs.Reading.{Stream, next_read}
+use Rattle.fix_text.specs.Calls.{new_stream}
+use Rattle.fix_tags.specs.Reading.{ReadsEnvelope, envelope_read}
+use Rattle.fix_tags.specs.Stamp.{StampParts}
 use Rattle.fix_tags.specs.declared.envelope.Envelope.{Envelope}
+use Rattle.fix_tags.specs.declared.read_fault.ReadFault.{ReadFault}
+use Rattle.fix_tags.specs.declared.read_fault.ReadFault.TheVariants as read_fault
+use Rattle.fix_tags.specs.declared.tag_fault.TagFault.{TagFault}
 use Rattle.dialect.specs.declared.message.Message.{Message}
-use Rattle.dialect.specs.Message.{Readers, seen}
+use Rattle.dialect.specs.Framed.{Writers, IsFramed, AreFramed}
+use Rattle.dialect.specs.Message.{Readers}
+use Rattle.dialect.specs.Outgoing.{alone}
+use Rattle.link.specs.Traffic.{Tells, Dials, Takes, Stays}
 use Rattle.session_core.specs.declared.phase.Phase.{Phase}
 use Rattle.session_core.specs.declared.phase.Phase.TheVariants.{Down, LoggingOn, Settling, Up, Closing, LoggedOut, Closed}
 use Rattle.session_core.specs.declared.session_call.SessionCall.{SessionCall}
 use Rattle.session_core.specs.declared.session_call.SessionCall.TheVariants as call
 use Rattle.session_core.specs.declared.session_fault.SessionFault.{SessionFault}
 use Rattle.session_core.specs.declared.session_fault.SessionFault.TheVariants as fault
+use Rattle.session_core.specs.declared.step.Step.{Step}
 use Rattle.session_core.specs.Session.{SessionParts, is_connected, is_logged_out, may_write}
 use Rattle.session_core.specs.Turn.{StepParts, quietly, puts_fence, disconnected}
-use Rattle.session_core.specs.Receiving.{receive, confirm}
-use Rattle.session_core.specs.Calling.{SessionAnswer, refuses, answers, connect, send_leg, quiet, silent, close, close_in, closing_up, malformed, broken, abandon}
-use Rattle.session_core.specs.Trial.{added, added_message, called, after_calls}
-use Rattle.session_core.specs.Given.{Gives}
+use Rattle.session_core.specs.Calling.{SessionAnswer, refuses, answers, connect, connect_in, send_leg, close, close_in, closing_up, malformed, broken, abandon}
+use Rattle.session_core.specs.Trial.{Addition, added, added_message, called, after_calls}
+use Rattle.session_core.specs.Given.{IsStep, Gives}
 use Rattle.session_core.specs.Onward.{OrUnchanged, IsConnection, SendsLeg}
 use Rattle.session_core.proofs.Adding.{chosen}
 use Rattle.session_core.proofs.Called.{connect_keeps, send_leg_keeps}
 use Rattle.session_core.proofs.CallsMade.{after-append}
-use Rattle.session_worker.specs.Events.{leg_in, legs_in, Moves, Hands, MayBreak, IsIdle}
+use Rattle.session_worker.specs.Hearing.{Said, said_with, said_after, Hears, ReaderOn}
+use Rattle.session_worker.specs.Speaking.{Wire, joined, Reads, TakesFirst, Puts, Begins, messages_in, Speak}
+use Rattle.session_worker.specs.Linking.{LinkedParts, linked_of, IsHearing, SpeaksOn, MayBreak, Writes, Moves, Hands, IsPlain, Gave, Asks, Receives}
+use Rattle.session_worker.specs.Events.{leg_in, legs_in, IsIdle}
 use Rattle.session_worker.specs.Events.WorkerEvent.{Calls, Fails}
+use Rattle.session_worker.proofs.Spoken.{stays_last, stays_here}
+use Rattle.session_worker.proofs.Hearing.{on_first, on_waits, on_gave, on_stays, on_takes, on_dials}
+use Rattle.session_worker.proofs.Speech.{stays_first, takes_first, speak_read, speak_on, speak_none, speak_made, speak_silent, begins_plain, joined_one, speak_broken}
+use Rattle.session_worker.proofs.Connected.{gone, gone_malformed, gone_abandoned, send_on, hearing_same, hearing_takes, hearing_gone}
 
 -- the legs of calls and then others
 legs-append : (first more : List SessionCall) → legs_in (first ++ more) ≡ legs_in first ++ legs_in more
@@ -31,95 +50,360 @@ legs-append (made ∷ first) more =
     ap (λ l. leg_in made ++ l) (legs-append first more)
     ∙ sym (append_assoc (leg_in made) (legs_in first) (legs_in more))
 
-pub moves_none : (read : Readers) (s : SessionParts) → Moves read s s
-moves_none read s = record { calls = []; session = refl; no_leg = refl }
+-- ---- no call, and calls after others
 
-pub moves_on : (read : Readers) (a b c : SessionParts) → Moves read a b → Moves read b c → Moves read a c
-moves_on read a b c first next = record {
+pub speaks_same : (w : Writers) (read : Readers) (x y : LinkedParts) → y.session ≡ x.session → Tells x.wire y.wire Stays
+    → y.stream ≡ x.stream → SpeaksOn w read x [] y
+speaks_same w read x y same stays stream = λ (said : Said) (hearing : IsHearing said x). (
+  speak_none w read x.session said x.wire y.wire stays,
+  hearing_same said x y (λ on. subst (λ (s : SessionParts). is_connected s.phase ≡ true) same on) stays stream hearing,
+)
+
+pub moves_same : (w : Writers) (read : Readers) (x y : LinkedParts) → y.session ≡ x.session → Tells x.wire y.wire Stays
+    → y.stream ≡ x.stream → Moves w read x y
+moves_same w read x y same stays stream = record {
+  calls = [];
+  session = same;
+  no_leg = refl;
+  speaks = speaks_same w read x y same stays stream;
+}
+
+pub moves_none : (w : Writers) (read : Readers) (x : LinkedParts) → Moves w read x x
+moves_none w read x = moves_same w read x x refl (stays_here x.wire) refl
+
+said-append : (said : Said) (first more : List SessionCall) → said_after said (first ++ more) ≡ said_after (said_after said first) more
+said-append said [] more = refl
+said-append said (made ∷ first) more = said-append (said_with said made) first more
+
+pub speaks_then : (w : Writers) (read : Readers) (x y z : LinkedParts) (first more : List SessionCall)
+    → y.session ≡ after_calls read x.session first → SpeaksOn w read x first y → SpeaksOn w read y more z
+    → SpeaksOn w read x (first ++ more) z
+speaks_then w read x y z first more session one next = λ (said : Said) (hearing : IsHearing said x).
+    let here = one said hearing in
+    let later = next (said_after said first) here.1 in (
+      speak_on w read x.session said first more x.wire y.wire z.wire here.0
+          (subst (λ (s : SessionParts). Speak w read s (said_after said first) more y.wire z.wire) session later.0),
+      subst (λ (l : Said). IsHearing l z) (sym (said-append said first more)) later.1,
+    )
+
+pub moves_on : (w : Writers) (read : Readers) (x y z : LinkedParts) → Moves w read x y → Moves w read y z → Moves w read x z
+moves_on w read x y z first next = record {
   calls = first.calls ++ next.calls;
   session = next.session ∙ (ap (λ s. after_calls read s next.calls) first.session
-      ∙ sym (after-append read a first.calls next.calls));
+      ∙ sym (after-append read x.session first.calls next.calls));
   no_leg = legs-append first.calls next.calls ∙ (ap (λ l. l ++ legs_in next.calls) first.no_leg ∙ next.no_leg);
+  speaks = speaks_then w read x y z first.calls next.calls first.session first.speaks next.speaks;
 }
 
-pub moves_same : (read : Readers) (s t : SessionParts) → t ≡ s → Moves read s t
-moves_same read s t e = record { calls = []; session = e; no_leg = refl }
+-- ---- one call
 
--- one call, none that is to send a leg
-pub moves_call : (read : Readers) (s t : SessionParts) (made : SessionCall) → leg_in made ≡ []
-    → t ≡ (called read s made).1 → Moves read s t
-moves_call read s t made none e = record {
+-- it has no message, and isn't to send a leg
+moves_call : (w : Writers) (read : Readers) (x y : LinkedParts) (made : SessionCall) → leg_in made ≡ []
+    → messages_in (called read x.session made).0 ≡ [] → ((said : Said) → IsHearing said x → Hears said made x.wire)
+    → Begins x.session made x.wire y.wire → y.session ≡ (called read x.session made).1
+    → ((said : Said) → IsHearing said x → IsHearing (said_with said made) y) → Moves w read x y
+moves_call w read x y made no_leg none hears begins is next = record {
   calls = made ∷ [];
-  session = e;
-  no_leg = ap (λ l. l ++ []) none;
+  session = is;
+  no_leg = ap (λ l. l ++ []) no_leg;
+  speaks = λ (said : Said) (hearing : IsHearing said x). (
+    speak_silent w read x.session said made [] x.wire y.wire y.wire (hears said hearing) begins none
+        (speak_none w read (called read x.session made).1 (said_with said made) y.wire y.wire (stays_here y.wire)),
+    next said hearing,
+  );
 }
+
+pub moves_broken : (w : Writers) (read : Readers) (x y : LinkedParts) → y.session ≡ broken x.session
+    → Tells x.wire y.wire Stays → Moves w read x y
+moves_broken w read x y is stays =
+    moves_call w read x y call.Broken refl refl (λ said hearing. tt) (inl stays) is
+    (λ said hearing. hearing_gone said y (gone x.session y.session is))
+
+pub moves_malformed : (w : Writers) (read : Readers) (x y : LinkedParts) → y.session ≡ (malformed x.session).1
+    → Tells x.wire y.wire Stays → ((said : Said) → IsHearing said x → Hears said call.Malformed x.wire) → Moves w read x y
+moves_malformed w read x y is stays hears =
+    moves_call w read x y call.Malformed refl refl hears stays is
+    (λ said hearing. hearing_gone said y (gone_malformed x.session y.session is))
+
+pub moves_abandon : (w : Writers) (read : Readers) (x y : LinkedParts) → y.session ≡ abandon x.session
+    → Tells x.wire y.wire Stays → Moves w read x y
+moves_abandon w read x y is stays =
+    moves_call w read x y call.Abandon refl refl (λ said hearing. tt) stays is
+    (λ said hearing. hearing_gone said y (gone_abandoned x.session y.session is))
+
+-- bytes were read, and then the connection may have been given up
+pub moves_read : (w : Writers) (read : Readers) (x y : LinkedParts) → MayBreak x.session y.session → Reads x.wire y.wire
+    → ((said : Said) → IsHearing said x → IsHearing said y) → Moves w read x y
+moves_read w read x y (inl same) reads hears = record {
+  calls = [];
+  session = same;
+  no_leg = refl;
+  speaks = λ (said : Said) (hearing : IsHearing said x). (reads, hears said hearing);
+}
+moves_read w read x y (inr is) reads hears = record {
+  calls = call.Broken ∷ [];
+  session = is;
+  no_leg = refl;
+  speaks = λ (said : Said) (hearing : IsHearing said x). (
+    speak_read w read x.session said (call.Broken ∷ []) x.wire y.wire y.wire reads
+        (speak_broken w read x.session said y.wire y.wire (stays_here y.wire)),
+    hears said hearing,
+  );
+}
+
+-- ---- a call that gives a step
+
+plain_no_leg : (made : SessionCall) → IsPlain made → leg_in made ≡ []
+plain_no_leg call.Connect plain = absurd plain
+plain_no_leg (call.SendLeg ordinal leg) plain = absurd plain
+plain_no_leg call.Broken plain = absurd plain
+plain_no_leg (call.Receive envelope) plain = refl
+plain_no_leg call.Confirm plain = refl
+plain_no_leg call.Quiet plain = refl
+plain_no_leg call.Silent plain = refl
+plain_no_leg call.Close plain = refl
+plain_no_leg call.Malformed plain = refl
+plain_no_leg call.Abandon plain = refl
 
 -- the state after a call is that of its answer
-after_added : (answer : SessionAnswer StepParts) → (added answer).1 ≡ answer.1
-after_added (Ok step, after) = refl
-after_added (Err why, after) = refl
+took_answer : {X Y : Type 0} (Is : X → Y → Type 0) (s now : SessionParts) (answer : SessionAnswer X) (y : Y)
+    → Gives Is s answer (Ok y) now → now ≡ answer.1
+took_answer Is s now (Ok said, after) y gives = gives.1
+took_answer Is s now (Err refused, after) y gives = gives.1
+
+-- it gave one
+pub gave_step : (w : Writers) (read : Readers) (s now : SessionParts) (made : SessionCall) (answer : SessionAnswer StepParts)
+    (stamp : StampParts) (step : Step) → IsPlain made → called read s made ≡ added answer
+    → Gives (IsStep w stamp) s answer (Ok step) now → Gave w read made s step now
+gave_step w read s now made (Ok said, after) stamp step plain is gives = record {
+  plain = plain;
+  said = said;
+  adds = is ∙ ap (λ (t : SessionParts). (Some said, t)) (sym gives.1);
+  stamp = stamp;
+  is_step = gives.0;
+}
+gave_step w read s now made (Err refused, after) stamp step plain is gives = absurd (let e = gives.0 in cc)
+
+-- it did by itself, with no message received
+pub asks_step : (w : Writers) (read : Readers) (s now : SessionParts) (made : SessionCall) (answer : SessionAnswer StepParts)
+    (stamp : StampParts) (step : Step) (a : Wire) (x : Stream) → IsPlain made → called read s made ≡ added answer
+    → ((said : Said) → Hears said made a) → ((said : Said) → said_with said made ≡ said)
+    → (is_connected answer.1.phase ≡ true → is_connected s.phase ≡ true) → Gives (IsStep w stamp) s answer (Ok step) now
+    → Asks w read (linked_of s a x) step (linked_of now a x)
+asks_step w read s now made answer stamp step a x plain is hears same back gives = record {
+  made = made;
+  gave = gave_step w read s now made answer stamp step plain is gives;
+  wire = stays_here a;
+  hears = λ (said : Said) (hearing : IsHearing said (linked_of s a x)). (
+    hears said,
+    subst (λ (l : Said). IsHearing l (linked_of now a x)) (sym (same said))
+        (hearing_same said (linked_of s a x) (linked_of now a x)
+        (λ on. back (subst (λ (t : SessionParts). is_connected t.phase ≡ true) (took_answer (IsStep w stamp) s now answer step gives) on))
+        (stays_here a) refl hearing),
+  );
+}
+
+-- it was refused, or wanted memory
+pub moves_refused : {Y : Type 0} (Is : StepParts → Y → Type 0) (w : Writers) (read : Readers) (x y : LinkedParts)
+    (made : SessionCall) (answer : SessionAnswer StepParts) (why : SessionFault) → IsPlain made
+    → called read x.session made ≡ added answer → ((said : Said) → Hears said made x.wire)
+    → ((said : Said) → said_with said made ≡ said) → (is_connected answer.1.phase ≡ true → is_connected x.session.phase ≡ true)
+    → Gives Is x.session answer (Err why) y.session → Tells x.wire y.wire Stays → y.stream ≡ x.stream → Moves w read x y
+moves_refused Is w read x y made (Ok said, after) why plain is hears same back gives stays stream =
+    moves_same w read x y gives.1 stays stream
+moves_refused Is w read x y made (Err refused, after) why plain is hears same back gives stays stream =
+    moves_call w read x y made (plain_no_leg made plain) (ap (λ (a : Addition). messages_in a.0) is) (λ said hearing. hears said)
+    (begins_plain x.session made x.wire y.wire plain stays) (gives.1 ∙ sym (ap (λ (a : Addition). a.1) is))
+    (λ said hearing. subst (λ (l : Said). IsHearing l y) (sym (same said))
+    (hearing_same said x y (λ on. back (subst (λ (t : SessionParts). is_connected t.phase ≡ true) gives.1 on)) stays stream hearing))
+
+-- its frames were written
+speak_gave : (w : Writers) (read : Readers) (s now : SessionParts) (made : SessionCall) (step : Step)
+    (gave : Gave w read made s step now) (said : Said) (later : List SessionCall) (a b c : Wire) → Hears said made a
+    → Puts (joined step.out) later a b → Speak w read now (said_with said made) later b c
+    → Speak w read s said (made ∷ later) a c
+speak_gave w read s now made step gave said later a b c hears puts rest =
+    speak_made w read s said made later gave.stamp step.out a a b c hears (begins_plain s made a a gave.plain (stays_here a))
+    (subst (λ (adds : Option StepParts). AreFramed w gave.stamp (map alone (messages_in adds)) step.out)
+    (sym (ap (λ (a : Addition). a.0) gave.adds)) gave.is_step.out) puts
+    (subst (λ (t : SessionParts). Speak w read t (said_with said made) later b c) (sym (ap (λ (a : Addition). a.1) gave.adds)) rest)
+
+pub moves_gave : (w : Writers) (read : Readers) (x m y : LinkedParts) (step : Step) (asks : Asks w read x step m)
+    (later : List SessionCall) (b : Wire) → y.session ≡ after_calls read m.session later → legs_in later ≡ []
+    → Puts (joined step.out) later x.wire b
+    → ((said : Said) → IsHearing said m → Speak w read m.session said later b y.wire × IsHearing (said_after said later) y)
+    → Moves w read x y
+moves_gave w read x m y step asks later b is no_leg puts rest = record {
+  calls = asks.made ∷ later;
+  session = is ∙ ap (λ (t : SessionParts). after_calls read t later) (sym (ap (λ (a : Addition). a.1) asks.gave.adds));
+  no_leg = ap (λ l. l ++ legs_in later) (plain_no_leg asks.made asks.gave.plain) ∙ no_leg;
+  speaks = λ (said : Said) (hearing : IsHearing said x).
+      let heard = asks.hears said hearing in
+      let done = rest (said_with said asks.made) heard.1 in (
+        speak_gave w read x.session m.session asks.made step asks.gave said later x.wire b y.wire heard.0 puts done.0,
+        done.1,
+      );
+}
+
+pub moves_written : (w : Writers) (read : Readers) (x m y : LinkedParts) (step : Step) → Asks w read x step m
+    → Writes (joined step.out) m y → y.stream ≡ m.stream → Moves w read x y
+moves_written w read x m y step asks (inl all) stream =
+    moves_gave w read x m y step asks [] y.wire all.0 refl
+    (inl (stays_first (Takes (joined step.out)) x.wire m.wire y.wire asks.wire all.1))
+    (λ said hearing. (
+      speak_none w read m.session said y.wire y.wire (stays_here y.wire),
+      hearing_takes said (joined step.out) m y (λ on. subst (λ (s : SessionParts). is_connected s.phase ≡ true) all.0 on) all.1
+          stream hearing,
+    ))
+moves_written w read x m y step asks (inr part) stream =
+    moves_gave w read x m y step asks (call.Broken ∷ []) y.wire part.0 refl
+    (inr (tt, stays_first (TakesFirst (joined step.out)) x.wire m.wire y.wire asks.wire (takes_first (joined step.out) m.wire y.wire part.1)))
+    (λ said hearing. (
+      speak_broken w read m.session said y.wire y.wire (stays_here y.wire),
+      hearing_gone said y (gone m.session y.session part.0),
+    ))
+
+-- ---- what comes of the next message
+
+-- a frame that was read and is no message
+pub no_message : (f : ReadFault) (said : Result Envelope TagFault) → ReadsEnvelope (Err f) said
+    → (f ≡ read_fault.OutOfMemory → ⊥) → (fault : TagFault) × (said ≡ Err fault)
+no_message (read_fault.Tag fault) said reads other = (fault, reads)
+no_message read_fault.OutOfMemory said reads other = absurd (other refl)
+
+pub heard_nothing : (w : Writers) (read : Readers) (x y : LinkedParts) → y.session ≡ x.session → Tells x.wire y.wire Stays
+    → (next_read x.stream).frame ≡ None → y.stream ≡ (next_read x.stream).stream → Moves w read x y
+heard_nothing w read x y same stays found is = record {
+  calls = [];
+  session = same;
+  no_leg = refl;
+  speaks = λ (said : Said) (hearing : IsHearing said x). (
+    speak_none w read x.session said x.wire y.wire stays,
+    (λ on. on_stays said x.wire y.wire y.stream
+        (on_waits said x.wire x.stream y.stream (hearing (subst (λ (s : SessionParts). is_connected s.phase ≡ true) same on)) found is)
+        stays),
+  );
+}
+
+pub heard_step : (w : Writers) (read : Readers) (s now : SessionParts) (a : Wire) (x y : Stream) (step : Step)
+    → is_connected s.phase ≡ true → Receives w read s x step now → y ≡ (next_read x).stream
+    → Asks w read (linked_of s a x) step (linked_of now a y)
+heard_step w read s now a x y step on receives is = record {
+  made = call.Receive receives.envelope;
+  gave = receives.gave;
+  wire = stays_here a;
+  hears = λ (said : Said) (hearing : IsHearing said (linked_of s a x)).
+      let at : ReaderOn (said ++ Ok receives.envelope ∷ []) a y =
+      subst (λ (r : Result Envelope TagFault). ReaderOn (said ++ r ∷ []) a y) receives.says
+      (on_gave said receives.fields a x y (hearing on) receives.next is) in
+      (on_first (said ++ Ok receives.envelope ∷ []) a y at, (λ still. at));
+}
+
+pub heard_malformed : (w : Writers) (read : Readers) (x y : LinkedParts) (z : Stream) (fields : List Tagged) (fault : TagFault)
+    → is_connected x.session.phase ≡ true → (next_read x.stream).frame ≡ Some fields → envelope_read fields ≡ Err fault
+    → z ≡ (next_read x.stream).stream → y.session ≡ (malformed x.session).1 → Tells x.wire y.wire Stays → Moves w read x y
+heard_malformed w read x y z fields fault on next says is gone stays =
+    moves_malformed w read x y gone stays
+    (λ (said : Said) (hearing : IsHearing said x).
+    let at : ReaderOn (said ++ Err fault ∷ []) x.wire z =
+    subst (λ (r : Result Envelope TagFault). ReaderOn (said ++ r ∷ []) x.wire z) says
+    (on_gave said fields x.wire x.stream z (hearing on) next is) in
+    (fault, on_first (said ++ Err fault ∷ []) x.wire z at))
+
+-- ---- a call that gives a message
+
+-- its frame was written, or the first bytes of it
+speak_message : (w : Writers) (read : Readers) (s now : SessionParts) (said : Said) (made : SessionCall)
+    (answer : SessionAnswer Message) (stamp : StampParts) (frame : Vec ℕ) (later : List SessionCall) (a b c d : Wire)
+    → called read s made ≡ added_message answer → Gives (λ (m : Message) (bytes : Vec ℕ). IsFramed w stamp (alone m) bytes.items) s answer (Ok frame) now → Hears said made a
+    → Begins s made a b → Puts frame.items later b c → Speak w read now (said_with said made) later c d
+    → Speak w read s said (made ∷ later) a d
+speak_message w read s now said made (Err refused, after) stamp frame later a b c d is gives hears begins puts rest =
+    absurd (let e = gives.0 in cc)
+speak_message w read s now said made (Ok m, after) stamp frame later a b c d is gives hears begins puts rest =
+    speak_made w read s said made later stamp (frame.items ∷ []) a b c d hears begins
+    (subst (λ (adds : Option StepParts). AreFramed w stamp (map alone (messages_in adds)) (frame.items ∷ []))
+    (sym (ap (λ (a : Addition). a.0) is)) (gives.0, tt))
+    (subst (λ (bytes : List ℕ). Puts bytes later b c) (sym (joined_one frame.items)) puts)
+    (subst (λ (t : SessionParts). Speak w read t (said_with said made) later c d) (gives.1 ∙ sym (ap (λ (a : Addition). a.1) is)) rest)
 
 after_message : (answer : SessionAnswer Message) → (added_message answer).1 ≡ answer.1
 after_message (Ok message, after) = refl
 after_message (Err why, after) = refl
 
--- a call that was given leaves the state of its answer, or for want of memory the old one
-given : {X Y : Type 0} (Is : X → Y → Type 0) (s now : SessionParts) (answer : SessionAnswer X) (result : Result Y SessionFault)
-    → Gives Is s answer result now → (now ≡ answer.1) ⊎ (now ≡ s)
-given Is s now (Ok said, after) (Ok y) gives = inl gives.1
-given Is s now (Ok said, after) (Err why) gives = inr gives.1
-given Is s now (Err refused, after) result gives = inl gives.1
+-- a session that logged on over a link that was dialled for it
+pub moves_connected : (w : Writers) (read : Readers) (s now : SessionParts) (stamp : StampParts) (frame : Vec ℕ) (a b : Wire)
+    (x z : Stream) (y : LinkedParts) → Gives (λ (m : Message) (bytes : Vec ℕ). IsFramed w stamp (alone m) bytes.items) s (connect s) (Ok frame) now → Tells a b Dials
+    → Writes frame.items (linked_of now b z) y → y.stream ≡ new_stream → Moves w read (linked_of s a x) y
+moves_connected w read s now stamp frame a b x z y gives dials (inl all) fresh = record {
+  calls = call.Connect ∷ [];
+  session = all.0 ∙ (took_answer (λ (m : Message) (bytes : Vec ℕ). IsFramed w stamp (alone m) bytes.items) s now (connect s) frame gives ∙ sym (after_message (connect s)));
+  no_leg = refl;
+  speaks = λ (said : Said) (hearing : IsHearing said (linked_of s a x)). (
+    speak_message w read s now said call.Connect (connect s) stamp frame [] a b y.wire y.wire refl gives tt dials (inl all.1)
+        (speak_none w read now [] y.wire y.wire (stays_here y.wire)),
+    (λ on. subst (λ (t : Stream). ReaderOn [] y.wire t) (sym fresh)
+        (on_takes [] frame.items b y.wire new_stream (on_dials a b dials) all.1)),
+  );
+}
+moves_connected w read s now stamp frame a b x z y gives dials (inr part) fresh = record {
+  calls = call.Connect ∷ call.Broken ∷ [];
+  session = part.0 ∙ ap broken (took_answer (λ (m : Message) (bytes : Vec ℕ). IsFramed w stamp (alone m) bytes.items) s now (connect s) frame gives ∙ sym (after_message (connect s)));
+  no_leg = refl;
+  speaks = λ (said : Said) (hearing : IsHearing said (linked_of s a x)). (
+    speak_message w read s now said call.Connect (connect s) stamp frame (call.Broken ∷ []) a b y.wire y.wire refl gives tt dials
+        (inr (tt, takes_first frame.items b y.wire part.1)) (speak_broken w read now [] y.wire y.wire (stays_here y.wire)),
+    hearing_gone [] y (gone now y.session part.0),
+  );
+}
 
-moves_given : {X Y : Type 0} (Is : X → Y → Type 0) (read : Readers) (s now : SessionParts) (answer : SessionAnswer X)
-    (result : Result Y SessionFault) (made : SessionCall) → leg_in made ≡ [] → (called read s made).1 ≡ answer.1
-    → Gives Is s answer result now → Moves read s now
-moves_given Is read s now answer result made none is gives =
-    elim (given Is s now answer result gives) [
-      | inl e ↦ moves_call read s now made none (e ∙ sym is)
-      | inr e ↦ moves_same read s now e
-    ]
+-- a connection that was dialled, where the session refused to log on
+pub moves_not_connected : {Y : Type 0} (Is : Message → Y → Type 0) (w : Writers) (read : Readers) (s now : SessionParts)
+    (why : SessionFault) (a b : Wire) (x : Stream) (y : LinkedParts) → (why ≡ fault.OutOfMemory → ⊥)
+    → Gives Is s (connect s) (Err why) now → Tells a b Dials → y.session ≡ now → Tells b y.wire Stays → y.stream ≡ new_stream
+    → Moves w read (linked_of s a x) y
+moves_not_connected Is w read s now why a b x y other gives dials same stays fresh =
+    not_connected (connect s) refl gives where
+      to : Tells a y.wire Dials
+      to = stays_last Dials a b y.wire dials stays
+      not_connected : (answer : SessionAnswer Message) → connect s ≡ answer → Gives Is s answer (Err why) now
+          → Moves w read (linked_of s a x) y
+      not_connected (Ok m, after) is gave = absurd (other gave.0)
+      not_connected (Err refused, after) is gave =
+          moves_call w read (linked_of s a x) y call.Connect refl
+          (ap (λ (t : SessionAnswer Message). messages_in (added_message t).0) is) (λ said hearing. tt) to
+          (same ∙ (gave.1 ∙ sym (ap (λ (t : SessionAnswer Message). (added_message t).1) is)))
+          (λ said hearing. λ on. subst (λ (t : Stream). ReaderOn [] y.wire t) (sym fresh) (on_dials a y.wire to))
 
-pub moves_connect : {Y : Type 0} (Is : Message → Y → Type 0) (read : Readers) (s now : SessionParts) (result : Result Y SessionFault)
-    → Gives Is s (connect s) result now → Moves read s now
-moves_connect Is read s now result gives =
-    moves_given Is read s now (connect s) result call.Connect refl (after_message (connect s)) gives
+-- a session that can connect is down
+down_connects : (s : SessionParts) (phase : Phase) (m : Message) (after : SessionParts) → connect_in phase s ≡ (Ok m, after)
+    → phase ≡ Down
+down_connects s Down m after is = refl
+down_connects s Closed m after is = absurd (let e = ap (λ p. p.0) is in cc)
+down_connects s LoggingOn m after is = absurd (let e = ap (λ p. p.0) is in cc)
+down_connects s Settling m after is = absurd (let e = ap (λ p. p.0) is in cc)
+down_connects s Up m after is = absurd (let e = ap (λ p. p.0) is in cc)
+down_connects s Closing m after is = absurd (let e = ap (λ p. p.0) is in cc)
+down_connects s LoggedOut m after is = absurd (let e = ap (λ p. p.0) is in cc)
 
-pub moves_quiet : {Y : Type 0} (Is : StepParts → Y → Type 0) (read : Readers) (s now : SessionParts) (result : Result Y SessionFault)
-    → Gives Is s (quiet s) result now → Moves read s now
-moves_quiet Is read s now result gives =
-    moves_given Is read s now (quiet s) result call.Quiet refl (after_added (quiet s)) gives
-
-pub moves_silent : {Y : Type 0} (Is : StepParts → Y → Type 0) (read : Readers) (s now : SessionParts) (result : Result Y SessionFault)
-    → Gives Is s (silent s) result now → Moves read s now
-moves_silent Is read s now result gives =
-    moves_given Is read s now (silent s) result call.Silent refl (after_added (silent s)) gives
-
-pub moves_close : {Y : Type 0} (Is : StepParts → Y → Type 0) (read : Readers) (s now : SessionParts) (result : Result Y SessionFault)
-    → Gives Is s (close s) result now → Moves read s now
-moves_close Is read s now result gives =
-    moves_given Is read s now (close s) result call.Close refl (after_added (close s)) gives
-
-pub moves_receive : {Y : Type 0} (Is : StepParts → Y → Type 0) (read : Readers) (s now : SessionParts) (envelope : Envelope)
-    (result : Result Y SessionFault) → Gives Is s (answers (receive s (seen read envelope))) result now → Moves read s now
-moves_receive Is read s now envelope result gives =
-    moves_given Is read s now (answers (receive s (seen read envelope))) result (call.Receive envelope) refl
-    (after_added (answers (receive s (seen read envelope)))) gives
-
-pub moves_malformed : (read : Readers) (s now : SessionParts) → now ≡ (malformed s).1 → Moves read s now
-moves_malformed read s now e = moves_call read s now call.Malformed refl e
-
-pub moves_broken : (read : Readers) (s now : SessionParts) → now ≡ broken s → Moves read s now
-moves_broken read s now e = moves_call read s now call.Broken refl e
-
-pub moves_confirm : (read : Readers) (s now : SessionParts) → now ≡ confirm s → Moves read s now
-moves_confirm read s now e = moves_call read s now call.Confirm refl e
-
-pub moves_abandon : (read : Readers) (s now : SessionParts) → now ≡ abandon s → Moves read s now
-moves_abandon read s now e = moves_call read s now call.Abandon refl e
-
-pub moves_may_break : (read : Readers) (s t : SessionParts) → MayBreak s t → Moves read s t
-moves_may_break read s t (inl e) = moves_same read s t e
-moves_may_break read s t (inr e) = moves_broken read s t e
+-- or where it was given up
+pub moves_gone : {Y : Type 0} (Is : Message → Y → Type 0) (w : Writers) (read : Readers) (s now : SessionParts)
+    (why : SessionFault) (a b : Wire) (x : Stream) (y : LinkedParts) → Gives Is s (connect s) (Err why) now → Tells a b Dials
+    → y.session ≡ broken now → Tells b y.wire Stays → Moves w read (linked_of s a x) y
+moves_gone Is w read s now why a b x y gives dials over stays = gone_from (connect s) refl gives where
+    gone_from : (answer : SessionAnswer Message) → connect s ≡ answer → Gives Is s answer (Err why) now
+        → Moves w read (linked_of s a x) y
+    gone_from (Ok m, after) is gave =
+        moves_call w read (linked_of s a x) y call.Broken refl refl (λ said hearing. tt)
+        (inr (down_connects s s.phase m after is, stays_last Dials a b y.wire dials stays)) (over ∙ ap broken gave.1)
+        (λ said hearing. hearing_gone said y (gone now y.session over))
+    gone_from (Err refused, after) is gave =
+        let between : LinkedParts = linked_of now b new_stream in
+        moves_on w read (linked_of s a x) between y
+        (moves_call w read (linked_of s a x) between call.Connect refl
+        (ap (λ (t : SessionAnswer Message). messages_in (added_message t).0) is) (λ said hearing. tt) dials
+        (gave.1 ∙ sym (ap (λ (t : SessionAnswer Message). (added_message t).1) is)) (λ said hearing. λ on. on_dials a b dials))
+        (moves_broken w read between y over stays)
 
 -- a refused call leaves the session as it was
 refused : {X Y : Type 0} (Is : X → Y → Type 0) (Made : X → SessionParts → Type 0) (s now : SessionParts)
@@ -143,40 +427,77 @@ answered : {X Y : Type 0} (Is : X → Y → Type 0) (s now : SessionParts) (answ
 answered Is s now (Ok said, after) why other gives = absurd (other gives.0)
 answered Is s now (Err refused, after) why other gives = gives.1
 
-took_leg : {X Y : Type 0} (Is : X → Y → Type 0) (s now : SessionParts) (answer : SessionAnswer X) (y : Y)
-    → Gives Is s answer (Ok y) now → now ≡ answer.1
-took_leg Is s now (Ok said, after) y gives = gives.1
-took_leg Is s now (Err refused, after) y gives = gives.1
-
--- a leg that was sent, whether or not its frame was written
-pub hands_sent : {Y : Type 0} (Is : Message → Y → Type 0) (read : Readers) (leg : PlacedLeg) (s now t : SessionParts) (y : Y)
-    → Gives Is s (send_leg s leg.ordinal leg.leg) (Ok y) now → MayBreak now t → Hands read leg s t
-hands_sent Is read leg s now t y gives breaks = record {
+-- a leg that was sent
+pub hands_sent : (w : Writers) (read : Readers) (leg : PlacedLeg) (s now : SessionParts) (stamp : StampParts) (frame : Vec ℕ)
+    (a : Wire) (x : Stream) (y : LinkedParts) → Gives (λ (m : Message) (bytes : Vec ℕ). IsFramed w stamp (alone m) bytes.items) s (send_leg s leg.ordinal leg.leg) (Ok frame) now
+    → Writes frame.items (linked_of now a x) y → y.stream ≡ x → Hands w read leg (linked_of s a x) y
+hands_sent w read leg s now stamp frame a x y gives (inl all) stream =
+    let is : y.session ≡ (send_leg s leg.ordinal leg.leg).1 = all.0 ∙ took_answer (λ (m : Message) (bytes : Vec ℕ). IsFramed w stamp (alone m) bytes.items) s now (send_leg s leg.ordinal leg.leg) frame gives in
+    record {
+      event = Calls (call.SendLeg leg.ordinal leg.leg);
+      of_leg = inl refl;
+      calls = [];
+      session = is ∙ sym (after_message (send_leg s leg.ordinal leg.leg));
+      no_leg = refl;
+      speaks = λ (said : Said) (hearing : IsHearing said (linked_of s a x)). (
+        speak_message w read s now said (call.SendLeg leg.ordinal leg.leg) (send_leg s leg.ordinal leg.leg) stamp frame [] a a y.wire y.wire
+            refl gives tt (stays_here a) (inl all.1) (speak_none w read now said y.wire y.wire (stays_here y.wire)),
+        hearing_takes said frame.items (linked_of s a x) y
+            (λ on. send_on s leg.ordinal leg.leg (subst (λ (t : SessionParts). is_connected t.phase ≡ true) is on)) all.1 stream hearing,
+      );
+    }
+hands_sent w read leg s now stamp frame a x y gives (inr part) stream = record {
   event = Calls (call.SendLeg leg.ordinal leg.leg);
   of_leg = inl refl;
-  rest = subst (λ (from : SessionParts). Moves read from t)
-      (took_leg Is s now (send_leg s leg.ordinal leg.leg) y gives
-      ∙ sym (after_message (send_leg s leg.ordinal leg.leg))) (moves_may_break read now t breaks);
+  calls = call.Broken ∷ [];
+  session = part.0 ∙ ap broken (took_answer (λ (m : Message) (bytes : Vec ℕ). IsFramed w stamp (alone m) bytes.items) s now (send_leg s leg.ordinal leg.leg) frame gives ∙ sym (after_message (send_leg s leg.ordinal leg.leg)));
+  no_leg = refl;
+  speaks = λ (said : Said) (hearing : IsHearing said (linked_of s a x)). (
+    speak_message w read s now said (call.SendLeg leg.ordinal leg.leg) (send_leg s leg.ordinal leg.leg) stamp frame (call.Broken ∷ []) a a
+        y.wire y.wire refl gives tt (stays_here a) (inr (tt, takes_first frame.items a y.wire part.1))
+        (speak_broken w read now said y.wire y.wire (stays_here y.wire)),
+    hearing_gone said y (gone now y.session part.0),
+  );
 }
 
 -- one that the session refused
-pub hands_refused : {Y : Type 0} (Is : Message → Y → Type 0) (read : Readers) (leg : PlacedLeg) (s now : SessionParts)
-    (why : SessionFault) → (why ≡ fault.OutOfMemory → ⊥) → Gives Is s (send_leg s leg.ordinal leg.leg) (Err why) now
-    → Hands read leg s now
-hands_refused Is read leg s now why other gives = record {
-  event = Calls (call.SendLeg leg.ordinal leg.leg);
-  of_leg = inl refl;
-  rest = moves_same read _ now (answered Is s now (send_leg s leg.ordinal leg.leg) why other gives
-      ∙ sym (after_message (send_leg s leg.ordinal leg.leg)));
-}
+pub hands_refused : {Y : Type 0} (Is : Message → Y → Type 0) (w : Writers) (read : Readers) (leg : PlacedLeg)
+    (s now : SessionParts) (why : SessionFault) (a : Wire) (x : Stream) → (why ≡ fault.OutOfMemory → ⊥)
+    → Gives Is s (send_leg s leg.ordinal leg.leg) (Err why) now → Hands w read leg (linked_of s a x) (linked_of now a x)
+hands_refused Is w read leg s now why a x other gives = was_refused (send_leg s leg.ordinal leg.leg) refl gives where
+    was_refused : (answer : SessionAnswer Message) → send_leg s leg.ordinal leg.leg ≡ answer → Gives Is s answer (Err why) now
+        → Hands w read leg (linked_of s a x) (linked_of now a x)
+    was_refused (Ok m, after) is gave = absurd (other gave.0)
+    was_refused (Err refused, after) is gave =
+        let same : now ≡ (send_leg s leg.ordinal leg.leg).1 = gave.1 ∙ sym (ap (λ (t : SessionAnswer Message). t.1) is) in
+        record {
+          event = Calls (call.SendLeg leg.ordinal leg.leg);
+          of_leg = inl refl;
+          calls = [];
+          session = gave.1 ∙ sym (ap (λ (t : SessionAnswer Message). (added_message t).1) is);
+          no_leg = refl;
+          speaks = λ (said : Said) (hearing : IsHearing said (linked_of s a x)). (
+            speak_silent w read s said (call.SendLeg leg.ordinal leg.leg) [] a a a tt (stays_here a)
+                (ap (λ (t : SessionAnswer Message). messages_in (added_message t).0) is)
+                (speak_none w read (called read s (call.SendLeg leg.ordinal leg.leg)).1 said a a (stays_here a)),
+            hearing_same said (linked_of s a x) (linked_of now a x)
+                (λ on. send_on s leg.ordinal leg.leg (subst (λ (t : SessionParts). is_connected t.phase ≡ true) same on)) (stays_here a)
+                refl hearing,
+          );
+        }
 
 -- one for which it wanted memory
-pub hands_failed : {Y : Type 0} (Is : Message → Y → Type 0) (read : Readers) (leg : PlacedLeg) (s now t : SessionParts)
-    (why : SessionFault) → Gives Is s (send_leg s leg.ordinal leg.leg) (Err why) now → t ≡ broken now → Hands read leg s t
-hands_failed Is read leg s now t why gives e = record {
+pub hands_failed : {Y : Type 0} (Is : Message → Y → Type 0) (w : Writers) (read : Readers) (leg : PlacedLeg)
+    (s now : SessionParts) (why : SessionFault) (a : Wire) (x : Stream) (y : LinkedParts)
+    → Gives Is s (send_leg s leg.ordinal leg.leg) (Err why) now → y.session ≡ broken now → Tells a y.wire Stays → Hands w read leg (linked_of s a x) y
+hands_failed Is w read leg s now why a x y gives e stays = record {
   event = Fails leg;
   of_leg = inr refl;
-  rest = moves_same read _ t (e ∙ ap broken (refused_send Is s now leg why gives));
+  calls = [];
+  session = e ∙ ap broken (refused_send Is s now leg why gives);
+  no_leg = refl;
+  speaks = λ (said : Said) (hearing : IsHearing said (linked_of s a x)).
+      (speak_broken w read s said a y.wire stays, hearing_gone said y (gone now y.session e));
 }
 
 -- a session that is down or closed can't send a leg
@@ -214,7 +535,7 @@ closes_idle s LoggedOut is = λ up. absurd (let e : LoggedOut ≡ Up = sym is �
 pub idle_closed : {Y : Type 0} (Is : StepParts → Y → Type 0) (s now : SessionParts) (y : Y)
     → Gives Is s (close s) (Ok y) now → IsIdle now
 idle_closed Is s now y gives =
-    subst IsIdle (sym (took_leg Is s now (close s) y gives)) (closes_idle s s.phase refl)
+    subst IsIdle (sym (took_answer Is s now (close s) y gives)) (closes_idle s s.phase refl)
 
 pub idle_refused : {Y : Type 0} (Is : StepParts → Y → Type 0) (s now : SessionParts) (why : SessionFault)
     → (why ≡ fault.OutOfMemory → ⊥) → Gives Is s (close s) (Err why) now → IsIdle now

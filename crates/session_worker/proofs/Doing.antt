@@ -1,22 +1,33 @@
 -- What a worker's events do, one after the other.
-use Rattle.std.proofs.Common.{◌≡◌, ◌⊎◌, List, [], ◌∷◌, ◌++◌, map, refl, sym, ap, subst, ◌∙◌, inl, inr, append_assoc}
+use Rattle.std.proofs.Common.{◌≡◌, ◌⊎◌, true, List, [], ◌∷◌, ◌++◌, map, refl, sym, ap, subst, ◌∙◌, inl, inr, append_assoc}
 use Rattle.std.specs.Prelude.{Option, Some, None, MatchOption}
 use Rattle.std.proofs.lemmas.List.{append-nil}
 use Rattle.leg.specs.declared.placed_leg.PlacedLeg.{PlacedLeg}
+use Rattle.dialect.specs.Framed.{Writers}
 use Rattle.dialect.specs.Message.{Readers}
+use Rattle.link.specs.Traffic.{Tells, Takes, Stays}
 use Rattle.session_core.specs.declared.phase.Phase.{Phase}
 use Rattle.session_core.specs.declared.phase.Phase.TheVariants.{Down, LoggingOn, Settling, Up, Closing, LoggedOut, Closed}
 use Rattle.session_core.specs.declared.session_call.SessionCall.{SessionCall}
 use Rattle.session_core.specs.declared.session_call.SessionCall.TheVariants as call
-use Rattle.session_core.specs.Session.{SessionParts}
-use Rattle.session_core.specs.Calling.{abandon}
+use Rattle.session_core.specs.declared.step.Step.{Step}
+use Rattle.session_core.specs.Session.{SessionParts, is_connected}
+use Rattle.session_core.specs.Receiving.{confirm}
+use Rattle.session_core.specs.Calling.{broken, abandon}
 use Rattle.session_core.specs.Trial.{called, after_calls}
 use Rattle.session_core.proofs.CallsMade.{after-append}
 use Rattle.session_worker.specs.declared.end_reason.EndReason.TheVariants as reason
 use Rattle.session_worker.specs.Ends.{reason_of, last_calls}
 use Rattle.session_worker.specs.Taking.{with_taken}
-use Rattle.session_worker.specs.Events.{WorkerEvent, calls_in, calls_of, leg_in, legs_in, taken_in, taken_of, IsIdle, IsAllowedCall, IsAllowed, AreAllowed, WorkerParts, Goes, Does, Moves, Hands, Drains}
+use Rattle.session_worker.specs.Hearing.{Said, said_after}
+use Rattle.session_worker.specs.Speaking.{Wire, joined, TakesFirst, Speak}
+use Rattle.session_worker.specs.Linking.{LinkedParts, SpeaksOn, PostParts, worker_in, linked_in, MayConfirm, Moves, Hands, Asks, CarriesOut, Does, Drains}
+use Rattle.session_worker.specs.Events.{WorkerEvent, calls_in, calls_of, leg_in, legs_in, taken_in, taken_of, IsIdle, IsAllowedCall, IsAllowed, AreAllowed, WorkerParts, Goes}
 use Rattle.session_worker.specs.Events.WorkerEvent.{Calls, Drops, Fails}
+use Rattle.session_worker.proofs.Spoken.{stays_here}
+use Rattle.session_worker.proofs.Speech.{stays_first, stays_same, speak_on, speak_none, speak_silent, speak_broken}
+use Rattle.session_worker.proofs.Connected.{gone, confirm_on, hearing_takes, hearing_gone}
+use Rattle.session_worker.proofs.Calling.{speaks_same, moves_same, moves_gave, speaks_then}
 
 -- events and then others
 calls-append : (first more : List WorkerEvent) → calls_of (first ++ more) ≡ calls_of first ++ calls_of more
@@ -40,6 +51,14 @@ allowed-append read s (event ∷ first) more all rest = (
       (subst (λ (t : SessionParts). AreAllowed read t more) (after-append read s (calls_in event) (calls_of first)) rest),
 )
 
+pub speak_events : (w : Writers) (read : Readers) (s : SessionParts) (said : Said) (first more : List WorkerEvent) (a b c : Wire)
+    → Speak w read s said (calls_of first) a b
+    → Speak w read (after_calls read s (calls_of first)) (said_after said (calls_of first)) (calls_of more) b c
+    → Speak w read s said (calls_of (first ++ more)) a c
+speak_events w read s said first more a b c one next =
+    subst (λ (calls : List SessionCall). Speak w read s said calls a c) (sym (calls-append first more))
+    (speak_on w read s said (calls_of first) (calls_of more) a b c one next)
+
 pub goes_on : (read : Readers) (a b c : WorkerParts) (first more : List WorkerEvent) → Goes read a first b
     → Goes read b more c → Goes read a (first ++ more) c
 goes_on read a b c first more one next = record {
@@ -55,10 +74,14 @@ goes_on read a b c first more one next = record {
   seat = next.seat ∙ one.seat;
 }
 
-pub does_on : (read : Readers) (a b c : WorkerParts) → Does read a b → Does read b c → Does read a c
-does_on read a b c first next = record {
+pub does_on : (w : Writers) (read : Readers) (a b c : PostParts) → Does w read a b → Does w read b c → Does w read a c
+does_on w read a b c first next = record {
   events = first.events ++ next.events;
-  goes = goes_on read a b c first.events next.events first.goes next.goes;
+  goes = goes_on read (worker_in a) (worker_in b) (worker_in c) first.events next.events first.goes next.goes;
+  speaks = subst (λ (calls : List SessionCall). SpeaksOn w read (linked_in a) calls (linked_in c))
+      (sym (calls-append first.events next.events))
+      (speaks_then w read (linked_in a) (linked_in b) (linked_in c) (calls_of first.events) (calls_of next.events)
+      first.goes.session first.speaks next.speaks);
 }
 
 -- nothing
@@ -71,13 +94,6 @@ goes_none read a b session took seat = record {
   venue = ap (λ t. t.venue) took;
   seat = seat;
 }
-
-pub does_none : (read : Readers) (a : WorkerParts) → Does read a a
-does_none read a = record { events = []; goes = goes_none read a a refl refl refl }
-
-pub does_same : (read : Readers) (a b : WorkerParts) → b.session ≡ a.session → b.took ≡ a.took
-    → b.seat_parts ≡ a.seat_parts → Does read a b
-does_same read a b session took seat = record { events = []; goes = goes_none read a b session took seat }
 
 -- calls of the session, none of which is to send a leg
 abbrev pub calling : List SessionCall → List WorkerEvent
@@ -114,21 +130,81 @@ allowed_calls read s (made ∷ calls) e =
     let none = both_empty (leg_in made) (legs_in calls) e in
     (allowed_call s made none.0, allowed_calls read (called read s made).1 calls none.1)
 
-pub goes_moves : (read : Readers) (a b : WorkerParts) (moves : Moves read a.session b.session) → b.took ≡ a.took
-    → b.seat_parts ≡ a.seat_parts → Goes read a (calling moves.calls) b
-goes_moves read a b moves took seat = record {
-  session = moves.session ∙ ap (after_calls read a.session) (sym (calling-calls moves.calls));
+pub goes_calls : (read : Readers) (a b : WorkerParts) (calls : List SessionCall)
+    → b.session ≡ after_calls read a.session calls → legs_in calls ≡ [] → b.took ≡ a.took → b.seat_parts ≡ a.seat_parts
+    → Goes read a (calling calls) b
+goes_calls read a b calls session no_leg took seat = record {
+  session = session ∙ ap (after_calls read a.session) (sym (calling-calls calls));
   taken = ap (λ t. t.taken) took ∙ (sym (append-nil a.took.taken)
-      ∙ ap (λ l. a.took.taken ++ l) (sym (calling-taken moves.calls ∙ moves.no_leg)));
-  allowed = allowed_calls read a.session moves.calls moves.no_leg;
+      ∙ ap (λ l. a.took.taken ++ l) (sym (calling-taken calls ∙ no_leg)));
+  allowed = allowed_calls read a.session calls no_leg;
   venue = ap (λ t. t.venue) took;
   seat = seat;
 }
 
-pub does_moves : (read : Readers) (a b : WorkerParts) → Moves read a.session b.session → b.took ≡ a.took
-    → b.seat_parts ≡ a.seat_parts → Does read a b
-does_moves read a b moves took seat =
-    record { events = calling moves.calls; goes = goes_moves read a b moves took seat }
+pub does_moves : (w : Writers) (read : Readers) (a b : PostParts) → Moves w read (linked_in a) (linked_in b) → b.took ≡ a.took
+    → b.seat_parts ≡ a.seat_parts → Does w read a b
+does_moves w read a b moves took seat = record {
+  events = calling moves.calls;
+  goes = goes_calls read (worker_in a) (worker_in b) moves.calls moves.session moves.no_leg took seat;
+  speaks = subst (λ (calls : List SessionCall). SpeaksOn w read (linked_in a) calls (linked_in b))
+      (sym (calling-calls moves.calls)) moves.speaks;
+}
+
+pub does_same : (w : Writers) (read : Readers) (a b : PostParts) → b.session ≡ a.session → b.took ≡ a.took
+    → b.seat_parts ≡ a.seat_parts → Tells a.wire b.wire Stays → b.stream ≡ a.stream → Does w read a b
+does_same w read a b session took seat stays stream =
+    does_moves w read a b (moves_same w read (linked_in a) (linked_in b) session stays stream) took seat
+
+pub does_none : (w : Writers) (read : Readers) (a : PostParts) → Does w read a a
+does_none w read a = does_same w read a a refl refl refl (stays_here a.wire) refl
+
+-- ---- what a step wanted
+
+-- a call that gave a step, and then what the step wanted
+moves_carried : (w : Writers) (read : Readers) (x m y : LinkedParts) (step : Step) (noted : SessionParts) → Asks w read x step m
+    → MayConfirm m.session noted
+    → ((y.session ≡ noted) × Tells m.wire y.wire (Takes (joined step.out)))
+    ⊎ ((y.session ≡ broken noted) × Tells m.wire y.wire (TakesFirst (joined step.out))) → y.stream ≡ m.stream
+    → Moves w read x y
+moves_carried w read x m y step noted asks (inl same) (inl all) stream =
+    moves_gave w read x m y step asks [] y.wire (all.0 ∙ same) refl
+    (inl (stays_first (Takes (joined step.out)) x.wire m.wire y.wire asks.wire all.1))
+    (λ said hearing. (
+      speak_none w read m.session said y.wire y.wire (stays_here y.wire),
+      hearing_takes said (joined step.out) m y (λ on. subst (λ (s : SessionParts). is_connected s.phase ≡ true) (all.0 ∙ same) on)
+          all.1 stream hearing,
+    ))
+moves_carried w read x m y step noted asks (inr confirmed) (inl all) stream =
+    moves_gave w read x m y step asks (call.Confirm ∷ []) y.wire (all.0 ∙ confirmed) refl
+    (inl (stays_first (Takes (joined step.out)) x.wire m.wire y.wire asks.wire all.1))
+    (λ said hearing. (
+      speak_silent w read m.session said call.Confirm [] y.wire y.wire y.wire tt (stays_here y.wire) refl
+          (speak_none w read (confirm m.session) said y.wire y.wire (stays_here y.wire)),
+      hearing_takes said (joined step.out) m y (confirm_on m.session y.session (all.0 ∙ confirmed)) all.1 stream hearing,
+    ))
+moves_carried w read x m y step noted asks (inl same) (inr part) stream =
+    moves_gave w read x m y step asks (call.Broken ∷ []) y.wire (part.0 ∙ ap broken same) refl
+    (inr (tt, stays_first (TakesFirst (joined step.out)) x.wire m.wire y.wire asks.wire part.1))
+    (λ said hearing. (
+      speak_broken w read m.session said y.wire y.wire (stays_here y.wire),
+      hearing_gone said y (gone noted y.session part.0),
+    ))
+moves_carried w read x m y step noted asks (inr confirmed) (inr part) stream =
+    moves_gave w read x m y step asks (call.Confirm ∷ call.Broken ∷ []) y.wire (part.0 ∙ ap broken confirmed) refl
+    (inr (tt, stays_first (TakesFirst (joined step.out)) x.wire m.wire y.wire asks.wire part.1))
+    (λ said hearing. (
+      speak_silent w read m.session said call.Confirm (call.Broken ∷ []) y.wire y.wire y.wire tt (stays_here y.wire) refl
+          (speak_broken w read (confirm m.session) said y.wire y.wire (stays_here y.wire)),
+      hearing_gone said y (gone noted y.session part.0),
+    ))
+
+pub does_asked : (w : Writers) (read : Readers) (a b d : PostParts) (step : Step) → Asks w read (linked_in a) step (linked_in b)
+    → b.took ≡ a.took → b.seat_parts ≡ a.seat_parts → CarriesOut (joined step.out) b d → Does w read a d
+does_asked w read a b d step asks took seat carries =
+    does_moves w read a d
+    (moves_carried w read (linked_in a) (linked_in b) (linked_in d) step carries.noted asks carries.notes carries.writes carries.stream)
+    (carries.took ∙ took) (carries.seat ∙ seat)
 
 -- legs that are dropped
 abbrev pub dropping : List PlacedLeg → List WorkerEvent
@@ -146,8 +222,8 @@ allowed_drops : (read : Readers) (s : SessionParts) (legs : List PlacedLeg) → 
 allowed_drops read s [] idle = tt
 allowed_drops read s (leg ∷ legs) idle = (idle, allowed_drops read s legs idle)
 
-pub goes_drains : (read : Readers) (a b : WorkerParts) (drains : Drains a b) → IsIdle a.session
-    → Goes read a (dropping drains.legs) b
+pub goes_drains : (read : Readers) (a b : PostParts) (drains : Drains a b) → IsIdle a.session
+    → Goes read (worker_in a) (dropping drains.legs) (worker_in b)
 goes_drains read a b drains idle = record {
   session = drains.session ∙ ap (after_calls read a.session) (sym (dropping-calls drains.legs));
   taken = drains.taken ∙ ap (λ l. a.took.taken ++ l) (sym (dropping-taken drains.legs));
@@ -156,44 +232,56 @@ goes_drains read a b drains idle = record {
   seat = drains.seat;
 }
 
-pub does_drains : (read : Readers) (a b : WorkerParts) → Drains a b → IsIdle a.session → Does read a b
-does_drains read a b drains idle =
-    record { events = dropping drains.legs; goes = goes_drains read a b drains idle }
+pub does_drains : (w : Writers) (read : Readers) (a b : PostParts) → Drains a b → IsIdle a.session → Does w read a b
+does_drains w read a b drains idle = record {
+  events = dropping drains.legs;
+  goes = goes_drains read a b drains idle;
+  speaks = subst (λ (calls : List SessionCall). SpeaksOn w read (linked_in a) calls (linked_in b))
+      (sym (dropping-calls drains.legs))
+      (speaks_same w read (linked_in a) (linked_in b) drains.session (stays_same a.wire b.wire drains.wire) drains.stream);
+}
 
-pub drains_none : (a b : WorkerParts) → b.session ≡ a.session → b.took ≡ a.took → b.seat_parts ≡ a.seat_parts → Drains a b
-drains_none a b session took seat = record {
+pub drains_none : (a b : PostParts) → b.session ≡ a.session → b.took ≡ a.took → b.seat_parts ≡ a.seat_parts
+    → b.wire ≡ a.wire → b.stream ≡ a.stream → Drains a b
+drains_none a b session took seat wire stream = record {
   legs = [];
   session = session;
   taken = ap (λ t. t.taken) took ∙ sym (append-nil a.took.taken);
   venue = ap (λ t. t.venue) took;
   seat = seat;
+  wire = wire;
+  stream = stream;
 }
 
-pub drains_one : (a b : WorkerParts) (leg : PlacedLeg) → b.session ≡ a.session → b.took ≡ with_taken a.took leg
-    → b.seat_parts ≡ a.seat_parts → Drains a b
-drains_one a b leg session took seat = record {
+pub drains_one : (a b : PostParts) (leg : PlacedLeg) → b.session ≡ a.session → b.took ≡ with_taken a.took leg
+    → b.seat_parts ≡ a.seat_parts → b.wire ≡ a.wire → b.stream ≡ a.stream → Drains a b
+drains_one a b leg session took seat wire stream = record {
   legs = leg ∷ [];
   session = session;
   taken = ap (λ t. t.taken) took;
   venue = ap (λ t. t.venue) took;
   seat = seat;
+  wire = wire;
+  stream = stream;
 }
 
-pub drains_on : (a b c : WorkerParts) → Drains a b → Drains b c → Drains a c
+pub drains_on : (a b c : PostParts) → Drains a b → Drains b c → Drains a c
 drains_on a b c first next = record {
   legs = first.legs ++ next.legs;
   session = next.session ∙ first.session;
   taken = next.taken ∙ (ap (λ l. l ++ next.legs) first.taken ∙ append_assoc a.took.taken first.legs next.legs);
   venue = next.venue ∙ first.venue;
   seat = next.seat ∙ first.seat;
+  wire = next.wire ∙ first.wire;
+  stream = next.stream ∙ first.stream;
 }
 
 -- the next leg, if there was one
-pub drains_next : (a b : WorkerParts) (next : Option PlacedLeg)
+pub drains_next : (a b : PostParts) (next : Option PlacedLeg)
     → MatchOption next (b.took ≡ a.took) (λ leg. b.took ≡ with_taken a.took leg) → b.session ≡ a.session
-    → b.seat_parts ≡ a.seat_parts → Drains a b
-drains_next a b None took session seat = drains_none a b session took seat
-drains_next a b (Some leg) took session seat = drains_one a b leg session took seat
+    → b.seat_parts ≡ a.seat_parts → b.wire ≡ a.wire → b.stream ≡ a.stream → Drains a b
+drains_next a b None took session seat wire stream = drains_none a b session took seat wire stream
+drains_next a b (Some leg) took session seat wire stream = drains_one a b leg session took seat wire stream
 
 -- a leg that was taken and handed to the session
 handed : (read : Readers) (s : SessionParts) (leg : PlacedLeg) (event : WorkerEvent)
@@ -204,35 +292,46 @@ handed read s leg event (inl e) up =
 handed read s leg event (inr e) up =
     (ap taken_in e, subst (λ (one : WorkerEvent). IsAllowed s one) (sym e) up)
 
-pub does_hands : (read : Readers) (a b : WorkerParts) (leg : PlacedLeg) → Hands read leg a.session b.session
-    → a.session.phase ≡ Up → b.took ≡ with_taken a.took leg → b.seat_parts ≡ a.seat_parts → Does read a b
-does_hands read a b leg hands up took seat =
+pub does_hands : (w : Writers) (read : Readers) (a b : PostParts) (leg : PlacedLeg)
+    → Hands w read leg (linked_in a) (linked_in b) → a.session.phase ≡ Up → b.took ≡ with_taken a.took leg
+    → b.seat_parts ≡ a.seat_parts → Does w read a b
+does_hands w read a b leg hands up took seat =
     let one = handed read a.session leg hands.event hands.of_leg up in
     let middle : WorkerParts = record {
       session = after_calls read a.session (calls_in hands.event);
       took = b.took;
       seat_parts = a.seat_parts;
+      wire = b.wire;
     } in
-    let first : Goes read a (hands.event ∷ []) middle = record {
+    let first : Goes read (worker_in a) (hands.event ∷ []) middle = record {
       session = ap (after_calls read a.session) (sym (append-nil (calls_in hands.event)));
       taken = ap (λ t. t.taken) took ∙ ap (λ l. a.took.taken ++ l) (sym (append-nil (taken_in hands.event) ∙ one.0));
       allowed = (one.1, tt);
       venue = ap (λ t. t.venue) took;
       seat = refl;
     } in
-    does_on read a middle b (record { events = hands.event ∷ []; goes = first })
-    (does_moves read middle b hands.rest refl seat)
+    let later : b.session ≡ after_calls read middle.session hands.calls =
+    hands.session ∙ after-append read a.session (calls_in hands.event) hands.calls in
+    record {
+      events = hands.event ∷ calling hands.calls;
+      goes = goes_on read (worker_in a) middle (worker_in b) (hands.event ∷ []) (calling hands.calls) first
+          (goes_calls read middle (worker_in b) hands.calls later hands.no_leg refl seat);
+      speaks = subst (λ (calls : List SessionCall). SpeaksOn w read (linked_in a) (calls_in hands.event ++ calls) (linked_in b))
+          (sym (calling-calls hands.calls)) hands.speaks;
+    }
 
 -- a leg that was taken, if one was, and what the session did with it
-pub does_sent : (read : Readers) (a b d : WorkerParts) (next : Option PlacedLeg) → a.session.phase ≡ Up
-    → MatchOption next (b.took ≡ a.took) (λ leg. b.took ≡ with_taken a.took leg) → b.session ≡ a.session
-    → b.seat_parts ≡ a.seat_parts
-    → MatchOption next (d.session ≡ b.session) (λ leg. Hands read leg b.session d.session) → d.took ≡ b.took
-    → d.seat_parts ≡ b.seat_parts → Does read a d
-does_sent read a b d None up took session parts sent same seat =
-    does_same read a d (sent ∙ session) (same ∙ took) (seat ∙ parts)
-does_sent read a b d (Some leg) up took session parts sent same seat =
-    does_hands read a d leg (subst (λ (s : SessionParts). Hands read leg s d.session) session sent) up (same ∙ took)
+pub does_sent : (w : Writers) (read : Readers) (a b d : PostParts) (next : Option PlacedLeg) → a.session.phase ≡ Up
+    → MatchOption next (b.took ≡ a.took) (λ leg. b.took ≡ with_taken a.took leg) → b.seat_parts ≡ a.seat_parts
+    → linked_in b ≡ linked_in a
+    → MatchOption next (linked_in d ≡ linked_in b) (λ leg. Hands w read leg (linked_in b) (linked_in d)) → d.took ≡ b.took
+    → d.seat_parts ≡ b.seat_parts → Does w read a d
+does_sent w read a b d None up took parts linked sent same seat =
+    let all : linked_in d ≡ linked_in a = sent ∙ linked in
+    does_same w read a d (ap (λ (x : LinkedParts). x.session) all) (same ∙ took) (seat ∙ parts)
+    (stays_same a.wire d.wire (ap (λ (x : LinkedParts). x.wire) all)) (ap (λ (x : LinkedParts). x.stream) all)
+does_sent w read a b d (Some leg) up took parts linked sent same seat =
+    does_hands w read a d leg (subst (λ (x : LinkedParts). Hands w read leg x (linked_in d)) linked sent) up (same ∙ took)
     (seat ∙ parts)
 
 -- a session that a turn left closed, and one that is abandoned
@@ -275,7 +374,24 @@ pub finish_abandoned : (read : Readers) (a b : WorkerParts) → b.session ≡ ab
     → Goes read a (last_calls a.session.phase) b
 finish_abandoned read a b session took seat e =
     subst (λ (events : List WorkerEvent). Goes read a events b) (sym (one_call a.session.phase e))
-    (goes_moves read a b (record { calls = call.Abandon ∷ []; session = session; no_leg = refl }) took seat)
+    (goes_calls read a b (call.Abandon ∷ []) session refl took seat)
 
 pub abandoned_closed : (s t : SessionParts) → t ≡ abandon s → t.phase ≡ Closed
 abandoned_closed s t e = ap (λ (u : SessionParts). u.phase) e
+
+speak_abandon : (w : Writers) (read : Readers) (s : SessionParts) (said : Said) (a b : Wire) → b ≡ a
+    → Speak w read s said (call.Abandon ∷ []) a b
+speak_abandon w read s said a b same =
+    speak_silent w read s said call.Abandon [] a b b tt (stays_same a b same) refl
+    (speak_none w read (abandon s) said b b (stays_here b))
+
+-- what is done last goes over no link
+pub speak_last : (w : Writers) (read : Readers) (s : SessionParts) (said : Said) (phase : Phase) (a b : Wire) → b ≡ a
+    → Speak w read s said (calls_of (last_calls phase)) a b
+speak_last w read s said Closed a b same = speak_none w read s said a b (stays_same a b same)
+speak_last w read s said Down a b same = speak_abandon w read s said a b same
+speak_last w read s said LoggingOn a b same = speak_abandon w read s said a b same
+speak_last w read s said Settling a b same = speak_abandon w read s said a b same
+speak_last w read s said Up a b same = speak_abandon w read s said a b same
+speak_last w read s said Closing a b same = speak_abandon w read s said a b same
+speak_last w read s said LoggedOut a b same = speak_abandon w read s said a b same

@@ -1,5 +1,7 @@
 pub mod Taking
+pub mod Hearing
+pub mod Speaking
 pub mod Events
+pub mod Linking
 pub mod Ends
 pub mod Audit
-pub mod Speaking

@@ -1,12 +1,15 @@
 //! A session and the link over which it speaks.
 
-ghost use Rattle.std.specs.Prelude.{◌≡◌, false};
+ghost use Rattle.std.specs.Prelude.{◌≡◌, false, MatchOption};
 ghost use Rattle.session_core.specs.Session.{new_session, is_connected, has_doubt};
 ghost use Rattle.session_core.specs.Receiving.{confirm};
-ghost use Rattle.session_core.specs.Calling.{broken, abandon, connect, send_leg};
-ghost use Rattle.link.specs.Traffic.{Tells, Stays};
-ghost use Rattle.session_worker.specs.Speaking.{joined, Writes, MaySend, MayDial};
-ghost use Rattle.session_worker.specs.Events.{Moves, Hands, IsIdle, MayBreak};
+ghost use Rattle.session_core.specs.Calling.{broken, abandon};
+ghost use Rattle.fix_text.specs.Reading.{Stream};
+ghost use Rattle.link.specs.Traffic.{Tells, Dials, Stays};
+ghost use Rattle.session_worker.specs.Speaking.{Wire, joined, Reads};
+ghost use Rattle.session_worker.specs.Hearing.{Said};
+ghost use Rattle.session_worker.specs.Linking.{linked_of, IsHearing, MayBreak, TakesIn, Writes, Moves, Hands, Asks};
+ghost use Rattle.session_worker.specs.Events.{IsIdle};
 
 use crate::Pace;
 use crate::reading::{Heard, hear};
@@ -38,7 +41,8 @@ pub(crate) struct Linked<K: Link, C: Clock + Drop> {
 impl<K: Link, C: Clock + Drop> Linked<K, C> {
     /// A session that is down, over a link that isn't dialled yet.
     pub(crate) fn new(alloc: Global, link: K, clock: C, config: Config, pace: Pace) -> Linked<K, C>
-        ensures { result.session ≡ new_session config }
+        ensures session { result.session ≡ new_session config }
+        ensures wire { K.wire result.link ≡ K.wire link }
     {
         Linked {
             alloc,
@@ -54,7 +58,8 @@ impl<K: Link, C: Clock + Drop> Linked<K, C> {
 
     /// The session and the link, at the end.
     pub(crate) fn into_parts(self) -> (Session, K)
-        ensures { result.0 ≡ self.session }
+        ensures session { result.0 ≡ self.session }
+        ensures wire { K.wire result.1 ≡ K.wire self.link }
     {
         let Linked {
             alloc: _,
@@ -89,14 +94,17 @@ impl<K: Link, C: Clock + Drop> Linked<K, C> {
 
     /// The note that is pending was taken.
     pub(crate) fn confirm(&mut self)
-        ensures { self.new.session ≡ confirm self.old.session }
+        ensures session { self.new.session ≡ confirm self.old.session }
+        ensures wire { K.wire self.new.link ≡ K.wire self.old.link }
+        ensures reader { self.new.reader ≡ self.old.reader }
     {
         self.session.confirm();
     }
 
     /// The session is over.
     pub(crate) fn abandon(&mut self)
-        ensures { self.new.session ≡ abandon self.old.session }
+        ensures session { self.new.session ≡ abandon self.old.session }
+        ensures wire { K.wire self.new.link ≡ K.wire self.old.link }
     {
         self.session.abandon();
     }
@@ -105,6 +113,7 @@ impl<K: Link, C: Clock + Drop> Linked<K, C> {
     pub(crate) fn break_off(&mut self)
         ensures session { self.new.session ≡ broken self.old.session }
         ensures wire { Tells (K.wire self.old.link) (K.wire self.new.link) Stays }
+        ensures reader { self.new.reader ≡ self.old.reader }
     {
         self.session.broken();
         let _ = self.link.shut();
@@ -114,14 +123,15 @@ impl<K: Link, C: Clock + Drop> Linked<K, C> {
     pub(crate) fn hang_up(&mut self)
         ensures session { self.new.session ≡ self.old.session }
         ensures wire { Tells (K.wire self.old.link) (K.wire self.new.link) Stays }
+        ensures reader { self.new.reader ≡ self.old.reader }
     {
         let _ = self.link.shut();
     }
 
     /// Writes a frame. Where that fails the connection is given up.
     fn write(&mut self, frame: &[u8])
-        ensures session { MayBreak self.old.session self.new.session }
-        ensures wire { Writes frame.now self.old.session (K.wire self.old.link) self.new.session (K.wire self.new.link) }
+        ensures wire { Writes frame.now (linked_of self.old.session (K.wire self.old.link) self.old.reader) (linked_of self.new.session (K.wire self.new.link) self.new.reader) }
+        ensures reader { self.new.reader ≡ self.old.reader }
     {
         match write_whole(&mut self.link, frame) {
             Ok(()) => self.unwritten = 0,
@@ -131,8 +141,8 @@ impl<K: Link, C: Clock + Drop> Linked<K, C> {
 
     /// Writes frames, in order, until one fails.
     pub(crate) fn write_all(&mut self, frames: Frames)
-        ensures session { MayBreak self.old.session self.new.session }
-        ensures wire { Writes (joined frames) self.old.session (K.wire self.old.link) self.new.session (K.wire self.new.link) }
+        ensures wire { Writes (joined frames) (linked_of self.old.session (K.wire self.old.link) self.old.reader) (linked_of self.new.session (K.wire self.new.link) self.new.reader) }
+        ensures reader { self.new.reader ≡ self.old.reader }
     {
         let frames = frames.into_vec();
         for frame in &frames {
@@ -146,8 +156,7 @@ impl<K: Link, C: Clock + Drop> Linked<K, C> {
     /// Dials, and logs on where that succeeds; a failed dial is no fault of the session. It says whether the session may
     /// go on: it may not where no number is left for the Logon.
     pub(crate) fn connect<D: Dialect>(&mut self, dialect: &D) -> bool
-        ensures moves { Moves (record { order = D.order_read dialect.now; report = D.report_read dialect.now }) self.old.session self.new.session }
-        ensures wire { MayDial (record { IsOrder = D.IsOrder dialect.now; IsReport = D.IsReport dialect.now }) (connect self.old.session) self.old.session (K.wire self.old.link) self.new.session (K.wire self.new.link) }
+        ensures moves { Moves (record { IsOrder = D.IsOrder dialect.now; IsReport = D.IsReport dialect.now }) (record { order = D.order_read dialect.now; report = D.report_read dialect.now }) (linked_of self.old.session (K.wire self.old.link) self.old.reader) (linked_of self.new.session (K.wire self.new.link) self.new.reader) }
         ensures spent { result ≡ false → self.new.session ≡ self.old.session }
     {
         match self.link.dial() {
@@ -158,8 +167,7 @@ impl<K: Link, C: Clock + Drop> Linked<K, C> {
 
     /// Logs on over a link that was dialled, and says whether the session may go on.
     fn log_on<D: Dialect>(&mut self, dialect: &D) -> bool
-        ensures moves { Moves (record { order = D.order_read dialect.now; report = D.report_read dialect.now }) self.old.session self.new.session }
-        ensures wire { MaySend (record { IsOrder = D.IsOrder dialect.now; IsReport = D.IsReport dialect.now }) (connect self.old.session) self.old.session (K.wire self.old.link) self.new.session (K.wire self.new.link) }
+        ensures moves { (before : Wire) (reader : Stream) → Tells before (K.wire self.old.link) Dials → Moves (record { IsOrder = D.IsOrder dialect.now; IsReport = D.IsReport dialect.now }) (record { order = D.order_read dialect.now; report = D.report_read dialect.now }) (linked_of self.old.session before reader) (linked_of self.new.session (K.wire self.new.link) self.new.reader) }
         ensures spent { result ≡ false → self.new.session ≡ self.old.session }
     {
         self.reader = FrameReader::new(self.alloc);
@@ -185,8 +193,7 @@ impl<K: Link, C: Clock + Drop> Linked<K, C> {
     /// Sends a leg, and says whether the session took it. Where it wanted memory for that, or the order can't be written,
     /// the connection is given up.
     pub(crate) fn send<D: Dialect>(&mut self, dialect: &D, placed: &PlacedLeg) -> bool
-        ensures wire { MaySend (record { IsOrder = D.IsOrder dialect.now; IsReport = D.IsReport dialect.now }) (send_leg self.old.session placed.now.ordinal placed.now.leg) self.old.session (K.wire self.old.link) self.new.session (K.wire self.new.link) }
-        ensures hands { Hands (record { order = D.order_read dialect.now; report = D.report_read dialect.now }) placed.now self.old.session self.new.session }
+        ensures { Hands (record { IsOrder = D.IsOrder dialect.now; IsReport = D.IsReport dialect.now }) (record { order = D.order_read dialect.now; report = D.report_read dialect.now }) placed.now (linked_of self.old.session (K.wire self.old.link) self.old.reader) (linked_of self.new.session (K.wire self.new.link) self.new.reader) }
     {
         let stamp = self.clock.now();
         match self
@@ -207,7 +214,7 @@ impl<K: Link, C: Clock + Drop> Linked<K, C> {
 
     /// The session is to close, and can send no leg from here on.
     pub(crate) fn close<D: Dialect>(&mut self, dialect: &D)
-        ensures moves { Moves (record { order = D.order_read dialect.now; report = D.report_read dialect.now }) self.old.session self.new.session }
+        ensures moves { Moves (record { IsOrder = D.IsOrder dialect.now; IsReport = D.IsReport dialect.now }) (record { order = D.order_read dialect.now; report = D.report_read dialect.now }) (linked_of self.old.session (K.wire self.old.link) self.old.reader) (linked_of self.new.session (K.wire self.new.link) self.new.reader) }
         ensures idle { IsIdle self.new.session }
     {
         let stamp = self.clock.now();
@@ -220,17 +227,21 @@ impl<K: Link, C: Clock + Drop> Linked<K, C> {
 
     /// Hands bytes that were read to the reader.
     fn take_in(&mut self, bytes: &[u8])
-        ensures { MayBreak self.old.session self.new.session }
+        ensures fed { TakesIn bytes.now (linked_of self.old.session (K.wire self.old.link) self.old.reader) (linked_of self.new.session (K.wire self.new.link) self.new.reader) }
+        ensures wire { Tells (K.wire self.old.link) (K.wire self.new.link) Stays }
     {
         self.unread = 0;
-        if self.reader.feed(bytes).is_err() {
-            return self.break_off();
+        match self.reader.feed(bytes) {
+            Ok(()) => {}
+            Err(_) => self.break_off(),
         }
     }
 
     /// Reads once. Where that fails, or no byte comes any more, the connection is given up.
     pub(crate) fn read(&mut self)
-        ensures { MayBreak self.old.session self.new.session }
+        ensures session { MayBreak self.old.session self.new.session }
+        ensures wire { Reads (K.wire self.old.link) (K.wire self.new.link) }
+        ensures hears { (said : Said) → IsHearing said (linked_of self.old.session (K.wire self.old.link) self.old.reader) → IsHearing said (linked_of self.new.session (K.wire self.new.link) self.new.reader) }
     {
         let mut buf = [0; READ_SIZE];
         match self.link.read(&mut buf) {
@@ -244,7 +255,7 @@ impl<K: Link, C: Clock + Drop> Linked<K, C> {
     /// The next message that was read is handed to the session, while there is a connection and a message. It gives what
     /// is to be done for it.
     pub(crate) fn hear<D: Dialect>(&mut self, dialect: &D) -> Option<Step>
-        ensures { Moves (record { order = D.order_read dialect.now; report = D.report_read dialect.now }) self.old.session self.new.session }
+        ensures { MatchOption result (Moves (record { IsOrder = D.IsOrder dialect.now; IsReport = D.IsReport dialect.now }) (record { order = D.order_read dialect.now; report = D.report_read dialect.now }) (linked_of self.old.session (K.wire self.old.link) self.old.reader) (linked_of self.new.session (K.wire self.new.link) self.new.reader)) (λ step. Asks (record { IsOrder = D.IsOrder dialect.now; IsReport = D.IsReport dialect.now }) (record { order = D.order_read dialect.now; report = D.report_read dialect.now }) (linked_of self.old.session (K.wire self.old.link) self.old.reader) step (linked_of self.new.session (K.wire self.new.link) self.new.reader)) }
     {
         if !self.session.phase().is_connected() {
             return None;
@@ -272,7 +283,9 @@ impl<K: Link, C: Clock + Drop> Linked<K, C> {
 
     /// Counts a turn as one without a write and without a read, until there is one.
     pub(crate) fn count_turn(&mut self)
-        ensures { self.new.session ≡ self.old.session }
+        ensures session { self.new.session ≡ self.old.session }
+        ensures wire { K.wire self.new.link ≡ K.wire self.old.link }
+        ensures reader { self.new.reader ≡ self.old.reader }
     {
         self.unwritten = self.unwritten.saturating_add(1);
         self.unread = self.unread.saturating_add(1);
@@ -280,7 +293,7 @@ impl<K: Link, C: Clock + Drop> Linked<K, C> {
 
     /// After so many turns without a write the session is told, and gives what is to be written.
     pub(crate) fn on_quiet<D: Dialect>(&mut self, dialect: &D) -> Option<Step>
-        ensures { Moves (record { order = D.order_read dialect.now; report = D.report_read dialect.now }) self.old.session self.new.session }
+        ensures { MatchOption result (Moves (record { IsOrder = D.IsOrder dialect.now; IsReport = D.IsReport dialect.now }) (record { order = D.order_read dialect.now; report = D.report_read dialect.now }) (linked_of self.old.session (K.wire self.old.link) self.old.reader) (linked_of self.new.session (K.wire self.new.link) self.new.reader)) (λ step. Asks (record { IsOrder = D.IsOrder dialect.now; IsReport = D.IsReport dialect.now }) (record { order = D.order_read dialect.now; report = D.report_read dialect.now }) (linked_of self.old.session (K.wire self.old.link) self.old.reader) step (linked_of self.new.session (K.wire self.new.link) self.new.reader)) }
     {
         if self.unwritten < self.pace.quiet_turns {
             return None;
@@ -299,7 +312,7 @@ impl<K: Link, C: Clock + Drop> Linked<K, C> {
 
     /// After so many turns without a read the session is told, and gives what is to be done.
     pub(crate) fn on_silence<D: Dialect>(&mut self, dialect: &D) -> Option<Step>
-        ensures { Moves (record { order = D.order_read dialect.now; report = D.report_read dialect.now }) self.old.session self.new.session }
+        ensures { MatchOption result (Moves (record { IsOrder = D.IsOrder dialect.now; IsReport = D.IsReport dialect.now }) (record { order = D.order_read dialect.now; report = D.report_read dialect.now }) (linked_of self.old.session (K.wire self.old.link) self.old.reader) (linked_of self.new.session (K.wire self.new.link) self.new.reader)) (λ step. Asks (record { IsOrder = D.IsOrder dialect.now; IsReport = D.IsReport dialect.now }) (record { order = D.order_read dialect.now; report = D.report_read dialect.now }) (linked_of self.old.session (K.wire self.old.link) self.old.reader) step (linked_of self.new.session (K.wire self.new.link) self.new.reader)) }
     {
         if self.unread < self.pace.silent_turns {
             return None;
