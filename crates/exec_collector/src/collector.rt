@@ -1,7 +1,7 @@
 //! The book behind a lock.
 
 ghost use Rattle.std.specs.Prelude.{◌≡◌, ◌≤◌, replicate, IfOk, IsOkUnless, MatchResult};
-ghost use Rattle.std.specs.Fn.{FnOnceReturnsAtMut};
+ghost use Rattle.std.specs.Fn.{FnOnceReturnsAt, FnOnceReturnsAtMut};
 ghost use Rattle.share_ledger.specs.Book.{BookParts, totals};
 ghost use Rattle.exec_collector.specs.Calls.{CallGives};
 ghost use Rattle.exec_collector.specs.Resolved.{Replays, OnlyOpens, GainsBy, GainsLeg};
@@ -90,6 +90,14 @@ impl<M: Ledger> Collector<M> {
         ensures { (book : BookParts) × Replays book × (result ≡ totals book number) }
     {
         self.counted.lock(rt).book().totals(number)
+    }
+
+    /// Lends the book and its count to a closure that reads them.
+    pub fn read<T, F: FnOnce(&CountedBook<M>) -> T>(&self, rt: &impl Wait, f: F) -> T
+        requires call { F.IsAlwaysCallable f }
+        ensures { (book : BookParts) × Replays book × FnOnceReturnsAt F.FnOnce f book result }
+    {
+        self.counted.lock(rt).read(f)
     }
 
     /// Lends the book to a closure that only opens sweeps.

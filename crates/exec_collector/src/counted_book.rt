@@ -1,7 +1,7 @@
 //! The book, and the count of what its venues have resolved.
 
 ghost use Rattle.std.specs.Prelude.{◌≡◌, ◌+◌, ◌≤◌, MatchResult, OnErr};
-ghost use Rattle.std.specs.Fn.{FnOnceReturnsAtMut};
+ghost use Rattle.std.specs.Fn.{FnOnceReturnsAt, FnOnceReturnsAtMut};
 ghost use Rattle.leg.specs.Answering.{Answers};
 ghost use Rattle.share_ledger.specs.Book.{BookParts, apply, answer_to, withdraw, totals};
 ghost use Rattle.exec_collector.specs.Calls.{CallGives};
@@ -88,6 +88,15 @@ impl<M: Ledger> CountedBook<M> {
         let gained = resolved_in(&self.book, self.venues) - before;
         seat.count(&mut self.total, gained);
         Ok(())
+    }
+
+    /// Lends the book and its count to a closure that reads them.
+    pub fn read<T, F: FnOnce(&CountedBook<M>) -> T>(&self, f: F) -> T
+        requires call { F.IsAlwaysCallable f }
+        ensures value { FnOnceReturnsAt F.FnOnce f self.now result }
+        ensures replays { Replays self.now }
+    {
+        f(self)
     }
 
     /// Lends the book to a closure that only opens sweeps.
