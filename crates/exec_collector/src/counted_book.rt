@@ -49,6 +49,7 @@ impl<M: Ledger> CountedBook<M> {
     pub fn resolved(&self) -> u64
         ensures value { result ≡ resolved self.now }
         ensures few { result ≤ 1000000000000000000 }
+        ensures replays { Replays self.now }
     {
         resolved_in(&self.book, self.venues)
     }
@@ -90,13 +91,13 @@ impl<M: Ledger> CountedBook<M> {
         Ok(())
     }
 
-    /// Lends the book and its count to a closure that reads them.
-    pub fn read<T, F: FnOnce(&CountedBook<M>) -> T>(&self, f: F) -> T
-        requires call { F.IsAlwaysCallable f }
+    /// Lends the book to a closure that reads it.
+    pub fn read<T, F: FnOnce(&Book) -> T>(&self, f: F) -> T
+        requires call { (book : _) → Replays book.now → F.pre f book }
         ensures value { FnOnceReturnsAt F.FnOnce f self.now result }
         ensures replays { Replays self.now }
     {
-        f(self)
+        f(&self.book)
     }
 
     /// Lends the book to a closure that only opens sweeps.

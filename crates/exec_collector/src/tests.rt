@@ -128,7 +128,8 @@ fn two_workers<M: Ledger + Send + Sync, R: Threads + Wait + Sync>(
     gone.ok().ok_or("a withdrawal")?;
     let counts = (first.shares(), second.shares());
     let totals = collector.totals(rt, 1);
-    if collector.read(rt, |counted| counted.resolved()) != 230 {
+    let entries = collector.read(rt, |book: &Book| book.history().len());
+    if collector.resolved(rt) != 230 || entries != 7 {
         return Err(Fail::from("another count"));
     }
     seats.push(first)?;

@@ -1,7 +1,8 @@
 -- The sweeps of a day: what callers release, and what the book tells of it.
-use Rattle.std.specs.Prelude.{ℕ, zero, suc, List, [], ◌∷◌, ◌++◌, codes}
+use Rattle.std.specs.Prelude.{◌≡◌, ℕ, zero, suc, ◌+◌, List, [], ◌∷◌, ◌++◌, codes}
 use Rattle.leg.specs.declared.side.Side.TheVariants.{Buy}
 use Rattle.leg.specs.declared.sweep.Routed.{Routed}
+use Rattle.leg.specs.declared.totals.Totals.{Totals}
 use Rattle.share_ledger.specs.Book.{BookParts, booked_from, totals_of}
 use Rattle.share_ledger.specs.Entries.{opened, sweep_shares}
 use Rattle.live_day.specs.declared.day.LiveSweep.{LiveSweep}
@@ -22,6 +23,14 @@ one_order venue = record {
 abbrev pub orders_to : ℕ → List Routed
 orders_to zero = []
 orders_to (suc venue) = orders_to venue ++ one_order venue ∷ []
+
+-- the shares of all five parts
+abbrev pub sum_of : Totals → ℕ
+sum_of t = t.filled + t.busted + t.cancelled + t.withdrawn + t.still_open
+
+-- the parts of a sweep's shares add up to them
+abbrev pub AddsUp : LiveSweep → Type 0
+AddsUp sweep = sweep.shares ≡ sum_of sweep.totals
 
 -- these sweeps as a book has them, the first of them having this number
 abbrev pub sweeps_from : BookParts → ℕ → List (List Routed) → List LiveSweep

@@ -1,7 +1,10 @@
 //! A caller of a day.
 
-ghost use Rattle.std.specs.Prelude.{◌≡◌, ◌+◌, ◌*◌, ◌≤◌, if◌then◌else◌};
-ghost use Rattle.live_day.specs.Day.{IsLivePlan, Called};
+ghost use Rattle.std.specs.Prelude.{◌≡◌, ◌+◌, ◌≤◌, length, if◌then◌else◌, IfOk};
+ghost use Rattle.std.specs.List.{All};
+ghost use Rattle.exec_collector.specs.Seats.{parts_of};
+ghost use Rattle.release_lock.specs.Seats.{first_seat};
+ghost use Rattle.live_day.specs.Day.{IsLivePlan, caller_of, left_of, shares_each, Called};
 
 use crate::floor::Floor;
 use crate::order::one_sweep;
@@ -32,7 +35,7 @@ pub fn call<L: Run, M: Ledger>(
 ) -> CallerEnd<L>
     requires plan { IsLivePlan floor.now.plan }
     requires new { seat.shares ≡ 0 }
-    ensures { Called floor.now.plan seat.parts result.seat result.unplaced }
+    ensures { Called (caller_of floor.now.plan seat) (left_of result.seat result.unplaced) }
 {
     let mut seat = seat;
     let mut unplaced = 0;
@@ -54,7 +57,7 @@ fn places<L: Run, M: Ledger>(
 ) -> bool
     requires { IsLivePlan floor.now.plan }
     ensures parts { seat.new.parts ≡ seat.old.parts }
-    ensures shares { seat.new.shares ≡ (if result then seat.old.shares + 10 * floor.now.plan.venues else seat.old.shares) }
+    ensures shares { seat.new.shares ≡ (if result then seat.old.shares + shares_each floor.now.plan else seat.old.shares) }
 {
     for _ in 0..floor.plan.turns {
         if floor.signals.is_ending() {
@@ -78,7 +81,7 @@ fn releases<L: Run, M: Ledger>(
 ) -> bool
     requires { IsLivePlan floor.now.plan }
     ensures parts { seat.new.parts ≡ seat.old.parts }
-    ensures shares { seat.new.shares ≡ (if result then seat.old.shares + 10 * floor.now.plan.venues else seat.old.shares) }
+    ensures shares { seat.new.shares ≡ (if result then seat.old.shares + shares_each floor.now.plan else seat.old.shares) }
 {
     let Ok(sweep) = one_sweep(alloc, floor.plan.venues) else {
         return false;
@@ -100,10 +103,10 @@ pub fn split_seats<L: Run>(
     ensures { IfOk result (λ seats. (length seats.items ≡ callers) × (parts_of seats.items ≡ 1024) × All (λ s. s.shares ≡ 0) seats.items) }
 {
     let mut seat = seat;
-    let mut seats = Vec::with_capacity(alloc, usize::from(callers))?;
+    let mut seats = Vec::new(alloc);
     for _ in 1..callers {
-        seats.push_reserved(seat.split().unwrap());
+        seats.push(seat.split().unwrap())?;
     }
-    seats.push_reserved(seat);
+    seats.push(seat)?;
     Ok(seats)
 }

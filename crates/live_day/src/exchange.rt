@@ -2,7 +2,7 @@
 
 ghost use Rattle.std.specs.Prelude.{◌≡◌, ◌≤◌, IfOk, IfErr, map};
 ghost use Rattle.live_day.specs.Faults.{IsNoMismatch};
-ghost use Rattle.live_day.specs.Day.{plan_of, plans, cut_at};
+ghost use Rattle.live_day.specs.Day.{plan_of, plans, cut_of};
 
 use crate::LiveFault;
 use crate::ends::exchange_end;
@@ -67,10 +67,16 @@ pub fn open_exchanges<'a, R: Net<Listener = TcpListener, Stream = TcpStream> + C
     ensures plans { IfOk result (λ exchanges. map (λ e. e.acceptor.plan) exchanges.items ≡ plans cut venues) }
     ensures only { IfErr result IsNoMismatch }
 {
-    let mut exchanges = Vec::with_capacity(alloc, usize::from(venues))?;
+    let mut exchanges = Vec::new(alloc);
     for venue in 0..venues {
-        let cut = if venue == 0 { cut } else { 0 };
-        exchanges.push_reserved(Exchange::open(rt, alloc, cut)?);
+        exchanges.push(Exchange::open(rt, alloc, cut_of(cut, venue))?)?;
     }
     Ok(exchanges)
+}
+
+/// The message behind which the exchange of a venue cuts its connection; 0 for none.
+fn cut_of(cut: u64, venue: u8) -> u64
+    ensures { result ≡ cut_of cut venue }
+{
+    if venue == 0 { cut } else { 0 }
 }

@@ -1,12 +1,9 @@
 //! What the threads of a day share.
 
-ghost use Rattle.std.specs.Prelude.{◌≡◌, ◌≤◌};
-ghost use Rattle.exec_collector.specs.Resolved.{resolved};
-
+use crate::exchange::Exchange;
 use crate::signals::{Running, Signals};
 use crate::{LivePlan, Progress, SoFar};
-use crate::exchange::Exchange;
-use exec_collector::{Collector, CountedBook};
+use exec_collector::Collector;
 use leg::VenueId;
 use release_lock::{ReleaseLock, Run};
 use session_worker::shut_gate;
@@ -37,30 +34,20 @@ impl<L: Run, M: Ledger> Floor<L, M> {
     fn so_far(&self, rt: &impl Wait) -> SoFar {
         SoFar {
             placed: self.signals.placed(),
-            resolved: self
-                .collector
-                .read(rt, |counted: &CountedBook<M>| counted.resolved()),
+            resolved: self.collector.resolved(rt),
         }
     }
 
     /// Waits until these threads have ended, and tells how far the day is once a second.
-    fn watch<R: Wait + Clock, P: Progress>(
-        &self,
-        rt: &R,
-        running: &Running,
-        progress: &mut P,
-    ) {
-        let mut looks = 0;
+    fn watch<R: Wait + Clock, P: Progress>(&self, rt: &R, running: &Running, progress: &mut P) {
         for _ in rt.forever() {
-            if running.is_over() {
-                break;
+            for _ in 0..LOOKS {
+                if running.is_over() {
+                    return;
+                }
+                thread::sleep(rt, Duration::from_millis(LOOK_MILLIS));
             }
-            thread::sleep(rt, Duration::from_millis(LOOK_MILLIS));
-            looks += 1;
-            if looks == LOOKS {
-                progress.tell(self.so_far(rt));
-                looks = 0;
-            }
+            progress.tell(self.so_far(rt));
         }
     }
 

@@ -11,9 +11,9 @@ pub fn one_sweep(alloc: Global, venues: u8) -> Result<Sweep, AllocError>
     requires { venues ≤ 16 }
     ensures { IfOk result (λ sweep. sweep.legs ≡ orders_to venues) }
 {
-    let mut legs = Vec::with_capacity(alloc, usize::from(venues))?;
+    let mut legs = Vec::new(alloc);
     for number in 0..venues {
-        legs.push_reserved(one_order(number));
+        legs.push(one_order(number))?;
     }
     Ok(Sweep {
         legs: Legs::new(legs),

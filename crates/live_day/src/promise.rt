@@ -11,7 +11,7 @@ use std::thread::Promise;
 pub struct EndOf<L: Run>(pub Snapshot<CallerSeat<L>>, pub LivePlan);
 
 impl<L: Run> Promise<CallerEnd<L>> for EndOf<L> {
-    ghost use Rattle.live_day.specs.Day.{Called};
+    ghost use Rattle.live_day.specs.Day.{Called, caller_of, left_of};
 
-    ghost kept_by = { λ p e. Called p.1 p.0.value.parts e.seat e.unplaced };
+    ghost kept_by = { λ p e. Called (caller_of p.1 p.0.value) (left_of e.seat e.unplaced) };
 }

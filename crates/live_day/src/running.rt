@@ -1,13 +1,13 @@
 //! A day from its rings to its audit.
 
-ghost use Rattle.std.specs.Prelude.{◌≡◌, ◌+◌, ◌*◌, ◌≤◌, length, map, IfOk, IfErr};
+ghost use Rattle.std.specs.Prelude.{◌≡◌, ◌+◌, ◌*◌, ◌<◌, ◌≤◌, length, map, sum_by, IfOk, IfErr};
 ghost use Rattle.std.specs.List.{All};
+ghost use Rattle.share_ledger.specs.Book.{BookParts};
 ghost use Rattle.exec_collector.specs.Resolved.{Replays};
 ghost use Rattle.exec_collector.specs.Seats.{parts_of as seat_parts, shares_of};
-ghost use Rattle.share_ledger.specs.Book.{BookParts};
-ghost use Rattle.release_lock.specs.Queues.{IsFresh};
+ghost use Rattle.release_lock.specs.Queues.{IsFresh, AreInOrder};
 ghost use Rattle.live_day.specs.Faults.{IsNoMismatch};
-ghost use Rattle.live_day.specs.Day.{IsLivePlan};
+ghost use Rattle.live_day.specs.Day.{IsLivePlan, AreCalled, left_of, shares_each};
 ghost use Rattle.live_day.specs.Sweeps.{sweeps_in};
 
 use crate::caller::{CallerEnd, split_seats};
@@ -18,10 +18,11 @@ use crate::sweeps::booked_sweeps;
 use crate::threads::{Cast, Ended, in_threads};
 use crate::workers::new_workers;
 use crate::{LiveDay, LiveFault, LivePlan, Progress};
-use exec_collector::{Collector, CountedBook};
+use exec_collector::Collector;
 use link::Link;
 use release_lock::{CallerSeat, Opened, ReleaseLock, Run};
 use session_worker::{AuditFault, DayReport, WorkerEnd, audit};
+use share_ledger::Book;
 use std::alloc::{AllocError, Global};
 use std::collections::VecDeque;
 use std::marker::Brand;
@@ -43,6 +44,10 @@ where
     R: Net<Listener = TcpListener, Stream = TcpStream> + Threads + Wait + Clock + Sync,
     P: Progress + Send,
     requires { IsLivePlan plan }
+    ensures sweeps { IfOk result (λ day. (book : BookParts) × Replays book × (day.sweeps.items ≡ sweeps_in book)) }
+    ensures placed { IfOk result (λ day. day.report.placed + day.unplaced * shares_each plan
+        ≡ plan.callers * (plan.sweeps * shares_each plan)) }
+    ensures only { IfErr result IsNoMismatch }
 {
     let rings = rings(alloc, plan.venues)?;
     let workers = u64::from(plan.venues);
@@ -88,6 +93,10 @@ where
     requires workers { (workers.name ≡ M.name) × (workers.parts ≡ M.parts) × (M.parts ≡ plan.venues) }
     requires rings { (length rings.items ≡ plan.venues) × All IsFresh rings.items }
     requires queues { L.queues ≡ map (λ ends. ends.0.table) rings.items }
+    ensures sweeps { IfOk result (λ day. (book : BookParts) × Replays book × (day.sweeps.items ≡ sweeps_in book)) }
+    ensures placed { IfOk result (λ day. day.report.placed + day.unplaced * shares_each plan
+        ≡ plan.callers * (plan.sweeps * shares_each plan)) }
+    ensures only { IfErr result IsNoMismatch }
 {
     let opened = ReleaseLock::<L>::new(alloc, plan.venues, callers, rings);
     let Ok(Opened { lock, seat, drains }) = opened else {
@@ -121,7 +130,17 @@ fn told<'a, L: Run, M: Ledger, R: Net + Clock + Wait>(
     alloc: Global,
     floor: Floor<L, M>,
     ended: Ended<'a, L, M, R>,
-) -> Result<LiveDay, LiveFault> {
+) -> Result<LiveDay, LiveFault>
+    requires plan { IsLivePlan floor.plan }
+    requires order { AreInOrder (map (λ e. e.took) ended.workers.items) }
+    requires shared { seat_parts (map (λ e. e.seat) ended.workers.items) ≡ M.parts }
+    requires some { 0 < M.parts }
+    requires callers { AreCalled floor.plan (map (λ e. left_of e.seat e.unplaced) ended.callers.items) }
+    ensures sweeps { IfOk result (λ day. (book : BookParts) × Replays book × (day.sweeps.items ≡ sweeps_in book)) }
+    ensures placed { IfOk result (λ day. day.report.placed + day.unplaced * shares_each floor.plan
+        ≡ floor.plan.callers * (floor.plan.sweeps * shares_each floor.plan)) }
+    ensures only { IfErr result IsNoMismatch }
+{
     let Floor {
         plan: _,
         lock,
@@ -130,7 +149,7 @@ fn told<'a, L: Run, M: Ledger, R: Net + Clock + Wait>(
     } = floor;
     let Ended { workers, callers } = ended;
     let (seats, unplaced) = parted(alloc, callers)?;
-    let sweeps = collector.read(rt, |counted: &CountedBook<M>| booked_sweeps(alloc, counted))?;
+    let sweeps = collector.read(rt, |book: &Book| booked_sweeps(alloc, book))?;
     let report = audited(alloc, lock, collector, seats, workers)?;
     Ok(LiveDay {
         sweeps,
@@ -143,16 +162,16 @@ fn told<'a, L: Run, M: Ledger, R: Net + Clock + Wait>(
 fn parted<L: Run>(
     alloc: Global,
     ends: Vec<CallerEnd<L>>,
-) -> Result<(Vec<CallerSeat<L>>, u64), AllocError> {
-    let mut seats = Vec::with_capacity(alloc, ends.len())?;
+) -> Result<(Vec<CallerSeat<L>>, u64), AllocError>
+    requires { sum_by (λ e. e.unplaced) ends.items ≤ 64000000 }
+    ensures { IfOk result (λ parts. (parts.0.items ≡ map (λ e. e.seat) ends.items) × (parts.1 ≡ sum_by (λ e. e.unplaced) ends.items)) }
+{
+    let mut ends = VecDeque::from(ends);
+    let mut seats = Vec::new(alloc);
     let mut unplaced = 0;
-    for end in ends {
-        let CallerEnd {
-            seat,
-            unplaced: more,
-        } = end;
-        seats.push_reserved(seat);
-        unplaced += more;
+    while let Some(end) = ends.pop_front() {
+        unplaced += end.unplaced;
+        seats.push(end.seat)?;
     }
     Ok((seats, unplaced))
 }
@@ -164,7 +183,14 @@ fn audited<K: Link, L: Run, M: Ledger>(
     collector: Collector<M>,
     callers: Vec<CallerSeat<L>>,
     workers: Vec<WorkerEnd<K, L, M>>,
-) -> Result<DayReport, LiveFault> {
+) -> Result<DayReport, LiveFault>
+    requires order { AreInOrder (map (λ e. e.took) workers.items) }
+    requires shared { seat_parts (map (λ e. e.seat) workers.items) ≡ M.parts }
+    requires some { 0 < M.parts }
+    requires callers { seat_parts callers.items ≡ 1024 }
+    ensures placed { IfOk result (λ report. report.placed ≡ shares_of callers.items) }
+    ensures only { IfErr result (λ fault. fault ≡ LiveFault.OutOfMemory) }
+{
     match audit(alloc, lock, collector, callers, workers) {
         Ok(report) => Ok(report),
         Err(AuditFault::MismatchQueue(_)) => Err(LiveFault::MismatchQueue),

@@ -44,7 +44,7 @@ pub fn new_workers<'a, L: Run, M: Ledger, R: Net + Clock>(
     requires seats { seats.items ≡ replicate (length exchanges.now) new_seat }
     ensures { IfOk result (λ workers. map (λ w. parts_of w.post.linked.session w.post.takings w.post.seat) workers.items ≡ new_workers (length exchanges.now)) }
 {
-    let mut workers = Vec::with_capacity(alloc, exchanges.len())?;
+    let mut workers = Vec::new(alloc);
     let mut drains = VecDeque::from(drains);
     let mut seats = VecDeque::from(seats);
     for exchange in exchanges {
@@ -54,16 +54,10 @@ pub fn new_workers<'a, L: Run, M: Ledger, R: Net + Clock>(
         let Some(seat) = seats.pop_front() else {
             unreachable!()
         };
-        workers.push_reserved(Worker::new(
-            alloc,
-            Plain,
-            TcpLink::new(rt, exchange.addr),
-            UtcClock::new(rt),
-            dispatcher_end(),
-            seat,
-            drain,
-            PACE,
-        ));
+        let link = TcpLink::new(rt, exchange.addr);
+        let clock = UtcClock::new(rt);
+        let end = dispatcher_end();
+        workers.push(Worker::new(alloc, Plain, link, clock, end, seat, drain, PACE))?;
     }
     Ok(workers)
 }
