@@ -32,7 +32,8 @@ pub struct Acceptor<D: Dialect, C: Clock> {
 impl<D: Dialect, C: Clock> Acceptor<D, C> {
     /// An exchange that nobody has connected to. It takes no memory.
     pub fn new(alloc: Global, dialect: D, clock: C, config: Config, plan: Plan) -> Acceptor<D, C>
-        ensures { result.engine.exchange ≡ new_exchange config }
+        ensures exchange { result.engine.exchange ≡ new_exchange config }
+        ensures plan { (result.plan ≡ plan) × (result.engine.fill ≡ plan.fill) }
     {
         Acceptor {
             alloc,

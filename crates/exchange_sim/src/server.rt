@@ -9,23 +9,29 @@ use dialect::Dialect;
 use std::alloc::AllocError;
 use std::io::{Read, Write};
 use std::net::Net;
+use std::sync::atomic::{AtomicBool, Ordering};
 use std::time;
 
 /// How many bytes a turn reads at most.
 const MOST_READ: usize = 1_024;
 
-/// Serves one client after another for so many turns, each of which waits a millisecond for a client or its bytes. Where a
-/// connection fails, or the plan cuts it, the next client is waited for. The only refusal is want of memory.
+/// Serves one client after another until `is_over`, or for so many turns, each of which waits a millisecond for a client or
+/// its bytes. Where a connection fails, or the plan cuts it, the next client is waited for. The only refusal is want of
+/// memory.
 pub fn serve<N: Net + time::Clock, D: Dialect, C: Clock>(
     net: &N,
     listener: &N::Listener,
     acceptor: &mut Acceptor<D, C>,
+    is_over: &AtomicBool,
     turn_limit: u64,
 ) -> Result<(), AllocError>
     ensures { OnOk result (acceptor.new.is_connected ≡ false) }
 {
     let mut client = None;
     for _ in 0..turn_limit {
+        if is_over.load(Ordering::SeqCst) {
+            break;
+        }
         client = match client {
             Some(stream) => served(stream, acceptor)?,
             None => greeted(wait_for_client(net, listener), acceptor),

@@ -1,10 +1,10 @@
 //! The book behind a lock.
 
 ghost use Rattle.std.specs.Prelude.{◌≡◌, ◌≤◌, replicate, IfOk, IsOkUnless, MatchResult};
-ghost use Rattle.std.specs.Fn.{FnOnceReturnsAtMut};
+ghost use Rattle.std.specs.Fn.{FnOnceReturnsAt, FnOnceReturnsAtMut};
 ghost use Rattle.share_ledger.specs.Book.{BookParts, totals};
 ghost use Rattle.exec_collector.specs.Calls.{CallGives};
-ghost use Rattle.exec_collector.specs.Resolved.{Replays, OnlyOpens, GainsBy, GainsLeg};
+ghost use Rattle.exec_collector.specs.Resolved.{Replays, OnlyOpens, GainsBy, GainsLeg, resolved};
 ghost use Rattle.exec_collector.specs.Seats.{new_seat};
 
 use crate::{CountedBook, WorkerSeat};
@@ -90,6 +90,21 @@ impl<M: Ledger> Collector<M> {
         ensures { (book : BookParts) × Replays book × (result ≡ totals book number) }
     {
         self.counted.lock(rt).book().totals(number)
+    }
+
+    /// The shares that the venues have resolved, at most 10^18, of a book that replays from its own history.
+    pub fn resolved(&self, rt: &impl Wait) -> u64
+        ensures { (book : BookParts) × Replays book × (result ≡ resolved book) }
+    {
+        self.counted.lock(rt).resolved()
+    }
+
+    /// Lends the book, which replays from its own history, to a closure that reads it.
+    pub fn read<T, F: FnOnce(&Book) -> T>(&self, rt: &impl Wait, f: F) -> T
+        requires call { (book : _) → Replays book.now → F.pre f book }
+        ensures { (book : BookParts) × Replays book × FnOnceReturnsAt F.FnOnce f book result }
+    {
+        self.counted.lock(rt).read(f)
     }
 
     /// Lends the book to a closure that only opens sweeps.

@@ -1,7 +1,7 @@
 //! The book, and the count of what its venues have resolved.
 
 ghost use Rattle.std.specs.Prelude.{◌≡◌, ◌+◌, ◌≤◌, MatchResult, OnErr};
-ghost use Rattle.std.specs.Fn.{FnOnceReturnsAtMut};
+ghost use Rattle.std.specs.Fn.{FnOnceReturnsAt, FnOnceReturnsAtMut};
 ghost use Rattle.leg.specs.Answering.{Answers};
 ghost use Rattle.share_ledger.specs.Book.{BookParts, apply, answer_to, withdraw, totals};
 ghost use Rattle.exec_collector.specs.Calls.{CallGives};
@@ -49,6 +49,7 @@ impl<M: Ledger> CountedBook<M> {
     pub fn resolved(&self) -> u64
         ensures value { result ≡ resolved self.now }
         ensures few { result ≤ 1000000000000000000 }
+        ensures replays { Replays self.now }
     {
         resolved_in(&self.book, self.venues)
     }
@@ -88,6 +89,15 @@ impl<M: Ledger> CountedBook<M> {
         let gained = resolved_in(&self.book, self.venues) - before;
         seat.count(&mut self.total, gained);
         Ok(())
+    }
+
+    /// Lends the book to a closure that reads it.
+    pub fn read<T, F: FnOnce(&Book) -> T>(&self, f: F) -> T
+        requires call { (book : _) → Replays book.now → F.pre f book }
+        ensures value { FnOnceReturnsAt F.FnOnce f self.now result }
+        ensures replays { Replays self.now }
+    {
+        f(&self.book)
     }
 
     /// Lends the book to a closure that only opens sweeps.

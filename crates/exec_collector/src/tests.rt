@@ -128,6 +128,10 @@ fn two_workers<M: Ledger + Send + Sync, R: Threads + Wait + Sync>(
     gone.ok().ok_or("a withdrawal")?;
     let counts = (first.shares(), second.shares());
     let totals = collector.totals(rt, 1);
+    let entries = collector.read(rt, |book: &Book| book.history().len());
+    if collector.resolved(rt) != 230 || entries != 7 {
+        return Err(Fail::from("another count"));
+    }
     seats.push(first)?;
     seats.push(second)?;
     let checked = check_count(&mut collector.into_counted(), seats);

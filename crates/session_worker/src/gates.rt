@@ -1,6 +1,9 @@
 //! What a worker asks of its venue's gate.
 
-ghost use Rattle.release_lock.specs.Locked.{OnlyTurns};
+ghost use Rattle.std.specs.Prelude.{◌≡◌};
+ghost use Rattle.sweep_release.specs.Desk.{shut};
+ghost use Rattle.sweep_release.specs.History.{KeptDesk as ADesk};
+ghost use Rattle.release_lock.specs.Locked.{Replays, OnlyTurns};
 
 use leg::VenueId;
 use release_lock::{ReleaseLock, Run};
@@ -12,8 +15,12 @@ pub(crate) fn lower<L: Run>(rt: &impl Wait, lock: &ReleaseLock<L>, venue: VenueI
     lock.with(rt, |desk: &mut Desk| let_down(desk, venue));
 }
 
-/// Shuts the gate of a venue, for good.
-pub(crate) fn close<L: Run>(rt: &impl Wait, lock: &ReleaseLock<L>, venue: VenueId) {
+/// Shuts the gate of a venue, for good: no sweep for it is released any more, and its worker ends its session. Of a venue
+/// that the desk hasn't got nothing changes. It may wait for the lock.
+pub fn shut_gate<L: Run>(rt: &impl Wait, lock: &ReleaseLock<L>, venue: VenueId)
+    ensures { (before : ADesk) × (after : ADesk) × Replays before × Replays after
+        × (after.desk ≡ shut before.desk venue) }
+{
     lock.with(rt, |desk: &mut Desk| let_shut(desk, venue));
 }
 
@@ -31,7 +38,8 @@ fn let_down(desk: &mut Desk, venue: VenueId)
 }
 
 fn let_shut(desk: &mut Desk, venue: VenueId)
-    ensures { OnlyTurns desk.old desk.new }
+    ensures turns { OnlyTurns desk.old desk.new }
+    ensures desk { desk.new.desk ≡ shut desk.old.desk venue }
 {
     if usize::from(venue.number()) < desk.venues() {
         desk.shut(venue);

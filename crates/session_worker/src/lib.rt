@@ -22,6 +22,7 @@ pub use audit_fault::AuditFault;
 pub use auditing::audit;
 pub use day_report::DayReport;
 pub use end_reason::EndReason;
+pub use gates::shut_gate;
 pub use pace::Pace;
 pub use run_fault::RunFault;
 pub use running::run_all;

@@ -13,7 +13,7 @@ ghost use Rattle.session_worker.specs.Ends.{reason_of, last_calls};
 ghost use Rattle.session_worker.specs.Taking.{with_taken};
 
 use crate::EndReason;
-use crate::gates::{close, is_closed, lower};
+use crate::gates::{is_closed, lower, shut_gate};
 use crate::linked::Linked;
 use crate::takings::Takings;
 use clock::Clock;
@@ -163,7 +163,7 @@ impl<K: Link, C: Clock + Drop, L: Run, M: Ledger> Post<K, C, L, M> {
         if self.linked.connect(dialect) {
             return;
         }
-        close(rt, lock, venue);
+        shut_gate(rt, lock, venue);
         self.drain(rt, lock, collector);
         self.linked.abandon();
     }

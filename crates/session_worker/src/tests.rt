@@ -10,7 +10,7 @@ mod days;
 mod script;
 
 use super::*;
-use crate::gates::close;
+use crate::gates::shut_gate;
 use days::{Day, new_day, releases, turns};
 use dialect::Plain;
 use leg::{Totals, VenueId};
@@ -108,7 +108,7 @@ fn sends<L: Run, M: Ledger>(
     assert_eq!(rt; day.collector.totals(rt, 1), Some(totals(6, 4, 0)));
     releases(rt, alloc, &mut day, &[(0, 20)])?;
     let venue = VenueId::new(0).ok().ok_or("a venue")?;
-    close(rt, &day.lock, venue);
+    shut_gate(rt, &day.lock, venue);
     let worker = day.workers.pop().ok_or("a worker")?;
     let end = worker.run(rt, &day.lock, &day.collector, 10);
     assert_eq!(rt; end.reason, EndReason::Closed);

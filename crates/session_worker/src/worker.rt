@@ -5,7 +5,7 @@ ghost use Rattle.session_core.specs.Session.{new_session};
 ghost use Rattle.session_worker.specs.Events.{parts_of};
 ghost use Rattle.session_worker.specs.Ends.{Runs};
 
-use crate::gates::close;
+use crate::gates::shut_gate;
 use crate::linked::Linked;
 use crate::post::Post;
 use crate::takings::Takings;
@@ -68,7 +68,7 @@ impl<D: Dialect + Drop, K: Link, C: Clock + Drop, L: Run, M: Ledger> Worker<D, K
         let mut post = post;
         let reason = post.turns(rt, &dialect, lock, collector, turn_limit);
         post.finish();
-        close(rt, lock, post.takings.venue());
+        shut_gate(rt, lock, post.takings.venue());
         post.drain(rt, lock, collector);
         let Post {
             linked,

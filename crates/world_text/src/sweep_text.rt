@@ -3,6 +3,7 @@
 ghost use Rattle.std.specs.Prelude.{◌≡◌, ◌≤◌, ◌++◌, [], length, OnOk, string_bytes};
 ghost use Rattle.std.specs.Option.{option_map_or};
 ghost use Rattle.schedule.specs.Printed.{parts_text, sweep_line};
+ghost use Rattle.world_text.specs.SweepLine.{shares_line};
 
 use dialect::Dialect;
 use leg::{Routed, Totals};
@@ -20,9 +21,22 @@ pub fn write_sweep<D: Dialect + Drop>(
     requires { length legs.now ≤ 32 }
     ensures { OnOk result (string_bytes text.new ≡ string_bytes text.old ++ sweep_line world.now number legs.now) }
 {
-    let shares = shares_of(legs);
+    write_sweep_line(text, number, shares_of(legs), world.totals(number))
+}
+
+/// Appends the line of a sweep of this number and so many shares, as `sweep 1 legs 10 filled 6 busted 0 cancelled 4
+/// withdrawn 0 open 0`; where the parts of the shares aren't known it ends behind their sum. The only refusal is want of
+/// memory.
+pub fn write_sweep_line(
+    text: &mut String,
+    number: u64,
+    shares: u64,
+    parts: Option<Totals>,
+) -> Result<(), AllocError>
+    ensures { OnOk result (string_bytes text.new ≡ string_bytes text.old ++ shares_line number shares parts) }
+{
     write!(text, "sweep {number} legs {shares}")?;
-    write_parts(text, world.totals(number))?;
+    write_parts(text, parts)?;
     text.push_str("\n")?;
     Ok(())
 }

@@ -7,6 +7,7 @@ use dialect::Plain;
 use link::{Got, Link, LinkFault, TcpLink};
 use std::alloc::{AllocError, Global};
 use std::net::{Net, SocketAddr, TcpListener};
+use std::sync::atomic::{AtomicBool, Ordering};
 use std::test::Fail;
 use std::thread;
 
@@ -15,8 +16,19 @@ fn exchange_of(alloc: Global, plan: Plan) -> Result<Acceptor<Plain, Stopped>, Fa
     Ok(Acceptor::new(alloc, Plain, stopped_clock()?, end(b"B", b"A")?, plan))
 }
 
-/// What a session over TCP is told of its leg.
-fn told<N: Net>(alloc: Global, net: &N, addr: SocketAddr) -> Result<Told, Fail> {
+/// What a session over TCP is told of its leg. Then the day is over.
+fn told<N: Net>(
+    alloc: Global,
+    net: &N,
+    addr: SocketAddr,
+    is_over: &AtomicBool,
+) -> Result<Told, Fail> {
+    let told = played(alloc, net, addr);
+    is_over.store(true, Ordering::SeqCst);
+    told
+}
+
+fn played<N: Net>(alloc: Global, net: &N, addr: SocketAddr) -> Result<Told, Fail> {
     let mut client = Client::new(alloc, TcpLink::new(net, addr))?;
     client.log_on(1_000)?;
     client.send(&worked_leg()?)?;
@@ -35,10 +47,11 @@ fn a_leg_over_tcp(rt: HostRuntime) -> Result<(), Fail> {
             ..TRADES_6
         };
         let mut exchange = exchange_of(rt.alloc(), plan)?;
+        let is_over = AtomicBool::new(false);
         let (served, told) = thread::join(
             &rt,
-            || serve(&rt, &listener, &mut exchange, 1_000),
-            || told(rt.alloc(), &rt, addr),
+            || serve(&rt, &listener, &mut exchange, &is_over, u64::MAX),
+            || told(rt.alloc(), &rt, addr, &is_over),
         );
         let told = told?;
         served?;
@@ -53,7 +66,11 @@ fn a_leg_over_tcp(rt: HostRuntime) -> Result<(), Fail> {
 fn a_server_with_no_client(rt: HostRuntime) -> Result<(), Fail> {
     let listener = TcpListener::bind(&rt, "127.0.0.1:0")?;
     let mut exchange = exchange_of(rt.alloc(), TRADES_6)?;
-    assert_eq!(rt; serve(&rt, &listener, &mut exchange, 5), Ok(()));
+    for (is_over, turn_limit) in [(false, 5), (true, u64::MAX)] {
+        let is_over = AtomicBool::new(is_over);
+        let served = serve(&rt, &listener, &mut exchange, &is_over, turn_limit);
+        assert_eq!(rt; served, Ok(()));
+    }
     assert!(rt; !serve_raw(&rt, &listener, &[], 5));
     Ok(())
 }

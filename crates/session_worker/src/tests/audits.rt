@@ -7,7 +7,7 @@ ghost use Rattle.release_lock.specs.Queues.{IsFresh};
 use super::days::{Day, new_day, releases, turns};
 use super::script::Script;
 use super::{FENCE, LOGON};
-use crate::gates::close;
+use crate::gates::shut_gate;
 use crate::{AuditFault, DayReport, WorkerEnd, audit};
 use leg::VenueId;
 use release_lock::{CallerSeat, Run, rings};
@@ -41,7 +41,7 @@ fn drops<L: Run, M: Ledger>(
     releases(rt, alloc, day, &[(0, 10), (1, 10)])?;
     for number in 0..2 {
         let venue = VenueId::new(number).ok().ok_or("a venue")?;
-        close(rt, &day.lock, venue);
+        shut_gate(rt, &day.lock, venue);
     }
     Ok(())
 }

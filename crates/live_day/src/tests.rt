@@ -1,0 +1,52 @@
+//! Small days over loopback.
+
+use super::*;
+use std::process::Abort;
+use std::test::Fail;
+
+// Counts how many times it is told.
+#[derive(Drop)]
+struct Count(u64);
+
+impl Progress for Count {
+    fn tell(&mut self, _so_far: SoFar) {
+        self.0 = self.0.saturating_add(1);
+    }
+}
+
+// What a day of these numbers must tell: each sweep has ten shares a venue, all of them settled, and none is given up.
+fn is_whole(rt: &impl Abort, plan: LivePlan, day: &LiveDay) {
+    let all = u64::from(plan.callers) * plan.sweeps;
+    let shares = u64::from(plan.venues) * 10;
+    assert_eq!(rt; day.sweeps.len() as u64, all);
+    assert_eq!(rt; day.unplaced, 0);
+    for (number, sweep) in (1..).zip(day.sweeps.iter()) {
+        let parts = sweep.totals;
+        assert_eq!(rt; sweep.number, number);
+        assert_eq!(rt; sweep.shares, shares);
+        assert_eq!(rt;
+            parts.filled + parts.cancelled + parts.withdrawn + parts.still_open,
+            shares
+        );
+        assert_eq!(rt; parts.busted, 0);
+    }
+    assert_eq!(rt; day.report.placed, all * shares);
+    assert_eq!(rt; day.report.resolved + day.report.still_open, all * shares);
+}
+
+#[test]
+fn days_of_few_and_many(rt: HostRuntime) -> Result<(), Fail> {
+    for (venues, callers, sweeps, cut) in [(2, 2, 5, 3), (1, 1, 3, 0), (16, 2, 2, 5), (1, 64, 1, 2)]
+    {
+        let plan = LivePlan {
+            venues,
+            callers,
+            sweeps,
+            cut,
+            turns: 10_000,
+        };
+        let day = run_live(&rt, rt.alloc(), plan, &mut Count(0))?;
+        is_whole(&rt, plan, &day);
+    }
+    Ok(())
+}

@@ -1,0 +1,248 @@
+//! The threads of a day.
+
+ghost use Rattle.std.specs.Prelude.{◌≡◌, map, IfOk, IfErr};
+ghost use Rattle.std.specs.List.{All};
+ghost use Rattle.session_worker.specs.Events.{parts_of};
+ghost use Rattle.live_day.specs.Faults.{IsNoMismatch};
+ghost use Rattle.live_day.specs.Day.{IsLivePlan, caller_of, left_of, AllCalled, AllKeepPlace};
+
+use crate::caller::{CallerEnd, call};
+use crate::exchange::Exchange;
+use crate::floor::Floor;
+use crate::promise::EndOf;
+use crate::workers::{LiveEnd, LiveWorker};
+use crate::{LiveFault, Progress};
+use release_lock::{CallerSeat, Run};
+use session_worker::run_all;
+use std::alloc::{AllocError, Global};
+use std::collections::VecDeque;
+use std::net::{Net, TcpListener, TcpStream};
+use std::snapshot::Snapshot;
+use std::sync::Wait;
+use std::sync::ledger::Ledger;
+use std::thread;
+use std::thread::{JoinHandle, PromisedHandle, Scope, Threads, join_promised};
+use std::time::Clock;
+
+/// Who takes part in a day.
+#[derive(Drop)]
+pub struct Cast<'a, L: Run, M: Ledger, R: Net + Clock> {
+    pub exchanges: Vec<Exchange<'a, R>>,
+    pub workers: Vec<LiveWorker<'a, R, L, M>>,
+    pub callers: Vec<CallerSeat<L>>,
+}
+
+/// What its threads leave.
+#[derive(Drop)]
+pub struct Ended<'a, L: Run, M: Ledger, R: Net + Clock> {
+    pub workers: Vec<LiveEnd<'a, R, L, M>>,
+    pub callers: Vec<CallerEnd<L>>,
+}
+
+/// Runs a day: its exchanges, its callers and its workers, each in a thread of its own. Once the callers have ended the gates
+/// are shut, and once the workers have ended the exchanges are stopped.
+pub fn in_threads<'a, L, M, R, P>(
+    rt: &'a R,
+    alloc: Global,
+    floor: &Floor<L, M>,
+    cast: Cast<'a, L, M, R>,
+    progress: &mut P,
+) -> Result<Ended<'a, L, M, R>, LiveFault>
+where
+    L: Run + Send + Sync,
+    M: Ledger + Send + Sync,
+    R: Net<Listener = TcpListener, Stream = TcpStream> + Threads + Wait + Clock + Sync,
+    P: Progress + Send,
+    requires plan { IsLivePlan floor.now.plan }
+    requires new { All (λ s. s.shares ≡ 0) cast.callers.items }
+    ensures workers { IfOk result (λ ended. AllKeepPlace (map (λ w. parts_of w.post.linked.session w.post.takings w.post.seat) cast.workers.items) (map (λ e. parts_of e.session e.took e.seat) ended.workers.items)) }
+    ensures callers { IfOk result (λ ended. AllCalled (map (λ s. caller_of floor.now.plan s) cast.callers.items) (map (λ e. left_of e.seat e.unplaced) ended.callers.items)) }
+    ensures only { IfErr result IsNoMismatch }
+{
+    thread::scope(
+        thread::scope_env(),
+        rt,
+        |scope| day_in(scope, rt, alloc, floor, cast, progress),
+    )
+}
+
+/// The same, in a scope. Where a thread can't be made, or one wanted memory, callers and exchanges are told to stop, and
+/// the scope waits for them.
+fn day_in<'s, 'a, E, L, M, R, P>(
+    scope: &Scope<'s, E>,
+    rt: &'a R,
+    alloc: Global,
+    floor: &'s Floor<L, M>,
+    cast: Cast<'a, L, M, R>,
+    progress: &'s mut P,
+) -> Result<Ended<'a, L, M, R>, LiveFault>
+where
+    'a: 's,
+    L: Run + Send + Sync,
+    M: Ledger + Send + Sync,
+    R: Net<Listener = TcpListener, Stream = TcpStream> + Threads + Wait + Clock + Sync,
+    P: Progress + Send,
+    requires plan { IsLivePlan floor.now.plan }
+    requires new { All (λ s. s.shares ≡ 0) cast.callers.items }
+    ensures workers { IfOk result (λ ended. AllKeepPlace (map (λ w. parts_of w.post.linked.session w.post.takings w.post.seat) cast.workers.items) (map (λ e. parts_of e.session e.took e.seat) ended.workers.items)) }
+    ensures callers { IfOk result (λ ended. AllCalled (map (λ s. caller_of floor.now.plan s) cast.callers.items) (map (λ e. left_of e.seat e.unplaced) ended.callers.items)) }
+    ensures only { IfErr result IsNoMismatch }
+{
+    let ended = all_started(scope, rt, alloc, floor, cast, progress);
+    floor.signals.end();
+    floor.signals.stop();
+    ended
+}
+
+/// Starts the threads, and waits for them.
+fn all_started<'s, 'a, E, L, M, R, P>(
+    scope: &Scope<'s, E>,
+    rt: &'a R,
+    alloc: Global,
+    floor: &'s Floor<L, M>,
+    cast: Cast<'a, L, M, R>,
+    progress: &'s mut P,
+) -> Result<Ended<'a, L, M, R>, LiveFault>
+where
+    'a: 's,
+    L: Run + Send + Sync,
+    M: Ledger + Send + Sync,
+    R: Net<Listener = TcpListener, Stream = TcpStream> + Threads + Wait + Clock + Sync,
+    P: Progress + Send,
+    requires plan { IsLivePlan floor.now.plan }
+    requires new { All (λ s. s.shares ≡ 0) cast.callers.items }
+    ensures workers { IfOk result (λ ended. AllKeepPlace (map (λ w. parts_of w.post.linked.session w.post.takings w.post.seat) cast.workers.items) (map (λ e. parts_of e.session e.took e.seat) ended.workers.items)) }
+    ensures callers { IfOk result (λ ended. AllCalled (map (λ s. caller_of floor.now.plan s) cast.callers.items) (map (λ e. left_of e.seat e.unplaced) ended.callers.items)) }
+    ensures only { IfErr result IsNoMismatch }
+{
+    let Cast {
+        exchanges,
+        workers,
+        callers,
+    } = cast;
+    let exchanges = start_exchanges(scope, rt, alloc, floor, exchanges)?;
+    let callers = start_callers(scope, rt, alloc, floor, callers)?;
+    if scope.spawn(move || floor.keep(rt, progress)).is_err() {
+        return Err(LiveFault::NoThread);
+    }
+    let workers = run_workers(rt, alloc, floor, workers);
+    let callers = join_callers(rt, callers)?;
+    floor.signals.stop();
+    join_exchanges(rt, exchanges)?;
+    Ok(Ended {
+        workers: workers?,
+        callers,
+    })
+}
+
+/// Runs the workers. Once they have ended callers are to give up what isn't placed.
+fn run_workers<'a, L, M, R>(
+    rt: &R,
+    alloc: Global,
+    floor: &Floor<L, M>,
+    workers: Vec<LiveWorker<'a, R, L, M>>,
+) -> Result<Vec<LiveEnd<'a, R, L, M>>, LiveFault>
+where
+    L: Run + Send + Sync,
+    M: Ledger + Send + Sync,
+    R: Net<Listener = TcpListener, Stream = TcpStream> + Threads + Wait + Clock + Sync,
+    ensures kept { IfOk result (λ ends. AllKeepPlace (map (λ w. parts_of w.post.linked.session w.post.takings w.post.seat) workers.items) (map (λ e. parts_of e.session e.took e.seat) ends.items)) }
+    ensures only { IfErr result IsNoMismatch }
+{
+    let ends = run_all(
+        rt,
+        alloc,
+        &floor.lock,
+        &floor.collector,
+        workers,
+        floor.plan.turns,
+    );
+    floor.signals.end();
+    floor.signals.workers.end_one();
+    Ok(ends?)
+}
+
+/// Starts the exchanges.
+fn start_exchanges<'s, 'a, E, L, M, R>(
+    scope: &Scope<'s, E>,
+    rt: &'a R,
+    alloc: Global,
+    floor: &'s Floor<L, M>,
+    exchanges: Vec<Exchange<'a, R>>,
+) -> Result<Vec<JoinHandle<Result<(), AllocError>>>, LiveFault>
+where
+    'a: 's,
+    L: Run + Send + Sync,
+    M: Ledger + Send + Sync,
+    R: Net<Listener = TcpListener, Stream = TcpStream> + Clock + Sync,
+    ensures { IfErr result IsNoMismatch }
+{
+    let mut exchanges = VecDeque::from(exchanges);
+    let mut handles = Vec::new(alloc);
+    while let Some(exchange) = exchanges.pop_front() {
+        handles.reserve(1)?;
+        match scope.spawn(move || floor.serve(rt, exchange)) {
+            Ok(handle) => handles.push_reserved(handle),
+            Err(_) => return Err(LiveFault::NoThread),
+        }
+    }
+    Ok(handles)
+}
+
+/// Starts the callers.
+fn start_callers<'s, 'a, E, L, M, R>(
+    scope: &Scope<'s, E>,
+    rt: &'a R,
+    alloc: Global,
+    floor: &'s Floor<L, M>,
+    seats: Vec<CallerSeat<L>>,
+) -> Result<Vec<PromisedHandle<CallerEnd<L>, EndOf<L>>>, LiveFault>
+where
+    'a: 's,
+    L: Run + Send + Sync,
+    M: Ledger + Send + Sync,
+    R: Wait + Clock + Sync,
+    requires plan { IsLivePlan floor.now.plan }
+    requires new { All (λ s. s.shares ≡ 0) seats.items }
+    ensures started { IfOk result (λ handles. map (λ h. caller_of h.promise.1 h.promise.0.value) handles.items ≡ map (λ s. caller_of floor.now.plan s) seats.items) }
+    ensures only { IfErr result IsNoMismatch }
+{
+    let mut seats = VecDeque::from(seats);
+    let mut handles = Vec::new(alloc);
+    while let Some(seat) = seats.pop_front() {
+        handles.reserve(1)?;
+        let promise = EndOf(Snapshot::of(&seat), floor.plan);
+        match scope.spawn_with(promise, move || call(rt, alloc, floor, seat)) {
+            Ok(handle) => handles.push_reserved(handle),
+            Err(_) => return Err(LiveFault::NoThread),
+        }
+    }
+    Ok(handles)
+}
+
+/// Waits for the callers, and gives what they leave.
+fn join_callers<L: Run, R: Threads>(
+    rt: &R,
+    handles: Vec<PromisedHandle<CallerEnd<L>, EndOf<L>>>,
+) -> Result<Vec<CallerEnd<L>>, LiveFault>
+    ensures called { IfOk result (λ ends. AllCalled (map (λ h. caller_of h.promise.1 h.promise.0.value) handles.items) (map (λ e. left_of e.seat e.unplaced) ends.items)) }
+    ensures only { IfErr result IsNoMismatch }
+{
+    match join_promised(rt, handles) {
+        Ok(ends) => Ok(ends),
+        Err(_) => Err(LiveFault::OutOfMemory),
+    }
+}
+
+/// Waits for the exchanges. One that wanted memory refuses the day.
+fn join_exchanges<R: Threads>(
+    rt: &R,
+    handles: Vec<JoinHandle<Result<(), AllocError>>>,
+) -> Result<(), LiveFault>
+    ensures { IfErr result IsNoMismatch }
+{
+    for handle in handles {
+        handle.join(rt)?;
+    }
+    Ok(())
+}
