@@ -17,8 +17,7 @@ use std::net::{Net, OpenListener, SocketAddr, TcpListener};
 use std::process::Abort;
 use std::sync::Wait;
 use std::test::Fail;
-use std::thread::{Threads, join};
-use std::time::Clock;
+use std::thread::join;
 
 impl<'a, N: Net> Shown for TcpLink<'a, N> {
     fn exchange(&self) -> Option<&Exchange> {
@@ -34,31 +33,39 @@ const LOGON: Said = ("A", "49=B|34=1|98=0|108=30|");
 
 const FENCE: Said = ("0", "49=B|34=2|112=F2|");
 
-/// Messages that end the connection of a session that is up and has sent two messages. It answers none of them.
-const ENDING: [Said; 9] = [
+/// What an exchange says until the worker gives up its connection, and how many messages the worker has written by then: the
+/// Logon, once that is answered the fence, and a Logout where the exchange logs out.
+const DAYS: [(&[Said], u64); 13] = [
     // A ResendRequest from no number, from one that wasn't sent yet, and to one before the first.
-    ("2", "49=B|34=3|7=0|16=0|"),
-    ("2", "49=B|34=3|7=3|16=0|"),
-    ("2", "49=B|34=3|7=2|16=1|"),
+    (&[LOGON, FENCE, ("2", "49=B|34=3|7=0|16=0|")], 2),
+    (&[LOGON, FENCE, ("2", "49=B|34=3|7=3|16=0|")], 2),
+    (&[LOGON, FENCE, ("2", "49=B|34=3|7=2|16=1|")], 2),
     // A SequenceReset that is no GapFill, and a GapFill to its own number.
-    ("4", "49=B|34=3|36=5|"),
-    ("4", "49=B|34=3|123=Y|36=3|"),
+    (&[LOGON, FENCE, ("4", "49=B|34=3|36=5|")], 2),
+    (&[LOGON, FENCE, ("4", "49=B|34=3|123=Y|36=3|")], 2),
     // A number that was there before, a second Logon, another sender, and a message without a number.
-    ("0", "49=B|34=2|"),
-    ("A", "49=B|34=3|98=0|108=30|"),
-    ("0", "49=C|34=3|"),
-    ("0", "49=B|"),
+    (&[LOGON, FENCE, ("0", "49=B|34=2|")], 2),
+    (&[LOGON, FENCE, ("A", "49=B|34=3|98=0|108=30|")], 2),
+    (&[LOGON, FENCE, ("0", "49=C|34=3|")], 2),
+    (&[LOGON, FENCE, ("0", "49=B|")], 2),
+    // A message before the Logon.
+    (&[FENCE], 1),
+    // A Logout; and one behind a message that ends nothing: a repeated one, and a ResendRequest of what was sent.
+    (&[LOGON, FENCE, ("5", "49=B|34=3|")], 3),
+    (
+        &[LOGON, FENCE, ("0", "49=B|34=2|43=Y|"), ("5", "49=B|34=3|")],
+        3,
+    ),
+    (
+        &[
+            LOGON,
+            FENCE,
+            ("2", "49=B|34=3|7=1|16=1|"),
+            ("5", "49=B|34=4|"),
+        ],
+        3,
+    ),
 ];
-
-/// A Logout, which the session answers with its own.
-const LOGOUT: Said = ("5", "49=B|34=3|");
-
-const LATER_LOGOUT: Said = ("5", "49=B|34=4|");
-
-/// Messages after which the connection goes on: a repeated one, and a ResendRequest of what was sent.
-const REPEATED: Said = ("0", "49=B|34=2|43=Y|");
-
-const RESEND: Said = ("2", "49=B|34=3|7=1|16=1|");
 
 /// How many turns the worker takes at most, each of which waits a millisecond for a byte.
 const MOST_TURNS: u64 = 2_000;
@@ -83,56 +90,38 @@ fn worker_day<R: Net + Wait>(rt: &R, alloc: Global, addr: SocketAddr) -> Result<
     play(rt, alloc, TcpLink::new(rt, addr), ONE_CONNECTION)
 }
 
-/// The day of a worker whose exchange says this.
-fn day_of<R>(rt: &R, alloc: Global, says: &[Said]) -> Result<Outcome, Fail>
-where
-    R: Net + Threads + Wait + Clock + Sync,
-    R::Listener: Sync,
-{
+/// The frames of what an exchange says.
+fn frames_of(alloc: Global, says: &[Said]) -> Result<Vec<Vec<u8>>, Fail> {
     let mut frames = Vec::new(alloc);
     for (kind, fields) in says {
         frames.push(framed(alloc, kind, fields)?)?;
     }
-    let listener = TcpListener::bind(rt, "127.0.0.1:0")?;
-    let addr = listener.local_addr()?;
-    let (served, outcome) = join(
-        rt,
-        || serve_raw(rt, &listener, frames.as_slice(), MOST_SERVED),
-        || worker_day(rt, alloc, addr),
-    );
-    if !served {
-        return Err(Fail::from("the frames weren't taken"));
-    }
-    Ok(outcome?)
+    Ok(frames)
 }
 
-/// The worker gives up its connection, having written so many messages.
-fn gives_up<R>(rt: &R, alloc: Global, says: &[Said], written: u64) -> Result<(), Fail>
-where
-    R: Net + Threads + Wait + Clock + Sync + Abort,
-    R::Listener: Sync,
-{
-    let outcome = day_of(rt, alloc, says)?;
-    let end = only(&outcome)?;
-    assert_eq!(rt; end.reason, EndReason::Closed, "{says:?}");
-    assert_eq!(rt; end.connections, 1, "{says:?}");
-    assert_eq!(rt; end.next_out, written.saturating_add(1), "{says:?}");
-    assert_eq!(rt; outcome.report.resolved, 15, "{says:?}");
+/// The worker gave up its connection, having written so many messages.
+fn has_given_up(rt: &impl Abort, outcome: &Outcome, written: u64) -> Result<(), Fail> {
+    let end = only(outcome)?;
+    assert_eq!(rt; end.reason, EndReason::Closed);
+    assert_eq!(rt; end.connections, 1);
+    assert_eq!(rt; end.next_out, written.saturating_add(1));
+    assert_eq!(rt; outcome.report.resolved, 15);
     Ok(())
 }
 
 #[test]
-fn what_ends_a_connection(rt: HostRuntime) -> Result<(), Fail> {
-    for said in ENDING {
-        gives_up(&rt, rt.alloc(), &[LOGON, FENCE, said], 2)?;
+fn what_must_not_be_said(rt: HostRuntime) -> Result<(), Fail> {
+    for (says, written) in DAYS {
+        let frames = frames_of(rt.alloc(), says)?;
+        let listener = TcpListener::bind(&rt, "127.0.0.1:0")?;
+        let addr = listener.local_addr()?;
+        let (served, outcome) = join(
+            &rt,
+            || serve_raw(&rt, &listener, frames.as_slice(), MOST_SERVED),
+            || worker_day(&rt, rt.alloc(), addr),
+        );
+        assert!(rt; served);
+        has_given_up(&rt, &outcome?, written)?;
     }
-    gives_up(&rt, rt.alloc(), &[LOGON, FENCE, LOGOUT], 3)?;
-    gives_up(&rt, rt.alloc(), &[FENCE], 1)
-}
-
-/// The Logout behind the message is heard, and answered.
-#[test]
-fn what_ends_no_connection(rt: HostRuntime) -> Result<(), Fail> {
-    gives_up(&rt, rt.alloc(), &[LOGON, FENCE, REPEATED, LOGOUT], 3)?;
-    gives_up(&rt, rt.alloc(), &[LOGON, FENCE, RESEND, LATER_LOGOUT], 3)
+    Ok(())
 }
