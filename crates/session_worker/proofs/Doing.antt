@@ -3,20 +3,28 @@ use Rattle.std.proofs.Common.{◌≡◌, ◌⊎◌, List, [], ◌∷◌, ◌++�
 use Rattle.std.specs.Prelude.{Option, Some, None, MatchOption}
 use Rattle.std.proofs.lemmas.List.{append-nil}
 use Rattle.leg.specs.declared.placed_leg.PlacedLeg.{PlacedLeg}
+use Rattle.dialect.specs.Framed.{Writers}
 use Rattle.dialect.specs.Message.{Readers}
+use Rattle.link.specs.Traffic.{Tells, Takes, Stays}
 use Rattle.session_core.specs.declared.phase.Phase.{Phase}
 use Rattle.session_core.specs.declared.phase.Phase.TheVariants.{Down, LoggingOn, Settling, Up, Closing, LoggedOut, Closed}
 use Rattle.session_core.specs.declared.session_call.SessionCall.{SessionCall}
 use Rattle.session_core.specs.declared.session_call.SessionCall.TheVariants as call
+use Rattle.session_core.specs.declared.step.Step.{Step}
 use Rattle.session_core.specs.Session.{SessionParts}
-use Rattle.session_core.specs.Calling.{abandon}
+use Rattle.session_core.specs.Calling.{broken, abandon}
 use Rattle.session_core.specs.Trial.{called, after_calls}
 use Rattle.session_core.proofs.CallsMade.{after-append}
 use Rattle.session_worker.specs.declared.end_reason.EndReason.TheVariants as reason
 use Rattle.session_worker.specs.Ends.{reason_of, last_calls}
 use Rattle.session_worker.specs.Taking.{with_taken}
-use Rattle.session_worker.specs.Events.{WorkerEvent, calls_in, calls_of, leg_in, legs_in, taken_in, taken_of, IsIdle, IsAllowedCall, IsAllowed, AreAllowed, WorkerParts, Goes, Does, Moves, Hands, Drains}
+use Rattle.session_worker.specs.Speaking.{Wire, joined, TakesFirst, IsGivenUp, Speak}
+use Rattle.session_worker.specs.Linking.{LinkedParts, linked_of, MayConfirm, Moves, Hands, Asks, CarriesOut}
+use Rattle.session_worker.specs.Events.{WorkerEvent, calls_in, calls_of, leg_in, legs_in, taken_in, taken_of, IsIdle, IsAllowedCall, IsAllowed, AreAllowed, WorkerParts, Goes, Does, Drains}
 use Rattle.session_worker.specs.Events.WorkerEvent.{Calls, Drops, Fails}
+use Rattle.session_worker.proofs.Spoken.{stays_here}
+use Rattle.session_worker.proofs.Speech.{stays_first, stays_same, speak_on, speak_none, speak_silent, speak_broken}
+use Rattle.session_worker.proofs.Calling.{moves_gave}
 
 -- events and then others
 calls-append : (first more : List WorkerEvent) → calls_of (first ++ more) ≡ calls_of first ++ calls_of more
@@ -40,6 +48,13 @@ allowed-append read s (event ∷ first) more all rest = (
       (subst (λ (t : SessionParts). AreAllowed read t more) (after-append read s (calls_in event) (calls_of first)) rest),
 )
 
+pub speak_events : (w : Writers) (read : Readers) (s : SessionParts) (first more : List WorkerEvent) (a b c : Wire)
+    → Speak w read s (calls_of first) a b → Speak w read (after_calls read s (calls_of first)) (calls_of more) b c
+    → Speak w read s (calls_of (first ++ more)) a c
+speak_events w read s first more a b c one next =
+    subst (λ (calls : List SessionCall). Speak w read s calls a c) (sym (calls-append first more))
+    (speak_on w read s (calls_of first) (calls_of more) a b c one next)
+
 pub goes_on : (read : Readers) (a b c : WorkerParts) (first more : List WorkerEvent) → Goes read a first b
     → Goes read b more c → Goes read a (first ++ more) c
 goes_on read a b c first more one next = record {
@@ -55,10 +70,12 @@ goes_on read a b c first more one next = record {
   seat = next.seat ∙ one.seat;
 }
 
-pub does_on : (read : Readers) (a b c : WorkerParts) → Does read a b → Does read b c → Does read a c
-does_on read a b c first next = record {
+pub does_on : (w : Writers) (read : Readers) (a b c : WorkerParts) → Does w read a b → Does w read b c → Does w read a c
+does_on w read a b c first next = record {
   events = first.events ++ next.events;
   goes = goes_on read a b c first.events next.events first.goes next.goes;
+  speaks = speak_events w read a.session first.events next.events a.wire b.wire c.wire first.speaks
+      (subst (λ (s : SessionParts). Speak w read s (calls_of next.events) b.wire c.wire) first.goes.session next.speaks);
 }
 
 -- nothing
@@ -72,12 +89,16 @@ goes_none read a b session took seat = record {
   seat = seat;
 }
 
-pub does_none : (read : Readers) (a : WorkerParts) → Does read a a
-does_none read a = record { events = []; goes = goes_none read a a refl refl refl }
+pub does_same : (w : Writers) (read : Readers) (a b : WorkerParts) → b.session ≡ a.session → b.took ≡ a.took
+    → b.seat_parts ≡ a.seat_parts → Tells a.wire b.wire Stays → Does w read a b
+does_same w read a b session took seat stays = record {
+  events = [];
+  goes = goes_none read a b session took seat;
+  speaks = speak_none w read a.session a.wire b.wire stays;
+}
 
-pub does_same : (read : Readers) (a b : WorkerParts) → b.session ≡ a.session → b.took ≡ a.took
-    → b.seat_parts ≡ a.seat_parts → Does read a b
-does_same read a b session took seat = record { events = []; goes = goes_none read a b session took seat }
+pub does_none : (w : Writers) (read : Readers) (a : WorkerParts) → Does w read a a
+does_none w read a = does_same w read a a refl refl refl (stays_here a.wire)
 
 -- calls of the session, none of which is to send a leg
 abbrev pub calling : List SessionCall → List WorkerEvent
@@ -114,21 +135,73 @@ allowed_calls read s (made ∷ calls) e =
     let none = both_empty (leg_in made) (legs_in calls) e in
     (allowed_call s made none.0, allowed_calls read (called read s made).1 calls none.1)
 
-pub goes_moves : (read : Readers) (a b : WorkerParts) (moves : Moves read a.session b.session) → b.took ≡ a.took
-    → b.seat_parts ≡ a.seat_parts → Goes read a (calling moves.calls) b
-goes_moves read a b moves took seat = record {
-  session = moves.session ∙ ap (after_calls read a.session) (sym (calling-calls moves.calls));
+pub goes_calls : (read : Readers) (a b : WorkerParts) (calls : List SessionCall)
+    → b.session ≡ after_calls read a.session calls → legs_in calls ≡ [] → b.took ≡ a.took → b.seat_parts ≡ a.seat_parts
+    → Goes read a (calling calls) b
+goes_calls read a b calls session no_leg took seat = record {
+  session = session ∙ ap (after_calls read a.session) (sym (calling-calls calls));
   taken = ap (λ t. t.taken) took ∙ (sym (append-nil a.took.taken)
-      ∙ ap (λ l. a.took.taken ++ l) (sym (calling-taken moves.calls ∙ moves.no_leg)));
-  allowed = allowed_calls read a.session moves.calls moves.no_leg;
+      ∙ ap (λ l. a.took.taken ++ l) (sym (calling-taken calls ∙ no_leg)));
+  allowed = allowed_calls read a.session calls no_leg;
   venue = ap (λ t. t.venue) took;
   seat = seat;
 }
 
-pub does_moves : (read : Readers) (a b : WorkerParts) → Moves read a.session b.session → b.took ≡ a.took
-    → b.seat_parts ≡ a.seat_parts → Does read a b
-does_moves read a b moves took seat =
-    record { events = calling moves.calls; goes = goes_moves read a b moves took seat }
+pub does_moves : (w : Writers) (read : Readers) (a b : WorkerParts)
+    → Moves w read (linked_of a.session a.wire) (linked_of b.session b.wire) → b.took ≡ a.took
+    → b.seat_parts ≡ a.seat_parts → Does w read a b
+does_moves w read a b moves took seat = record {
+  events = calling moves.calls;
+  goes = goes_calls read a b moves.calls moves.session moves.no_leg took seat;
+  speaks = subst (λ (calls : List SessionCall). Speak w read a.session calls a.wire b.wire)
+      (sym (calling-calls moves.calls)) moves.speaks;
+}
+
+-- ---- what a step wanted
+
+-- nothing of the session, or a note confirmed
+speak_noted : (w : Writers) (read : Readers) (s noted : SessionParts) (later : List SessionCall) (a b : Wire)
+    → MayConfirm s noted → Speak w read noted later a b
+    → (calls : List SessionCall) × (after_calls read s calls ≡ after_calls read noted later) × (legs_in calls ≡ legs_in later)
+    × (IsGivenUp later → IsGivenUp calls) × Speak w read s calls a b
+speak_noted w read s noted later a b (inl same) rest = (
+  later,
+  ap (λ (t : SessionParts). after_calls read t later) (sym same),
+  refl,
+  (λ gone. gone),
+  subst (λ (t : SessionParts). Speak w read t later a b) same rest,
+)
+speak_noted w read s noted later a b (inr confirmed) rest = (
+  call.Confirm ∷ later,
+  ap (λ (t : SessionParts). after_calls read t later) (sym confirmed),
+  refl,
+  (λ gone. gone),
+  speak_silent w read s call.Confirm later a a b (stays_here a) refl
+      (subst (λ (t : SessionParts). Speak w read t later a b) confirmed rest),
+)
+
+-- a call that gave a step, and then what the step wanted
+pub does_asked : (w : Writers) (read : Readers) (a b d : WorkerParts) (step : Step)
+    → Asks w read (linked_of a.session a.wire) step (linked_of b.session b.wire) → b.took ≡ a.took
+    → b.seat_parts ≡ a.seat_parts → CarriesOut (joined step.out) b d → Does w read a d
+does_asked w read a b d step asks took seat carries =
+    does_moves w read a d (carried carries.writes) (carries.took ∙ took) (carries.seat ∙ seat) where
+      from : Tells a.wire b.wire Stays
+      from = asks.wire
+      carried : ((d.session ≡ carries.noted) × Tells b.wire d.wire (Takes (joined step.out)))
+          ⊎ ((d.session ≡ broken carries.noted) × Tells b.wire d.wire (TakesFirst (joined step.out)))
+          → Moves w read (linked_of a.session a.wire) (linked_of d.session d.wire)
+      carried (inl all) =
+          let rest = speak_noted w read b.session carries.noted [] d.wire d.wire carries.notes
+          (speak_none w read carries.noted d.wire d.wire (stays_here d.wire)) in
+          moves_gave w read a.session b.session step a.wire d.wire (linked_of d.session d.wire) asks.gave rest.0
+          (all.0 ∙ sym rest.1) rest.2 (inl (stays_first (Takes (joined step.out)) a.wire b.wire d.wire from all.1)) rest.4
+      carried (inr part) =
+          let rest = speak_noted w read b.session carries.noted (call.Broken ∷ []) d.wire d.wire carries.notes
+          (speak_broken w read carries.noted d.wire d.wire (stays_here d.wire)) in
+          moves_gave w read a.session b.session step a.wire d.wire (linked_of d.session d.wire) asks.gave rest.0
+          (part.0 ∙ sym rest.1) rest.2
+          (inr (rest.3 tt, stays_first (TakesFirst (joined step.out)) a.wire b.wire d.wire from part.1)) rest.4
 
 -- legs that are dropped
 abbrev pub dropping : List PlacedLeg → List WorkerEvent
@@ -156,27 +229,34 @@ goes_drains read a b drains idle = record {
   seat = drains.seat;
 }
 
-pub does_drains : (read : Readers) (a b : WorkerParts) → Drains a b → IsIdle a.session → Does read a b
-does_drains read a b drains idle =
-    record { events = dropping drains.legs; goes = goes_drains read a b drains idle }
+pub does_drains : (w : Writers) (read : Readers) (a b : WorkerParts) → Drains a b → IsIdle a.session → Does w read a b
+does_drains w read a b drains idle = record {
+  events = dropping drains.legs;
+  goes = goes_drains read a b drains idle;
+  speaks = subst (λ (calls : List SessionCall). Speak w read a.session calls a.wire b.wire)
+      (sym (dropping-calls drains.legs)) (speak_none w read a.session a.wire b.wire (stays_same a.wire b.wire drains.wire));
+}
 
-pub drains_none : (a b : WorkerParts) → b.session ≡ a.session → b.took ≡ a.took → b.seat_parts ≡ a.seat_parts → Drains a b
-drains_none a b session took seat = record {
+pub drains_none : (a b : WorkerParts) → b.session ≡ a.session → b.took ≡ a.took → b.seat_parts ≡ a.seat_parts
+    → b.wire ≡ a.wire → Drains a b
+drains_none a b session took seat wire = record {
   legs = [];
   session = session;
   taken = ap (λ t. t.taken) took ∙ sym (append-nil a.took.taken);
   venue = ap (λ t. t.venue) took;
   seat = seat;
+  wire = wire;
 }
 
 pub drains_one : (a b : WorkerParts) (leg : PlacedLeg) → b.session ≡ a.session → b.took ≡ with_taken a.took leg
-    → b.seat_parts ≡ a.seat_parts → Drains a b
-drains_one a b leg session took seat = record {
+    → b.seat_parts ≡ a.seat_parts → b.wire ≡ a.wire → Drains a b
+drains_one a b leg session took seat wire = record {
   legs = leg ∷ [];
   session = session;
   taken = ap (λ t. t.taken) took;
   venue = ap (λ t. t.venue) took;
   seat = seat;
+  wire = wire;
 }
 
 pub drains_on : (a b c : WorkerParts) → Drains a b → Drains b c → Drains a c
@@ -186,14 +266,15 @@ drains_on a b c first next = record {
   taken = next.taken ∙ (ap (λ l. l ++ next.legs) first.taken ∙ append_assoc a.took.taken first.legs next.legs);
   venue = next.venue ∙ first.venue;
   seat = next.seat ∙ first.seat;
+  wire = next.wire ∙ first.wire;
 }
 
 -- the next leg, if there was one
 pub drains_next : (a b : WorkerParts) (next : Option PlacedLeg)
     → MatchOption next (b.took ≡ a.took) (λ leg. b.took ≡ with_taken a.took leg) → b.session ≡ a.session
-    → b.seat_parts ≡ a.seat_parts → Drains a b
-drains_next a b None took session seat = drains_none a b session took seat
-drains_next a b (Some leg) took session seat = drains_one a b leg session took seat
+    → b.seat_parts ≡ a.seat_parts → b.wire ≡ a.wire → Drains a b
+drains_next a b None took session seat wire = drains_none a b session took seat wire
+drains_next a b (Some leg) took session seat wire = drains_one a b leg session took seat wire
 
 -- a leg that was taken and handed to the session
 handed : (read : Readers) (s : SessionParts) (leg : PlacedLeg) (event : WorkerEvent)
@@ -204,14 +285,16 @@ handed read s leg event (inl e) up =
 handed read s leg event (inr e) up =
     (ap taken_in e, subst (λ (one : WorkerEvent). IsAllowed s one) (sym e) up)
 
-pub does_hands : (read : Readers) (a b : WorkerParts) (leg : PlacedLeg) → Hands read leg a.session b.session
-    → a.session.phase ≡ Up → b.took ≡ with_taken a.took leg → b.seat_parts ≡ a.seat_parts → Does read a b
-does_hands read a b leg hands up took seat =
+pub does_hands : (w : Writers) (read : Readers) (a b : WorkerParts) (leg : PlacedLeg)
+    → Hands w read leg (linked_of a.session a.wire) (linked_of b.session b.wire) → a.session.phase ≡ Up
+    → b.took ≡ with_taken a.took leg → b.seat_parts ≡ a.seat_parts → Does w read a b
+does_hands w read a b leg hands up took seat =
     let one = handed read a.session leg hands.event hands.of_leg up in
     let middle : WorkerParts = record {
       session = after_calls read a.session (calls_in hands.event);
       took = b.took;
       seat_parts = a.seat_parts;
+      wire = b.wire;
     } in
     let first : Goes read a (hands.event ∷ []) middle = record {
       session = ap (after_calls read a.session) (sym (append-nil (calls_in hands.event)));
@@ -220,20 +303,31 @@ does_hands read a b leg hands up took seat =
       venue = ap (λ t. t.venue) took;
       seat = refl;
     } in
-    does_on read a middle b (record { events = hands.event ∷ []; goes = first })
-    (does_moves read middle b hands.rest refl seat)
+    let later : b.session ≡ after_calls read middle.session hands.calls =
+    hands.session ∙ after-append read a.session (calls_in hands.event) hands.calls in
+    record {
+      events = hands.event ∷ calling hands.calls;
+      goes = goes_on read a middle b (hands.event ∷ []) (calling hands.calls) first
+          (goes_calls read middle b hands.calls later hands.no_leg refl seat);
+      speaks = subst (λ (calls : List SessionCall). Speak w read a.session (calls_in hands.event ++ calls) a.wire b.wire)
+          (sym (calling-calls hands.calls)) hands.speaks;
+    }
 
 -- a leg that was taken, if one was, and what the session did with it
-pub does_sent : (read : Readers) (a b d : WorkerParts) (next : Option PlacedLeg) → a.session.phase ≡ Up
+pub does_sent : (w : Writers) (read : Readers) (a b d : WorkerParts) (next : Option PlacedLeg) → a.session.phase ≡ Up
     → MatchOption next (b.took ≡ a.took) (λ leg. b.took ≡ with_taken a.took leg) → b.session ≡ a.session
-    → b.seat_parts ≡ a.seat_parts
-    → MatchOption next (d.session ≡ b.session) (λ leg. Hands read leg b.session d.session) → d.took ≡ b.took
-    → d.seat_parts ≡ b.seat_parts → Does read a d
-does_sent read a b d None up took session parts sent same seat =
-    does_same read a d (sent ∙ session) (same ∙ took) (seat ∙ parts)
-does_sent read a b d (Some leg) up took session parts sent same seat =
-    does_hands read a d leg (subst (λ (s : SessionParts). Hands read leg s d.session) session sent) up (same ∙ took)
-    (seat ∙ parts)
+    → b.seat_parts ≡ a.seat_parts → b.wire ≡ a.wire
+    → MatchOption next (linked_of d.session d.wire ≡ linked_of b.session b.wire)
+    (λ leg. Hands w read leg (linked_of b.session b.wire) (linked_of d.session d.wire)) → d.took ≡ b.took
+    → d.seat_parts ≡ b.seat_parts → Does w read a d
+does_sent w read a b d None up took session parts wire sent same seat =
+    does_same w read a d (ap (λ (x : LinkedParts). x.session) sent ∙ session) (same ∙ took) (seat ∙ parts)
+    (stays_same a.wire d.wire (ap (λ (x : LinkedParts). x.wire) sent ∙ wire))
+does_sent w read a b d (Some leg) up took session parts wire sent same seat =
+    does_hands w read a d leg
+    (subst (λ (from : Wire). Hands w read leg (linked_of a.session from) (linked_of d.session d.wire)) wire
+    (subst (λ (s : SessionParts). Hands w read leg (linked_of s b.wire) (linked_of d.session d.wire)) session sent)) up
+    (same ∙ took) (seat ∙ parts)
 
 -- a session that a turn left closed, and one that is abandoned
 pub closed_in : (phase : Phase) → reason_of phase ≡ reason.Closed → phase ≡ Closed
@@ -275,7 +369,24 @@ pub finish_abandoned : (read : Readers) (a b : WorkerParts) → b.session ≡ ab
     → Goes read a (last_calls a.session.phase) b
 finish_abandoned read a b session took seat e =
     subst (λ (events : List WorkerEvent). Goes read a events b) (sym (one_call a.session.phase e))
-    (goes_moves read a b (record { calls = call.Abandon ∷ []; session = session; no_leg = refl }) took seat)
+    (goes_calls read a b (call.Abandon ∷ []) session refl took seat)
 
 pub abandoned_closed : (s t : SessionParts) → t ≡ abandon s → t.phase ≡ Closed
 abandoned_closed s t e = ap (λ (u : SessionParts). u.phase) e
+
+speak_abandon : (w : Writers) (read : Readers) (s : SessionParts) (a b : Wire) → b ≡ a
+    → Speak w read s (call.Abandon ∷ []) a b
+speak_abandon w read s a b same =
+    speak_silent w read s call.Abandon [] a b b (stays_same a b same) refl
+    (speak_none w read (abandon s) b b (stays_here b))
+
+-- what is done last goes over no link
+pub speak_last : (w : Writers) (read : Readers) (s : SessionParts) (phase : Phase) (a b : Wire) → b ≡ a
+    → Speak w read s (calls_of (last_calls phase)) a b
+speak_last w read s Closed a b same = speak_none w read s a b (stays_same a b same)
+speak_last w read s Down a b same = speak_abandon w read s a b same
+speak_last w read s LoggingOn a b same = speak_abandon w read s a b same
+speak_last w read s Settling a b same = speak_abandon w read s a b same
+speak_last w read s Up a b same = speak_abandon w read s a b same
+speak_last w read s Closing a b same = speak_abandon w read s a b same
+speak_last w read s LoggedOut a b same = speak_abandon w read s a b same

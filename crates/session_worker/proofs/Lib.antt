@@ -3,3 +3,5 @@ pub mod Doing
 pub mod Shares
 pub mod Ran
 pub mod Spoken
+pub mod Speech
+pub mod Carrying

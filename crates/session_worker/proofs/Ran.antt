@@ -5,14 +5,17 @@ use Rattle.std.specs.Prelude.{Option, Some, None, option_to_list, slice_index_or
 use Rattle.std.specs.PromisedHandle.{KeepsAt}
 use Rattle.std.specs.declared.thread.PromisedHandle.{PromisedHandle}
 use Rattle.std.specs.declared.thread.Promise as Promise
+use Rattle.dialect.specs.Framed.{Writers}
 use Rattle.session_worker.specs.Ends.{WorkerStart, WorkerLeft, Runs, AllRan}
 
-module _ {T P : Type 0} (g : Promise.Ghosts P T) (start : P → WorkerStart) (left : T → WorkerLeft)
-    (keeps : (p : P) (r : T) → g.kept_by p r → Runs (start p).read (start p).parts (left r).parts (left r).reason) where
+module _ {A T P : Type 0} (g : Promise.Ghosts P T) (writes : A → Writers) (start : A → WorkerStart) (worker : P → A)
+    (left : T → WorkerLeft)
+    (keeps : (p : P) (r : T) → g.kept_by p r
+    → Runs (writes (worker p)) (start (worker p)).read (start (worker p)).parts (left r).parts (left r).reason) where
   -- each result keeps the promise of the handle at its place, so each worker ran
   pub all_ran : (handles : List (PromisedHandle T P)) (results : List T) → length results ≡ length handles
       → ((i : ℕ) (d : T) → i < length handles → KeepsAt g handles i (slice_index_or results i d))
-      → AllRan (map (λ h. start h.promise) handles) (map left results)
+      → AllRan writes start (map (λ h. worker h.promise) handles) (map left results)
   all_ran [] [] same each = tt
   all_ran [] (r ∷ results) same each = absurd (omega arith)
   all_ran (h ∷ handles) [] same each = absurd (omega arith)
@@ -25,11 +28,11 @@ module _ {T P : Type 0} (g : Promise.Ghosts P T) (start : P → WorkerStart) (le
       )
 
 -- all workers were started
-pub all_started : {A B : Type 0} (f : A → WorkerStart) (s : B → WorkerStart) (handles : List A) (rest first workers : List B)
-    → map f handles ++ map s rest ≡ map s first → rest ≡ [] → first ≡ workers → map f handles ≡ map s workers
-all_started f s handles rest first workers so_far none from =
+pub all_started : {A B : Type 0} (f : A → B) (handles : List A) (rest first workers : List B)
+    → map f handles ++ rest ≡ first → rest ≡ [] → first ≡ workers → map f handles ≡ workers
+all_started f handles rest first workers so_far none from =
     sym (append-nil (map f handles))
-    ∙ (ap (λ l. map f handles ++ map s l) (sym none) ∙ (so_far ∙ ap (map s) from))
+    ∙ (ap (λ l. map f handles ++ l) (sym none) ∙ (so_far ∙ from))
 
 nothing_first : {A : Type 0} (xs : List A) → xs ≡ drop 1 xs → xs ≡ []
 nothing_first [] e = refl

@@ -1,19 +1,14 @@
--- What goes over a link, one call after another.
+-- Frames that are written, one after another.
 use Rattle.std.proofs.Common.{◌≡◌, ℕ, suc, ◌+◌, ◌<◌, ◌≤◌, List, [], ◌∷◌, ◌++◌, length, Some, None, map, take, drop, get_or, refl, sym, ap, subst, ◌∙◌, inl, inr, append_assoc, arith, length-append}
-use Rattle.std.specs.Prelude.{Ok, Err}
 use Rattle.std.specs.Global.{Vec}
 use Rattle.std.proofs.lemmas.List.{append-nil, map-append, take_all, take_more, take-append-drop}
 use Rattle.std.proofs.Math.Seq.{drop-cons}
-use Rattle.fix_tags.specs.Stamp.{StampParts}
-use Rattle.dialect.specs.declared.message.Message.{Message}
-use Rattle.dialect.specs.Framed.{Writers, IsFramed}
-use Rattle.dialect.specs.Outgoing.{alone}
 use Rattle.link.specs.Traffic.{Traffic, Tells, Takes, TakesPart, Stays}
 use Rattle.link.proofs.Taking.{tells_more}
 use Rattle.session_core.specs.Session.{SessionParts}
-use Rattle.session_core.specs.Calling.{SessionAnswer, broken}
-use Rattle.session_core.specs.Given.{Gives}
-use Rattle.session_worker.specs.Speaking.{Wire, joined, Writes, Sends}
+use Rattle.session_core.specs.Calling.{broken}
+use Rattle.session_worker.specs.Speaking.{Wire, joined}
+use Rattle.session_worker.specs.Linking.{LinkedParts, linked_of, MayBreak, Writes}
 
 pub stays_last : (R : List Traffic → List Traffic → Type 0) (a b c : Wire) → Tells a b R → Tells b c Stays → Tells a c R
 stays_last R None None None p q = tt
@@ -51,27 +46,13 @@ part_more xs ys zs (Some u) (Some v) (Some w) p q =
     )
 
 -- bytes were written, or the first of them
-pub writes_all : (bytes : List ℕ) (s t : SessionParts) (a b : Wire) → t ≡ s → Tells a b (Takes bytes) → Writes bytes s a t b
-writes_all bytes s t a b same takes = inl (same, takes)
-
 pub writes_part : (bytes : List ℕ) (s t : SessionParts) (a b c : Wire) → Tells a b (TakesPart bytes) → t ≡ broken s
-    → Tells b c Stays → Writes bytes s a t c
+    → Tells b c Stays → Writes bytes (linked_of s a) (linked_of t c)
 writes_part bytes s t a b c part gone stays = inr (gone, stays_last (TakesPart bytes) a b c part stays)
 
--- the frame of a call's answer was written
-pub sends_given : (w : Writers) (stamp : StampParts) (s now t : SessionParts) (answer : SessionAnswer Message) (bytes : Vec ℕ)
-    (a b : Wire) → Gives (λ (m : Message) (frame : Vec ℕ). IsFramed w stamp (alone m) frame.items) s answer (Ok bytes) now
-    → Writes bytes.items now a t b → Sends w answer a t b
-sends_given w stamp s now t (Err refused, after) bytes a b gives writes = absurd (let e = gives.0 in cc)
-sends_given w stamp s now t (Ok m, after) bytes a b gives writes = record {
-  message = m;
-  session = after;
-  answer_is = refl;
-  stamp = stamp;
-  bytes = bytes.items;
-  framed = gives.0;
-  writes = subst (λ (from : SessionParts). Writes bytes.items from a t b) gives.1 writes;
-}
+pub writes_breaks : (bytes : List ℕ) (x y : LinkedParts) → Writes bytes x y → MayBreak x.session y.session
+writes_breaks bytes x y (inl all) = inl all.0
+writes_breaks bytes x y (inr part) = inr part.0
 
 -- frames one behind the other
 joined-append : (xs ys : List (List ℕ)) → joined (xs ++ ys) ≡ joined xs ++ joined ys

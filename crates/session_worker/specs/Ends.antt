@@ -1,19 +1,16 @@
 -- How a worker ends.
 use Rattle.std.specs.Prelude.{◌≡◌, List, [], ◌∷◌, ◌++◌, map}
 use Rattle.leg.specs.declared.placed_leg.PlacedLeg.{PlacedLeg}
+use Rattle.dialect.specs.Framed.{Writers}
 use Rattle.dialect.specs.Message.{Readers}
 use Rattle.session_core.specs.declared.phase.Phase.{Phase}
 use Rattle.session_core.specs.declared.phase.Phase.TheVariants.{Closed}
 use Rattle.session_core.specs.declared.session_call.SessionCall.TheVariants as call
 use Rattle.session_worker.specs.declared.end_reason.EndReason.{EndReason}
 use Rattle.session_worker.specs.declared.end_reason.EndReason.TheVariants as reason
-use Rattle.session_worker.specs.Events.{WorkerEvent, WorkerParts, Goes}
+use Rattle.session_worker.specs.Events.{WorkerEvent, WorkerParts, calls_of, Goes}
 use Rattle.session_worker.specs.Events.WorkerEvent.{Calls, Drops}
-
--- a worker with the way in which its dialect is read
-pub record WorkerStart : Type 0 where
-  pub read : Readers
-  pub parts : WorkerParts
+use Rattle.session_worker.specs.Speaking.{Speak}
 
 -- why a worker ends whose last turn left its session in this phase
 abbrev pub reason_of : Phase → EndReason
@@ -26,8 +23,8 @@ last_calls Closed = []
 last_calls _ = Calls call.Abandon ∷ []
 
 -- a worker before its turns and after them, and why it ended: after the last turn its session was as the reason says,
--- and all that it took then was dropped
-pub record Runs (read : Readers) (before after : WorkerParts) (why : EndReason) : Type 0 where
+-- and all that it took then was dropped. Over its link went what the calls of all these events say
+pub record Runs (w : Writers) (read : Readers) (before after : WorkerParts) (why : EndReason) : Type 0 where
   pub turns : List WorkerEvent
   pub at : WorkerParts
   pub goes : Goes read before turns at
@@ -35,16 +32,23 @@ pub record Runs (read : Readers) (before after : WorkerParts) (why : EndReason) 
   pub dropped : List PlacedLeg
   pub last : Goes read at (last_calls at.session.phase ++ map (λ leg. Drops leg) dropped) after
   pub over : after.session.phase ≡ Closed
+  pub bytes : Speak w read before.session (calls_of (turns ++ last_calls at.session.phase)) before.wire after.wire
+
+-- a worker with the way in which its dialect is read
+pub record WorkerStart : Type 0 where
+  pub read : Readers
+  pub parts : WorkerParts
 
 -- what a worker leaves, and why
 pub record WorkerLeft : Type 0 where
   pub parts : WorkerParts
   pub reason : EndReason
 
--- each worker ran, and left this, in order
-abbrev pub AllRan : List WorkerStart → List WorkerLeft → Type 0
-AllRan [] [] = Unit {0}
-AllRan [] (left ∷ ends) = ⊥
-AllRan (start ∷ starts) [] = ⊥
-AllRan (start ∷ starts) (left ∷ ends) =
-    Runs start.read start.parts left.parts left.reason × AllRan starts ends
+-- each worker ran, and left this, in order: each with the way in which its dialect is written, and as it was
+abbrev pub AllRan : {Worker : Type 0} → (Worker → Writers) → (Worker → WorkerStart) → List Worker → List WorkerLeft → Type 0
+AllRan writes start [] [] = Unit {0}
+AllRan writes start [] (left ∷ ends) = ⊥
+AllRan writes start (worker ∷ workers) [] = ⊥
+AllRan writes start (worker ∷ workers) (left ∷ ends) =
+    Runs (writes worker) (start worker).read (start worker).parts left.parts left.reason
+    × AllRan writes start workers ends

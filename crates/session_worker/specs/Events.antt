@@ -1,15 +1,16 @@
 -- What a venue's worker does: the calls of its session, and what becomes of the legs that it takes from its ring.
-use Rattle.std.specs.Prelude.{◌≡◌, ◌⊎◌, ℕ, false, List, [], ◌∷◌, ◌++◌}
+use Rattle.std.specs.Prelude.{◌≡◌, ℕ, false, List, [], ◌∷◌, ◌++◌}
 use Rattle.leg.specs.declared.placed_leg.PlacedLeg.{PlacedLeg}
+use Rattle.dialect.specs.Framed.{Writers}
 use Rattle.dialect.specs.Message.{Readers}
 use Rattle.session_core.specs.declared.phase.Phase.TheVariants.{Up}
 use Rattle.session_core.specs.declared.session_call.SessionCall.{SessionCall}
 use Rattle.session_core.specs.declared.session_call.SessionCall.TheVariants as call
 use Rattle.session_core.specs.Session.{SessionParts, may_write}
-use Rattle.session_core.specs.Calling.{broken}
 use Rattle.session_core.specs.Trial.{after_calls}
 use Rattle.release_lock.specs.Queues.{Took}
 use Rattle.exec_collector.specs.Seats.{Seat}
+use Rattle.session_worker.specs.Speaking.{Wire, Speak}
 
 -- what a worker does. A leg that fails was handed to the session, which wanted memory for it, and the connection was then
 -- broken; one that drops wasn't handed to it at all
@@ -66,14 +67,16 @@ AreAllowed read s [] = Unit {0}
 AreAllowed read s (event ∷ events) =
     IsAllowed s event × AreAllowed read (after_calls read s (calls_in event)) events
 
--- a worker as its events change it: its session, the venue and the legs taken, and the parts of its seat
+-- a worker as its events change it: its session, the venue and the legs taken, the parts of its seat, and what its link
+-- tells
 pub record WorkerParts : Type 0 where
   pub session : SessionParts
   pub took : Took
   pub seat_parts : ℕ
+  pub wire : Wire
 
-abbrev pub parts_of : SessionParts → Took → Seat → WorkerParts
-parts_of session took seat = record { session = session; took = took; seat_parts = seat.parts }
+abbrev pub parts_of : SessionParts → Took → Seat → Wire → WorkerParts
+parts_of session took seat wire = record { session = session; took = took; seat_parts = seat.parts; wire = wire }
 
 -- a worker before and after these events: the session is that after the calls, and the legs taken are the events'
 pub record Goes (read : Readers) (before : WorkerParts) (events : List WorkerEvent) (after : WorkerParts) : Type 0 where
@@ -83,26 +86,11 @@ pub record Goes (read : Readers) (before : WorkerParts) (events : List WorkerEve
   pub venue : after.took.venue ≡ before.took.venue
   pub seat : after.seat_parts ≡ before.seat_parts
 
--- a worker before and after some events
-pub record Does (read : Readers) (before after : WorkerParts) : Type 0 where
+-- a worker before and after some events, and what went over its link meanwhile
+pub record Does (w : Writers) (read : Readers) (before after : WorkerParts) : Type 0 where
   pub events : List WorkerEvent
   pub goes : Goes read before events after
-
--- a session before and after some calls, none of which is to send a leg
-pub record Moves (read : Readers) (before after : SessionParts) : Type 0 where
-  pub calls : List SessionCall
-  pub session : after ≡ after_calls read before calls
-  pub no_leg : legs_in calls ≡ []
-
--- a session before and after it was to send a leg: that call and others, or the leg failed
-pub record Hands (read : Readers) (leg : PlacedLeg) (before after : SessionParts) : Type 0 where
-  pub event : WorkerEvent
-  pub of_leg : (event ≡ Calls (call.SendLeg leg.ordinal leg.leg)) ⊎ (event ≡ Fails leg)
-  pub rest : Moves read (after_calls read before (calls_in event)) after
-
--- a session as it was, or with its connection given up
-abbrev pub MayBreak : SessionParts → SessionParts → Type 0
-MayBreak before after = (after ≡ before) ⊎ (after ≡ broken before)
+  pub speaks : Speak w read before.session (calls_of events) before.wire after.wire
 
 -- a worker before and after it dropped some legs
 pub record Drains (before after : WorkerParts) : Type 0 where
@@ -111,3 +99,4 @@ pub record Drains (before after : WorkerParts) : Type 0 where
   pub taken : after.took.taken ≡ before.took.taken ++ legs
   pub venue : after.took.venue ≡ before.took.venue
   pub seat : after.seat_parts ≡ before.seat_parts
+  pub wire : after.wire ≡ before.wire

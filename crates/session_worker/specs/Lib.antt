@@ -1,5 +1,6 @@
 pub mod Taking
+pub mod Speaking
 pub mod Events
+pub mod Linking
 pub mod Ends
 pub mod Audit
-pub mod Speaking

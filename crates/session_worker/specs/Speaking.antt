@@ -1,13 +1,18 @@
--- What goes over a worker's link in one call.
-use Rattle.std.specs.Prelude.{◌≡◌, ◌⊎◌, ℕ, List, [], ◌∷◌, ◌++◌, Option, Ok}
+-- What goes over a worker's link beside the calls of its session.
+use Rattle.std.specs.Prelude.{◌≡◌, ◌⊎◌, ℕ, List, [], ◌∷◌, ◌++◌, map, Option, Some, None}
+use mathlib.Core.List.{IsPrefix}
 use Rattle.fix_tags.specs.Stamp.{StampParts}
 use Rattle.dialect.specs.declared.message.Message.{Message}
-use Rattle.dialect.specs.Framed.{Writers, IsFramed}
+use Rattle.dialect.specs.Framed.{Writers, AreFramed}
+use Rattle.dialect.specs.Message.{Readers}
 use Rattle.dialect.specs.Outgoing.{alone}
-use Rattle.link.specs.Traffic.{Traffic, Tells, Dials, Takes, TakesPart, Stays}
+use Rattle.link.specs.Traffic.{Traffic, Tells, Dials, Takes, GivesBytes, Stays}
+use Rattle.session_core.specs.declared.phase.Phase.TheVariants.{Down}
+use Rattle.session_core.specs.declared.session_call.SessionCall.{SessionCall}
+use Rattle.session_core.specs.declared.session_call.SessionCall.TheVariants as call
 use Rattle.session_core.specs.Session.{SessionParts}
-use Rattle.session_core.specs.Calling.{SessionAnswer, broken}
-use Rattle.session_worker.specs.Events.{MayBreak}
+use Rattle.session_core.specs.Turn.{StepParts}
+use Rattle.session_core.specs.Trial.{called}
 
 -- what a link tells
 abbrev pub Wire : Type 0
@@ -18,35 +23,52 @@ abbrev pub joined : List (List ℕ) → List ℕ
 joined [] = []
 joined (frame ∷ frames) = frame ++ joined frames
 
--- these bytes were written; or the first of them, and the connection was given up
-abbrev pub Writes : List ℕ → SessionParts → Wire → SessionParts → Wire → Type 0
-Writes bytes before wire after wire_after =
-    ((after ≡ before) × Tells wire wire_after (Takes bytes))
-    ⊎ ((after ≡ broken before) × Tells wire wire_after (TakesPart bytes))
+-- some bytes were read, or none
+abbrev pub Reads : Wire → Wire → Type 0
+Reads wire after = Tells wire after (λ w v. (bytes : List ℕ) × GivesBytes bytes w v)
 
--- a call's one message was written
-pub record Sends (w : Writers) (answer : SessionAnswer Message) (wire : Wire) (after : SessionParts) (wire_after : Wire)
-    : Type 0 where
-  pub message : Message
-  pub session : SessionParts
-  pub answer_is : answer ≡ (Ok message, session)
+-- the first of these bytes were written, or none, or all
+abbrev pub TakesFirst : List ℕ → List Traffic → List Traffic → Type 0
+TakesFirst bytes w v = (first : List ℕ) × IsPrefix first bytes × Takes first w v
+
+-- the connection is given up next, or once a note is confirmed
+abbrev pub IsGivenUp : List SessionCall → Type 0
+IsGivenUp (call.Broken ∷ later) = Unit {0}
+IsGivenUp (call.Confirm ∷ later) = IsGivenUp later
+IsGivenUp _ = ⊥
+
+-- all of these bytes were written, once; or the first of them, and the calls that follow give the connection up
+abbrev pub Puts : List ℕ → List SessionCall → Wire → Wire → Type 0
+Puts bytes later wire after =
+    Tells wire after (Takes bytes) ⊎ (IsGivenUp later × Tells wire after (TakesFirst bytes))
+
+-- a connection is dialled for each Connect, and just before it; and for a session that is down and was to connect, where
+-- that wanted memory. Nothing else is dialled
+abbrev pub Begins : SessionParts → SessionCall → Wire → Wire → Type 0
+Begins s call.Connect wire after = Tells wire after Dials
+Begins s call.Broken wire after = Tells wire after Stays ⊎ ((s.phase ≡ Down) × Tells wire after Dials)
+Begins s _ wire after = Tells wire after Stays
+
+-- the messages of a step, if a call adds one
+abbrev pub messages_in : Option StepParts → List Message
+messages_in None = []
+messages_in (Some step) = step.written
+
+-- one call, before others: bytes may be read until it is made, and then its frames are written, one behind the other, all
+-- with one stamp
+pub record Speaks (w : Writers) (read : Readers) (s : SessionParts) (made : SessionCall) (later : List SessionCall)
+    (wire after : Wire) : Type 0 where
+  pub heard : Wire
+  pub reads : Reads wire heard
+  pub ready : Wire
+  pub begins : Begins s made heard ready
   pub stamp : StampParts
-  pub bytes : List ℕ
-  pub framed : IsFramed w stamp (alone message) bytes
-  pub writes : Writes bytes session wire after wire_after
+  pub frames : List (List ℕ)
+  pub framed : AreFramed w stamp (map alone (messages_in (called read s made).0)) frames
+  pub puts : Puts (joined frames) later ready after
 
--- it was, or nothing was written, and the connection may have been given up
-abbrev pub MaySend : Writers → SessionAnswer Message → SessionParts → Wire → SessionParts → Wire → Type 0
-MaySend w answer before wire after wire_after =
-    Sends w answer wire after wire_after ⊎ (MayBreak before after × Tells wire wire_after Stays)
-
--- a connection was dialled, and then its first message written; or the dial failed
-pub record Dialled (w : Writers) (answer : SessionAnswer Message) (before : SessionParts) (wire : Wire)
-    (after : SessionParts) (wire_after : Wire) : Type 0 where
-  pub dialled : Wire
-  pub dials : Tells wire dialled Dials
-  pub sends : MaySend w answer before dialled after wire_after
-
-abbrev pub MayDial : Writers → SessionAnswer Message → SessionParts → Wire → SessionParts → Wire → Type 0
-MayDial w answer before wire after wire_after =
-    Dialled w answer before wire after wire_after ⊎ ((after ≡ before) × Tells wire wire_after Stays)
+-- calls one after the other
+abbrev pub Speak : Writers → Readers → SessionParts → List SessionCall → Wire → Wire → Type 0
+Speak w read s [] wire after = Reads wire after
+Speak w read s (made ∷ later) wire after =
+    (between : Wire) × Speaks w read s made later wire between × Speak w read (called read s made).1 later between after

@@ -1,12 +1,13 @@
 //! A session and the link over which it speaks.
 
-ghost use Rattle.std.specs.Prelude.{◌≡◌, false};
+ghost use Rattle.std.specs.Prelude.{◌≡◌, false, MatchOption};
 ghost use Rattle.session_core.specs.Session.{new_session, is_connected, has_doubt};
 ghost use Rattle.session_core.specs.Receiving.{confirm};
-ghost use Rattle.session_core.specs.Calling.{broken, abandon, connect, send_leg};
-ghost use Rattle.link.specs.Traffic.{Tells, Stays};
-ghost use Rattle.session_worker.specs.Speaking.{joined, Writes, MaySend, MayDial};
-ghost use Rattle.session_worker.specs.Events.{Moves, Hands, IsIdle, MayBreak};
+ghost use Rattle.session_core.specs.Calling.{broken, abandon};
+ghost use Rattle.link.specs.Traffic.{Tells, Dials, Stays};
+ghost use Rattle.session_worker.specs.Speaking.{Wire, joined, Reads};
+ghost use Rattle.session_worker.specs.Linking.{linked_of, MayBreak, Writes, Moves, Hands, Asks};
+ghost use Rattle.session_worker.specs.Events.{IsIdle};
 
 use crate::Pace;
 use crate::reading::{Heard, hear};
@@ -38,7 +39,8 @@ pub(crate) struct Linked<K: Link, C: Clock + Drop> {
 impl<K: Link, C: Clock + Drop> Linked<K, C> {
     /// A session that is down, over a link that isn't dialled yet.
     pub(crate) fn new(alloc: Global, link: K, clock: C, config: Config, pace: Pace) -> Linked<K, C>
-        ensures { result.session ≡ new_session config }
+        ensures session { result.session ≡ new_session config }
+        ensures wire { K.wire result.link ≡ K.wire link }
     {
         Linked {
             alloc,
@@ -54,7 +56,8 @@ impl<K: Link, C: Clock + Drop> Linked<K, C> {
 
     /// The session and the link, at the end.
     pub(crate) fn into_parts(self) -> (Session, K)
-        ensures { result.0 ≡ self.session }
+        ensures session { result.0 ≡ self.session }
+        ensures wire { K.wire result.1 ≡ K.wire self.link }
     {
         let Linked {
             alloc: _,
@@ -89,14 +92,16 @@ impl<K: Link, C: Clock + Drop> Linked<K, C> {
 
     /// The note that is pending was taken.
     pub(crate) fn confirm(&mut self)
-        ensures { self.new.session ≡ confirm self.old.session }
+        ensures session { self.new.session ≡ confirm self.old.session }
+        ensures wire { K.wire self.new.link ≡ K.wire self.old.link }
     {
         self.session.confirm();
     }
 
     /// The session is over.
     pub(crate) fn abandon(&mut self)
-        ensures { self.new.session ≡ abandon self.old.session }
+        ensures session { self.new.session ≡ abandon self.old.session }
+        ensures wire { K.wire self.new.link ≡ K.wire self.old.link }
     {
         self.session.abandon();
     }
@@ -120,8 +125,7 @@ impl<K: Link, C: Clock + Drop> Linked<K, C> {
 
     /// Writes a frame. Where that fails the connection is given up.
     fn write(&mut self, frame: &[u8])
-        ensures session { MayBreak self.old.session self.new.session }
-        ensures wire { Writes frame.now self.old.session (K.wire self.old.link) self.new.session (K.wire self.new.link) }
+        ensures { Writes frame.now (linked_of self.old.session (K.wire self.old.link)) (linked_of self.new.session (K.wire self.new.link)) }
     {
         match write_whole(&mut self.link, frame) {
             Ok(()) => self.unwritten = 0,
@@ -131,8 +135,7 @@ impl<K: Link, C: Clock + Drop> Linked<K, C> {
 
     /// Writes frames, in order, until one fails.
     pub(crate) fn write_all(&mut self, frames: Frames)
-        ensures session { MayBreak self.old.session self.new.session }
-        ensures wire { Writes (joined frames) self.old.session (K.wire self.old.link) self.new.session (K.wire self.new.link) }
+        ensures { Writes (joined frames) (linked_of self.old.session (K.wire self.old.link)) (linked_of self.new.session (K.wire self.new.link)) }
     {
         let frames = frames.into_vec();
         for frame in &frames {
@@ -146,8 +149,7 @@ impl<K: Link, C: Clock + Drop> Linked<K, C> {
     /// Dials, and logs on where that succeeds; a failed dial is no fault of the session. It says whether the session may
     /// go on: it may not where no number is left for the Logon.
     pub(crate) fn connect<D: Dialect>(&mut self, dialect: &D) -> bool
-        ensures moves { Moves (record { order = D.order_read dialect.now; report = D.report_read dialect.now }) self.old.session self.new.session }
-        ensures wire { MayDial (record { IsOrder = D.IsOrder dialect.now; IsReport = D.IsReport dialect.now }) (connect self.old.session) self.old.session (K.wire self.old.link) self.new.session (K.wire self.new.link) }
+        ensures moves { Moves (record { IsOrder = D.IsOrder dialect.now; IsReport = D.IsReport dialect.now }) (record { order = D.order_read dialect.now; report = D.report_read dialect.now }) (linked_of self.old.session (K.wire self.old.link)) (linked_of self.new.session (K.wire self.new.link)) }
         ensures spent { result ≡ false → self.new.session ≡ self.old.session }
     {
         match self.link.dial() {
@@ -158,8 +160,7 @@ impl<K: Link, C: Clock + Drop> Linked<K, C> {
 
     /// Logs on over a link that was dialled, and says whether the session may go on.
     fn log_on<D: Dialect>(&mut self, dialect: &D) -> bool
-        ensures moves { Moves (record { order = D.order_read dialect.now; report = D.report_read dialect.now }) self.old.session self.new.session }
-        ensures wire { MaySend (record { IsOrder = D.IsOrder dialect.now; IsReport = D.IsReport dialect.now }) (connect self.old.session) self.old.session (K.wire self.old.link) self.new.session (K.wire self.new.link) }
+        ensures moves { (before : Wire) → Tells before (K.wire self.old.link) Dials → Moves (record { IsOrder = D.IsOrder dialect.now; IsReport = D.IsReport dialect.now }) (record { order = D.order_read dialect.now; report = D.report_read dialect.now }) (linked_of self.old.session before) (linked_of self.new.session (K.wire self.new.link)) }
         ensures spent { result ≡ false → self.new.session ≡ self.old.session }
     {
         self.reader = FrameReader::new(self.alloc);
@@ -185,8 +186,7 @@ impl<K: Link, C: Clock + Drop> Linked<K, C> {
     /// Sends a leg, and says whether the session took it. Where it wanted memory for that, or the order can't be written,
     /// the connection is given up.
     pub(crate) fn send<D: Dialect>(&mut self, dialect: &D, placed: &PlacedLeg) -> bool
-        ensures wire { MaySend (record { IsOrder = D.IsOrder dialect.now; IsReport = D.IsReport dialect.now }) (send_leg self.old.session placed.now.ordinal placed.now.leg) self.old.session (K.wire self.old.link) self.new.session (K.wire self.new.link) }
-        ensures hands { Hands (record { order = D.order_read dialect.now; report = D.report_read dialect.now }) placed.now self.old.session self.new.session }
+        ensures { Hands (record { IsOrder = D.IsOrder dialect.now; IsReport = D.IsReport dialect.now }) (record { order = D.order_read dialect.now; report = D.report_read dialect.now }) placed.now (linked_of self.old.session (K.wire self.old.link)) (linked_of self.new.session (K.wire self.new.link)) }
     {
         let stamp = self.clock.now();
         match self
@@ -207,7 +207,7 @@ impl<K: Link, C: Clock + Drop> Linked<K, C> {
 
     /// The session is to close, and can send no leg from here on.
     pub(crate) fn close<D: Dialect>(&mut self, dialect: &D)
-        ensures moves { Moves (record { order = D.order_read dialect.now; report = D.report_read dialect.now }) self.old.session self.new.session }
+        ensures moves { Moves (record { IsOrder = D.IsOrder dialect.now; IsReport = D.IsReport dialect.now }) (record { order = D.order_read dialect.now; report = D.report_read dialect.now }) (linked_of self.old.session (K.wire self.old.link)) (linked_of self.new.session (K.wire self.new.link)) }
         ensures idle { IsIdle self.new.session }
     {
         let stamp = self.clock.now();
@@ -220,7 +220,8 @@ impl<K: Link, C: Clock + Drop> Linked<K, C> {
 
     /// Hands bytes that were read to the reader.
     fn take_in(&mut self, bytes: &[u8])
-        ensures { MayBreak self.old.session self.new.session }
+        ensures session { MayBreak self.old.session self.new.session }
+        ensures wire { Tells (K.wire self.old.link) (K.wire self.new.link) Stays }
     {
         self.unread = 0;
         if self.reader.feed(bytes).is_err() {
@@ -230,7 +231,8 @@ impl<K: Link, C: Clock + Drop> Linked<K, C> {
 
     /// Reads once. Where that fails, or no byte comes any more, the connection is given up.
     pub(crate) fn read(&mut self)
-        ensures { MayBreak self.old.session self.new.session }
+        ensures session { MayBreak self.old.session self.new.session }
+        ensures wire { Reads (K.wire self.old.link) (K.wire self.new.link) }
     {
         let mut buf = [0; READ_SIZE];
         match self.link.read(&mut buf) {
@@ -244,7 +246,7 @@ impl<K: Link, C: Clock + Drop> Linked<K, C> {
     /// The next message that was read is handed to the session, while there is a connection and a message. It gives what
     /// is to be done for it.
     pub(crate) fn hear<D: Dialect>(&mut self, dialect: &D) -> Option<Step>
-        ensures { Moves (record { order = D.order_read dialect.now; report = D.report_read dialect.now }) self.old.session self.new.session }
+        ensures { MatchOption result (Moves (record { IsOrder = D.IsOrder dialect.now; IsReport = D.IsReport dialect.now }) (record { order = D.order_read dialect.now; report = D.report_read dialect.now }) (linked_of self.old.session (K.wire self.old.link)) (linked_of self.new.session (K.wire self.new.link))) (λ step. Asks (record { IsOrder = D.IsOrder dialect.now; IsReport = D.IsReport dialect.now }) (record { order = D.order_read dialect.now; report = D.report_read dialect.now }) (linked_of self.old.session (K.wire self.old.link)) step (linked_of self.new.session (K.wire self.new.link))) }
     {
         if !self.session.phase().is_connected() {
             return None;
@@ -272,7 +274,8 @@ impl<K: Link, C: Clock + Drop> Linked<K, C> {
 
     /// Counts a turn as one without a write and without a read, until there is one.
     pub(crate) fn count_turn(&mut self)
-        ensures { self.new.session ≡ self.old.session }
+        ensures session { self.new.session ≡ self.old.session }
+        ensures wire { K.wire self.new.link ≡ K.wire self.old.link }
     {
         self.unwritten = self.unwritten.saturating_add(1);
         self.unread = self.unread.saturating_add(1);
@@ -280,7 +283,7 @@ impl<K: Link, C: Clock + Drop> Linked<K, C> {
 
     /// After so many turns without a write the session is told, and gives what is to be written.
     pub(crate) fn on_quiet<D: Dialect>(&mut self, dialect: &D) -> Option<Step>
-        ensures { Moves (record { order = D.order_read dialect.now; report = D.report_read dialect.now }) self.old.session self.new.session }
+        ensures { MatchOption result (Moves (record { IsOrder = D.IsOrder dialect.now; IsReport = D.IsReport dialect.now }) (record { order = D.order_read dialect.now; report = D.report_read dialect.now }) (linked_of self.old.session (K.wire self.old.link)) (linked_of self.new.session (K.wire self.new.link))) (λ step. Asks (record { IsOrder = D.IsOrder dialect.now; IsReport = D.IsReport dialect.now }) (record { order = D.order_read dialect.now; report = D.report_read dialect.now }) (linked_of self.old.session (K.wire self.old.link)) step (linked_of self.new.session (K.wire self.new.link))) }
     {
         if self.unwritten < self.pace.quiet_turns {
             return None;
@@ -299,7 +302,7 @@ impl<K: Link, C: Clock + Drop> Linked<K, C> {
 
     /// After so many turns without a read the session is told, and gives what is to be done.
     pub(crate) fn on_silence<D: Dialect>(&mut self, dialect: &D) -> Option<Step>
-        ensures { Moves (record { order = D.order_read dialect.now; report = D.report_read dialect.now }) self.old.session self.new.session }
+        ensures { MatchOption result (Moves (record { IsOrder = D.IsOrder dialect.now; IsReport = D.IsReport dialect.now }) (record { order = D.order_read dialect.now; report = D.report_read dialect.now }) (linked_of self.old.session (K.wire self.old.link)) (linked_of self.new.session (K.wire self.new.link))) (λ step. Asks (record { IsOrder = D.IsOrder dialect.now; IsReport = D.IsReport dialect.now }) (record { order = D.order_read dialect.now; report = D.report_read dialect.now }) (linked_of self.old.session (K.wire self.old.link)) step (linked_of self.new.session (K.wire self.new.link))) }
     {
         if self.unread < self.pace.silent_turns {
             return None;

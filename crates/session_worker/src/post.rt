@@ -1,9 +1,14 @@
 //! What a worker does in its turns.
 
-ghost use Rattle.std.specs.Prelude.{◌≡◌, MatchOption, MatchResult};
+ghost use Rattle.std.specs.Prelude.{◌≡◌, true, false, MatchOption, MatchResult};
 ghost use Rattle.dialect.specs.Message.{Readers};
+ghost use Rattle.link.specs.Traffic.{Tells, Stays};
 ghost use Rattle.session_core.specs.declared.phase.Phase.TheVariants as phase;
-ghost use Rattle.session_worker.specs.Events.{Does, Drains, Goes, Hands, parts_of};
+ghost use Rattle.session_core.specs.Receiving.{confirm};
+ghost use Rattle.session_core.specs.Calling.{broken};
+ghost use Rattle.session_worker.specs.Speaking.{joined};
+ghost use Rattle.session_worker.specs.Events.{Does, Drains, Goes, parts_of};
+ghost use Rattle.session_worker.specs.Linking.{linked_of, MayConfirm, Hands, CarriesOut};
 ghost use Rattle.session_worker.specs.Ends.{reason_of, last_calls};
 ghost use Rattle.session_worker.specs.Taking.{with_taken};
 
@@ -57,7 +62,7 @@ impl<K: Link, C: Clock + Drop, L: Run, M: Ledger> Post<K, C, L, M> {
         collector: &Collector<M>,
         turn_limit: u64,
     ) -> EndReason
-        ensures does { Does (record { order = D.order_read dialect.now; report = D.report_read dialect.now }) (parts_of self.old.linked.session self.old.takings self.old.seat) (parts_of self.new.linked.session self.new.takings self.new.seat) }
+        ensures does { Does (record { IsOrder = D.IsOrder dialect.now; IsReport = D.IsReport dialect.now }) (record { order = D.order_read dialect.now; report = D.report_read dialect.now }) (parts_of self.old.linked.session self.old.takings self.old.seat (K.wire self.old.linked.link)) (parts_of self.new.linked.session self.new.takings self.new.seat (K.wire self.new.linked.link)) }
         ensures reason { result ≡ reason_of self.new.linked.session.phase }
     {
         for _ in 0..turn_limit {
@@ -71,7 +76,8 @@ impl<K: Link, C: Clock + Drop, L: Run, M: Ledger> Post<K, C, L, M> {
 
     /// The session is over, also where no turn has left it so.
     pub(crate) fn finish(&mut self)
-        ensures goes { (read : Readers) → Goes read (parts_of self.old.linked.session self.old.takings self.old.seat) (last_calls self.old.linked.session.phase) (parts_of self.new.linked.session self.new.takings self.new.seat) }
+        ensures goes { (read : Readers) → Goes read (parts_of self.old.linked.session self.old.takings self.old.seat (K.wire self.old.linked.link)) (last_calls self.old.linked.session.phase) (parts_of self.new.linked.session self.new.takings self.new.seat (K.wire self.new.linked.link)) }
+        ensures wire { K.wire self.new.linked.link ≡ K.wire self.old.linked.link }
         ensures over { self.new.linked.session.phase ≡ phase.Closed }
     {
         match reason_in(self.linked.phase()) {
@@ -88,7 +94,7 @@ impl<K: Link, C: Clock + Drop, L: Run, M: Ledger> Post<K, C, L, M> {
         lock: &ReleaseLock<L>,
         collector: &Collector<M>,
     )
-        ensures { Does (record { order = D.order_read dialect.now; report = D.report_read dialect.now }) (parts_of self.old.linked.session self.old.takings self.old.seat) (parts_of self.new.linked.session self.new.takings self.new.seat) }
+        ensures { Does (record { IsOrder = D.IsOrder dialect.now; IsReport = D.IsReport dialect.now }) (record { order = D.order_read dialect.now; report = D.report_read dialect.now }) (parts_of self.old.linked.session self.old.takings self.old.seat (K.wire self.old.linked.link)) (parts_of self.new.linked.session self.new.takings self.new.seat (K.wire self.new.linked.link)) }
     {
         self.linked.count_turn();
         self.begin(rt, dialect, lock, collector);
@@ -106,7 +112,7 @@ impl<K: Link, C: Clock + Drop, L: Run, M: Ledger> Post<K, C, L, M> {
         lock: &ReleaseLock<L>,
         collector: &Collector<M>,
     )
-        ensures { Does (record { order = D.order_read dialect.now; report = D.report_read dialect.now }) (parts_of self.old.linked.session self.old.takings self.old.seat) (parts_of self.new.linked.session self.new.takings self.new.seat) }
+        ensures { Does (record { IsOrder = D.IsOrder dialect.now; IsReport = D.IsReport dialect.now }) (record { order = D.order_read dialect.now; report = D.report_read dialect.now }) (parts_of self.old.linked.session self.old.takings self.old.seat (K.wire self.old.linked.link)) (parts_of self.new.linked.session self.new.takings self.new.seat (K.wire self.new.linked.link)) }
     {
         match self.linked.phase() {
             Phase::Down => self.start(rt, dialect, lock, collector),
@@ -128,7 +134,7 @@ impl<K: Link, C: Clock + Drop, L: Run, M: Ledger> Post<K, C, L, M> {
         collector: &Collector<M>,
     )
         requires { self.old.linked.session.phase ≡ phase.Down }
-        ensures { Does (record { order = D.order_read dialect.now; report = D.report_read dialect.now }) (parts_of self.old.linked.session self.old.takings self.old.seat) (parts_of self.new.linked.session self.new.takings self.new.seat) }
+        ensures { Does (record { IsOrder = D.IsOrder dialect.now; IsReport = D.IsReport dialect.now }) (record { order = D.order_read dialect.now; report = D.report_read dialect.now }) (parts_of self.old.linked.session self.old.takings self.old.seat (K.wire self.old.linked.link)) (parts_of self.new.linked.session self.new.takings self.new.seat (K.wire self.new.linked.link)) }
     {
         lower(rt, lock, self.takings.venue());
         match self.drain(rt, lock, collector) {
@@ -148,7 +154,7 @@ impl<K: Link, C: Clock + Drop, L: Run, M: Ledger> Post<K, C, L, M> {
         collector: &Collector<M>,
     )
         requires { self.old.linked.session.phase ≡ phase.Down }
-        ensures { Does (record { order = D.order_read dialect.now; report = D.report_read dialect.now }) (parts_of self.old.linked.session self.old.takings self.old.seat) (parts_of self.new.linked.session self.new.takings self.new.seat) }
+        ensures { Does (record { IsOrder = D.IsOrder dialect.now; IsReport = D.IsReport dialect.now }) (record { order = D.order_read dialect.now; report = D.report_read dialect.now }) (parts_of self.old.linked.session self.old.takings self.old.seat (K.wire self.old.linked.link)) (parts_of self.new.linked.session self.new.takings self.new.seat (K.wire self.new.linked.link)) }
     {
         let venue = self.takings.venue();
         if is_closed(rt, lock, venue) && !self.linked.in_doubt() {
@@ -171,7 +177,7 @@ impl<K: Link, C: Clock + Drop, L: Run, M: Ledger> Post<K, C, L, M> {
         collector: &Collector<M>,
     )
         requires { self.old.linked.session.phase ≡ phase.Up }
-        ensures { Does (record { order = D.order_read dialect.now; report = D.report_read dialect.now }) (parts_of self.old.linked.session self.old.takings self.old.seat) (parts_of self.new.linked.session self.new.takings self.new.seat) }
+        ensures { Does (record { IsOrder = D.IsOrder dialect.now; IsReport = D.IsReport dialect.now }) (record { order = D.order_read dialect.now; report = D.report_read dialect.now }) (parts_of self.old.linked.session self.old.takings self.old.seat (K.wire self.old.linked.link)) (parts_of self.new.linked.session self.new.takings self.new.seat (K.wire self.new.linked.link)) }
     {
         if self.takings.raise(rt, lock).is_err() {
             return;
@@ -190,7 +196,7 @@ impl<K: Link, C: Clock + Drop, L: Run, M: Ledger> Post<K, C, L, M> {
         collector: &Collector<M>,
         next: Option<PlacedLeg>,
     )
-        ensures linked { MatchOption next (self.new.linked.session ≡ self.old.linked.session) (λ leg. Hands (record { order = D.order_read dialect.now; report = D.report_read dialect.now }) leg self.old.linked.session self.new.linked.session) }
+        ensures linked { MatchOption next ((linked_of self.new.linked.session (K.wire self.new.linked.link)) ≡ (linked_of self.old.linked.session (K.wire self.old.linked.link))) (λ leg. Hands (record { IsOrder = D.IsOrder dialect.now; IsReport = D.IsReport dialect.now }) (record { order = D.order_read dialect.now; report = D.report_read dialect.now }) leg (linked_of self.old.linked.session (K.wire self.old.linked.link)) (linked_of self.new.linked.session (K.wire self.new.linked.link))) }
         ensures takings { self.new.takings ≡ self.old.takings }
         ensures seat { self.new.seat.parts ≡ self.old.seat.parts }
     {
@@ -212,7 +218,7 @@ impl<K: Link, C: Clock + Drop, L: Run, M: Ledger> Post<K, C, L, M> {
         lock: &ReleaseLock<L>,
         collector: &Collector<M>,
     )
-        ensures { Does (record { order = D.order_read dialect.now; report = D.report_read dialect.now }) (parts_of self.old.linked.session self.old.takings self.old.seat) (parts_of self.new.linked.session self.new.takings self.new.seat) }
+        ensures { Does (record { IsOrder = D.IsOrder dialect.now; IsReport = D.IsReport dialect.now }) (record { order = D.order_read dialect.now; report = D.report_read dialect.now }) (parts_of self.old.linked.session self.old.takings self.old.seat (K.wire self.old.linked.link)) (parts_of self.new.linked.session self.new.takings self.new.seat (K.wire self.new.linked.link)) }
     {
         if !self.linked.is_connected() || !is_closed(rt, lock, self.takings.venue()) {
             return;
@@ -227,7 +233,7 @@ impl<K: Link, C: Clock + Drop, L: Run, M: Ledger> Post<K, C, L, M> {
 
     /// Reads once, while there is a connection, and does what the messages want.
     fn listen<D: Dialect>(&mut self, rt: &impl Wait, dialect: &D, collector: &Collector<M>)
-        ensures { Does (record { order = D.order_read dialect.now; report = D.report_read dialect.now }) (parts_of self.old.linked.session self.old.takings self.old.seat) (parts_of self.new.linked.session self.new.takings self.new.seat) }
+        ensures { Does (record { IsOrder = D.IsOrder dialect.now; IsReport = D.IsReport dialect.now }) (record { order = D.order_read dialect.now; report = D.report_read dialect.now }) (parts_of self.old.linked.session self.old.takings self.old.seat (K.wire self.old.linked.link)) (parts_of self.new.linked.session self.new.takings self.new.seat (K.wire self.new.linked.link)) }
     {
         if !self.linked.is_connected() {
             return;
@@ -243,7 +249,7 @@ impl<K: Link, C: Clock + Drop, L: Run, M: Ledger> Post<K, C, L, M> {
 
     /// After so many turns without a write the session writes a Heartbeat.
     fn write_if_quiet<D: Dialect>(&mut self, rt: &impl Wait, dialect: &D, collector: &Collector<M>)
-        ensures { Does (record { order = D.order_read dialect.now; report = D.report_read dialect.now }) (parts_of self.old.linked.session self.old.takings self.old.seat) (parts_of self.new.linked.session self.new.takings self.new.seat) }
+        ensures { Does (record { IsOrder = D.IsOrder dialect.now; IsReport = D.IsReport dialect.now }) (record { order = D.order_read dialect.now; report = D.report_read dialect.now }) (parts_of self.old.linked.session self.old.takings self.old.seat (K.wire self.old.linked.link)) (parts_of self.new.linked.session self.new.takings self.new.seat (K.wire self.new.linked.link)) }
     {
         match self.linked.on_quiet(dialect) {
             Some(step) => self.carry_out(rt, collector, step),
@@ -253,7 +259,7 @@ impl<K: Link, C: Clock + Drop, L: Run, M: Ledger> Post<K, C, L, M> {
 
     /// After so many turns without a read the session writes a fence, and the second time the connection ends.
     fn ask_if_silent<D: Dialect>(&mut self, rt: &impl Wait, dialect: &D, collector: &Collector<M>)
-        ensures { Does (record { order = D.order_read dialect.now; report = D.report_read dialect.now }) (parts_of self.old.linked.session self.old.takings self.old.seat) (parts_of self.new.linked.session self.new.takings self.new.seat) }
+        ensures { Does (record { IsOrder = D.IsOrder dialect.now; IsReport = D.IsReport dialect.now }) (record { order = D.order_read dialect.now; report = D.report_read dialect.now }) (parts_of self.old.linked.session self.old.takings self.old.seat (K.wire self.old.linked.link)) (parts_of self.new.linked.session self.new.takings self.new.seat (K.wire self.new.linked.link)) }
     {
         match self.linked.on_silence(dialect) {
             Some(step) => self.carry_out(rt, collector, step),
@@ -264,7 +270,7 @@ impl<K: Link, C: Clock + Drop, L: Run, M: Ledger> Post<K, C, L, M> {
     /// Does what a step of the session wants: the legs that it names are withdrawn in the book, its note is booked and
     /// then confirmed, and its frames are written. Where the book wants memory the connection is given up.
     fn carry_out(&mut self, rt: &impl Wait, collector: &Collector<M>, step: Step)
-        ensures { (read : Readers) → Does read (parts_of self.old.linked.session self.old.takings self.old.seat) (parts_of self.new.linked.session self.new.takings self.new.seat) }
+        ensures { CarriesOut (joined step.out) (parts_of self.old.linked.session self.old.takings self.old.seat (K.wire self.old.linked.link)) (parts_of self.new.linked.session self.new.takings self.new.seat (K.wire self.new.linked.link)) }
     {
         let Step {
             out,
@@ -284,7 +290,11 @@ impl<K: Link, C: Clock + Drop, L: Run, M: Ledger> Post<K, C, L, M> {
 
     /// Books the note, if there is one, and says whether the session may go on.
     fn take_note(&mut self, rt: &impl Wait, collector: &Collector<M>, note: Option<Note>) -> bool
-        ensures { (read : Readers) → Does read (parts_of self.old.linked.session self.old.takings self.old.seat) (parts_of self.new.linked.session self.new.takings self.new.seat) }
+        ensures confirmed { result ≡ true → MayConfirm self.old.linked.session self.new.linked.session }
+        ensures broken { result ≡ false → self.new.linked.session ≡ broken self.old.linked.session }
+        ensures wire { Tells (K.wire self.old.linked.link) (K.wire self.new.linked.link) Stays }
+        ensures takings { self.new.takings ≡ self.old.takings }
+        ensures seat { self.new.seat.parts ≡ self.old.seat.parts }
     {
         match note {
             Some(note) => self.book(rt, collector, &note),
@@ -294,7 +304,11 @@ impl<K: Link, C: Clock + Drop, L: Run, M: Ledger> Post<K, C, L, M> {
 
     /// Books a note, and says whether the book took it. Where it wants memory the connection is given up.
     fn book(&mut self, rt: &impl Wait, collector: &Collector<M>, note: &Note) -> bool
-        ensures { (read : Readers) → Does read (parts_of self.old.linked.session self.old.takings self.old.seat) (parts_of self.new.linked.session self.new.takings self.new.seat) }
+        ensures confirmed { result ≡ true → self.new.linked.session ≡ confirm self.old.linked.session }
+        ensures broken { result ≡ false → self.new.linked.session ≡ broken self.old.linked.session }
+        ensures wire { Tells (K.wire self.old.linked.link) (K.wire self.new.linked.link) Stays }
+        ensures takings { self.new.takings ≡ self.old.takings }
+        ensures seat { self.new.seat.parts ≡ self.old.seat.parts }
     {
         match collector.apply(rt, self.takings.venue(), note, &mut self.seat) {
             Ok(_) => {
@@ -315,7 +329,7 @@ impl<K: Link, C: Clock + Drop, L: Run, M: Ledger> Post<K, C, L, M> {
         lock: &ReleaseLock<L>,
         collector: &Collector<M>,
     ) -> Drained
-        ensures { Drains (parts_of self.old.linked.session self.old.takings self.old.seat) (parts_of self.new.linked.session self.new.takings self.new.seat) }
+        ensures { Drains (parts_of self.old.linked.session self.old.takings self.old.seat (K.wire self.old.linked.link)) (parts_of self.new.linked.session self.new.takings self.new.seat (K.wire self.new.linked.link)) }
     {
         for _ in 0..DRAIN_ROUNDS {
             let pushed = lock.pump(rt, self.takings.venue());
@@ -331,7 +345,7 @@ impl<K: Link, C: Clock + Drop, L: Run, M: Ledger> Post<K, C, L, M> {
 
     /// Drops legs until so many were taken in all or the ring is empty, and says whether there was room for each.
     fn drop_to(&mut self, rt: &impl Wait, collector: &Collector<M>, count: u64) -> bool
-        ensures { Drains (parts_of self.old.linked.session self.old.takings self.old.seat) (parts_of self.new.linked.session self.new.takings self.new.seat) }
+        ensures { Drains (parts_of self.old.linked.session self.old.takings self.old.seat (K.wire self.old.linked.link)) (parts_of self.new.linked.session self.new.takings self.new.seat (K.wire self.new.linked.link)) }
     {
         for _ in self.takings.count()..count {
             match self.takings.next_to(rt, count) {
@@ -346,6 +360,7 @@ impl<K: Link, C: Clock + Drop, L: Run, M: Ledger> Post<K, C, L, M> {
     /// Withdraws legs in the book.
     fn withdraw_all(&mut self, rt: &impl Wait, collector: &Collector<M>, ids: LegIds)
         ensures linked { self.new.linked.session ≡ self.old.linked.session }
+        ensures wire { K.wire self.new.linked.link ≡ K.wire self.old.linked.link }
         ensures takings { self.new.takings ≡ self.old.takings }
         ensures seat { self.new.seat.parts ≡ self.old.seat.parts }
     {
@@ -358,6 +373,7 @@ impl<K: Link, C: Clock + Drop, L: Run, M: Ledger> Post<K, C, L, M> {
     /// Withdraws a leg in the book. Where the book has moved it already nothing happens.
     fn withdraw(&mut self, rt: &impl Wait, collector: &Collector<M>, id: LegId)
         ensures linked { self.new.linked.session ≡ self.old.linked.session }
+        ensures wire { K.wire self.new.linked.link ≡ K.wire self.old.linked.link }
         ensures takings { self.new.takings ≡ self.old.takings }
         ensures seat { self.new.seat.parts ≡ self.old.seat.parts }
     {

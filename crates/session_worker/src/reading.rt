@@ -1,6 +1,6 @@
 //! What came over a link is handed to a session.
 
-ghost use Rattle.session_worker.specs.Events.{Moves};
+ghost use Rattle.session_worker.specs.Linking.{Hears};
 
 use dialect::Dialect;
 use fix_tags::{ReadFault, Stamp, read_envelope};
@@ -29,7 +29,7 @@ pub(crate) fn hear<D: Dialect>(
     session: &mut Session,
     stamp: &Stamp,
 ) -> Heard
-    ensures { Moves (record { order = D.order_read dialect.now; report = D.report_read dialect.now }) session.old session.new }
+    ensures { Hears (record { IsOrder = D.IsOrder dialect.now; IsReport = D.IsReport dialect.now }) (record { order = D.order_read dialect.now; report = D.report_read dialect.now }) session.old result session.new }
 {
     let frame = match reader.next() {
         Ok(Some(frame)) => frame,

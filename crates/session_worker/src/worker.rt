@@ -41,7 +41,7 @@ impl<D: Dialect + Drop, K: Link, C: Clock + Drop, L: Run, M: Ledger> Worker<D, K
     ) -> Worker<D, K, C, L, M>
         requires { drain.popped ≡ [] }
         ensures dialect { result.dialect ≡ dialect }
-        ensures parts { parts_of result.post.linked.session result.post.takings result.post.seat ≡ parts_of (new_session config) (record { venue = drain.venue; taken = [] }) seat }
+        ensures parts { parts_of result.post.linked.session result.post.takings result.post.seat (K.wire result.post.linked.link) ≡ parts_of (new_session config) (record { venue = drain.venue; taken = [] }) seat (K.wire link) }
     {
         Worker {
             dialect,
@@ -62,7 +62,7 @@ impl<D: Dialect + Drop, K: Link, C: Clock + Drop, L: Run, M: Ledger> Worker<D, K
         collector: &Collector<M>,
         turn_limit: u64,
     ) -> WorkerEnd<K, L, M>
-        ensures { Runs (record { order = D.order_read self.dialect; report = D.report_read self.dialect }) (parts_of self.post.linked.session self.post.takings self.post.seat) (parts_of result.session result.took result.seat) result.reason }
+        ensures { Runs (record { IsOrder = D.IsOrder self.dialect; IsReport = D.IsReport self.dialect }) (record { order = D.order_read self.dialect; report = D.report_read self.dialect }) (parts_of self.post.linked.session self.post.takings self.post.seat (K.wire self.post.linked.link)) (parts_of result.session result.took result.seat (K.wire result.link)) result.reason }
     {
         let Worker { dialect, post } = self;
         let mut post = post;

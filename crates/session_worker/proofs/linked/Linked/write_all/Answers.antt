@@ -21,11 +21,8 @@ loop-frame-preserved g c =
           c.frame-item.is a b d c.loop-frame.invariant.1 wrote,
     )
 
-pub returns-in-Err-clause-session : goal.returns-in-Err-clause-session
-returns-in-Err-clause-session g c = inr (c.break_off.ensures.session ∙ ap broken c.loop-frame.invariant.0)
-
-pub returns-in-Err-clause-wire : goal.returns-in-Err-clause-wire
-returns-in-Err-clause-wire g c =
+pub returns-in-Err : goal.returns-in-Err
+returns-in-Err g c =
     let a : Wire = g.K.Link.wire c.args.self.now.link in
     let b : Wire = g.K.Link.wire c.loop-frame.self.link in
     let d : Wire = g.K.Link.wire c.write_whole.new.link in
@@ -41,11 +38,8 @@ returns-in-Err-clause-wire g c =
       stays_last (TakesPart (joined c.args.frames)) a d e part c.break_off.ensures.wire,
     )
 
-pub returns-clause-session : goal.returns-clause-session
-returns-clause-session g c = inl c.loop-frame.invariant.0
-
-pub returns-clause-wire : goal.returns-clause-wire
-returns-clause-wire g c =
+pub returns : goal.returns
+returns g c =
     let a : Wire = g.K.Link.wire c.args.self.now.link in
     let b : Wire = g.K.Link.wire c.loop-frame.self.link in
     inl (

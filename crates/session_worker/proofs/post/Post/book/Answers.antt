@@ -1,12 +1,12 @@
-use Rattle.std.proofs.Common.{refl}
-use Rattle.session_worker.proofs.Calling.{moves_confirm, moves_broken}
-use Rattle.session_worker.proofs.Doing.{does_moves}
+use Rattle.std.proofs.Common.{true≢false, sym}
+use Rattle.session_worker.proofs.Speech.{stays_same}
 use Rattle.session_worker.proofs.post.Post.book.Goals as goal
 
-pub returns-in-Ok : goal.returns-in-Ok
-returns-in-Ok g c =
-    λ read. does_moves read _ _ (moves_confirm read _ _ c.confirm.ensures) refl c.apply.ensures.parts
+pub returns-in-Ok-clause-broken : goal.returns-in-Ok-clause-broken
+returns-in-Ok-clause-broken g c = λ e. absurd (true≢false e)
 
-pub returns-in-Err : goal.returns-in-Err
-returns-in-Err g c =
-    λ read. does_moves read _ _ (moves_broken read _ _ c.break_off.ensures.session) refl c.apply.ensures.parts
+pub returns-in-Ok-clause-wire : goal.returns-in-Ok-clause-wire
+returns-in-Ok-clause-wire g c = stays_same _ _ c.confirm.ensures.wire
+
+pub returns-in-Err-clause-confirmed : goal.returns-in-Err-clause-confirmed
+returns-in-Err-clause-confirmed g c = λ e. absurd (true≢false (sym e))

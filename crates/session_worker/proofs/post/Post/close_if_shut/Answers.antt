@@ -1,4 +1,5 @@
 use Rattle.std.proofs.Common.{refl}
+use Rattle.dialect.specs.Framed.{Writers}
 use Rattle.dialect.specs.Message.{Readers}
 use Rattle.session_worker.specs.Events.{WorkerParts, parts_of}
 use Rattle.session_worker.proofs.Calling.{moves_broken}
@@ -6,33 +7,36 @@ use Rattle.session_worker.proofs.Doing.{does_none, does_on, does_moves, does_dra
 use Rattle.session_worker.proofs.post.Post.close_if_shut.Goals as goal
 
 pub returns-then-not-is_connected : goal.returns-then-not-is_connected
-returns-then-not-is_connected g c = does_none _ _
+returns-then-not-is_connected g c = does_none _ _ _
 
 pub returns-in-Everything : goal.returns-in-Everything
 returns-in-Everything g c =
+    let w : Writers = record { IsOrder = g.D.Dialect.IsOrder c.args.dialect.now; IsReport = g.D.Dialect.IsReport c.args.dialect.now } in
     let read : Readers = record { order = g.D.Dialect.order_read c.args.dialect.now; report = g.D.Dialect.report_read c.args.dialect.now } in
-    let a : WorkerParts = parts_of c.args.self.now.linked.session c.args.self.now.takings c.args.self.now.seat in
-    let b : WorkerParts = parts_of c.close.new.self.session c.args.self.now.takings c.args.self.now.seat in
-    let d : WorkerParts = parts_of c.drain.new.self.linked.session c.drain.new.self.takings c.drain.new.self.seat in
-    does_on read a b d (does_moves read a b c.close.ensures.moves refl refl)
-    (does_drains read b d c.drain.ensures c.close.ensures.idle)
+    let a : WorkerParts = parts_of c.args.self.now.linked.session c.args.self.now.takings c.args.self.now.seat (g.K.Link.wire c.args.self.now.linked.link) in
+    let b : WorkerParts = parts_of c.close.new.self.session c.args.self.now.takings c.args.self.now.seat (g.K.Link.wire c.close.new.self.link) in
+    let d : WorkerParts = parts_of c.drain.new.self.linked.session c.drain.new.self.takings c.drain.new.self.seat (g.K.Link.wire c.drain.new.self.linked.link) in
+    does_on w read a b d (does_moves w read a b c.close.ensures.moves refl refl)
+    (does_drains w read b d c.drain.ensures c.close.ensures.idle)
 
 pub returns-in-SomeLeft : goal.returns-in-SomeLeft
 returns-in-SomeLeft g c =
+    let w : Writers = record { IsOrder = g.D.Dialect.IsOrder c.args.dialect.now; IsReport = g.D.Dialect.IsReport c.args.dialect.now } in
     let read : Readers = record { order = g.D.Dialect.order_read c.args.dialect.now; report = g.D.Dialect.report_read c.args.dialect.now } in
-    let a : WorkerParts = parts_of c.args.self.now.linked.session c.args.self.now.takings c.args.self.now.seat in
-    let b : WorkerParts = parts_of c.close.new.self.session c.args.self.now.takings c.args.self.now.seat in
-    let d : WorkerParts = parts_of c.drain.new.self.linked.session c.drain.new.self.takings c.drain.new.self.seat in
-    does_on read a b d (does_moves read a b c.close.ensures.moves refl refl)
-    (does_drains read b d c.drain.ensures c.close.ensures.idle)
+    let a : WorkerParts = parts_of c.args.self.now.linked.session c.args.self.now.takings c.args.self.now.seat (g.K.Link.wire c.args.self.now.linked.link) in
+    let b : WorkerParts = parts_of c.close.new.self.session c.args.self.now.takings c.args.self.now.seat (g.K.Link.wire c.close.new.self.link) in
+    let d : WorkerParts = parts_of c.drain.new.self.linked.session c.drain.new.self.takings c.drain.new.self.seat (g.K.Link.wire c.drain.new.self.linked.link) in
+    does_on w read a b d (does_moves w read a b c.close.ensures.moves refl refl)
+    (does_drains w read b d c.drain.ensures c.close.ensures.idle)
 
 pub returns-in-NoRoom : goal.returns-in-NoRoom
 returns-in-NoRoom g c =
+    let w : Writers = record { IsOrder = g.D.Dialect.IsOrder c.args.dialect.now; IsReport = g.D.Dialect.IsReport c.args.dialect.now } in
     let read : Readers = record { order = g.D.Dialect.order_read c.args.dialect.now; report = g.D.Dialect.report_read c.args.dialect.now } in
-    let a : WorkerParts = parts_of c.args.self.now.linked.session c.args.self.now.takings c.args.self.now.seat in
-    let b : WorkerParts = parts_of c.close.new.self.session c.args.self.now.takings c.args.self.now.seat in
-    let d : WorkerParts = parts_of c.drain.new.self.linked.session c.drain.new.self.takings c.drain.new.self.seat in
-    let e : WorkerParts = parts_of c.break_off.new.self.session c.drain.new.self.takings c.drain.new.self.seat in
-    does_on read a d e (does_on read a b d (does_moves read a b c.close.ensures.moves refl refl)
-    (does_drains read b d c.drain.ensures c.close.ensures.idle))
-    (does_moves read d e (moves_broken read _ _ c.break_off.ensures.session) refl refl)
+    let a : WorkerParts = parts_of c.args.self.now.linked.session c.args.self.now.takings c.args.self.now.seat (g.K.Link.wire c.args.self.now.linked.link) in
+    let b : WorkerParts = parts_of c.close.new.self.session c.args.self.now.takings c.args.self.now.seat (g.K.Link.wire c.close.new.self.link) in
+    let d : WorkerParts = parts_of c.drain.new.self.linked.session c.drain.new.self.takings c.drain.new.self.seat (g.K.Link.wire c.drain.new.self.linked.link) in
+    let e : WorkerParts = parts_of c.break_off.new.self.session c.drain.new.self.takings c.drain.new.self.seat (g.K.Link.wire c.break_off.new.self.link) in
+    does_on w read a d e (does_on w read a b d (does_moves w read a b c.close.ensures.moves refl refl)
+    (does_drains w read b d c.drain.ensures c.close.ensures.idle))
+    (does_moves w read d e (moves_broken w read _ _ c.break_off.ensures.session c.break_off.ensures.wire) refl refl)

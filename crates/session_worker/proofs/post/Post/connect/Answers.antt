@@ -1,25 +1,30 @@
 use Rattle.std.proofs.Common.{refl, sym, subst}
+use Rattle.dialect.specs.Framed.{Writers}
 use Rattle.dialect.specs.Message.{Readers}
 use Rattle.session_worker.specs.Events.{WorkerParts, IsIdle, parts_of}
 use Rattle.session_core.specs.declared.phase.Phase.TheVariants.{Down}
+use Rattle.session_worker.proofs.Speech.{stays_same}
 use Rattle.session_worker.proofs.Calling.{moves_abandon, idle_in}
 use Rattle.session_worker.proofs.Doing.{does_on, does_moves, does_drains}
 use Rattle.session_worker.proofs.post.Post.connect.Goals as goal
 
 pub returns-then-not-in_doubt : goal.returns-then-not-in_doubt
-returns-then-not-in_doubt g c = does_moves _ _ _ (moves_abandon _ _ _ c.abandon.ensures) refl refl
+returns-then-not-in_doubt g c =
+    does_moves _ _ _ _ (moves_abandon _ _ _ _ c.abandon.ensures.session (stays_same _ _ c.abandon.ensures.wire)) refl refl
 
 pub returns-then-connect : goal.returns-then-connect
-returns-then-connect g c = does_moves _ _ _ c.connect.ensures.moves refl refl
+returns-then-connect g c = does_moves _ _ _ _ c.connect.ensures.moves refl refl
 
 pub returns : goal.returns
 returns g c =
+    let w : Writers = record { IsOrder = g.D.Dialect.IsOrder c.args.dialect.now; IsReport = g.D.Dialect.IsReport c.args.dialect.now } in
     let read : Readers = record { order = g.D.Dialect.order_read c.args.dialect.now; report = g.D.Dialect.report_read c.args.dialect.now } in
-    let a : WorkerParts = parts_of c.args.self.now.linked.session c.args.self.now.takings c.args.self.now.seat in
-    let d : WorkerParts = parts_of c.connect.new.self.session c.args.self.now.takings c.args.self.now.seat in
-    let e : WorkerParts = parts_of c.drain.new.self.linked.session c.drain.new.self.takings c.drain.new.self.seat in
-    let f : WorkerParts = parts_of c.abandon-2.new.self.session c.drain.new.self.takings c.drain.new.self.seat in
+    let a : WorkerParts = parts_of c.args.self.now.linked.session c.args.self.now.takings c.args.self.now.seat (g.K.Link.wire c.args.self.now.linked.link) in
+    let d : WorkerParts = parts_of c.connect.new.self.session c.args.self.now.takings c.args.self.now.seat (g.K.Link.wire c.connect.new.self.link) in
+    let e : WorkerParts = parts_of c.drain.new.self.linked.session c.drain.new.self.takings c.drain.new.self.seat (g.K.Link.wire c.drain.new.self.linked.link) in
+    let f : WorkerParts = parts_of c.abandon-2.new.self.session c.drain.new.self.takings c.drain.new.self.seat (g.K.Link.wire c.abandon-2.new.self.link) in
     let idle : IsIdle a.session = idle_in c.args.self.now.linked.session Down c.requires (λ e. cc) in
     let still : IsIdle d.session = subst IsIdle (sym (c.connect.ensures.spent c.if-connect.false)) idle in
-    does_on read a e f (does_on read a d e (does_moves read a d c.connect.ensures.moves refl refl)
-    (does_drains read d e c.drain.ensures still)) (does_moves read e f (moves_abandon read _ _ c.abandon-2.ensures) refl refl)
+    does_on w read a e f (does_on w read a d e (does_moves w read a d c.connect.ensures.moves refl refl)
+    (does_drains w read d e c.drain.ensures still))
+    (does_moves w read e f (moves_abandon w read _ _ c.abandon-2.ensures.session (stays_same e.wire f.wire c.abandon-2.ensures.wire)) refl refl)

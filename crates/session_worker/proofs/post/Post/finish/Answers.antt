@@ -20,8 +20,8 @@ pub returns-in-TurnLimit-clause-goes : goal.returns-in-TurnLimit-clause-goes
 returns-in-TurnLimit-clause-goes g c =
     let e : reason_of c.args.self.now.linked.session.phase ≡ reason.TurnLimit =
     ap reason_of (sym c.phase.ensures) ∙ sym c.in-TurnLimit.ensures in
-    λ read. finish_abandoned read _ _ c.abandon.ensures refl refl e
+    λ read. finish_abandoned read _ _ c.abandon.ensures.session refl refl e
 
 pub returns-in-TurnLimit-clause-over : goal.returns-in-TurnLimit-clause-over
 returns-in-TurnLimit-clause-over g c =
-    abandoned_closed c.args.self.now.linked.session c.abandon.new.self.session c.abandon.ensures
+    abandoned_closed c.args.self.now.linked.session c.abandon.new.self.session c.abandon.ensures.session

@@ -1,4 +1,5 @@
 use Rattle.std.proofs.Common.{◌∙◌, ap}
+use Rattle.dialect.specs.Framed.{Writers}
 use Rattle.dialect.specs.Message.{Readers}
 use Rattle.session_core.specs.Session.{SessionParts}
 use Rattle.session_core.specs.declared.phase.Phase.TheVariants.{Down}
@@ -12,17 +13,18 @@ connect-requires g c = ap (λ (s : SessionParts). s.phase) c.drain.ensures.sessi
 
 pub returns-in-Everything : goal.returns-in-Everything
 returns-in-Everything g c =
+    let w : Writers = record { IsOrder = g.D.Dialect.IsOrder c.args.dialect.now; IsReport = g.D.Dialect.IsReport c.args.dialect.now } in
     let read : Readers = record { order = g.D.Dialect.order_read c.args.dialect.now; report = g.D.Dialect.report_read c.args.dialect.now } in
-    let a : WorkerParts = parts_of c.args.self.now.linked.session c.args.self.now.takings c.args.self.now.seat in
-    let b : WorkerParts = parts_of c.drain.new.self.linked.session c.drain.new.self.takings c.drain.new.self.seat in
-    let d : WorkerParts = parts_of c.connect.new.self.linked.session c.connect.new.self.takings c.connect.new.self.seat in
-    does_on read a b d (does_drains read a b c.drain.ensures (idle_in c.args.self.now.linked.session Down c.requires (λ e. cc)))
+    let a : WorkerParts = parts_of c.args.self.now.linked.session c.args.self.now.takings c.args.self.now.seat (g.K.Link.wire c.args.self.now.linked.link) in
+    let b : WorkerParts = parts_of c.drain.new.self.linked.session c.drain.new.self.takings c.drain.new.self.seat (g.K.Link.wire c.drain.new.self.linked.link) in
+    let d : WorkerParts = parts_of c.connect.new.self.linked.session c.connect.new.self.takings c.connect.new.self.seat (g.K.Link.wire c.connect.new.self.linked.link) in
+    does_on w read a b d (does_drains w read a b c.drain.ensures (idle_in c.args.self.now.linked.session Down c.requires (λ e. cc)))
     c.connect.ensures
 
 pub returns-in-SomeLeft : goal.returns-in-SomeLeft
 returns-in-SomeLeft g c =
-    does_drains _ _ _ c.drain.ensures (idle_in c.args.self.now.linked.session Down c.requires (λ e. cc))
+    does_drains _ _ _ _ c.drain.ensures (idle_in c.args.self.now.linked.session Down c.requires (λ e. cc))
 
 pub returns-in-NoRoom : goal.returns-in-NoRoom
 returns-in-NoRoom g c =
-    does_drains _ _ _ c.drain.ensures (idle_in c.args.self.now.linked.session Down c.requires (λ e. cc))
+    does_drains _ _ _ _ c.drain.ensures (idle_in c.args.self.now.linked.session Down c.requires (λ e. cc))

@@ -3,5 +3,6 @@ use Rattle.session_worker.proofs.post.Post.withdraw_all.Given as goal
 
 abbrev pub invariant-loop-id : goal.invariant-loop-id
 invariant-loop-id g l =
-    (l.self.linked.session ≡ l.initial.self.linked.session) × (l.self.takings ≡ l.initial.self.takings)
-    × (l.self.seat.parts ≡ l.initial.self.seat.parts)
+    (l.self.linked.session ≡ l.initial.self.linked.session)
+    × (g.K.Link.wire l.self.linked.link ≡ g.K.Link.wire l.initial.self.linked.link)
+    × (l.self.takings ≡ l.initial.self.takings) × (l.self.seat.parts ≡ l.initial.self.seat.parts)

@@ -1,6 +1,6 @@
 use Rattle.std.proofs.Common.{◌≡◌, rules, List, length, map, subst, arith}
 use Rattle.session_worker.specs.Events.{parts_of}
-use Rattle.session_worker.specs.Ends.{WorkerStart, WorkerLeft, AllRan}
+use Rattle.session_worker.specs.Ends.{WorkerLeft, AllRan}
 use Rattle.session_worker.proofs.Ran.{all_ran, all_started, nothing_left}
 use Rattle.session_worker.proofs.running.fn.run_all.scope.Goals as goal
 
@@ -9,15 +9,18 @@ returns-in-Ok-join_promised g c =
     let none = nothing_left c.pop_front.result c.loop-worker.workers.items c.pop_front.new.self.items c.in_default.not-Some c.pop_front.ensures.items c.pop_front.ensures.rest in
     let from : c.from-workers.result.items ≡ c.captures.workers.items = search rules in
     let joined = c.in-Ok-join_promised.ensures in
-    let left : List WorkerLeft = map (λ e. record { parts = parts_of e.session e.took e.seat; reason = e.reason }) c.in-Ok-join_promised.ends.items in
+    let left : List WorkerLeft = map (λ e. record { parts = parts_of e.session e.took e.seat (g.K.Link.wire e.link); reason = e.reason }) c.in-Ok-join_promised.ends.items in
     let many : length c.in-Ok-join_promised.ends.items ≡ length c.loop-worker.handles.items =
     omega (arith, joined.len, c.in-Ok-join_promised.ends.ok.0, c.loop-worker.handles.ok.0) in
-    subst (λ (starts : List WorkerStart). AllRan starts left)
-    (all_started _ _ c.loop-worker.handles.items c.loop-worker.workers.items c.from-workers.result.items c.captures.workers.items
-    c.loop-worker.invariant none from)
-    (all_ran _ (λ p. record {
-      read = record { order = g.D.Dialect.order_read p.0.value.dialect; report = g.D.Dialect.report_read p.0.value.dialect };
-      parts = parts_of p.0.value.post.linked.session p.0.value.post.takings p.0.value.post.seat;
-    }) (λ e. record { parts = parts_of e.session e.took e.seat; reason = e.reason })
+    subst (λ workers. AllRan
+    (λ w. record { IsOrder = g.D.Dialect.IsOrder w.dialect; IsReport = g.D.Dialect.IsReport w.dialect })
+    (λ w. record {
+      read = record { order = g.D.Dialect.order_read w.dialect; report = g.D.Dialect.report_read w.dialect };
+      parts = parts_of w.post.linked.session w.post.takings w.post.seat (g.K.Link.wire w.post.linked.link);
+    }) workers left)
+    (all_started (λ h. h.promise.0.value) c.loop-worker.handles.items c.loop-worker.workers.items c.from-workers.result.items
+    c.captures.workers.items c.loop-worker.invariant none from)
+    (all_ran _ _ _ (λ p. p.0.value)
+    (λ e. record { parts = parts_of e.session e.took e.seat (g.K.Link.wire e.link); reason = e.reason })
     (λ p e kept. kept) c.loop-worker.handles.items c.in-Ok-join_promised.ends.items many
     (λ i d below. (joined.each i d (omega (arith, below, c.loop-worker.handles.ok.0))).1))
