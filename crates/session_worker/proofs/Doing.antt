@@ -1,5 +1,5 @@
 -- What a worker's events do, one after the other.
-use Rattle.std.proofs.Common.{◌≡◌, ◌⊎◌, List, [], ◌∷◌, ◌++◌, map, refl, sym, ap, subst, ◌∙◌, inl, inr, append_assoc}
+use Rattle.std.proofs.Common.{◌≡◌, ◌⊎◌, true, List, [], ◌∷◌, ◌++◌, map, refl, sym, ap, subst, ◌∙◌, inl, inr, append_assoc}
 use Rattle.std.specs.Prelude.{Option, Some, None, MatchOption}
 use Rattle.std.proofs.lemmas.List.{append-nil}
 use Rattle.leg.specs.declared.placed_leg.PlacedLeg.{PlacedLeg}
@@ -11,20 +11,23 @@ use Rattle.session_core.specs.declared.phase.Phase.TheVariants.{Down, LoggingOn,
 use Rattle.session_core.specs.declared.session_call.SessionCall.{SessionCall}
 use Rattle.session_core.specs.declared.session_call.SessionCall.TheVariants as call
 use Rattle.session_core.specs.declared.step.Step.{Step}
-use Rattle.session_core.specs.Session.{SessionParts}
+use Rattle.session_core.specs.Session.{SessionParts, is_connected}
+use Rattle.session_core.specs.Receiving.{confirm}
 use Rattle.session_core.specs.Calling.{broken, abandon}
 use Rattle.session_core.specs.Trial.{called, after_calls}
 use Rattle.session_core.proofs.CallsMade.{after-append}
 use Rattle.session_worker.specs.declared.end_reason.EndReason.TheVariants as reason
 use Rattle.session_worker.specs.Ends.{reason_of, last_calls}
 use Rattle.session_worker.specs.Taking.{with_taken}
-use Rattle.session_worker.specs.Speaking.{Wire, joined, TakesFirst, IsGivenUp, Speak}
-use Rattle.session_worker.specs.Linking.{LinkedParts, linked_of, MayConfirm, Moves, Hands, Asks, CarriesOut}
-use Rattle.session_worker.specs.Events.{WorkerEvent, calls_in, calls_of, leg_in, legs_in, taken_in, taken_of, IsIdle, IsAllowedCall, IsAllowed, AreAllowed, WorkerParts, Goes, Does, Drains}
+use Rattle.session_worker.specs.Hearing.{Said, said_after}
+use Rattle.session_worker.specs.Speaking.{Wire, joined, TakesFirst, Speak}
+use Rattle.session_worker.specs.Linking.{LinkedParts, SpeaksOn, PostParts, worker_in, linked_in, MayConfirm, Moves, Hands, Asks, CarriesOut, Does, Drains}
+use Rattle.session_worker.specs.Events.{WorkerEvent, calls_in, calls_of, leg_in, legs_in, taken_in, taken_of, IsIdle, IsAllowedCall, IsAllowed, AreAllowed, WorkerParts, Goes}
 use Rattle.session_worker.specs.Events.WorkerEvent.{Calls, Drops, Fails}
 use Rattle.session_worker.proofs.Spoken.{stays_here}
 use Rattle.session_worker.proofs.Speech.{stays_first, stays_same, speak_on, speak_none, speak_silent, speak_broken}
-use Rattle.session_worker.proofs.Calling.{moves_gave}
+use Rattle.session_worker.proofs.Connected.{gone, confirm_on, hearing_takes, hearing_gone}
+use Rattle.session_worker.proofs.Calling.{speaks_same, moves_same, moves_gave, speaks_then}
 
 -- events and then others
 calls-append : (first more : List WorkerEvent) → calls_of (first ++ more) ≡ calls_of first ++ calls_of more
@@ -48,12 +51,13 @@ allowed-append read s (event ∷ first) more all rest = (
       (subst (λ (t : SessionParts). AreAllowed read t more) (after-append read s (calls_in event) (calls_of first)) rest),
 )
 
-pub speak_events : (w : Writers) (read : Readers) (s : SessionParts) (first more : List WorkerEvent) (a b c : Wire)
-    → Speak w read s (calls_of first) a b → Speak w read (after_calls read s (calls_of first)) (calls_of more) b c
-    → Speak w read s (calls_of (first ++ more)) a c
-speak_events w read s first more a b c one next =
-    subst (λ (calls : List SessionCall). Speak w read s calls a c) (sym (calls-append first more))
-    (speak_on w read s (calls_of first) (calls_of more) a b c one next)
+pub speak_events : (w : Writers) (read : Readers) (s : SessionParts) (said : Said) (first more : List WorkerEvent) (a b c : Wire)
+    → Speak w read s said (calls_of first) a b
+    → Speak w read (after_calls read s (calls_of first)) (said_after said (calls_of first)) (calls_of more) b c
+    → Speak w read s said (calls_of (first ++ more)) a c
+speak_events w read s said first more a b c one next =
+    subst (λ (calls : List SessionCall). Speak w read s said calls a c) (sym (calls-append first more))
+    (speak_on w read s said (calls_of first) (calls_of more) a b c one next)
 
 pub goes_on : (read : Readers) (a b c : WorkerParts) (first more : List WorkerEvent) → Goes read a first b
     → Goes read b more c → Goes read a (first ++ more) c
@@ -70,12 +74,14 @@ goes_on read a b c first more one next = record {
   seat = next.seat ∙ one.seat;
 }
 
-pub does_on : (w : Writers) (read : Readers) (a b c : WorkerParts) → Does w read a b → Does w read b c → Does w read a c
+pub does_on : (w : Writers) (read : Readers) (a b c : PostParts) → Does w read a b → Does w read b c → Does w read a c
 does_on w read a b c first next = record {
   events = first.events ++ next.events;
-  goes = goes_on read a b c first.events next.events first.goes next.goes;
-  speaks = speak_events w read a.session first.events next.events a.wire b.wire c.wire first.speaks
-      (subst (λ (s : SessionParts). Speak w read s (calls_of next.events) b.wire c.wire) first.goes.session next.speaks);
+  goes = goes_on read (worker_in a) (worker_in b) (worker_in c) first.events next.events first.goes next.goes;
+  speaks = subst (λ (calls : List SessionCall). SpeaksOn w read (linked_in a) calls (linked_in c))
+      (sym (calls-append first.events next.events))
+      (speaks_then w read (linked_in a) (linked_in b) (linked_in c) (calls_of first.events) (calls_of next.events)
+      first.goes.session first.speaks next.speaks);
 }
 
 -- nothing
@@ -88,17 +94,6 @@ goes_none read a b session took seat = record {
   venue = ap (λ t. t.venue) took;
   seat = seat;
 }
-
-pub does_same : (w : Writers) (read : Readers) (a b : WorkerParts) → b.session ≡ a.session → b.took ≡ a.took
-    → b.seat_parts ≡ a.seat_parts → Tells a.wire b.wire Stays → Does w read a b
-does_same w read a b session took seat stays = record {
-  events = [];
-  goes = goes_none read a b session took seat;
-  speaks = speak_none w read a.session a.wire b.wire stays;
-}
-
-pub does_none : (w : Writers) (read : Readers) (a : WorkerParts) → Does w read a a
-does_none w read a = does_same w read a a refl refl refl (stays_here a.wire)
 
 -- calls of the session, none of which is to send a leg
 abbrev pub calling : List SessionCall → List WorkerEvent
@@ -147,61 +142,69 @@ goes_calls read a b calls session no_leg took seat = record {
   seat = seat;
 }
 
-pub does_moves : (w : Writers) (read : Readers) (a b : WorkerParts)
-    → Moves w read (linked_of a.session a.wire) (linked_of b.session b.wire) → b.took ≡ a.took
+pub does_moves : (w : Writers) (read : Readers) (a b : PostParts) → Moves w read (linked_in a) (linked_in b) → b.took ≡ a.took
     → b.seat_parts ≡ a.seat_parts → Does w read a b
 does_moves w read a b moves took seat = record {
   events = calling moves.calls;
-  goes = goes_calls read a b moves.calls moves.session moves.no_leg took seat;
-  speaks = subst (λ (calls : List SessionCall). Speak w read a.session calls a.wire b.wire)
+  goes = goes_calls read (worker_in a) (worker_in b) moves.calls moves.session moves.no_leg took seat;
+  speaks = subst (λ (calls : List SessionCall). SpeaksOn w read (linked_in a) calls (linked_in b))
       (sym (calling-calls moves.calls)) moves.speaks;
 }
 
+pub does_same : (w : Writers) (read : Readers) (a b : PostParts) → b.session ≡ a.session → b.took ≡ a.took
+    → b.seat_parts ≡ a.seat_parts → Tells a.wire b.wire Stays → b.stream ≡ a.stream → Does w read a b
+does_same w read a b session took seat stays stream =
+    does_moves w read a b (moves_same w read (linked_in a) (linked_in b) session stays stream) took seat
+
+pub does_none : (w : Writers) (read : Readers) (a : PostParts) → Does w read a a
+does_none w read a = does_same w read a a refl refl refl (stays_here a.wire) refl
+
 -- ---- what a step wanted
 
--- nothing of the session, or a note confirmed
-speak_noted : (w : Writers) (read : Readers) (s noted : SessionParts) (later : List SessionCall) (a b : Wire)
-    → MayConfirm s noted → Speak w read noted later a b
-    → (calls : List SessionCall) × (after_calls read s calls ≡ after_calls read noted later) × (legs_in calls ≡ legs_in later)
-    × (IsGivenUp later → IsGivenUp calls) × Speak w read s calls a b
-speak_noted w read s noted later a b (inl same) rest = (
-  later,
-  ap (λ (t : SessionParts). after_calls read t later) (sym same),
-  refl,
-  (λ gone. gone),
-  subst (λ (t : SessionParts). Speak w read t later a b) same rest,
-)
-speak_noted w read s noted later a b (inr confirmed) rest = (
-  call.Confirm ∷ later,
-  ap (λ (t : SessionParts). after_calls read t later) (sym confirmed),
-  refl,
-  (λ gone. gone),
-  speak_silent w read s call.Confirm later a a b (stays_here a) refl
-      (subst (λ (t : SessionParts). Speak w read t later a b) confirmed rest),
-)
-
 -- a call that gave a step, and then what the step wanted
-pub does_asked : (w : Writers) (read : Readers) (a b d : WorkerParts) (step : Step)
-    → Asks w read (linked_of a.session a.wire) step (linked_of b.session b.wire) → b.took ≡ a.took
-    → b.seat_parts ≡ a.seat_parts → CarriesOut (joined step.out) b d → Does w read a d
+moves_carried : (w : Writers) (read : Readers) (x m y : LinkedParts) (step : Step) (noted : SessionParts) → Asks w read x step m
+    → MayConfirm m.session noted
+    → ((y.session ≡ noted) × Tells m.wire y.wire (Takes (joined step.out)))
+    ⊎ ((y.session ≡ broken noted) × Tells m.wire y.wire (TakesFirst (joined step.out))) → y.stream ≡ m.stream
+    → Moves w read x y
+moves_carried w read x m y step noted asks (inl same) (inl all) stream =
+    moves_gave w read x m y step asks [] y.wire (all.0 ∙ same) refl
+    (inl (stays_first (Takes (joined step.out)) x.wire m.wire y.wire asks.wire all.1))
+    (λ said hearing. (
+      speak_none w read m.session said y.wire y.wire (stays_here y.wire),
+      hearing_takes said (joined step.out) m y (λ on. subst (λ (s : SessionParts). is_connected s.phase ≡ true) (all.0 ∙ same) on)
+          all.1 stream hearing,
+    ))
+moves_carried w read x m y step noted asks (inr confirmed) (inl all) stream =
+    moves_gave w read x m y step asks (call.Confirm ∷ []) y.wire (all.0 ∙ confirmed) refl
+    (inl (stays_first (Takes (joined step.out)) x.wire m.wire y.wire asks.wire all.1))
+    (λ said hearing. (
+      speak_silent w read m.session said call.Confirm [] y.wire y.wire y.wire tt (stays_here y.wire) refl
+          (speak_none w read (confirm m.session) said y.wire y.wire (stays_here y.wire)),
+      hearing_takes said (joined step.out) m y (confirm_on m.session y.session (all.0 ∙ confirmed)) all.1 stream hearing,
+    ))
+moves_carried w read x m y step noted asks (inl same) (inr part) stream =
+    moves_gave w read x m y step asks (call.Broken ∷ []) y.wire (part.0 ∙ ap broken same) refl
+    (inr (tt, stays_first (TakesFirst (joined step.out)) x.wire m.wire y.wire asks.wire part.1))
+    (λ said hearing. (
+      speak_broken w read m.session said y.wire y.wire (stays_here y.wire),
+      hearing_gone said y (gone noted y.session part.0),
+    ))
+moves_carried w read x m y step noted asks (inr confirmed) (inr part) stream =
+    moves_gave w read x m y step asks (call.Confirm ∷ call.Broken ∷ []) y.wire (part.0 ∙ ap broken confirmed) refl
+    (inr (tt, stays_first (TakesFirst (joined step.out)) x.wire m.wire y.wire asks.wire part.1))
+    (λ said hearing. (
+      speak_silent w read m.session said call.Confirm (call.Broken ∷ []) y.wire y.wire y.wire tt (stays_here y.wire) refl
+          (speak_broken w read (confirm m.session) said y.wire y.wire (stays_here y.wire)),
+      hearing_gone said y (gone noted y.session part.0),
+    ))
+
+pub does_asked : (w : Writers) (read : Readers) (a b d : PostParts) (step : Step) → Asks w read (linked_in a) step (linked_in b)
+    → b.took ≡ a.took → b.seat_parts ≡ a.seat_parts → CarriesOut (joined step.out) b d → Does w read a d
 does_asked w read a b d step asks took seat carries =
-    does_moves w read a d (carried carries.writes) (carries.took ∙ took) (carries.seat ∙ seat) where
-      from : Tells a.wire b.wire Stays
-      from = asks.wire
-      carried : ((d.session ≡ carries.noted) × Tells b.wire d.wire (Takes (joined step.out)))
-          ⊎ ((d.session ≡ broken carries.noted) × Tells b.wire d.wire (TakesFirst (joined step.out)))
-          → Moves w read (linked_of a.session a.wire) (linked_of d.session d.wire)
-      carried (inl all) =
-          let rest = speak_noted w read b.session carries.noted [] d.wire d.wire carries.notes
-          (speak_none w read carries.noted d.wire d.wire (stays_here d.wire)) in
-          moves_gave w read a.session b.session step a.wire d.wire (linked_of d.session d.wire) asks.gave rest.0
-          (all.0 ∙ sym rest.1) rest.2 (inl (stays_first (Takes (joined step.out)) a.wire b.wire d.wire from all.1)) rest.4
-      carried (inr part) =
-          let rest = speak_noted w read b.session carries.noted (call.Broken ∷ []) d.wire d.wire carries.notes
-          (speak_broken w read carries.noted d.wire d.wire (stays_here d.wire)) in
-          moves_gave w read a.session b.session step a.wire d.wire (linked_of d.session d.wire) asks.gave rest.0
-          (part.0 ∙ sym rest.1) rest.2
-          (inr (rest.3 tt, stays_first (TakesFirst (joined step.out)) a.wire b.wire d.wire from part.1)) rest.4
+    does_moves w read a d
+    (moves_carried w read (linked_in a) (linked_in b) (linked_in d) step carries.noted asks carries.notes carries.writes carries.stream)
+    (carries.took ∙ took) (carries.seat ∙ seat)
 
 -- legs that are dropped
 abbrev pub dropping : List PlacedLeg → List WorkerEvent
@@ -219,8 +222,8 @@ allowed_drops : (read : Readers) (s : SessionParts) (legs : List PlacedLeg) → 
 allowed_drops read s [] idle = tt
 allowed_drops read s (leg ∷ legs) idle = (idle, allowed_drops read s legs idle)
 
-pub goes_drains : (read : Readers) (a b : WorkerParts) (drains : Drains a b) → IsIdle a.session
-    → Goes read a (dropping drains.legs) b
+pub goes_drains : (read : Readers) (a b : PostParts) (drains : Drains a b) → IsIdle a.session
+    → Goes read (worker_in a) (dropping drains.legs) (worker_in b)
 goes_drains read a b drains idle = record {
   session = drains.session ∙ ap (after_calls read a.session) (sym (dropping-calls drains.legs));
   taken = drains.taken ∙ ap (λ l. a.took.taken ++ l) (sym (dropping-taken drains.legs));
@@ -229,37 +232,40 @@ goes_drains read a b drains idle = record {
   seat = drains.seat;
 }
 
-pub does_drains : (w : Writers) (read : Readers) (a b : WorkerParts) → Drains a b → IsIdle a.session → Does w read a b
+pub does_drains : (w : Writers) (read : Readers) (a b : PostParts) → Drains a b → IsIdle a.session → Does w read a b
 does_drains w read a b drains idle = record {
   events = dropping drains.legs;
   goes = goes_drains read a b drains idle;
-  speaks = subst (λ (calls : List SessionCall). Speak w read a.session calls a.wire b.wire)
-      (sym (dropping-calls drains.legs)) (speak_none w read a.session a.wire b.wire (stays_same a.wire b.wire drains.wire));
+  speaks = subst (λ (calls : List SessionCall). SpeaksOn w read (linked_in a) calls (linked_in b))
+      (sym (dropping-calls drains.legs))
+      (speaks_same w read (linked_in a) (linked_in b) drains.session (stays_same a.wire b.wire drains.wire) drains.stream);
 }
 
-pub drains_none : (a b : WorkerParts) → b.session ≡ a.session → b.took ≡ a.took → b.seat_parts ≡ a.seat_parts
-    → b.wire ≡ a.wire → Drains a b
-drains_none a b session took seat wire = record {
+pub drains_none : (a b : PostParts) → b.session ≡ a.session → b.took ≡ a.took → b.seat_parts ≡ a.seat_parts
+    → b.wire ≡ a.wire → b.stream ≡ a.stream → Drains a b
+drains_none a b session took seat wire stream = record {
   legs = [];
   session = session;
   taken = ap (λ t. t.taken) took ∙ sym (append-nil a.took.taken);
   venue = ap (λ t. t.venue) took;
   seat = seat;
   wire = wire;
+  stream = stream;
 }
 
-pub drains_one : (a b : WorkerParts) (leg : PlacedLeg) → b.session ≡ a.session → b.took ≡ with_taken a.took leg
-    → b.seat_parts ≡ a.seat_parts → b.wire ≡ a.wire → Drains a b
-drains_one a b leg session took seat wire = record {
+pub drains_one : (a b : PostParts) (leg : PlacedLeg) → b.session ≡ a.session → b.took ≡ with_taken a.took leg
+    → b.seat_parts ≡ a.seat_parts → b.wire ≡ a.wire → b.stream ≡ a.stream → Drains a b
+drains_one a b leg session took seat wire stream = record {
   legs = leg ∷ [];
   session = session;
   taken = ap (λ t. t.taken) took;
   venue = ap (λ t. t.venue) took;
   seat = seat;
   wire = wire;
+  stream = stream;
 }
 
-pub drains_on : (a b c : WorkerParts) → Drains a b → Drains b c → Drains a c
+pub drains_on : (a b c : PostParts) → Drains a b → Drains b c → Drains a c
 drains_on a b c first next = record {
   legs = first.legs ++ next.legs;
   session = next.session ∙ first.session;
@@ -267,14 +273,15 @@ drains_on a b c first next = record {
   venue = next.venue ∙ first.venue;
   seat = next.seat ∙ first.seat;
   wire = next.wire ∙ first.wire;
+  stream = next.stream ∙ first.stream;
 }
 
 -- the next leg, if there was one
-pub drains_next : (a b : WorkerParts) (next : Option PlacedLeg)
+pub drains_next : (a b : PostParts) (next : Option PlacedLeg)
     → MatchOption next (b.took ≡ a.took) (λ leg. b.took ≡ with_taken a.took leg) → b.session ≡ a.session
-    → b.seat_parts ≡ a.seat_parts → b.wire ≡ a.wire → Drains a b
-drains_next a b None took session seat wire = drains_none a b session took seat wire
-drains_next a b (Some leg) took session seat wire = drains_one a b leg session took seat wire
+    → b.seat_parts ≡ a.seat_parts → b.wire ≡ a.wire → b.stream ≡ a.stream → Drains a b
+drains_next a b None took session seat wire stream = drains_none a b session took seat wire stream
+drains_next a b (Some leg) took session seat wire stream = drains_one a b leg session took seat wire stream
 
 -- a leg that was taken and handed to the session
 handed : (read : Readers) (s : SessionParts) (leg : PlacedLeg) (event : WorkerEvent)
@@ -285,9 +292,9 @@ handed read s leg event (inl e) up =
 handed read s leg event (inr e) up =
     (ap taken_in e, subst (λ (one : WorkerEvent). IsAllowed s one) (sym e) up)
 
-pub does_hands : (w : Writers) (read : Readers) (a b : WorkerParts) (leg : PlacedLeg)
-    → Hands w read leg (linked_of a.session a.wire) (linked_of b.session b.wire) → a.session.phase ≡ Up
-    → b.took ≡ with_taken a.took leg → b.seat_parts ≡ a.seat_parts → Does w read a b
+pub does_hands : (w : Writers) (read : Readers) (a b : PostParts) (leg : PlacedLeg)
+    → Hands w read leg (linked_in a) (linked_in b) → a.session.phase ≡ Up → b.took ≡ with_taken a.took leg
+    → b.seat_parts ≡ a.seat_parts → Does w read a b
 does_hands w read a b leg hands up took seat =
     let one = handed read a.session leg hands.event hands.of_leg up in
     let middle : WorkerParts = record {
@@ -296,7 +303,7 @@ does_hands w read a b leg hands up took seat =
       seat_parts = a.seat_parts;
       wire = b.wire;
     } in
-    let first : Goes read a (hands.event ∷ []) middle = record {
+    let first : Goes read (worker_in a) (hands.event ∷ []) middle = record {
       session = ap (after_calls read a.session) (sym (append-nil (calls_in hands.event)));
       taken = ap (λ t. t.taken) took ∙ ap (λ l. a.took.taken ++ l) (sym (append-nil (taken_in hands.event) ∙ one.0));
       allowed = (one.1, tt);
@@ -307,27 +314,25 @@ does_hands w read a b leg hands up took seat =
     hands.session ∙ after-append read a.session (calls_in hands.event) hands.calls in
     record {
       events = hands.event ∷ calling hands.calls;
-      goes = goes_on read a middle b (hands.event ∷ []) (calling hands.calls) first
-          (goes_calls read middle b hands.calls later hands.no_leg refl seat);
-      speaks = subst (λ (calls : List SessionCall). Speak w read a.session (calls_in hands.event ++ calls) a.wire b.wire)
+      goes = goes_on read (worker_in a) middle (worker_in b) (hands.event ∷ []) (calling hands.calls) first
+          (goes_calls read middle (worker_in b) hands.calls later hands.no_leg refl seat);
+      speaks = subst (λ (calls : List SessionCall). SpeaksOn w read (linked_in a) (calls_in hands.event ++ calls) (linked_in b))
           (sym (calling-calls hands.calls)) hands.speaks;
     }
 
 -- a leg that was taken, if one was, and what the session did with it
-pub does_sent : (w : Writers) (read : Readers) (a b d : WorkerParts) (next : Option PlacedLeg) → a.session.phase ≡ Up
-    → MatchOption next (b.took ≡ a.took) (λ leg. b.took ≡ with_taken a.took leg) → b.session ≡ a.session
-    → b.seat_parts ≡ a.seat_parts → b.wire ≡ a.wire
-    → MatchOption next (linked_of d.session d.wire ≡ linked_of b.session b.wire)
-    (λ leg. Hands w read leg (linked_of b.session b.wire) (linked_of d.session d.wire)) → d.took ≡ b.took
+pub does_sent : (w : Writers) (read : Readers) (a b d : PostParts) (next : Option PlacedLeg) → a.session.phase ≡ Up
+    → MatchOption next (b.took ≡ a.took) (λ leg. b.took ≡ with_taken a.took leg) → b.seat_parts ≡ a.seat_parts
+    → linked_in b ≡ linked_in a
+    → MatchOption next (linked_in d ≡ linked_in b) (λ leg. Hands w read leg (linked_in b) (linked_in d)) → d.took ≡ b.took
     → d.seat_parts ≡ b.seat_parts → Does w read a d
-does_sent w read a b d None up took session parts wire sent same seat =
-    does_same w read a d (ap (λ (x : LinkedParts). x.session) sent ∙ session) (same ∙ took) (seat ∙ parts)
-    (stays_same a.wire d.wire (ap (λ (x : LinkedParts). x.wire) sent ∙ wire))
-does_sent w read a b d (Some leg) up took session parts wire sent same seat =
-    does_hands w read a d leg
-    (subst (λ (from : Wire). Hands w read leg (linked_of a.session from) (linked_of d.session d.wire)) wire
-    (subst (λ (s : SessionParts). Hands w read leg (linked_of s b.wire) (linked_of d.session d.wire)) session sent)) up
-    (same ∙ took) (seat ∙ parts)
+does_sent w read a b d None up took parts linked sent same seat =
+    let all : linked_in d ≡ linked_in a = sent ∙ linked in
+    does_same w read a d (ap (λ (x : LinkedParts). x.session) all) (same ∙ took) (seat ∙ parts)
+    (stays_same a.wire d.wire (ap (λ (x : LinkedParts). x.wire) all)) (ap (λ (x : LinkedParts). x.stream) all)
+does_sent w read a b d (Some leg) up took parts linked sent same seat =
+    does_hands w read a d leg (subst (λ (x : LinkedParts). Hands w read leg x (linked_in d)) linked sent) up (same ∙ took)
+    (seat ∙ parts)
 
 -- a session that a turn left closed, and one that is abandoned
 pub closed_in : (phase : Phase) → reason_of phase ≡ reason.Closed → phase ≡ Closed
@@ -374,19 +379,19 @@ finish_abandoned read a b session took seat e =
 pub abandoned_closed : (s t : SessionParts) → t ≡ abandon s → t.phase ≡ Closed
 abandoned_closed s t e = ap (λ (u : SessionParts). u.phase) e
 
-speak_abandon : (w : Writers) (read : Readers) (s : SessionParts) (a b : Wire) → b ≡ a
-    → Speak w read s (call.Abandon ∷ []) a b
-speak_abandon w read s a b same =
-    speak_silent w read s call.Abandon [] a b b (stays_same a b same) refl
-    (speak_none w read (abandon s) b b (stays_here b))
+speak_abandon : (w : Writers) (read : Readers) (s : SessionParts) (said : Said) (a b : Wire) → b ≡ a
+    → Speak w read s said (call.Abandon ∷ []) a b
+speak_abandon w read s said a b same =
+    speak_silent w read s said call.Abandon [] a b b tt (stays_same a b same) refl
+    (speak_none w read (abandon s) said b b (stays_here b))
 
 -- what is done last goes over no link
-pub speak_last : (w : Writers) (read : Readers) (s : SessionParts) (phase : Phase) (a b : Wire) → b ≡ a
-    → Speak w read s (calls_of (last_calls phase)) a b
-speak_last w read s Closed a b same = speak_none w read s a b (stays_same a b same)
-speak_last w read s Down a b same = speak_abandon w read s a b same
-speak_last w read s LoggingOn a b same = speak_abandon w read s a b same
-speak_last w read s Settling a b same = speak_abandon w read s a b same
-speak_last w read s Up a b same = speak_abandon w read s a b same
-speak_last w read s Closing a b same = speak_abandon w read s a b same
-speak_last w read s LoggedOut a b same = speak_abandon w read s a b same
+pub speak_last : (w : Writers) (read : Readers) (s : SessionParts) (said : Said) (phase : Phase) (a b : Wire) → b ≡ a
+    → Speak w read s said (calls_of (last_calls phase)) a b
+speak_last w read s said Closed a b same = speak_none w read s said a b (stays_same a b same)
+speak_last w read s said Down a b same = speak_abandon w read s said a b same
+speak_last w read s said LoggingOn a b same = speak_abandon w read s said a b same
+speak_last w read s said Settling a b same = speak_abandon w read s said a b same
+speak_last w read s said Up a b same = speak_abandon w read s said a b same
+speak_last w read s said Closing a b same = speak_abandon w read s said a b same
+speak_last w read s said LoggedOut a b same = speak_abandon w read s said a b same

@@ -1,7 +1,9 @@
+pub mod Hearing
+pub mod Spoken
+pub mod Speech
+pub mod Connected
 pub mod Calling
+pub mod Carrying
 pub mod Doing
 pub mod Shares
 pub mod Ran
-pub mod Spoken
-pub mod Speech
-pub mod Carrying

@@ -17,6 +17,7 @@ use Rattle.session_core.specs.declared.session_call.SessionCall.TheVariants as c
 use Rattle.session_core.specs.Session.{SessionParts}
 use Rattle.session_core.specs.Turn.{StepParts}
 use Rattle.session_core.specs.Trial.{called, after_calls}
+use Rattle.session_worker.specs.Hearing.{Said, said_with, said_after, Hears}
 use Rattle.session_worker.specs.Speaking.{Wire, joined, Reads, TakesFirst, IsGivenUp, Puts, Begins, messages_in, Speaks, Speak}
 use Rattle.session_worker.specs.Linking.{IsPlain}
 use Rattle.session_worker.proofs.Spoken.{stays_last, stays_here}
@@ -105,11 +106,12 @@ puts_more : (bytes : List ℕ) (first more : List SessionCall) (a b : Wire) → 
 puts_more bytes first more a b (inl all) = inl all
 puts_more bytes first more a b (inr part) = inr (given_up_more first more part.0, part.1)
 
-speaks_more : (w : Writers) (read : Readers) (s : SessionParts) (made : SessionCall) (first more : List SessionCall) (a b : Wire)
-    → Speaks w read s made first a b → Speaks w read s made (first ++ more) a b
-speaks_more w read s made first more a b one = record {
+speaks_more : (w : Writers) (read : Readers) (s : SessionParts) (said : Said) (made : SessionCall) (first more : List SessionCall)
+    (a b : Wire) → Speaks w read s said made first a b → Speaks w read s said made (first ++ more) a b
+speaks_more w read s said made first more a b one = record {
   heard = one.heard;
   reads = one.reads;
+  hears = one.hears;
   ready = one.ready;
   begins = one.begins;
   stamp = one.stamp;
@@ -119,11 +121,12 @@ speaks_more w read s made first more a b one = record {
 }
 
 -- bytes that were read before
-speaks_read : (w : Writers) (read : Readers) (s : SessionParts) (made : SessionCall) (later : List SessionCall) (a b c : Wire)
-    → Reads a b → Speaks w read s made later b c → Speaks w read s made later a c
-speaks_read w read s made later a b c reads one = record {
+speaks_read : (w : Writers) (read : Readers) (s : SessionParts) (said : Said) (made : SessionCall) (later : List SessionCall)
+    (a b c : Wire) → Reads a b → Speaks w read s said made later b c → Speaks w read s said made later a c
+speaks_read w read s said made later a b c reads one = record {
   heard = one.heard;
   reads = reads_on a b one.heard reads one.reads;
+  hears = one.hears;
   ready = one.ready;
   begins = one.begins;
   stamp = one.stamp;
@@ -132,36 +135,39 @@ speaks_read w read s made later a b c reads one = record {
   puts = one.puts;
 }
 
-pub speak_read : (w : Writers) (read : Readers) (s : SessionParts) (calls : List SessionCall) (a b c : Wire) → Reads a b
-    → Speak w read s calls b c → Speak w read s calls a c
-speak_read w read s [] a b c reads rest = reads_on a b c reads rest
-speak_read w read s (made ∷ later) a b c reads rest =
-    (rest.0, speaks_read w read s made later a b rest.0 reads rest.1, rest.2)
+pub speak_read : (w : Writers) (read : Readers) (s : SessionParts) (said : Said) (calls : List SessionCall) (a b c : Wire)
+    → Reads a b → Speak w read s said calls b c → Speak w read s said calls a c
+speak_read w read s said [] a b c reads rest = reads_on a b c reads rest
+speak_read w read s said (made ∷ later) a b c reads rest =
+    (rest.0, speaks_read w read s said made later a b rest.0 reads rest.1, rest.2)
 
 -- calls and then others
-pub speak_on : (w : Writers) (read : Readers) (s : SessionParts) (first more : List SessionCall) (a b c : Wire)
-    → Speak w read s first a b → Speak w read (after_calls read s first) more b c → Speak w read s (first ++ more) a c
-speak_on w read s [] more a b c one next = speak_read w read s more a b c one next
-speak_on w read s (made ∷ first) more a b c one next = (
+pub speak_on : (w : Writers) (read : Readers) (s : SessionParts) (said : Said) (first more : List SessionCall) (a b c : Wire)
+    → Speak w read s said first a b → Speak w read (after_calls read s first) (said_after said first) more b c
+    → Speak w read s said (first ++ more) a c
+speak_on w read s said [] more a b c one next = speak_read w read s said more a b c one next
+speak_on w read s said (made ∷ first) more a b c one next = (
   one.0,
-  speaks_more w read s made first more a one.0 one.1,
-  speak_on w read (called read s made).1 first more one.0 b c one.2 next,
+  speaks_more w read s said made first more a one.0 one.1,
+  speak_on w read (called read s made).1 (said_with said made) first more one.0 b c one.2 next,
 )
 
 -- no call
-pub speak_none : (w : Writers) (read : Readers) (s : SessionParts) (a b : Wire) → Tells a b Stays → Speak w read s [] a b
-speak_none w read s a b stays = reads_none a b stays
+pub speak_none : (w : Writers) (read : Readers) (s : SessionParts) (said : Said) (a b : Wire) → Tells a b Stays
+    → Speak w read s said [] a b
+speak_none w read s said a b stays = reads_none a b stays
 
 -- one call, whose messages were written with a stamp
-pub speak_made : (w : Writers) (read : Readers) (s : SessionParts) (made : SessionCall) (later : List SessionCall)
-    (stamp : StampParts) (frames : List (List ℕ)) (a b c d : Wire) → Begins s made a b
+pub speak_made : (w : Writers) (read : Readers) (s : SessionParts) (said : Said) (made : SessionCall) (later : List SessionCall)
+    (stamp : StampParts) (frames : List (List ℕ)) (a b c d : Wire) → Hears said made a → Begins s made a b
     → AreFramed w stamp (map alone (messages_in (called read s made).0)) frames → Puts (joined frames) later b c
-    → Speak w read (called read s made).1 later c d → Speak w read s (made ∷ later) a d
-speak_made w read s made later stamp frames a b c d begins framed puts rest = (
+    → Speak w read (called read s made).1 (said_with said made) later c d → Speak w read s said (made ∷ later) a d
+speak_made w read s said made later stamp frames a b c d hears begins framed puts rest = (
   c,
   record {
     heard = a;
     reads = reads_none a a (stays_here a);
+    hears = hears;
     ready = b;
     begins = begins;
     stamp = stamp;
@@ -176,11 +182,11 @@ abbrev no_stamp : StampParts
 no_stamp = record { year = 0; month = 0; day = 0; hour = 0; minute = 0; second = 0; milli = 0 }
 
 -- one call, which has no message
-pub speak_silent : (w : Writers) (read : Readers) (s : SessionParts) (made : SessionCall) (later : List SessionCall)
-    (a b c : Wire) → Begins s made a b → messages_in (called read s made).0 ≡ [] → Speak w read (called read s made).1 later b c
-    → Speak w read s (made ∷ later) a c
-speak_silent w read s made later a b c begins none rest =
-    speak_made w read s made later no_stamp [] a b b c begins
+pub speak_silent : (w : Writers) (read : Readers) (s : SessionParts) (said : Said) (made : SessionCall) (later : List SessionCall)
+    (a b c : Wire) → Hears said made a → Begins s made a b → messages_in (called read s made).0 ≡ []
+    → Speak w read (called read s made).1 (said_with said made) later b c → Speak w read s said (made ∷ later) a c
+speak_silent w read s said made later a b c hears begins none rest =
+    speak_made w read s said made later no_stamp [] a b b c hears begins
     (subst (λ (messages : List Message). AreFramed w no_stamp (map alone messages) []) (sym none) tt)
     (inl (takes_none b b (stays_here b))) rest
 
@@ -201,7 +207,8 @@ pub joined_one : (frame : List ℕ) → joined (frame ∷ []) ≡ frame
 joined_one frame = append-nil frame
 
 -- the connection is given up
-pub speak_broken : (w : Writers) (read : Readers) (s : SessionParts) (a b : Wire) → Tells a b Stays
-    → Speak w read s (call.Broken ∷ []) a b
-speak_broken w read s a b stays =
-    speak_silent w read s call.Broken [] a b b (inl stays) refl (speak_none w read (called read s call.Broken).1 b b (stays_here b))
+pub speak_broken : (w : Writers) (read : Readers) (s : SessionParts) (said : Said) (a b : Wire) → Tells a b Stays
+    → Speak w read s said (call.Broken ∷ []) a b
+speak_broken w read s said a b stays =
+    speak_silent w read s said call.Broken [] a b b tt (inl stays) refl
+    (speak_none w read (called read s call.Broken).1 said b b (stays_here b))

@@ -3,6 +3,7 @@ use Rattle.std.proofs.Common.{◌≡◌, ℕ, suc, ◌+◌, ◌<◌, ◌≤◌, 
 use Rattle.std.specs.Global.{Vec}
 use Rattle.std.proofs.lemmas.List.{append-nil, map-append, take_all, take_more, take-append-drop}
 use Rattle.std.proofs.Math.Seq.{drop-cons}
+use Rattle.fix_text.specs.Reading.{Stream}
 use Rattle.link.specs.Traffic.{Traffic, Tells, Takes, TakesPart, Stays}
 use Rattle.link.proofs.Taking.{tells_more}
 use Rattle.session_core.specs.Session.{SessionParts}
@@ -47,8 +48,8 @@ part_more xs ys zs (Some u) (Some v) (Some w) p q =
 
 -- bytes were written, or the first of them
 pub writes_part : (bytes : List ℕ) (s t : SessionParts) (a b c : Wire) → Tells a b (TakesPart bytes) → t ≡ broken s
-    → Tells b c Stays → Writes bytes (linked_of s a) (linked_of t c)
-writes_part bytes s t a b c part gone stays = inr (gone, stays_last (TakesPart bytes) a b c part stays)
+    → Tells b c Stays → (x y : Stream) → Writes bytes (linked_of s a x) (linked_of t c y)
+writes_part bytes s t a b c part gone stays x y = inr (gone, stays_last (TakesPart bytes) a b c part stays)
 
 pub writes_breaks : (bytes : List ℕ) (x y : LinkedParts) → Writes bytes x y → MayBreak x.session y.session
 writes_breaks bytes x y (inl all) = inl all.0

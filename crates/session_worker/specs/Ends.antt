@@ -1,10 +1,11 @@
 -- How a worker ends.
-use Rattle.std.specs.Prelude.{◌≡◌, List, [], ◌∷◌, ◌++◌, map}
+use Rattle.std.specs.Prelude.{◌≡◌, false, List, [], ◌∷◌, ◌++◌, map}
 use Rattle.leg.specs.declared.placed_leg.PlacedLeg.{PlacedLeg}
 use Rattle.dialect.specs.Framed.{Writers}
 use Rattle.dialect.specs.Message.{Readers}
 use Rattle.session_core.specs.declared.phase.Phase.{Phase}
 use Rattle.session_core.specs.declared.phase.Phase.TheVariants.{Closed}
+use Rattle.session_core.specs.Session.{is_connected}
 use Rattle.session_core.specs.declared.session_call.SessionCall.TheVariants as call
 use Rattle.session_worker.specs.declared.end_reason.EndReason.{EndReason}
 use Rattle.session_worker.specs.declared.end_reason.EndReason.TheVariants as reason
@@ -23,7 +24,8 @@ last_calls Closed = []
 last_calls _ = Calls call.Abandon ∷ []
 
 -- a worker before its turns and after them, and why it ended: after the last turn its session was as the reason says,
--- and all that it took then was dropped. Over its link went what the calls of all these events say
+-- and all that it took then was dropped. Over its link, where it began with no connection, went what the calls of all
+-- these events say
 pub record Runs (w : Writers) (read : Readers) (before after : WorkerParts) (why : EndReason) : Type 0 where
   pub turns : List WorkerEvent
   pub at : WorkerParts
@@ -32,7 +34,8 @@ pub record Runs (w : Writers) (read : Readers) (before after : WorkerParts) (why
   pub dropped : List PlacedLeg
   pub last : Goes read at (last_calls at.session.phase ++ map (λ leg. Drops leg) dropped) after
   pub over : after.session.phase ≡ Closed
-  pub bytes : Speak w read before.session (calls_of (turns ++ last_calls at.session.phase)) before.wire after.wire
+  pub bytes : is_connected before.session.phase ≡ false
+      → Speak w read before.session [] (calls_of (turns ++ last_calls at.session.phase)) before.wire after.wire
 
 -- a worker with the way in which its dialect is read
 pub record WorkerStart : Type 0 where
@@ -45,7 +48,8 @@ pub record WorkerLeft : Type 0 where
   pub reason : EndReason
 
 -- each worker ran, and left this, in order: each with the way in which its dialect is written, and as it was
-abbrev pub AllRan : {Worker : Type 0} → (Worker → Writers) → (Worker → WorkerStart) → List Worker → List WorkerLeft → Type 0
+abbrev pub AllRan : {Worker : Type 0} → (Worker → Writers) → (Worker → WorkerStart) → List Worker → List WorkerLeft
+    → Type 0
 AllRan writes start [] [] = Unit {0}
 AllRan writes start [] (left ∷ ends) = ⊥
 AllRan writes start (worker ∷ workers) [] = ⊥

@@ -1,7 +1,6 @@
 -- What a venue's worker does: the calls of its session, and what becomes of the legs that it takes from its ring.
 use Rattle.std.specs.Prelude.{◌≡◌, ℕ, false, List, [], ◌∷◌, ◌++◌}
 use Rattle.leg.specs.declared.placed_leg.PlacedLeg.{PlacedLeg}
-use Rattle.dialect.specs.Framed.{Writers}
 use Rattle.dialect.specs.Message.{Readers}
 use Rattle.session_core.specs.declared.phase.Phase.TheVariants.{Up}
 use Rattle.session_core.specs.declared.session_call.SessionCall.{SessionCall}
@@ -10,7 +9,7 @@ use Rattle.session_core.specs.Session.{SessionParts, may_write}
 use Rattle.session_core.specs.Trial.{after_calls}
 use Rattle.release_lock.specs.Queues.{Took}
 use Rattle.exec_collector.specs.Seats.{Seat}
-use Rattle.session_worker.specs.Speaking.{Wire, Speak}
+use Rattle.session_worker.specs.Speaking.{Wire}
 
 -- what a worker does. A leg that fails was handed to the session, which wanted memory for it, and the connection was then
 -- broken; one that drops wasn't handed to it at all
@@ -85,18 +84,3 @@ pub record Goes (read : Readers) (before : WorkerParts) (events : List WorkerEve
   pub allowed : AreAllowed read before.session events
   pub venue : after.took.venue ≡ before.took.venue
   pub seat : after.seat_parts ≡ before.seat_parts
-
--- a worker before and after some events, and what went over its link meanwhile
-pub record Does (w : Writers) (read : Readers) (before after : WorkerParts) : Type 0 where
-  pub events : List WorkerEvent
-  pub goes : Goes read before events after
-  pub speaks : Speak w read before.session (calls_of events) before.wire after.wire
-
--- a worker before and after it dropped some legs
-pub record Drains (before after : WorkerParts) : Type 0 where
-  pub legs : List PlacedLeg
-  pub session : after.session ≡ before.session
-  pub taken : after.took.taken ≡ before.took.taken ++ legs
-  pub venue : after.took.venue ≡ before.took.venue
-  pub seat : after.seat_parts ≡ before.seat_parts
-  pub wire : after.wire ≡ before.wire

@@ -1,4 +1,5 @@
 pub mod Taking
+pub mod Hearing
 pub mod Speaking
 pub mod Events
 pub mod Linking

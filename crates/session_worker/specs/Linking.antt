@@ -1,32 +1,50 @@
 -- What a worker does at its link in one step of a turn.
-use Rattle.std.specs.Prelude.{◌≡◌, ◌⊎◌, ℕ, List, [], ◌++◌, Option, Some}
-use Rattle.leg.specs.declared.placed_leg.PlacedLeg.{PlacedLeg}
+use Rattle.std.specs.Prelude.{◌≡◌, ◌⊎◌, ℕ, true, List, [], ◌++◌, Option, Some, None, Ok, Err}
+use Rattle.fix_text.specs.Tagged.{Tagged}
+use Rattle.fix_text.specs.Reading.{Stream, next_read, fed}
+use Rattle.fix_tags.specs.Reading.{envelope_read}
 use Rattle.fix_tags.specs.Stamp.{StampParts}
+use Rattle.fix_tags.specs.declared.envelope.Envelope.{Envelope}
+use Rattle.fix_tags.specs.declared.tag_fault.TagFault.{TagFault}
+use Rattle.leg.specs.declared.placed_leg.PlacedLeg.{PlacedLeg}
 use Rattle.dialect.specs.Framed.{Writers}
 use Rattle.dialect.specs.Message.{Readers}
 use Rattle.link.specs.Traffic.{Tells, Takes, TakesPart, Stays}
 use Rattle.session_core.specs.declared.session_call.SessionCall.{SessionCall}
 use Rattle.session_core.specs.declared.session_call.SessionCall.TheVariants as call
 use Rattle.session_core.specs.declared.step.Step.{Step}
-use Rattle.session_core.specs.Session.{SessionParts}
+use Rattle.session_core.specs.Session.{SessionParts, is_connected}
 use Rattle.session_core.specs.Turn.{StepParts}
 use Rattle.session_core.specs.Receiving.{confirm}
 use Rattle.session_core.specs.Calling.{broken, malformed}
 use Rattle.session_core.specs.Trial.{called, after_calls}
 use Rattle.session_core.specs.Given.{IsStep}
+use Rattle.release_lock.specs.Queues.{Took}
+use Rattle.exec_collector.specs.Seats.{Seat}
 use Rattle.session_worker.specs.declared.reading.Heard.{Heard}
 use Rattle.session_worker.specs.declared.reading.Heard.TheVariants as heard
-use Rattle.session_worker.specs.Events.{WorkerEvent, WorkerParts, calls_in, legs_in}
-use Rattle.session_worker.specs.Events.WorkerEvent.{Calls, Fails}
+use Rattle.session_worker.specs.Hearing.{Said, said_with, said_after, Hears, ReaderOn}
 use Rattle.session_worker.specs.Speaking.{Wire, Speak, TakesFirst}
+use Rattle.session_worker.specs.Events.{WorkerEvent, WorkerParts, calls_in, calls_of, legs_in, Goes}
+use Rattle.session_worker.specs.Events.WorkerEvent.{Calls, Fails}
 
--- a session, and what its link tells
+-- a session, what its link tells, and what its reader has
 pub record LinkedParts : Type 0 where
   pub session : SessionParts
   pub wire : Wire
+  pub stream : Stream
 
-abbrev pub linked_of : SessionParts → Wire → LinkedParts
-linked_of session wire = record { session = session; wire = wire }
+abbrev pub linked_of : SessionParts → Wire → Stream → LinkedParts
+linked_of session wire stream = record { session = session; wire = wire; stream = stream }
+
+-- while there is a connection the reader was fed all bytes read on it, and gave frames that say this
+abbrev pub IsHearing : Said → LinkedParts → Type 0
+IsHearing said x = is_connected x.session.phase ≡ true → ReaderOn said x.wire x.stream
+
+-- the calls of the session say what went over the link
+abbrev pub SpeaksOn : Writers → Readers → LinkedParts → List SessionCall → LinkedParts → Type 0
+SpeaksOn w read before calls after = (said : Said) → IsHearing said before
+    → Speak w read before.session said calls before.wire after.wire × IsHearing (said_after said calls) after
 
 -- a session as it was, or with its connection given up
 abbrev pub MayBreak : SessionParts → SessionParts → Type 0
@@ -35,6 +53,12 @@ MayBreak before after = (after ≡ before) ⊎ (after ≡ broken before)
 -- a session as it was, or with its pending note confirmed
 abbrev pub MayConfirm : SessionParts → SessionParts → Type 0
 MayConfirm before after = (after ≡ before) ⊎ (after ≡ confirm before)
+
+-- these bytes were handed to the reader; or the connection was given up
+abbrev pub TakesIn : List ℕ → LinkedParts → LinkedParts → Type 0
+TakesIn bytes before after =
+    ((after.session ≡ before.session) × (after.stream ≡ fed before.stream bytes))
+    ⊎ (after.session ≡ broken before.session)
 
 -- these bytes were written; or the first of them, and the connection was given up
 abbrev pub Writes : List ℕ → LinkedParts → LinkedParts → Type 0
@@ -47,7 +71,7 @@ pub record Moves (w : Writers) (read : Readers) (before after : LinkedParts) : T
   pub calls : List SessionCall
   pub session : after.session ≡ after_calls read before.session calls
   pub no_leg : legs_in calls ≡ []
-  pub speaks : Speak w read before.session calls before.wire after.wire
+  pub speaks : SpeaksOn w read before calls after
 
 -- the session was to send a leg: that call and others, or the leg failed
 pub record Hands (w : Writers) (read : Readers) (leg : PlacedLeg) (before after : LinkedParts) : Type 0 where
@@ -56,7 +80,7 @@ pub record Hands (w : Writers) (read : Readers) (leg : PlacedLeg) (before after 
   pub calls : List SessionCall
   pub session : after.session ≡ after_calls read before.session (calls_in event ++ calls)
   pub no_leg : legs_in calls ≡ []
-  pub speaks : Speak w read before.session (calls_in event ++ calls) before.wire after.wire
+  pub speaks : SpeaksOn w read before (calls_in event ++ calls) after
 
 -- a call that neither dials nor sends a leg
 abbrev pub IsPlain : SessionCall → Type 0
@@ -66,32 +90,86 @@ IsPlain (call.SendLeg ordinal leg) = ⊥
 IsPlain _ = Unit {0}
 
 -- such a call gave a step
-pub record Gave (w : Writers) (read : Readers) (before : SessionParts) (step : Step) (after : SessionParts) : Type 0 where
-  pub made : SessionCall
+pub record Gave (w : Writers) (read : Readers) (made : SessionCall) (before : SessionParts) (step : Step)
+    (after : SessionParts) : Type 0 where
   pub plain : IsPlain made
   pub said : StepParts
   pub adds : called read before made ≡ (Some said, after)
   pub stamp : StampParts
   pub is_step : IsStep w stamp said step
 
--- it did, and what the step wants isn't done yet
+-- one did, and what the step wants isn't done yet
 pub record Asks (w : Writers) (read : Readers) (before : LinkedParts) (step : Step) (after : LinkedParts) : Type 0 where
-  pub gave : Gave w read before.session step after.session
+  pub made : SessionCall
+  pub gave : Gave w read made before.session step after.session
   pub wire : Tells before.wire after.wire Stays
+  pub hears : (said : Said) → IsHearing said before
+      → Hears said made before.wire × IsHearing (said_with said made) after
+
+-- the next message was received, and this was what its frame said
+pub record Receives (w : Writers) (read : Readers) (before : SessionParts) (stream : Stream) (step : Step)
+    (after : SessionParts) : Type 0 where
+  pub fields : List Tagged
+  pub envelope : Envelope
+  pub next : (next_read stream).frame ≡ Some fields
+  pub says : envelope_read fields ≡ Ok envelope
+  pub gave : Gave w read (call.Receive envelope) before step after
 
 -- what came of the next message
-abbrev pub Hears : Writers → Readers → SessionParts → Heard → SessionParts → Type 0
-Hears w read before heard.Nothing after = after ≡ before
-Hears w read before (heard.Step step) after = Gave w read before step after
-Hears w read before heard.Malformed after = after ≡ (malformed before).1
-Hears w read before heard.OutOfMemory after = after ≡ before
+abbrev pub HeardGives : Writers → Readers → SessionParts → Stream → Heard → SessionParts → Type 0
+HeardGives w read before stream heard.Nothing after = (after ≡ before) × ((next_read stream).frame ≡ None)
+HeardGives w read before stream (heard.Step step) after = Receives w read before stream step after
+HeardGives w read before stream heard.Malformed after =
+    (fields : List Tagged) × (fault : TagFault) × ((next_read stream).frame ≡ Some fields)
+    × (envelope_read fields ≡ Err fault) × (after ≡ (malformed before).1)
+HeardGives w read before stream heard.OutOfMemory after = after ≡ before
 
--- what a step wanted was done: its note, if it had one, was confirmed, and its frames were written; or the first bytes of
--- them, and the connection was given up
-pub record CarriesOut (bytes : List ℕ) (before after : WorkerParts) : Type 0 where
+-- the reader then stands behind it, unless memory was wanted
+abbrev pub StandsBehind : Heard → Stream → Stream → Type 0
+StandsBehind heard.OutOfMemory before after = Unit {0}
+StandsBehind _ before after = after ≡ (next_read before).stream
+
+-- a worker in the middle of a turn: as it is seen from outside, and what its reader has
+pub record PostParts : Type 0 where
+  pub session : SessionParts
+  pub took : Took
+  pub seat_parts : ℕ
+  pub wire : Wire
+  pub stream : Stream
+
+abbrev pub post_of : SessionParts → Took → Seat → Wire → Stream → PostParts
+post_of session took seat wire stream =
+    record { session = session; took = took; seat_parts = seat.parts; wire = wire; stream = stream }
+
+abbrev pub worker_in : PostParts → WorkerParts
+worker_in p = record { session = p.session; took = p.took; seat_parts = p.seat_parts; wire = p.wire }
+
+abbrev pub linked_in : PostParts → LinkedParts
+linked_in p = linked_of p.session p.wire p.stream
+
+-- a worker before and after some events, and what went over its link meanwhile
+pub record Does (w : Writers) (read : Readers) (before after : PostParts) : Type 0 where
+  pub events : List WorkerEvent
+  pub goes : Goes read (worker_in before) events (worker_in after)
+  pub speaks : SpeaksOn w read (linked_in before) (calls_of events) (linked_in after)
+
+-- a worker before and after it dropped some legs
+pub record Drains (before after : PostParts) : Type 0 where
+  pub legs : List PlacedLeg
+  pub session : after.session ≡ before.session
+  pub taken : after.took.taken ≡ before.took.taken ++ legs
+  pub venue : after.took.venue ≡ before.took.venue
+  pub seat : after.seat_parts ≡ before.seat_parts
+  pub wire : after.wire ≡ before.wire
+  pub stream : after.stream ≡ before.stream
+
+-- what a step wanted was done: its note, if it had one, was confirmed, and its frames were written; or the first bytes
+-- of them, and the connection was given up
+pub record CarriesOut (bytes : List ℕ) (before after : PostParts) : Type 0 where
   pub noted : SessionParts
   pub notes : MayConfirm before.session noted
   pub writes : ((after.session ≡ noted) × Tells before.wire after.wire (Takes bytes))
       ⊎ ((after.session ≡ broken noted) × Tells before.wire after.wire (TakesFirst bytes))
   pub took : after.took ≡ before.took
   pub seat : after.seat_parts ≡ before.seat_parts
+  pub stream : after.stream ≡ before.stream

@@ -13,6 +13,7 @@ use Rattle.session_core.specs.declared.session_call.SessionCall.TheVariants as c
 use Rattle.session_core.specs.Session.{SessionParts}
 use Rattle.session_core.specs.Turn.{StepParts}
 use Rattle.session_core.specs.Trial.{called}
+use Rattle.session_worker.specs.Hearing.{Said, said_with, Hears}
 
 -- what a link tells
 abbrev pub Wire : Type 0
@@ -42,8 +43,8 @@ abbrev pub Puts : List ℕ → List SessionCall → Wire → Wire → Type 0
 Puts bytes later wire after =
     Tells wire after (Takes bytes) ⊎ (IsGivenUp later × Tells wire after (TakesFirst bytes))
 
--- a connection is dialled for each Connect, and just before it; and for a session that is down and was to connect, where
--- that wanted memory. Nothing else is dialled
+-- a connection is dialled for each Connect, and just before it; and for a session that is down and was to connect,
+-- where that wanted memory. Nothing else is dialled
 abbrev pub Begins : SessionParts → SessionCall → Wire → Wire → Type 0
 Begins s call.Connect wire after = Tells wire after Dials
 Begins s call.Broken wire after = Tells wire after Stays ⊎ ((s.phase ≡ Down) × Tells wire after Dials)
@@ -54,12 +55,13 @@ abbrev pub messages_in : Option StepParts → List Message
 messages_in None = []
 messages_in (Some step) = step.written
 
--- one call, before others: bytes may be read until it is made, and then its frames are written, one behind the other, all
--- with one stamp
-pub record Speaks (w : Writers) (read : Readers) (s : SessionParts) (made : SessionCall) (later : List SessionCall)
-    (wire after : Wire) : Type 0 where
+-- one call, before others: bytes may be read until it is made; a message that is received is the next one of them; and
+-- then the call's frames are written, one behind the other, all with one stamp
+pub record Speaks (w : Writers) (read : Readers) (s : SessionParts) (said : Said) (made : SessionCall)
+    (later : List SessionCall) (wire after : Wire) : Type 0 where
   pub heard : Wire
   pub reads : Reads wire heard
+  pub hears : Hears said made heard
   pub ready : Wire
   pub begins : Begins s made heard ready
   pub stamp : StampParts
@@ -67,8 +69,9 @@ pub record Speaks (w : Writers) (read : Readers) (s : SessionParts) (made : Sess
   pub framed : AreFramed w stamp (map alone (messages_in (called read s made).0)) frames
   pub puts : Puts (joined frames) later ready after
 
--- calls one after the other
-abbrev pub Speak : Writers → Readers → SessionParts → List SessionCall → Wire → Wire → Type 0
-Speak w read s [] wire after = Reads wire after
-Speak w read s (made ∷ later) wire after =
-    (between : Wire) × Speaks w read s made later wire between × Speak w read (called read s made).1 later between after
+-- calls one after the other, where the frames of the present connection said this before them
+abbrev pub Speak : Writers → Readers → SessionParts → Said → List SessionCall → Wire → Wire → Type 0
+Speak w read s said [] wire after = Reads wire after
+Speak w read s said (made ∷ later) wire after =
+    (between : Wire) × Speaks w read s said made later wire between
+    × Speak w read (called read s made).1 (said_with said made) later between after

@@ -4,9 +4,11 @@ ghost use Rattle.std.specs.Prelude.{◌≡◌, false, MatchOption};
 ghost use Rattle.session_core.specs.Session.{new_session, is_connected, has_doubt};
 ghost use Rattle.session_core.specs.Receiving.{confirm};
 ghost use Rattle.session_core.specs.Calling.{broken, abandon};
+ghost use Rattle.fix_text.specs.Reading.{Stream};
 ghost use Rattle.link.specs.Traffic.{Tells, Dials, Stays};
 ghost use Rattle.session_worker.specs.Speaking.{Wire, joined, Reads};
-ghost use Rattle.session_worker.specs.Linking.{linked_of, MayBreak, Writes, Moves, Hands, Asks};
+ghost use Rattle.session_worker.specs.Hearing.{Said};
+ghost use Rattle.session_worker.specs.Linking.{linked_of, IsHearing, MayBreak, TakesIn, Writes, Moves, Hands, Asks};
 ghost use Rattle.session_worker.specs.Events.{IsIdle};
 
 use crate::Pace;
@@ -94,6 +96,7 @@ impl<K: Link, C: Clock + Drop> Linked<K, C> {
     pub(crate) fn confirm(&mut self)
         ensures session { self.new.session ≡ confirm self.old.session }
         ensures wire { K.wire self.new.link ≡ K.wire self.old.link }
+        ensures reader { self.new.reader ≡ self.old.reader }
     {
         self.session.confirm();
     }
@@ -110,6 +113,7 @@ impl<K: Link, C: Clock + Drop> Linked<K, C> {
     pub(crate) fn break_off(&mut self)
         ensures session { self.new.session ≡ broken self.old.session }
         ensures wire { Tells (K.wire self.old.link) (K.wire self.new.link) Stays }
+        ensures reader { self.new.reader ≡ self.old.reader }
     {
         self.session.broken();
         let _ = self.link.shut();
@@ -119,13 +123,15 @@ impl<K: Link, C: Clock + Drop> Linked<K, C> {
     pub(crate) fn hang_up(&mut self)
         ensures session { self.new.session ≡ self.old.session }
         ensures wire { Tells (K.wire self.old.link) (K.wire self.new.link) Stays }
+        ensures reader { self.new.reader ≡ self.old.reader }
     {
         let _ = self.link.shut();
     }
 
     /// Writes a frame. Where that fails the connection is given up.
     fn write(&mut self, frame: &[u8])
-        ensures { Writes frame.now (linked_of self.old.session (K.wire self.old.link)) (linked_of self.new.session (K.wire self.new.link)) }
+        ensures wire { Writes frame.now (linked_of self.old.session (K.wire self.old.link) self.old.reader) (linked_of self.new.session (K.wire self.new.link) self.new.reader) }
+        ensures reader { self.new.reader ≡ self.old.reader }
     {
         match write_whole(&mut self.link, frame) {
             Ok(()) => self.unwritten = 0,
@@ -135,7 +141,8 @@ impl<K: Link, C: Clock + Drop> Linked<K, C> {
 
     /// Writes frames, in order, until one fails.
     pub(crate) fn write_all(&mut self, frames: Frames)
-        ensures { Writes (joined frames) (linked_of self.old.session (K.wire self.old.link)) (linked_of self.new.session (K.wire self.new.link)) }
+        ensures wire { Writes (joined frames) (linked_of self.old.session (K.wire self.old.link) self.old.reader) (linked_of self.new.session (K.wire self.new.link) self.new.reader) }
+        ensures reader { self.new.reader ≡ self.old.reader }
     {
         let frames = frames.into_vec();
         for frame in &frames {
@@ -149,7 +156,7 @@ impl<K: Link, C: Clock + Drop> Linked<K, C> {
     /// Dials, and logs on where that succeeds; a failed dial is no fault of the session. It says whether the session may
     /// go on: it may not where no number is left for the Logon.
     pub(crate) fn connect<D: Dialect>(&mut self, dialect: &D) -> bool
-        ensures moves { Moves (record { IsOrder = D.IsOrder dialect.now; IsReport = D.IsReport dialect.now }) (record { order = D.order_read dialect.now; report = D.report_read dialect.now }) (linked_of self.old.session (K.wire self.old.link)) (linked_of self.new.session (K.wire self.new.link)) }
+        ensures moves { Moves (record { IsOrder = D.IsOrder dialect.now; IsReport = D.IsReport dialect.now }) (record { order = D.order_read dialect.now; report = D.report_read dialect.now }) (linked_of self.old.session (K.wire self.old.link) self.old.reader) (linked_of self.new.session (K.wire self.new.link) self.new.reader) }
         ensures spent { result ≡ false → self.new.session ≡ self.old.session }
     {
         match self.link.dial() {
@@ -160,7 +167,7 @@ impl<K: Link, C: Clock + Drop> Linked<K, C> {
 
     /// Logs on over a link that was dialled, and says whether the session may go on.
     fn log_on<D: Dialect>(&mut self, dialect: &D) -> bool
-        ensures moves { (before : Wire) → Tells before (K.wire self.old.link) Dials → Moves (record { IsOrder = D.IsOrder dialect.now; IsReport = D.IsReport dialect.now }) (record { order = D.order_read dialect.now; report = D.report_read dialect.now }) (linked_of self.old.session before) (linked_of self.new.session (K.wire self.new.link)) }
+        ensures moves { (before : Wire) (reader : Stream) → Tells before (K.wire self.old.link) Dials → Moves (record { IsOrder = D.IsOrder dialect.now; IsReport = D.IsReport dialect.now }) (record { order = D.order_read dialect.now; report = D.report_read dialect.now }) (linked_of self.old.session before reader) (linked_of self.new.session (K.wire self.new.link) self.new.reader) }
         ensures spent { result ≡ false → self.new.session ≡ self.old.session }
     {
         self.reader = FrameReader::new(self.alloc);
@@ -186,7 +193,7 @@ impl<K: Link, C: Clock + Drop> Linked<K, C> {
     /// Sends a leg, and says whether the session took it. Where it wanted memory for that, or the order can't be written,
     /// the connection is given up.
     pub(crate) fn send<D: Dialect>(&mut self, dialect: &D, placed: &PlacedLeg) -> bool
-        ensures { Hands (record { IsOrder = D.IsOrder dialect.now; IsReport = D.IsReport dialect.now }) (record { order = D.order_read dialect.now; report = D.report_read dialect.now }) placed.now (linked_of self.old.session (K.wire self.old.link)) (linked_of self.new.session (K.wire self.new.link)) }
+        ensures { Hands (record { IsOrder = D.IsOrder dialect.now; IsReport = D.IsReport dialect.now }) (record { order = D.order_read dialect.now; report = D.report_read dialect.now }) placed.now (linked_of self.old.session (K.wire self.old.link) self.old.reader) (linked_of self.new.session (K.wire self.new.link) self.new.reader) }
     {
         let stamp = self.clock.now();
         match self
@@ -207,7 +214,7 @@ impl<K: Link, C: Clock + Drop> Linked<K, C> {
 
     /// The session is to close, and can send no leg from here on.
     pub(crate) fn close<D: Dialect>(&mut self, dialect: &D)
-        ensures moves { Moves (record { IsOrder = D.IsOrder dialect.now; IsReport = D.IsReport dialect.now }) (record { order = D.order_read dialect.now; report = D.report_read dialect.now }) (linked_of self.old.session (K.wire self.old.link)) (linked_of self.new.session (K.wire self.new.link)) }
+        ensures moves { Moves (record { IsOrder = D.IsOrder dialect.now; IsReport = D.IsReport dialect.now }) (record { order = D.order_read dialect.now; report = D.report_read dialect.now }) (linked_of self.old.session (K.wire self.old.link) self.old.reader) (linked_of self.new.session (K.wire self.new.link) self.new.reader) }
         ensures idle { IsIdle self.new.session }
     {
         let stamp = self.clock.now();
@@ -220,12 +227,13 @@ impl<K: Link, C: Clock + Drop> Linked<K, C> {
 
     /// Hands bytes that were read to the reader.
     fn take_in(&mut self, bytes: &[u8])
-        ensures session { MayBreak self.old.session self.new.session }
+        ensures fed { TakesIn bytes.now (linked_of self.old.session (K.wire self.old.link) self.old.reader) (linked_of self.new.session (K.wire self.new.link) self.new.reader) }
         ensures wire { Tells (K.wire self.old.link) (K.wire self.new.link) Stays }
     {
         self.unread = 0;
-        if self.reader.feed(bytes).is_err() {
-            return self.break_off();
+        match self.reader.feed(bytes) {
+            Ok(()) => {}
+            Err(_) => self.break_off(),
         }
     }
 
@@ -233,6 +241,7 @@ impl<K: Link, C: Clock + Drop> Linked<K, C> {
     pub(crate) fn read(&mut self)
         ensures session { MayBreak self.old.session self.new.session }
         ensures wire { Reads (K.wire self.old.link) (K.wire self.new.link) }
+        ensures hears { (said : Said) → IsHearing said (linked_of self.old.session (K.wire self.old.link) self.old.reader) → IsHearing said (linked_of self.new.session (K.wire self.new.link) self.new.reader) }
     {
         let mut buf = [0; READ_SIZE];
         match self.link.read(&mut buf) {
@@ -246,7 +255,7 @@ impl<K: Link, C: Clock + Drop> Linked<K, C> {
     /// The next message that was read is handed to the session, while there is a connection and a message. It gives what
     /// is to be done for it.
     pub(crate) fn hear<D: Dialect>(&mut self, dialect: &D) -> Option<Step>
-        ensures { MatchOption result (Moves (record { IsOrder = D.IsOrder dialect.now; IsReport = D.IsReport dialect.now }) (record { order = D.order_read dialect.now; report = D.report_read dialect.now }) (linked_of self.old.session (K.wire self.old.link)) (linked_of self.new.session (K.wire self.new.link))) (λ step. Asks (record { IsOrder = D.IsOrder dialect.now; IsReport = D.IsReport dialect.now }) (record { order = D.order_read dialect.now; report = D.report_read dialect.now }) (linked_of self.old.session (K.wire self.old.link)) step (linked_of self.new.session (K.wire self.new.link))) }
+        ensures { MatchOption result (Moves (record { IsOrder = D.IsOrder dialect.now; IsReport = D.IsReport dialect.now }) (record { order = D.order_read dialect.now; report = D.report_read dialect.now }) (linked_of self.old.session (K.wire self.old.link) self.old.reader) (linked_of self.new.session (K.wire self.new.link) self.new.reader)) (λ step. Asks (record { IsOrder = D.IsOrder dialect.now; IsReport = D.IsReport dialect.now }) (record { order = D.order_read dialect.now; report = D.report_read dialect.now }) (linked_of self.old.session (K.wire self.old.link) self.old.reader) step (linked_of self.new.session (K.wire self.new.link) self.new.reader)) }
     {
         if !self.session.phase().is_connected() {
             return None;
@@ -276,6 +285,7 @@ impl<K: Link, C: Clock + Drop> Linked<K, C> {
     pub(crate) fn count_turn(&mut self)
         ensures session { self.new.session ≡ self.old.session }
         ensures wire { K.wire self.new.link ≡ K.wire self.old.link }
+        ensures reader { self.new.reader ≡ self.old.reader }
     {
         self.unwritten = self.unwritten.saturating_add(1);
         self.unread = self.unread.saturating_add(1);
@@ -283,7 +293,7 @@ impl<K: Link, C: Clock + Drop> Linked<K, C> {
 
     /// After so many turns without a write the session is told, and gives what is to be written.
     pub(crate) fn on_quiet<D: Dialect>(&mut self, dialect: &D) -> Option<Step>
-        ensures { MatchOption result (Moves (record { IsOrder = D.IsOrder dialect.now; IsReport = D.IsReport dialect.now }) (record { order = D.order_read dialect.now; report = D.report_read dialect.now }) (linked_of self.old.session (K.wire self.old.link)) (linked_of self.new.session (K.wire self.new.link))) (λ step. Asks (record { IsOrder = D.IsOrder dialect.now; IsReport = D.IsReport dialect.now }) (record { order = D.order_read dialect.now; report = D.report_read dialect.now }) (linked_of self.old.session (K.wire self.old.link)) step (linked_of self.new.session (K.wire self.new.link))) }
+        ensures { MatchOption result (Moves (record { IsOrder = D.IsOrder dialect.now; IsReport = D.IsReport dialect.now }) (record { order = D.order_read dialect.now; report = D.report_read dialect.now }) (linked_of self.old.session (K.wire self.old.link) self.old.reader) (linked_of self.new.session (K.wire self.new.link) self.new.reader)) (λ step. Asks (record { IsOrder = D.IsOrder dialect.now; IsReport = D.IsReport dialect.now }) (record { order = D.order_read dialect.now; report = D.report_read dialect.now }) (linked_of self.old.session (K.wire self.old.link) self.old.reader) step (linked_of self.new.session (K.wire self.new.link) self.new.reader)) }
     {
         if self.unwritten < self.pace.quiet_turns {
             return None;
@@ -302,7 +312,7 @@ impl<K: Link, C: Clock + Drop> Linked<K, C> {
 
     /// After so many turns without a read the session is told, and gives what is to be done.
     pub(crate) fn on_silence<D: Dialect>(&mut self, dialect: &D) -> Option<Step>
-        ensures { MatchOption result (Moves (record { IsOrder = D.IsOrder dialect.now; IsReport = D.IsReport dialect.now }) (record { order = D.order_read dialect.now; report = D.report_read dialect.now }) (linked_of self.old.session (K.wire self.old.link)) (linked_of self.new.session (K.wire self.new.link))) (λ step. Asks (record { IsOrder = D.IsOrder dialect.now; IsReport = D.IsReport dialect.now }) (record { order = D.order_read dialect.now; report = D.report_read dialect.now }) (linked_of self.old.session (K.wire self.old.link)) step (linked_of self.new.session (K.wire self.new.link))) }
+        ensures { MatchOption result (Moves (record { IsOrder = D.IsOrder dialect.now; IsReport = D.IsReport dialect.now }) (record { order = D.order_read dialect.now; report = D.report_read dialect.now }) (linked_of self.old.session (K.wire self.old.link) self.old.reader) (linked_of self.new.session (K.wire self.new.link) self.new.reader)) (λ step. Asks (record { IsOrder = D.IsOrder dialect.now; IsReport = D.IsReport dialect.now }) (record { order = D.order_read dialect.now; report = D.report_read dialect.now }) (linked_of self.old.session (K.wire self.old.link) self.old.reader) step (linked_of self.new.session (K.wire self.new.link) self.new.reader)) }
     {
         if self.unread < self.pace.silent_turns {
             return None;

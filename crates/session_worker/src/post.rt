@@ -7,8 +7,8 @@ ghost use Rattle.session_core.specs.declared.phase.Phase.TheVariants as phase;
 ghost use Rattle.session_core.specs.Receiving.{confirm};
 ghost use Rattle.session_core.specs.Calling.{broken};
 ghost use Rattle.session_worker.specs.Speaking.{joined};
-ghost use Rattle.session_worker.specs.Events.{Does, Drains, Goes, parts_of};
-ghost use Rattle.session_worker.specs.Linking.{linked_of, MayConfirm, Hands, CarriesOut};
+ghost use Rattle.session_worker.specs.Events.{Goes, parts_of};
+ghost use Rattle.session_worker.specs.Linking.{linked_of, post_of, MayConfirm, Hands, Does, Drains, CarriesOut};
 ghost use Rattle.session_worker.specs.Ends.{reason_of, last_calls};
 ghost use Rattle.session_worker.specs.Taking.{with_taken};
 
@@ -62,7 +62,7 @@ impl<K: Link, C: Clock + Drop, L: Run, M: Ledger> Post<K, C, L, M> {
         collector: &Collector<M>,
         turn_limit: u64,
     ) -> EndReason
-        ensures does { Does (record { IsOrder = D.IsOrder dialect.now; IsReport = D.IsReport dialect.now }) (record { order = D.order_read dialect.now; report = D.report_read dialect.now }) (parts_of self.old.linked.session self.old.takings self.old.seat (K.wire self.old.linked.link)) (parts_of self.new.linked.session self.new.takings self.new.seat (K.wire self.new.linked.link)) }
+        ensures does { Does (record { IsOrder = D.IsOrder dialect.now; IsReport = D.IsReport dialect.now }) (record { order = D.order_read dialect.now; report = D.report_read dialect.now }) (post_of self.old.linked.session self.old.takings self.old.seat (K.wire self.old.linked.link) self.old.linked.reader) (post_of self.new.linked.session self.new.takings self.new.seat (K.wire self.new.linked.link) self.new.linked.reader) }
         ensures reason { result ≡ reason_of self.new.linked.session.phase }
     {
         for _ in 0..turn_limit {
@@ -94,7 +94,7 @@ impl<K: Link, C: Clock + Drop, L: Run, M: Ledger> Post<K, C, L, M> {
         lock: &ReleaseLock<L>,
         collector: &Collector<M>,
     )
-        ensures { Does (record { IsOrder = D.IsOrder dialect.now; IsReport = D.IsReport dialect.now }) (record { order = D.order_read dialect.now; report = D.report_read dialect.now }) (parts_of self.old.linked.session self.old.takings self.old.seat (K.wire self.old.linked.link)) (parts_of self.new.linked.session self.new.takings self.new.seat (K.wire self.new.linked.link)) }
+        ensures { Does (record { IsOrder = D.IsOrder dialect.now; IsReport = D.IsReport dialect.now }) (record { order = D.order_read dialect.now; report = D.report_read dialect.now }) (post_of self.old.linked.session self.old.takings self.old.seat (K.wire self.old.linked.link) self.old.linked.reader) (post_of self.new.linked.session self.new.takings self.new.seat (K.wire self.new.linked.link) self.new.linked.reader) }
     {
         self.linked.count_turn();
         self.begin(rt, dialect, lock, collector);
@@ -112,7 +112,7 @@ impl<K: Link, C: Clock + Drop, L: Run, M: Ledger> Post<K, C, L, M> {
         lock: &ReleaseLock<L>,
         collector: &Collector<M>,
     )
-        ensures { Does (record { IsOrder = D.IsOrder dialect.now; IsReport = D.IsReport dialect.now }) (record { order = D.order_read dialect.now; report = D.report_read dialect.now }) (parts_of self.old.linked.session self.old.takings self.old.seat (K.wire self.old.linked.link)) (parts_of self.new.linked.session self.new.takings self.new.seat (K.wire self.new.linked.link)) }
+        ensures { Does (record { IsOrder = D.IsOrder dialect.now; IsReport = D.IsReport dialect.now }) (record { order = D.order_read dialect.now; report = D.report_read dialect.now }) (post_of self.old.linked.session self.old.takings self.old.seat (K.wire self.old.linked.link) self.old.linked.reader) (post_of self.new.linked.session self.new.takings self.new.seat (K.wire self.new.linked.link) self.new.linked.reader) }
     {
         match self.linked.phase() {
             Phase::Down => self.start(rt, dialect, lock, collector),
@@ -134,7 +134,7 @@ impl<K: Link, C: Clock + Drop, L: Run, M: Ledger> Post<K, C, L, M> {
         collector: &Collector<M>,
     )
         requires { self.old.linked.session.phase ≡ phase.Down }
-        ensures { Does (record { IsOrder = D.IsOrder dialect.now; IsReport = D.IsReport dialect.now }) (record { order = D.order_read dialect.now; report = D.report_read dialect.now }) (parts_of self.old.linked.session self.old.takings self.old.seat (K.wire self.old.linked.link)) (parts_of self.new.linked.session self.new.takings self.new.seat (K.wire self.new.linked.link)) }
+        ensures { Does (record { IsOrder = D.IsOrder dialect.now; IsReport = D.IsReport dialect.now }) (record { order = D.order_read dialect.now; report = D.report_read dialect.now }) (post_of self.old.linked.session self.old.takings self.old.seat (K.wire self.old.linked.link) self.old.linked.reader) (post_of self.new.linked.session self.new.takings self.new.seat (K.wire self.new.linked.link) self.new.linked.reader) }
     {
         lower(rt, lock, self.takings.venue());
         match self.drain(rt, lock, collector) {
@@ -154,7 +154,7 @@ impl<K: Link, C: Clock + Drop, L: Run, M: Ledger> Post<K, C, L, M> {
         collector: &Collector<M>,
     )
         requires { self.old.linked.session.phase ≡ phase.Down }
-        ensures { Does (record { IsOrder = D.IsOrder dialect.now; IsReport = D.IsReport dialect.now }) (record { order = D.order_read dialect.now; report = D.report_read dialect.now }) (parts_of self.old.linked.session self.old.takings self.old.seat (K.wire self.old.linked.link)) (parts_of self.new.linked.session self.new.takings self.new.seat (K.wire self.new.linked.link)) }
+        ensures { Does (record { IsOrder = D.IsOrder dialect.now; IsReport = D.IsReport dialect.now }) (record { order = D.order_read dialect.now; report = D.report_read dialect.now }) (post_of self.old.linked.session self.old.takings self.old.seat (K.wire self.old.linked.link) self.old.linked.reader) (post_of self.new.linked.session self.new.takings self.new.seat (K.wire self.new.linked.link) self.new.linked.reader) }
     {
         let venue = self.takings.venue();
         if is_closed(rt, lock, venue) && !self.linked.in_doubt() {
@@ -177,7 +177,7 @@ impl<K: Link, C: Clock + Drop, L: Run, M: Ledger> Post<K, C, L, M> {
         collector: &Collector<M>,
     )
         requires { self.old.linked.session.phase ≡ phase.Up }
-        ensures { Does (record { IsOrder = D.IsOrder dialect.now; IsReport = D.IsReport dialect.now }) (record { order = D.order_read dialect.now; report = D.report_read dialect.now }) (parts_of self.old.linked.session self.old.takings self.old.seat (K.wire self.old.linked.link)) (parts_of self.new.linked.session self.new.takings self.new.seat (K.wire self.new.linked.link)) }
+        ensures { Does (record { IsOrder = D.IsOrder dialect.now; IsReport = D.IsReport dialect.now }) (record { order = D.order_read dialect.now; report = D.report_read dialect.now }) (post_of self.old.linked.session self.old.takings self.old.seat (K.wire self.old.linked.link) self.old.linked.reader) (post_of self.new.linked.session self.new.takings self.new.seat (K.wire self.new.linked.link) self.new.linked.reader) }
     {
         if self.takings.raise(rt, lock).is_err() {
             return;
@@ -196,7 +196,7 @@ impl<K: Link, C: Clock + Drop, L: Run, M: Ledger> Post<K, C, L, M> {
         collector: &Collector<M>,
         next: Option<PlacedLeg>,
     )
-        ensures linked { MatchOption next ((linked_of self.new.linked.session (K.wire self.new.linked.link)) ≡ (linked_of self.old.linked.session (K.wire self.old.linked.link))) (λ leg. Hands (record { IsOrder = D.IsOrder dialect.now; IsReport = D.IsReport dialect.now }) (record { order = D.order_read dialect.now; report = D.report_read dialect.now }) leg (linked_of self.old.linked.session (K.wire self.old.linked.link)) (linked_of self.new.linked.session (K.wire self.new.linked.link))) }
+        ensures linked { MatchOption next ((linked_of self.new.linked.session (K.wire self.new.linked.link) self.new.linked.reader) ≡ (linked_of self.old.linked.session (K.wire self.old.linked.link) self.old.linked.reader)) (λ leg. Hands (record { IsOrder = D.IsOrder dialect.now; IsReport = D.IsReport dialect.now }) (record { order = D.order_read dialect.now; report = D.report_read dialect.now }) leg (linked_of self.old.linked.session (K.wire self.old.linked.link) self.old.linked.reader) (linked_of self.new.linked.session (K.wire self.new.linked.link) self.new.linked.reader)) }
         ensures takings { self.new.takings ≡ self.old.takings }
         ensures seat { self.new.seat.parts ≡ self.old.seat.parts }
     {
@@ -218,7 +218,7 @@ impl<K: Link, C: Clock + Drop, L: Run, M: Ledger> Post<K, C, L, M> {
         lock: &ReleaseLock<L>,
         collector: &Collector<M>,
     )
-        ensures { Does (record { IsOrder = D.IsOrder dialect.now; IsReport = D.IsReport dialect.now }) (record { order = D.order_read dialect.now; report = D.report_read dialect.now }) (parts_of self.old.linked.session self.old.takings self.old.seat (K.wire self.old.linked.link)) (parts_of self.new.linked.session self.new.takings self.new.seat (K.wire self.new.linked.link)) }
+        ensures { Does (record { IsOrder = D.IsOrder dialect.now; IsReport = D.IsReport dialect.now }) (record { order = D.order_read dialect.now; report = D.report_read dialect.now }) (post_of self.old.linked.session self.old.takings self.old.seat (K.wire self.old.linked.link) self.old.linked.reader) (post_of self.new.linked.session self.new.takings self.new.seat (K.wire self.new.linked.link) self.new.linked.reader) }
     {
         if !self.linked.is_connected() || !is_closed(rt, lock, self.takings.venue()) {
             return;
@@ -233,7 +233,7 @@ impl<K: Link, C: Clock + Drop, L: Run, M: Ledger> Post<K, C, L, M> {
 
     /// Reads once, while there is a connection, and does what the messages want.
     fn listen<D: Dialect>(&mut self, rt: &impl Wait, dialect: &D, collector: &Collector<M>)
-        ensures { Does (record { IsOrder = D.IsOrder dialect.now; IsReport = D.IsReport dialect.now }) (record { order = D.order_read dialect.now; report = D.report_read dialect.now }) (parts_of self.old.linked.session self.old.takings self.old.seat (K.wire self.old.linked.link)) (parts_of self.new.linked.session self.new.takings self.new.seat (K.wire self.new.linked.link)) }
+        ensures { Does (record { IsOrder = D.IsOrder dialect.now; IsReport = D.IsReport dialect.now }) (record { order = D.order_read dialect.now; report = D.report_read dialect.now }) (post_of self.old.linked.session self.old.takings self.old.seat (K.wire self.old.linked.link) self.old.linked.reader) (post_of self.new.linked.session self.new.takings self.new.seat (K.wire self.new.linked.link) self.new.linked.reader) }
     {
         if !self.linked.is_connected() {
             return;
@@ -249,7 +249,7 @@ impl<K: Link, C: Clock + Drop, L: Run, M: Ledger> Post<K, C, L, M> {
 
     /// After so many turns without a write the session writes a Heartbeat.
     fn write_if_quiet<D: Dialect>(&mut self, rt: &impl Wait, dialect: &D, collector: &Collector<M>)
-        ensures { Does (record { IsOrder = D.IsOrder dialect.now; IsReport = D.IsReport dialect.now }) (record { order = D.order_read dialect.now; report = D.report_read dialect.now }) (parts_of self.old.linked.session self.old.takings self.old.seat (K.wire self.old.linked.link)) (parts_of self.new.linked.session self.new.takings self.new.seat (K.wire self.new.linked.link)) }
+        ensures { Does (record { IsOrder = D.IsOrder dialect.now; IsReport = D.IsReport dialect.now }) (record { order = D.order_read dialect.now; report = D.report_read dialect.now }) (post_of self.old.linked.session self.old.takings self.old.seat (K.wire self.old.linked.link) self.old.linked.reader) (post_of self.new.linked.session self.new.takings self.new.seat (K.wire self.new.linked.link) self.new.linked.reader) }
     {
         match self.linked.on_quiet(dialect) {
             Some(step) => self.carry_out(rt, collector, step),
@@ -259,7 +259,7 @@ impl<K: Link, C: Clock + Drop, L: Run, M: Ledger> Post<K, C, L, M> {
 
     /// After so many turns without a read the session writes a fence, and the second time the connection ends.
     fn ask_if_silent<D: Dialect>(&mut self, rt: &impl Wait, dialect: &D, collector: &Collector<M>)
-        ensures { Does (record { IsOrder = D.IsOrder dialect.now; IsReport = D.IsReport dialect.now }) (record { order = D.order_read dialect.now; report = D.report_read dialect.now }) (parts_of self.old.linked.session self.old.takings self.old.seat (K.wire self.old.linked.link)) (parts_of self.new.linked.session self.new.takings self.new.seat (K.wire self.new.linked.link)) }
+        ensures { Does (record { IsOrder = D.IsOrder dialect.now; IsReport = D.IsReport dialect.now }) (record { order = D.order_read dialect.now; report = D.report_read dialect.now }) (post_of self.old.linked.session self.old.takings self.old.seat (K.wire self.old.linked.link) self.old.linked.reader) (post_of self.new.linked.session self.new.takings self.new.seat (K.wire self.new.linked.link) self.new.linked.reader) }
     {
         match self.linked.on_silence(dialect) {
             Some(step) => self.carry_out(rt, collector, step),
@@ -270,7 +270,7 @@ impl<K: Link, C: Clock + Drop, L: Run, M: Ledger> Post<K, C, L, M> {
     /// Does what a step of the session wants: the legs that it names are withdrawn in the book, its note is booked and
     /// then confirmed, and its frames are written. Where the book wants memory the connection is given up.
     fn carry_out(&mut self, rt: &impl Wait, collector: &Collector<M>, step: Step)
-        ensures { CarriesOut (joined step.out) (parts_of self.old.linked.session self.old.takings self.old.seat (K.wire self.old.linked.link)) (parts_of self.new.linked.session self.new.takings self.new.seat (K.wire self.new.linked.link)) }
+        ensures { CarriesOut (joined step.out) (post_of self.old.linked.session self.old.takings self.old.seat (K.wire self.old.linked.link) self.old.linked.reader) (post_of self.new.linked.session self.new.takings self.new.seat (K.wire self.new.linked.link) self.new.linked.reader) }
     {
         let Step {
             out,
@@ -293,6 +293,7 @@ impl<K: Link, C: Clock + Drop, L: Run, M: Ledger> Post<K, C, L, M> {
         ensures confirmed { result ≡ true → MayConfirm self.old.linked.session self.new.linked.session }
         ensures broken { result ≡ false → self.new.linked.session ≡ broken self.old.linked.session }
         ensures wire { Tells (K.wire self.old.linked.link) (K.wire self.new.linked.link) Stays }
+        ensures reader { self.new.linked.reader ≡ self.old.linked.reader }
         ensures takings { self.new.takings ≡ self.old.takings }
         ensures seat { self.new.seat.parts ≡ self.old.seat.parts }
     {
@@ -307,6 +308,7 @@ impl<K: Link, C: Clock + Drop, L: Run, M: Ledger> Post<K, C, L, M> {
         ensures confirmed { result ≡ true → self.new.linked.session ≡ confirm self.old.linked.session }
         ensures broken { result ≡ false → self.new.linked.session ≡ broken self.old.linked.session }
         ensures wire { Tells (K.wire self.old.linked.link) (K.wire self.new.linked.link) Stays }
+        ensures reader { self.new.linked.reader ≡ self.old.linked.reader }
         ensures takings { self.new.takings ≡ self.old.takings }
         ensures seat { self.new.seat.parts ≡ self.old.seat.parts }
     {
@@ -329,7 +331,7 @@ impl<K: Link, C: Clock + Drop, L: Run, M: Ledger> Post<K, C, L, M> {
         lock: &ReleaseLock<L>,
         collector: &Collector<M>,
     ) -> Drained
-        ensures { Drains (parts_of self.old.linked.session self.old.takings self.old.seat (K.wire self.old.linked.link)) (parts_of self.new.linked.session self.new.takings self.new.seat (K.wire self.new.linked.link)) }
+        ensures { Drains (post_of self.old.linked.session self.old.takings self.old.seat (K.wire self.old.linked.link) self.old.linked.reader) (post_of self.new.linked.session self.new.takings self.new.seat (K.wire self.new.linked.link) self.new.linked.reader) }
     {
         for _ in 0..DRAIN_ROUNDS {
             let pushed = lock.pump(rt, self.takings.venue());
@@ -345,7 +347,7 @@ impl<K: Link, C: Clock + Drop, L: Run, M: Ledger> Post<K, C, L, M> {
 
     /// Drops legs until so many were taken in all or the ring is empty, and says whether there was room for each.
     fn drop_to(&mut self, rt: &impl Wait, collector: &Collector<M>, count: u64) -> bool
-        ensures { Drains (parts_of self.old.linked.session self.old.takings self.old.seat (K.wire self.old.linked.link)) (parts_of self.new.linked.session self.new.takings self.new.seat (K.wire self.new.linked.link)) }
+        ensures { Drains (post_of self.old.linked.session self.old.takings self.old.seat (K.wire self.old.linked.link) self.old.linked.reader) (post_of self.new.linked.session self.new.takings self.new.seat (K.wire self.new.linked.link) self.new.linked.reader) }
     {
         for _ in self.takings.count()..count {
             match self.takings.next_to(rt, count) {
@@ -361,6 +363,7 @@ impl<K: Link, C: Clock + Drop, L: Run, M: Ledger> Post<K, C, L, M> {
     fn withdraw_all(&mut self, rt: &impl Wait, collector: &Collector<M>, ids: LegIds)
         ensures linked { self.new.linked.session ≡ self.old.linked.session }
         ensures wire { K.wire self.new.linked.link ≡ K.wire self.old.linked.link }
+        ensures reader { self.new.linked.reader ≡ self.old.linked.reader }
         ensures takings { self.new.takings ≡ self.old.takings }
         ensures seat { self.new.seat.parts ≡ self.old.seat.parts }
     {
@@ -374,6 +377,7 @@ impl<K: Link, C: Clock + Drop, L: Run, M: Ledger> Post<K, C, L, M> {
     fn withdraw(&mut self, rt: &impl Wait, collector: &Collector<M>, id: LegId)
         ensures linked { self.new.linked.session ≡ self.old.linked.session }
         ensures wire { K.wire self.new.linked.link ≡ K.wire self.old.linked.link }
+        ensures reader { self.new.linked.reader ≡ self.old.linked.reader }
         ensures takings { self.new.takings ≡ self.old.takings }
         ensures seat { self.new.seat.parts ≡ self.old.seat.parts }
     {

@@ -1,6 +1,6 @@
 //! What came over a link is handed to a session.
 
-ghost use Rattle.session_worker.specs.Linking.{Hears};
+ghost use Rattle.session_worker.specs.Linking.{HeardGives, StandsBehind};
 
 use dialect::Dialect;
 use fix_tags::{ReadFault, Stamp, read_envelope};
@@ -29,7 +29,8 @@ pub(crate) fn hear<D: Dialect>(
     session: &mut Session,
     stamp: &Stamp,
 ) -> Heard
-    ensures { Hears (record { IsOrder = D.IsOrder dialect.now; IsReport = D.IsReport dialect.now }) (record { order = D.order_read dialect.now; report = D.report_read dialect.now }) session.old result session.new }
+    ensures heard { HeardGives (record { IsOrder = D.IsOrder dialect.now; IsReport = D.IsReport dialect.now }) (record { order = D.order_read dialect.now; report = D.report_read dialect.now }) session.old reader.old result session.new }
+    ensures reader { StandsBehind result reader.old reader.new }
 {
     let frame = match reader.next() {
         Ok(Some(frame)) => frame,

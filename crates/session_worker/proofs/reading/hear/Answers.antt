@@ -1,16 +1,42 @@
-use Rattle.std.proofs.Common.{refl, ap}
+use Rattle.std.proofs.Common.{◌≡◌, Option, Some, None, refl, sym, ap, ◌∙◌, subst}
+use Rattle.std.specs.Prelude.{option_map}
+use Rattle.fix_text.specs.Tagged.{Tagged}
+use Rattle.fix_text.specs.FrameFields.{fields_in}
+use Rattle.fix_text.specs.Reading.{next_read}
+use Rattle.fix_tags.specs.Reading.{envelope_read}
+use Rattle.fix_tags.specs.declared.read_fault.ReadFault.TheVariants as read_fault
 use Rattle.dialect.specs.Framed.{Writers}
 use Rattle.dialect.specs.Message.{Readers, seen}
 use Rattle.session_core.specs.declared.session_call.SessionCall.TheVariants as call
 use Rattle.session_core.specs.Calling.{answers}
 use Rattle.session_core.specs.Receiving.{receive}
-use Rattle.session_worker.proofs.Calling.{gave_step}
+use Rattle.session_worker.proofs.Calling.{gave_step, no_message}
 use Rattle.session_worker.proofs.reading.hear.Goals as goal
 
-pub returns-in-Ok-receive : goal.returns-in-Ok-receive
-returns-in-Ok-receive g c =
+pub returns-in-Ok-receive-clause-heard : goal.returns-in-Ok-receive-clause-heard
+returns-in-Ok-receive-clause-heard g c =
     let w : Writers = record { IsOrder = g.D.Dialect.IsOrder c.args.dialect.now; IsReport = g.D.Dialect.IsReport c.args.dialect.now } in
     let read : Readers = record { order = g.D.Dialect.order_read c.args.dialect.now; report = g.D.Dialect.report_read c.args.dialect.now } in
     let s = c.args.session.now in
-    gave_step w read s c.receive.new.self (call.Receive c.in-Ok.envelope) (answers (receive s (seen read c.in-Ok.envelope))) c.args.stamp.now
-    c.in-Ok-receive.step tt refl c.in-Ok-receive.ensures
+    record {
+      fields = fields_in c.in-Ok-Some.frame;
+      envelope = c.in-Ok.envelope;
+      next = sym c.in-Ok-Some.ensures.fields ∙ ap (option_map fields_in) c.in-Ok-Some.field-0-is;
+      says = c.in-Ok.ensures.read;
+      gave = gave_step w read s c.receive.new.self (call.Receive c.in-Ok.envelope) (answers (receive s (seen read c.in-Ok.envelope))) c.args.stamp.now
+          c.in-Ok-receive.step tt refl c.in-Ok-receive.ensures;
+    }
+
+pub returns-in-Ok-None-clause-heard : goal.returns-in-Ok-None-clause-heard
+returns-in-Ok-None-clause-heard g c = (refl, sym c.in-Ok-None.ensures.fields ∙ ap (option_map fields_in) c.in-Ok-None.field-0-is)
+
+pub returns-in-Err-Tag-clause-heard : goal.returns-in-Err-Tag-clause-heard
+returns-in-Err-Tag-clause-heard g c =
+    let other : c.in-Err-Tag.field-0 ≡ read_fault.OutOfMemory → ⊥ = λ e. let same = sym c.in-Err-Tag.field-0-is ∙ e in absurd cc in
+    let none = no_message c.in-Err-Tag.field-0 (envelope_read (fields_in c.in-Ok-Some.frame)) c.in-Err-Tag.ensures.read other in (
+      fields_in c.in-Ok-Some.frame,
+      none.0,
+      sym c.in-Ok-Some.ensures.fields ∙ ap (option_map fields_in) c.in-Ok-Some.field-0-is,
+      none.1,
+      ap (λ p. p.1) c.malformed.ensures,
+    )

@@ -4,10 +4,10 @@ use Rattle.dialect.specs.Message.{Readers}
 use Rattle.session_core.specs.declared.session_call.SessionCall.TheVariants as call
 use Rattle.session_core.specs.Calling.{silent}
 use Rattle.session_core.specs.Given.{IsStep}
-use Rattle.session_worker.specs.Speaking.{Wire}
 use Rattle.session_worker.specs.Linking.{LinkedParts, linked_of}
 use Rattle.session_worker.proofs.Spoken.{stays_here}
-use Rattle.session_worker.proofs.Calling.{moves_none, moves_on, moves_refused, gave_step, moves_broken}
+use Rattle.session_worker.proofs.Connected.{silent_on}
+use Rattle.session_worker.proofs.Calling.{moves_none, moves_on, moves_refused, asks_step, moves_broken}
 use Rattle.session_worker.proofs.linked.Linked.on_silence.Goals as goal
 
 pub returns-then-self : goal.returns-then-self
@@ -17,29 +17,27 @@ pub returns-in-Ok : goal.returns-in-Ok
 returns-in-Ok g c =
     let w : Writers = record { IsOrder = g.D.Dialect.IsOrder c.args.dialect.now; IsReport = g.D.Dialect.IsReport c.args.dialect.now } in
     let read : Readers = record { order = g.D.Dialect.order_read c.args.dialect.now; report = g.D.Dialect.report_read c.args.dialect.now } in
-    let s = c.args.self.now.session in
-    record {
-      gave = gave_step w read s c.silent.new.self call.Silent (silent s) c.now-stamp.result c.in-Ok.step tt refl c.in-Ok.ensures;
-      wire = stays_here _;
-    }
+    let old : LinkedParts = linked_of c.args.self.now.session (g.K.Link.wire c.args.self.now.link) c.args.self.now.reader in
+    asks_step w read old.session c.silent.new.self call.Silent (silent old.session) c.now-stamp.result c.in-Ok.step old.wire old.stream tt refl
+    (λ said. tt) (λ said. refl) (silent_on old.session) c.in-Ok.ensures
 
 pub returns-in-Err-OutOfMemory : goal.returns-in-Err-OutOfMemory
 returns-in-Err-OutOfMemory g c =
     let w : Writers = record { IsOrder = g.D.Dialect.IsOrder c.args.dialect.now; IsReport = g.D.Dialect.IsReport c.args.dialect.now } in
     let read : Readers = record { order = g.D.Dialect.order_read c.args.dialect.now; report = g.D.Dialect.report_read c.args.dialect.now } in
-    let now : LinkedParts = linked_of c.break_off.new.self.session (g.K.Link.wire c.break_off.new.self.link) in
-    let old : LinkedParts = linked_of c.args.self.now.session (g.K.Link.wire c.args.self.now.link) in
-    let between : LinkedParts = linked_of c.silent.new.self old.wire in
+    let now : LinkedParts = linked_of c.break_off.new.self.session (g.K.Link.wire c.break_off.new.self.link) c.break_off.new.self.reader in
+    let old : LinkedParts = linked_of c.args.self.now.session (g.K.Link.wire c.args.self.now.link) c.args.self.now.reader in
+    let between : LinkedParts = linked_of c.silent.new.self old.wire old.stream in
     moves_on w read old between now
     (moves_refused (IsStep w c.now-stamp.result) w read old between call.Silent (silent old.session) _ tt refl
-    c.in-Err-OutOfMemory.ensures (stays_here old.wire))
+    (λ said. tt) (λ said. refl) (silent_on old.session) c.in-Err-OutOfMemory.ensures (stays_here old.wire) refl)
     (moves_broken w read between now c.break_off.ensures.session c.break_off.ensures.wire)
 
 pub returns-in-Err : goal.returns-in-Err
 returns-in-Err g c =
     let w : Writers = record { IsOrder = g.D.Dialect.IsOrder c.args.dialect.now; IsReport = g.D.Dialect.IsReport c.args.dialect.now } in
     let read : Readers = record { order = g.D.Dialect.order_read c.args.dialect.now; report = g.D.Dialect.report_read c.args.dialect.now } in
-    let old : LinkedParts = linked_of c.args.self.now.session (g.K.Link.wire c.args.self.now.link) in
-    let now : LinkedParts = linked_of c.silent.new.self old.wire in
-    moves_refused (IsStep w c.now-stamp.result) w read old now call.Silent (silent old.session) c.in-Err.field-0 tt refl c.in-Err.ensures
-    (stays_here old.wire)
+    let old : LinkedParts = linked_of c.args.self.now.session (g.K.Link.wire c.args.self.now.link) c.args.self.now.reader in
+    let now : LinkedParts = linked_of c.silent.new.self old.wire old.stream in
+    moves_refused (IsStep w c.now-stamp.result) w read old now call.Silent (silent old.session) c.in-Err.field-0 tt refl
+    (λ said. tt) (λ said. refl) (silent_on old.session) c.in-Err.ensures (stays_here old.wire) refl

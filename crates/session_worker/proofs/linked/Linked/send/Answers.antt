@@ -1,5 +1,6 @@
 use Rattle.std.proofs.Common.{◌≡◌, ℕ, List, rules, subst}
 use Rattle.std.specs.Global.{Vec}
+use Rattle.fix_text.specs.Reading.{Stream}
 use Rattle.dialect.specs.declared.message.Message.{Message}
 use Rattle.dialect.specs.Framed.{Writers, IsFramed}
 use Rattle.dialect.specs.Message.{Readers}
@@ -14,21 +15,24 @@ pub returns-in-Ok : goal.returns-in-Ok
 returns-in-Ok g c =
     let w : Writers = record { IsOrder = g.D.Dialect.IsOrder c.args.dialect.now; IsReport = g.D.Dialect.IsReport c.args.dialect.now } in
     let read : Readers = record { order = g.D.Dialect.order_read c.args.dialect.now; report = g.D.Dialect.report_read c.args.dialect.now } in
-    let now : LinkedParts = linked_of c.write.new.self.session (g.K.Link.wire c.write.new.self.link) in
+    let now : LinkedParts = linked_of c.write.new.self.session (g.K.Link.wire c.write.new.self.link) c.write.new.self.reader in
     let s = c.args.self.now.session in
     let a : Wire = g.K.Link.wire c.args.self.now.link in
-    let wrote : Writes c.in-Ok.frame.items (linked_of c.send_leg.new.self a) now =
-    subst (λ (bytes : List ℕ). Writes bytes (linked_of c.send_leg.new.self a) now) c.as_slice.ensures.value c.write.ensures in
-    hands_sent w read c.args.placed.now s c.send_leg.new.self c.now-stamp.result c.in-Ok.frame a now c.in-Ok.ensures wrote
+    let x : Stream = c.args.self.now.reader in
+    let sent : LinkedParts = linked_of c.send_leg.new.self a x in
+    let wrote : Writes c.in-Ok.frame.items sent now =
+    subst (λ (bytes : List ℕ). Writes bytes sent now) c.as_slice.ensures.value c.write.ensures.wire in
+    hands_sent w read c.args.placed.now s c.send_leg.new.self c.now-stamp.result c.in-Ok.frame a x now c.in-Ok.ensures wrote c.write.ensures.reader
 
 pub returns-in-Err-OutOfMemory : goal.returns-in-Err-OutOfMemory
 returns-in-Err-OutOfMemory g c =
     let w : Writers = record { IsOrder = g.D.Dialect.IsOrder c.args.dialect.now; IsReport = g.D.Dialect.IsReport c.args.dialect.now } in
     let read : Readers = record { order = g.D.Dialect.order_read c.args.dialect.now; report = g.D.Dialect.report_read c.args.dialect.now } in
-    let now : LinkedParts = linked_of c.break_off.new.self.session (g.K.Link.wire c.break_off.new.self.link) in
+    let now : LinkedParts = linked_of c.break_off.new.self.session (g.K.Link.wire c.break_off.new.self.link) c.break_off.new.self.reader in
     let s = c.args.self.now.session in
     let a : Wire = g.K.Link.wire c.args.self.now.link in
-    hands_failed (λ (m : Message) (bytes : Vec ℕ). IsFramed w c.now-stamp.result (alone m) bytes.items) w read c.args.placed.now s c.send_leg.new.self _ a now c.in-Err-OutOfMemory.ensures
+    let x : Stream = c.args.self.now.reader in
+    hands_failed (λ (m : Message) (bytes : Vec ℕ). IsFramed w c.now-stamp.result (alone m) bytes.items) w read c.args.placed.now s c.send_leg.new.self _ a x now c.in-Err-OutOfMemory.ensures
     c.break_off.ensures.session c.break_off.ensures.wire
 
 pub returns-in-Err : goal.returns-in-Err
@@ -37,5 +41,6 @@ returns-in-Err g c =
     let read : Readers = record { order = g.D.Dialect.order_read c.args.dialect.now; report = g.D.Dialect.report_read c.args.dialect.now } in
     let s = c.args.self.now.session in
     let a : Wire = g.K.Link.wire c.args.self.now.link in
+    let x : Stream = c.args.self.now.reader in
     let other : c.in-Err.field-0 ≡ SessionFault.OutOfMemory → ⊥ = search rules in
-    hands_refused (λ (m : Message) (bytes : Vec ℕ). IsFramed w c.now-stamp.result (alone m) bytes.items) w read c.args.placed.now s c.send_leg.new.self c.in-Err.field-0 a other c.in-Err.ensures
+    hands_refused (λ (m : Message) (bytes : Vec ℕ). IsFramed w c.now-stamp.result (alone m) bytes.items) w read c.args.placed.now s c.send_leg.new.self c.in-Err.field-0 a x other c.in-Err.ensures

@@ -7,7 +7,7 @@ use Rattle.session_worker.proofs.Spoken.{texts, stays_last, frame_more, frame_pa
 use Rattle.session_worker.proofs.linked.Linked.write_all.Goals as goal
 
 pub loop-frame-init : goal.loop-frame-init
-loop-frame-init g c = (refl, tells_nothing _)
+loop-frame-init g c = (refl, tells_nothing _, refl)
 
 pub loop-frame-preserved : goal.loop-frame-preserved
 loop-frame-preserved g c =
@@ -19,10 +19,11 @@ loop-frame-preserved g c =
       c.loop-frame.invariant.0,
       frame_more c.deref-frame-items.result.now c.loop-frame.frame-index c.frame-item.result c.loop-frame-test.true
           c.frame-item.is a b d c.loop-frame.invariant.1 wrote,
+      c.loop-frame.invariant.2,
     )
 
-pub returns-in-Err : goal.returns-in-Err
-returns-in-Err g c =
+pub returns-in-Err-clause-wire : goal.returns-in-Err-clause-wire
+returns-in-Err-clause-wire g c =
     let a : Wire = g.K.Link.wire c.args.self.now.link in
     let b : Wire = g.K.Link.wire c.loop-frame.self.link in
     let d : Wire = g.K.Link.wire c.write_whole.new.link in
@@ -38,8 +39,8 @@ returns-in-Err g c =
       stays_last (TakesPart (joined c.args.frames)) a d e part c.break_off.ensures.wire,
     )
 
-pub returns : goal.returns
-returns g c =
+pub returns-clause-wire : goal.returns-clause-wire
+returns-clause-wire g c =
     let a : Wire = g.K.Link.wire c.args.self.now.link in
     let b : Wire = g.K.Link.wire c.loop-frame.self.link in
     inl (
@@ -47,3 +48,9 @@ returns g c =
       subst (λ (frames : List (List ℕ)). Tells a b (Takes (joined frames))) (ap texts c.deref-frame-items.ensures.value ∙ c.into_vec-frames.ensures)
           (frames_all c.deref-frame-items.result.now c.loop-frame.frame-index a b c.loop-frame-test.false c.loop-frame.invariant.1),
     )
+
+pub returns-in-Err-clause-reader : goal.returns-in-Err-clause-reader
+returns-in-Err-clause-reader g c = c.break_off.ensures.reader ∙ c.loop-frame.invariant.2
+
+pub returns-clause-reader : goal.returns-clause-reader
+returns-clause-reader g c = c.loop-frame.invariant.2

@@ -9,3 +9,4 @@ invariant-loop-frame g l =
     (l.self.session ≡ l.initial.self.session)
     × Tells (g.K.Link.wire l.initial.self.link) (g.K.Link.wire l.self.link)
     (Takes (joined (texts (take l.frame-index l.frame-items))))
+    × (l.self.reader ≡ l.initial.self.reader)

@@ -1,7 +1,7 @@
 use Rattle.std.proofs.Common.{refl}
 use Rattle.dialect.specs.Framed.{Writers}
 use Rattle.dialect.specs.Message.{Readers}
-use Rattle.session_worker.specs.Events.{WorkerParts, parts_of}
+use Rattle.session_worker.specs.Linking.{PostParts, post_of}
 use Rattle.session_worker.proofs.Calling.{moves_broken}
 use Rattle.session_worker.proofs.Doing.{does_none, does_on, does_moves, does_drains}
 use Rattle.session_worker.proofs.post.Post.close_if_shut.Goals as goal
@@ -13,9 +13,9 @@ pub returns-in-Everything : goal.returns-in-Everything
 returns-in-Everything g c =
     let w : Writers = record { IsOrder = g.D.Dialect.IsOrder c.args.dialect.now; IsReport = g.D.Dialect.IsReport c.args.dialect.now } in
     let read : Readers = record { order = g.D.Dialect.order_read c.args.dialect.now; report = g.D.Dialect.report_read c.args.dialect.now } in
-    let a : WorkerParts = parts_of c.args.self.now.linked.session c.args.self.now.takings c.args.self.now.seat (g.K.Link.wire c.args.self.now.linked.link) in
-    let b : WorkerParts = parts_of c.close.new.self.session c.args.self.now.takings c.args.self.now.seat (g.K.Link.wire c.close.new.self.link) in
-    let d : WorkerParts = parts_of c.drain.new.self.linked.session c.drain.new.self.takings c.drain.new.self.seat (g.K.Link.wire c.drain.new.self.linked.link) in
+    let a : PostParts = post_of c.args.self.now.linked.session c.args.self.now.takings c.args.self.now.seat (g.K.Link.wire c.args.self.now.linked.link) c.args.self.now.linked.reader in
+    let b : PostParts = post_of c.close.new.self.session c.args.self.now.takings c.args.self.now.seat (g.K.Link.wire c.close.new.self.link) c.close.new.self.reader in
+    let d : PostParts = post_of c.drain.new.self.linked.session c.drain.new.self.takings c.drain.new.self.seat (g.K.Link.wire c.drain.new.self.linked.link) c.drain.new.self.linked.reader in
     does_on w read a b d (does_moves w read a b c.close.ensures.moves refl refl)
     (does_drains w read b d c.drain.ensures c.close.ensures.idle)
 
@@ -23,9 +23,9 @@ pub returns-in-SomeLeft : goal.returns-in-SomeLeft
 returns-in-SomeLeft g c =
     let w : Writers = record { IsOrder = g.D.Dialect.IsOrder c.args.dialect.now; IsReport = g.D.Dialect.IsReport c.args.dialect.now } in
     let read : Readers = record { order = g.D.Dialect.order_read c.args.dialect.now; report = g.D.Dialect.report_read c.args.dialect.now } in
-    let a : WorkerParts = parts_of c.args.self.now.linked.session c.args.self.now.takings c.args.self.now.seat (g.K.Link.wire c.args.self.now.linked.link) in
-    let b : WorkerParts = parts_of c.close.new.self.session c.args.self.now.takings c.args.self.now.seat (g.K.Link.wire c.close.new.self.link) in
-    let d : WorkerParts = parts_of c.drain.new.self.linked.session c.drain.new.self.takings c.drain.new.self.seat (g.K.Link.wire c.drain.new.self.linked.link) in
+    let a : PostParts = post_of c.args.self.now.linked.session c.args.self.now.takings c.args.self.now.seat (g.K.Link.wire c.args.self.now.linked.link) c.args.self.now.linked.reader in
+    let b : PostParts = post_of c.close.new.self.session c.args.self.now.takings c.args.self.now.seat (g.K.Link.wire c.close.new.self.link) c.close.new.self.reader in
+    let d : PostParts = post_of c.drain.new.self.linked.session c.drain.new.self.takings c.drain.new.self.seat (g.K.Link.wire c.drain.new.self.linked.link) c.drain.new.self.linked.reader in
     does_on w read a b d (does_moves w read a b c.close.ensures.moves refl refl)
     (does_drains w read b d c.drain.ensures c.close.ensures.idle)
 
@@ -33,10 +33,10 @@ pub returns-in-NoRoom : goal.returns-in-NoRoom
 returns-in-NoRoom g c =
     let w : Writers = record { IsOrder = g.D.Dialect.IsOrder c.args.dialect.now; IsReport = g.D.Dialect.IsReport c.args.dialect.now } in
     let read : Readers = record { order = g.D.Dialect.order_read c.args.dialect.now; report = g.D.Dialect.report_read c.args.dialect.now } in
-    let a : WorkerParts = parts_of c.args.self.now.linked.session c.args.self.now.takings c.args.self.now.seat (g.K.Link.wire c.args.self.now.linked.link) in
-    let b : WorkerParts = parts_of c.close.new.self.session c.args.self.now.takings c.args.self.now.seat (g.K.Link.wire c.close.new.self.link) in
-    let d : WorkerParts = parts_of c.drain.new.self.linked.session c.drain.new.self.takings c.drain.new.self.seat (g.K.Link.wire c.drain.new.self.linked.link) in
-    let e : WorkerParts = parts_of c.break_off.new.self.session c.drain.new.self.takings c.drain.new.self.seat (g.K.Link.wire c.break_off.new.self.link) in
+    let a : PostParts = post_of c.args.self.now.linked.session c.args.self.now.takings c.args.self.now.seat (g.K.Link.wire c.args.self.now.linked.link) c.args.self.now.linked.reader in
+    let b : PostParts = post_of c.close.new.self.session c.args.self.now.takings c.args.self.now.seat (g.K.Link.wire c.close.new.self.link) c.close.new.self.reader in
+    let d : PostParts = post_of c.drain.new.self.linked.session c.drain.new.self.takings c.drain.new.self.seat (g.K.Link.wire c.drain.new.self.linked.link) c.drain.new.self.linked.reader in
+    let e : PostParts = post_of c.break_off.new.self.session c.drain.new.self.takings c.drain.new.self.seat (g.K.Link.wire c.break_off.new.self.link) c.break_off.new.self.reader in
     does_on w read a d e (does_on w read a b d (does_moves w read a b c.close.ensures.moves refl refl)
     (does_drains w read b d c.drain.ensures c.close.ensures.idle))
     (does_moves w read d e (moves_broken w read _ _ c.break_off.ensures.session c.break_off.ensures.wire) refl refl)

@@ -1,7 +1,8 @@
 use Rattle.std.proofs.Common.{refl, sym, subst}
 use Rattle.dialect.specs.Framed.{Writers}
 use Rattle.dialect.specs.Message.{Readers}
-use Rattle.session_worker.specs.Events.{WorkerParts, IsIdle, parts_of}
+use Rattle.session_worker.specs.Events.{IsIdle}
+use Rattle.session_worker.specs.Linking.{PostParts, post_of}
 use Rattle.session_core.specs.declared.phase.Phase.TheVariants.{Down}
 use Rattle.session_worker.proofs.Speech.{stays_same}
 use Rattle.session_worker.proofs.Calling.{moves_abandon, idle_in}
@@ -19,10 +20,10 @@ pub returns : goal.returns
 returns g c =
     let w : Writers = record { IsOrder = g.D.Dialect.IsOrder c.args.dialect.now; IsReport = g.D.Dialect.IsReport c.args.dialect.now } in
     let read : Readers = record { order = g.D.Dialect.order_read c.args.dialect.now; report = g.D.Dialect.report_read c.args.dialect.now } in
-    let a : WorkerParts = parts_of c.args.self.now.linked.session c.args.self.now.takings c.args.self.now.seat (g.K.Link.wire c.args.self.now.linked.link) in
-    let d : WorkerParts = parts_of c.connect.new.self.session c.args.self.now.takings c.args.self.now.seat (g.K.Link.wire c.connect.new.self.link) in
-    let e : WorkerParts = parts_of c.drain.new.self.linked.session c.drain.new.self.takings c.drain.new.self.seat (g.K.Link.wire c.drain.new.self.linked.link) in
-    let f : WorkerParts = parts_of c.abandon-2.new.self.session c.drain.new.self.takings c.drain.new.self.seat (g.K.Link.wire c.abandon-2.new.self.link) in
+    let a : PostParts = post_of c.args.self.now.linked.session c.args.self.now.takings c.args.self.now.seat (g.K.Link.wire c.args.self.now.linked.link) c.args.self.now.linked.reader in
+    let d : PostParts = post_of c.connect.new.self.session c.args.self.now.takings c.args.self.now.seat (g.K.Link.wire c.connect.new.self.link) c.connect.new.self.reader in
+    let e : PostParts = post_of c.drain.new.self.linked.session c.drain.new.self.takings c.drain.new.self.seat (g.K.Link.wire c.drain.new.self.linked.link) c.drain.new.self.linked.reader in
+    let f : PostParts = post_of c.abandon-2.new.self.session c.drain.new.self.takings c.drain.new.self.seat (g.K.Link.wire c.abandon-2.new.self.link) c.abandon-2.new.self.reader in
     let idle : IsIdle a.session = idle_in c.args.self.now.linked.session Down c.requires (λ e. cc) in
     let still : IsIdle d.session = subst IsIdle (sym (c.connect.ensures.spent c.if-connect.false)) idle in
     does_on w read a e f (does_on w read a d e (does_moves w read a d c.connect.ensures.moves refl refl)

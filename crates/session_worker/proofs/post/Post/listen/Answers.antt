@@ -1,7 +1,7 @@
 use Rattle.std.proofs.Common.{refl}
 use Rattle.dialect.specs.Framed.{Writers}
 use Rattle.dialect.specs.Message.{Readers}
-use Rattle.session_worker.specs.Events.{WorkerParts, parts_of}
+use Rattle.session_worker.specs.Linking.{PostParts, post_of}
 use Rattle.session_worker.proofs.Calling.{moves_read}
 use Rattle.session_worker.proofs.Doing.{does_none, does_on, does_moves, does_asked}
 use Rattle.session_worker.proofs.post.Post.listen.Goals as goal
@@ -10,23 +10,23 @@ pub returns-then-not-is_connected : goal.returns-then-not-is_connected
 returns-then-not-is_connected g c = does_none _ _ _
 
 pub loop-init : goal.loop-init
-loop-init g c = does_moves _ _ _ _ (moves_read _ _ _ _ c.read.ensures.session c.read.ensures.wire) refl refl
+loop-init g c = does_moves _ _ _ _ (moves_read _ _ _ _ c.read.ensures.session c.read.ensures.wire c.read.ensures.hears) refl refl
 
 pub loop-preserved : goal.loop-preserved
 loop-preserved g c =
     let w : Writers = record { IsOrder = g.D.Dialect.IsOrder c.args.dialect.now; IsReport = g.D.Dialect.IsReport c.args.dialect.now } in
     let read : Readers = record { order = g.D.Dialect.order_read c.args.dialect.now; report = g.D.Dialect.report_read c.args.dialect.now } in
-    let a : WorkerParts = parts_of c.args.self.now.linked.session c.args.self.now.takings c.args.self.now.seat (g.K.Link.wire c.args.self.now.linked.link) in
-    let b : WorkerParts = parts_of c.loop.self.linked.session c.loop.self.takings c.loop.self.seat (g.K.Link.wire c.loop.self.linked.link) in
-    let d : WorkerParts = parts_of c.hear.new.self.session c.loop.self.takings c.loop.self.seat (g.K.Link.wire c.hear.new.self.link) in
-    let e : WorkerParts = parts_of c.carry_out.new.self.linked.session c.carry_out.new.self.takings c.carry_out.new.self.seat (g.K.Link.wire c.carry_out.new.self.linked.link) in
+    let a : PostParts = post_of c.args.self.now.linked.session c.args.self.now.takings c.args.self.now.seat (g.K.Link.wire c.args.self.now.linked.link) c.args.self.now.linked.reader in
+    let b : PostParts = post_of c.loop.self.linked.session c.loop.self.takings c.loop.self.seat (g.K.Link.wire c.loop.self.linked.link) c.loop.self.linked.reader in
+    let d : PostParts = post_of c.hear.new.self.session c.loop.self.takings c.loop.self.seat (g.K.Link.wire c.hear.new.self.link) c.hear.new.self.reader in
+    let e : PostParts = post_of c.carry_out.new.self.linked.session c.carry_out.new.self.takings c.carry_out.new.self.seat (g.K.Link.wire c.carry_out.new.self.linked.link) c.carry_out.new.self.linked.reader in
     does_on w read a b e c.loop.invariant (does_asked w read b d e c.in-Some.step c.in-Some.ensures refl refl c.carry_out.ensures)
 
 pub returns-in-None : goal.returns-in-None
 returns-in-None g c =
     let w : Writers = record { IsOrder = g.D.Dialect.IsOrder c.args.dialect.now; IsReport = g.D.Dialect.IsReport c.args.dialect.now } in
     let read : Readers = record { order = g.D.Dialect.order_read c.args.dialect.now; report = g.D.Dialect.report_read c.args.dialect.now } in
-    let a : WorkerParts = parts_of c.args.self.now.linked.session c.args.self.now.takings c.args.self.now.seat (g.K.Link.wire c.args.self.now.linked.link) in
-    let b : WorkerParts = parts_of c.loop.self.linked.session c.loop.self.takings c.loop.self.seat (g.K.Link.wire c.loop.self.linked.link) in
-    let d : WorkerParts = parts_of c.hear.new.self.session c.loop.self.takings c.loop.self.seat (g.K.Link.wire c.hear.new.self.link) in
+    let a : PostParts = post_of c.args.self.now.linked.session c.args.self.now.takings c.args.self.now.seat (g.K.Link.wire c.args.self.now.linked.link) c.args.self.now.linked.reader in
+    let b : PostParts = post_of c.loop.self.linked.session c.loop.self.takings c.loop.self.seat (g.K.Link.wire c.loop.self.linked.link) c.loop.self.linked.reader in
+    let d : PostParts = post_of c.hear.new.self.session c.loop.self.takings c.loop.self.seat (g.K.Link.wire c.hear.new.self.link) c.hear.new.self.reader in
     does_on w read a b d c.loop.invariant (does_moves w read b d c.in-None.ensures refl refl)

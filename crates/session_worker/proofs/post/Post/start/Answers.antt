@@ -3,7 +3,7 @@ use Rattle.dialect.specs.Framed.{Writers}
 use Rattle.dialect.specs.Message.{Readers}
 use Rattle.session_core.specs.Session.{SessionParts}
 use Rattle.session_core.specs.declared.phase.Phase.TheVariants.{Down}
-use Rattle.session_worker.specs.Events.{WorkerParts, parts_of}
+use Rattle.session_worker.specs.Linking.{PostParts, post_of}
 use Rattle.session_worker.proofs.Calling.{idle_in}
 use Rattle.session_worker.proofs.Doing.{does_on, does_drains}
 use Rattle.session_worker.proofs.post.Post.start.Goals as goal
@@ -15,9 +15,9 @@ pub returns-in-Everything : goal.returns-in-Everything
 returns-in-Everything g c =
     let w : Writers = record { IsOrder = g.D.Dialect.IsOrder c.args.dialect.now; IsReport = g.D.Dialect.IsReport c.args.dialect.now } in
     let read : Readers = record { order = g.D.Dialect.order_read c.args.dialect.now; report = g.D.Dialect.report_read c.args.dialect.now } in
-    let a : WorkerParts = parts_of c.args.self.now.linked.session c.args.self.now.takings c.args.self.now.seat (g.K.Link.wire c.args.self.now.linked.link) in
-    let b : WorkerParts = parts_of c.drain.new.self.linked.session c.drain.new.self.takings c.drain.new.self.seat (g.K.Link.wire c.drain.new.self.linked.link) in
-    let d : WorkerParts = parts_of c.connect.new.self.linked.session c.connect.new.self.takings c.connect.new.self.seat (g.K.Link.wire c.connect.new.self.linked.link) in
+    let a : PostParts = post_of c.args.self.now.linked.session c.args.self.now.takings c.args.self.now.seat (g.K.Link.wire c.args.self.now.linked.link) c.args.self.now.linked.reader in
+    let b : PostParts = post_of c.drain.new.self.linked.session c.drain.new.self.takings c.drain.new.self.seat (g.K.Link.wire c.drain.new.self.linked.link) c.drain.new.self.linked.reader in
+    let d : PostParts = post_of c.connect.new.self.linked.session c.connect.new.self.takings c.connect.new.self.seat (g.K.Link.wire c.connect.new.self.linked.link) c.connect.new.self.linked.reader in
     does_on w read a b d (does_drains w read a b c.drain.ensures (idle_in c.args.self.now.linked.session Down c.requires (λ e. cc)))
     c.connect.ensures
 

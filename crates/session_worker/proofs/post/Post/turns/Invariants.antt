@@ -1,9 +1,9 @@
-use Rattle.session_worker.specs.Events.{Does, parts_of}
+use Rattle.session_worker.specs.Linking.{Does, post_of}
 use Rattle.session_worker.proofs.post.Post.turns.Given as goal
 
 abbrev pub invariant-loop : goal.invariant-loop
 invariant-loop g l =
     Does (record { IsOrder = g.D.Dialect.IsOrder l.dialect; IsReport = g.D.Dialect.IsReport l.dialect })
     (record { order = g.D.Dialect.order_read l.dialect; report = g.D.Dialect.report_read l.dialect })
-    (parts_of l.initial.self.linked.session l.initial.self.takings l.initial.self.seat (g.K.Link.wire l.initial.self.linked.link))
-    (parts_of l.self.linked.session l.self.takings l.self.seat (g.K.Link.wire l.self.linked.link))
+    (post_of l.initial.self.linked.session l.initial.self.takings l.initial.self.seat (g.K.Link.wire l.initial.self.linked.link) l.initial.self.linked.reader)
+    (post_of l.self.linked.session l.self.takings l.self.seat (g.K.Link.wire l.self.linked.link) l.self.linked.reader)

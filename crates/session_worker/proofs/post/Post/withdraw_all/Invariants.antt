@@ -5,4 +5,5 @@ abbrev pub invariant-loop-id : goal.invariant-loop-id
 invariant-loop-id g l =
     (l.self.linked.session ≡ l.initial.self.linked.session)
     × (g.K.Link.wire l.self.linked.link ≡ g.K.Link.wire l.initial.self.linked.link)
+    × (l.self.linked.reader ≡ l.initial.self.linked.reader)
     × (l.self.takings ≡ l.initial.self.takings) × (l.self.seat.parts ≡ l.initial.self.seat.parts)
