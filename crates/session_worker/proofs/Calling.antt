@@ -1,5 +1,5 @@
 -- What calls of a session leave, one after the other.
-use Rattle.std.proofs.Common.{◌≡◌, ◌⊎◌, ℕ, Bool, true, false, List, [], ◌∷◌, ◌++◌, map, refl, sym, ap, subst, ◌∙◌, inl, inr, append_assoc, if◌then◌else◌}
+use Rattle.std.proofs.Common.{◌≡◌, ℕ, Bool, true, false, List, [], ◌∷◌, ◌++◌, map, refl, sym, ap, subst, ◌∙◌, inl, inr, append_assoc, if◌then◌else◌}
 use Rattle.std.specs.Prelude.{Option, Some, None, Result, Ok, Err}
 use Rattle.std.specs.Global.{Vec}
 use Rattle.leg.specs.declared.placed_leg.PlacedLeg.{PlacedLeg}
@@ -366,6 +366,7 @@ moves_not_connected Is w read s now why a b x y other gives dials same stays fre
     not_connected (connect s) refl gives where
       to : Tells a y.wire Dials
       to = stays_last Dials a b y.wire dials stays
+
       not_connected : (answer : SessionAnswer Message) → connect s ≡ answer → Gives Is s answer (Err why) now
           → Moves w read (linked_of s a x) y
       not_connected (Ok m, after) is gave = absurd (other gave.0)
@@ -391,19 +392,19 @@ pub moves_gone : {Y : Type 0} (Is : Message → Y → Type 0) (w : Writers) (rea
     (why : SessionFault) (a b : Wire) (x : Stream) (y : LinkedParts) → Gives Is s (connect s) (Err why) now → Tells a b Dials
     → y.session ≡ broken now → Tells b y.wire Stays → Moves w read (linked_of s a x) y
 moves_gone Is w read s now why a b x y gives dials over stays = gone_from (connect s) refl gives where
-    gone_from : (answer : SessionAnswer Message) → connect s ≡ answer → Gives Is s answer (Err why) now
-        → Moves w read (linked_of s a x) y
-    gone_from (Ok m, after) is gave =
-        moves_call w read (linked_of s a x) y call.Broken refl refl (λ said hearing. tt)
-        (inr (down_connects s s.phase m after is, stays_last Dials a b y.wire dials stays)) (over ∙ ap broken gave.1)
-        (λ said hearing. hearing_gone said y (gone now y.session over))
-    gone_from (Err refused, after) is gave =
-        let between : LinkedParts = linked_of now b new_stream in
-        moves_on w read (linked_of s a x) between y
-        (moves_call w read (linked_of s a x) between call.Connect refl
-        (ap (λ (t : SessionAnswer Message). messages_in (added_message t).0) is) (λ said hearing. tt) dials
-        (gave.1 ∙ sym (ap (λ (t : SessionAnswer Message). (added_message t).1) is)) (λ said hearing. λ on. on_dials a b dials))
-        (moves_broken w read between y over stays)
+  gone_from : (answer : SessionAnswer Message) → connect s ≡ answer → Gives Is s answer (Err why) now
+      → Moves w read (linked_of s a x) y
+  gone_from (Ok m, after) is gave =
+      moves_call w read (linked_of s a x) y call.Broken refl refl (λ said hearing. tt)
+      (inr (down_connects s s.phase m after is, stays_last Dials a b y.wire dials stays)) (over ∙ ap broken gave.1)
+      (λ said hearing. hearing_gone said y (gone now y.session over))
+  gone_from (Err refused, after) is gave =
+      let between : LinkedParts = linked_of now b new_stream in
+      moves_on w read (linked_of s a x) between y
+      (moves_call w read (linked_of s a x) between call.Connect refl
+      (ap (λ (t : SessionAnswer Message). messages_in (added_message t).0) is) (λ said hearing. tt) dials
+      (gave.1 ∙ sym (ap (λ (t : SessionAnswer Message). (added_message t).1) is)) (λ said hearing. λ on. on_dials a b dials))
+      (moves_broken w read between y over stays)
 
 -- a refused call leaves the session as it was
 refused : {X Y : Type 0} (Is : X → Y → Type 0) (Made : X → SessionParts → Type 0) (s now : SessionParts)
@@ -465,26 +466,26 @@ pub hands_refused : {Y : Type 0} (Is : Message → Y → Type 0) (w : Writers) (
     (s now : SessionParts) (why : SessionFault) (a : Wire) (x : Stream) → (why ≡ fault.OutOfMemory → ⊥)
     → Gives Is s (send_leg s leg.ordinal leg.leg) (Err why) now → Hands w read leg (linked_of s a x) (linked_of now a x)
 hands_refused Is w read leg s now why a x other gives = was_refused (send_leg s leg.ordinal leg.leg) refl gives where
-    was_refused : (answer : SessionAnswer Message) → send_leg s leg.ordinal leg.leg ≡ answer → Gives Is s answer (Err why) now
-        → Hands w read leg (linked_of s a x) (linked_of now a x)
-    was_refused (Ok m, after) is gave = absurd (other gave.0)
-    was_refused (Err refused, after) is gave =
-        let same : now ≡ (send_leg s leg.ordinal leg.leg).1 = gave.1 ∙ sym (ap (λ (t : SessionAnswer Message). t.1) is) in
-        record {
-          event = Calls (call.SendLeg leg.ordinal leg.leg);
-          of_leg = inl refl;
-          calls = [];
-          session = gave.1 ∙ sym (ap (λ (t : SessionAnswer Message). (added_message t).1) is);
-          no_leg = refl;
-          speaks = λ (said : Said) (hearing : IsHearing said (linked_of s a x)). (
-            speak_silent w read s said (call.SendLeg leg.ordinal leg.leg) [] a a a tt (stays_here a)
-                (ap (λ (t : SessionAnswer Message). messages_in (added_message t).0) is)
-                (speak_none w read (called read s (call.SendLeg leg.ordinal leg.leg)).1 said a a (stays_here a)),
-            hearing_same said (linked_of s a x) (linked_of now a x)
-                (λ on. send_on s leg.ordinal leg.leg (subst (λ (t : SessionParts). is_connected t.phase ≡ true) same on)) (stays_here a)
-                refl hearing,
-          );
-        }
+  was_refused : (answer : SessionAnswer Message) → send_leg s leg.ordinal leg.leg ≡ answer → Gives Is s answer (Err why) now
+      → Hands w read leg (linked_of s a x) (linked_of now a x)
+  was_refused (Ok m, after) is gave = absurd (other gave.0)
+  was_refused (Err refused, after) is gave =
+      let same : now ≡ (send_leg s leg.ordinal leg.leg).1 = gave.1 ∙ sym (ap (λ (t : SessionAnswer Message). t.1) is) in
+      record {
+        event = Calls (call.SendLeg leg.ordinal leg.leg);
+        of_leg = inl refl;
+        calls = [];
+        session = gave.1 ∙ sym (ap (λ (t : SessionAnswer Message). (added_message t).1) is);
+        no_leg = refl;
+        speaks = λ (said : Said) (hearing : IsHearing said (linked_of s a x)). (
+          speak_silent w read s said (call.SendLeg leg.ordinal leg.leg) [] a a a tt (stays_here a)
+              (ap (λ (t : SessionAnswer Message). messages_in (added_message t).0) is)
+              (speak_none w read (called read s (call.SendLeg leg.ordinal leg.leg)).1 said a a (stays_here a)),
+          hearing_same said (linked_of s a x) (linked_of now a x)
+              (λ on. send_on s leg.ordinal leg.leg (subst (λ (t : SessionParts). is_connected t.phase ≡ true) same on)) (stays_here a)
+              refl hearing,
+        );
+      }
 
 -- one for which it wanted memory
 pub hands_failed : {Y : Type 0} (Is : Message → Y → Type 0) (w : Writers) (read : Readers) (leg : PlacedLeg)

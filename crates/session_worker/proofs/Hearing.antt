@@ -1,15 +1,12 @@
 -- What a reader gave of the bytes read on a connection.
 use Rattle.std.proofs.Common.{◌≡◌, ℕ, List, [], ◌∷◌, ◌++◌, map, Option, Some, None, refl, sym, ap, subst, ◌∙◌, append_assoc}
-use Rattle.std.specs.Prelude.{Result}
 use Rattle.std.proofs.lemmas.List.{append-nil, map-append}
 use Rattle.fix_text.specs.Tagged.{Tagged}
-use Rattle.fix_text.specs.Reading.{Stream, NextFrame, next_read, fed}
+use Rattle.fix_text.specs.Reading.{Stream, next_read, fed}
 use Rattle.fix_text.specs.Deciding.{IsNext}
 use Rattle.fix_text.specs.Calls.{Called, Fed, FeedRefused, Gave, Waits, NextRefused, CallsLead, new_stream, bytes_fed, frames_given, AreFirst}
 use Rattle.fix_text.proofs.NextFrames.{next_is}
 use Rattle.fix_text.proofs.Replays.{calls_first}
-use Rattle.fix_tags.specs.declared.envelope.Envelope.{Envelope}
-use Rattle.fix_tags.specs.declared.tag_fault.TagFault.{TagFault}
 use Rattle.fix_tags.specs.Reading.{envelope_read}
 use Rattle.link.specs.Traffic.{Traffic, Tells, Dials, Takes, GivesBytes, Stays}
 use Rattle.session_worker.specs.Hearing.{Said, AreFirstSaid, AreHeard, ReaderAt, ReaderOn}

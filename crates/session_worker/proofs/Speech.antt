@@ -1,21 +1,16 @@
 -- What goes over a link, one call of the session after another.
-use Rattle.std.proofs.Common.{◌≡◌, ◌⊎◌, ℕ, List, [], ◌∷◌, ◌++◌, Option, Some, None, map, refl, sym, ap, subst, ◌∙◌, inl, inr, append_assoc}
-use Rattle.std.specs.Prelude.{Result, Ok, Err}
-use Rattle.std.specs.Global.{Vec}
+use Rattle.std.proofs.Common.{◌≡◌, ℕ, List, [], ◌∷◌, ◌++◌, Some, None, map, refl, sym, ap, subst, ◌∙◌, inl, inr, append_assoc}
 use Rattle.std.proofs.lemmas.List.{append-nil}
-use mathlib.Core.List.{IsPrefix}
 use Rattle.fix_tags.specs.Stamp.{StampParts}
 use Rattle.dialect.specs.declared.message.Message.{Message}
-use Rattle.dialect.specs.Framed.{Writers, IsFramed, AreFramed}
+use Rattle.dialect.specs.Framed.{Writers, AreFramed}
 use Rattle.dialect.specs.Message.{Readers}
 use Rattle.dialect.specs.Outgoing.{alone}
-use Rattle.link.specs.Traffic.{Traffic, Tells, Dials, Takes, TakesPart, GivesBytes, Stays}
+use Rattle.link.specs.Traffic.{Traffic, Tells, Takes, TakesPart, GivesBytes, Stays}
 use Rattle.link.proofs.Taking.{tells_nothing}
-use Rattle.session_core.specs.declared.phase.Phase.TheVariants.{Down}
 use Rattle.session_core.specs.declared.session_call.SessionCall.{SessionCall}
 use Rattle.session_core.specs.declared.session_call.SessionCall.TheVariants as call
 use Rattle.session_core.specs.Session.{SessionParts}
-use Rattle.session_core.specs.Turn.{StepParts}
 use Rattle.session_core.specs.Trial.{called, after_calls}
 use Rattle.session_worker.specs.Hearing.{Said, said_with, said_after, Hears}
 use Rattle.session_worker.specs.Speaking.{Wire, joined, Reads, TakesFirst, IsGivenUp, Puts, Begins, messages_in, Speaks, Speak}

@@ -39,7 +39,7 @@ Hears said (call.Receive envelope) wire = AreHeard (said ++ Ok envelope ∷ []) 
 Hears said call.Malformed wire = (fault : TagFault) × AreHeard (said ++ Err fault ∷ []) wire
 Hears said _ wire = Unit {0}
 
--- after calls
+-- the same, with those of calls one after the other
 abbrev pub said_after : Said → List SessionCall → Said
 said_after said [] = said
 said_after said (made ∷ calls) = said_after (said_with said made) calls

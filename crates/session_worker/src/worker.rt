@@ -54,7 +54,8 @@ impl<D: Dialect + Drop, K: Link, C: Clock + Drop, L: Run, M: Ledger> Worker<D, K
     }
 
     /// Takes its turns, until one leaves the session closed or so many were taken; then the session is over, and what is
-    /// placed at the venue is dropped. It may wait for the locks and for the link.
+    /// placed at the venue is dropped. It may wait for the locks and for the link. Of a link that tells its traffic the
+    /// contract says which bytes went over it.
     pub fn run(
         self,
         rt: &impl Wait,

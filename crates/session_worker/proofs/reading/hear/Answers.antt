@@ -1,8 +1,6 @@
-use Rattle.std.proofs.Common.{◌≡◌, Option, Some, None, refl, sym, ap, ◌∙◌, subst}
+use Rattle.std.proofs.Common.{◌≡◌, refl, sym, ap, ◌∙◌}
 use Rattle.std.specs.Prelude.{option_map}
-use Rattle.fix_text.specs.Tagged.{Tagged}
 use Rattle.fix_text.specs.FrameFields.{fields_in}
-use Rattle.fix_text.specs.Reading.{next_read}
 use Rattle.fix_tags.specs.Reading.{envelope_read}
 use Rattle.fix_tags.specs.declared.read_fault.ReadFault.TheVariants as read_fault
 use Rattle.dialect.specs.Framed.{Writers}

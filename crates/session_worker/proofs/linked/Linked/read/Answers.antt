@@ -1,8 +1,8 @@
-use Rattle.std.proofs.Common.{◌≡◌, inl, inr, refl, take, subst}
+use Rattle.std.proofs.Common.{inl, inr, refl, take, subst}
 use Rattle.link.specs.Traffic.{Tells, Gives}
 use Rattle.link.specs.declared.got.Got.{Got}
 use Rattle.session_worker.specs.Speaking.{Wire}
-use Rattle.session_worker.specs.Linking.{LinkedParts, linked_of, TakesIn}
+use Rattle.session_worker.specs.Linking.{LinkedParts, linked_of}
 use Rattle.session_worker.proofs.Speech.{reads_bytes, reads_none, reads_on}
 use Rattle.session_worker.proofs.Connected.{gone, hearing_same, hearing_gone, hearing_fed, fed_breaks}
 use Rattle.session_worker.proofs.linked.Linked.read.Goals as goal
