@@ -36,14 +36,14 @@ pub fn live_run<S, R, P, W, E>(
     rt: &R,
     alloc: Global,
     words: &[S],
-    progress: &mut P,
+    progress: P,
     out: &mut W,
     err: &mut E,
 ) -> u8
 where
     S: AsStr,
     R: Net<Listener = TcpListener, Stream = TcpStream> + Threads + Wait + Clock + Sync,
-    P: Progress + Send,
+    P: Progress + Drop + Send,
     W: Write,
     E: Write,
 {
@@ -54,13 +54,13 @@ fn live<S, R, P, W>(
     rt: &R,
     alloc: Global,
     words: &[S],
-    progress: &mut P,
+    progress: P,
     out: &mut W,
 ) -> Result<(), ProgramFault>
 where
     S: AsStr,
     R: Net<Listener = TcpListener, Stream = TcpStream> + Threads + Wait + Clock + Sync,
-    P: Progress + Send,
+    P: Progress + Drop + Send,
     W: Write,
 {
     let plan = plan_of(&read_options(alloc, words)?)?;

@@ -50,7 +50,7 @@ fn run<S, H, C, P, R, W, E>(
     alloc: Global,
     words: &[S],
     clock: &mut C,
-    progress: &mut P,
+    progress: P,
     input: &mut R,
     out: &mut W,
     err: &mut E,
@@ -59,7 +59,7 @@ where
     S: AsStr,
     H: Net<Listener = TcpListener, Stream = TcpStream> + Threads + Wait + time::Clock + Sync,
     C: Clock,
-    P: Progress + Send,
+    P: Progress + Drop + Send,
     R: Read,
     W: Write,
     E: Write,
@@ -83,14 +83,13 @@ fn main(rt: HostRuntime) -> ExitCode {
     let mut input = rt.stdin();
     let mut out = rt.stdout();
     let mut err = rt.stderr();
-    let mut progress = ProgressLines(rt.stderr());
     let status = match words(&rt) {
         Ok(words) => run(
             &rt,
             rt.alloc(),
             words.as_slice(),
             &mut clock,
-            &mut progress,
+            ProgressLines(rt.stderr()),
             &mut input,
             &mut out,
             &mut err,

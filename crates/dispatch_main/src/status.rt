@@ -21,9 +21,8 @@ fn status_of(fault: &ProgramFault) -> u8
         | ProgramFault::NoSocket
         | ProgramFault::NoThread => 4,
         ProgramFault::OutOfMemory => 5,
-        ProgramFault::MismatchQueue
-        | ProgramFault::MismatchShares
-        | ProgramFault::MismatchPlaced => 6,
+        ProgramFault::MismatchQueue | ProgramFault::MismatchShares | ProgramFault::MismatchPlaced =>
+            6,
     }
 }
 

@@ -36,7 +36,7 @@ where
         alloc,
         words.as_slice(),
         &mut clock,
-        &mut Untold,
+        Untold,
         &mut input,
         &mut out,
         &mut err,

@@ -2,6 +2,7 @@
 use Rattle.std.proofs.Common.{◌≡◌, ℕ, zero, suc, ◌+◌, ◌≤◌, List, [], ◌∷◌, ◌++◌, length, drop, Option, Some, None, refl, sym, ap, subst, ◌∙◌, add-one, arith}
 use Rattle.std.specs.Prelude.{slice_get, sum_by, option_map}
 use Rattle.std.proofs.lemmas.List.{append_assoc, append-nil}
+use Rattle.std.proofs.lemmas.List.Sums.{sum_by-cons}
 use Rattle.leg.specs.Numbered.{numbered}
 use Rattle.leg.specs.declared.sweep.Routed.{Routed}
 use Rattle.leg.specs.declared.totals.Totals.{Totals}
@@ -42,8 +43,15 @@ opened_few (Moved venue note ∷ entries) = let rest = opened_few entries in ome
 -- one of some numbers is at most their sum
 one_of : {A : Type 0} (f : A → ℕ) (xs : List A) (at : ℕ) (x : A) → slice_get xs at ≡ Some x → f x ≤ sum_by f xs
 one_of f [] at x e = absurd cc
-one_of f (first ∷ xs) zero x e = (let same : f first ≡ f x = ap f (cc : first ≡ x) in omega (arith, same))
-one_of f (first ∷ xs) (suc at) x e = let rest = one_of f xs at x e in omega (arith, rest)
+one_of f (first ∷ xs) zero x e =
+    let same : first ≡ x = cc in
+    let is = ap f same in
+    let all = sum_by-cons f first xs in
+    omega (arith, is, all)
+one_of f (first ∷ xs) (suc at) x e =
+    let rest = one_of f xs at x e in
+    let all = sum_by-cons f first xs in
+    omega (arith, rest, all)
 
 -- the sweep at a place has these totals, and its shares are their sum
 record Found (book : BookParts) (at : ℕ) (t : Totals) : Type 0 where
@@ -59,7 +67,7 @@ found_at : (book : BookParts) (at : ℕ) (t : Totals) (found : Option (List Rout
 found_at book at t None replays is told e = absurd cc
 found_at book at t (Some legs) replays is told e =
     let adds = subst (λ (b : BookParts). numbered (suc at) (opened b.entries) ≡ Some legs
-        → totals_shares (totals b (suc at)) ≡ Some (sweep_shares legs)) replays
+    → totals_shares (totals b (suc at)) ≡ Some (sweep_shares legs)) replays
     (totals_add_up book.venues book.entries (suc at) legs) in
     let sums : Some (sum_of t) ≡ Some (sweep_shares legs) = ap totals_shares (sym told) ∙ adds is in
     record { legs = legs; there = is; totals_are = cc; shares = cc }

@@ -1,9 +1,12 @@
 -- What all callers of a day leave.
-use Rattle.std.proofs.Common.{◌≡◌, ◌+◌, ◌*◌, ◌≤◌, ℕ, zero, suc, List, [], ◌∷◌, length, map, refl, sym, ap, ◌∙◌, arith}
-use Rattle.std.proofs.Math.Nat.{add-mul, suc-mul}
+use Rattle.std.proofs.Common.{◌≡◌, ◌+◌, ◌*◌, ◌≤◌, ℕ, zero, suc, List, [], ◌∷◌, length, map, All, refl, sym, ap, subst, ◌<◌, ◌∙◌, arith}
+use Rattle.std.proofs.Math.Nat.{add-mul, suc-mul, zero-mul}
 use Rattle.std.specs.Prelude.{sum_by, slice_index_or, slice_get}
+use Rattle.std.proofs.lemmas.List.Sums.{sum_by-cons}
+use Rattle.std.specs.declared.thread.PromisedHandle.{PromisedHandle}
+use Rattle.std.specs.declared.thread.Promise as Promise
 use Rattle.std.specs.PromisedHandle.{KeepsAt}
-use Rattle.exec_collector.specs.Seats.{Seat, parts_of as seat_parts}
+use Rattle.exec_collector.specs.Seats.{Seat, parts_of as seat_parts, shares_of}
 use Rattle.live_day.specs.declared.live_plan.LivePlan.{LivePlan}
 use Rattle.live_day.specs.Day.{Caller, caller_of, CallerLeft, shares_each, Called, AllCalled, AreCalled}
 
@@ -24,42 +27,89 @@ called_parts plan (seat ∷ seats) [] all = absurd all
 called_parts plan (seat ∷ seats) (left ∷ ends) all =
     let first = all.0.parts in
     let rest = called_parts plan seats ends all.1 in
-    omega (arith, first, rest)
+    let sum = sum_by-cons (λ (l : CallerLeft). l.seat.parts) left ends in
+    let parts = sum_by-cons (λ (s : Seat). s.parts) seat seats in
+    omega (arith, first, rest, sum, parts)
 
 called_few : (plan : LivePlan) (seats : List Seat) (ends : List CallerLeft)
     → AllCalled (map (λ seat. caller_of plan seat) seats) ends → unplaced_in ends ≤ length seats * plan.sweeps
-called_few plan [] [] all = omega arith
+called_few plan [] [] all = let none = zero-mul plan.sweeps in omega (arith, none)
 called_few plan [] (left ∷ ends) all = absurd all
 called_few plan (seat ∷ seats) [] all = absurd all
 called_few plan (seat ∷ seats) (left ∷ ends) all =
     let first = all.0.few in
     let rest = called_few plan seats ends all.1 in
-    let more : suc (length seats) * plan.sweeps ≡ length seats * plan.sweeps + plan.sweeps = suc-mul (length seats) plan.sweeps in
-    omega (arith, first, rest, more)
+    let more : length (seat ∷ seats) * plan.sweeps ≡ length seats * plan.sweeps + plan.sweeps = suc-mul (length seats) plan.sweeps in
+    let sum = sum_by-cons (λ (l : CallerLeft). l.unplaced) left ends in
+    omega (arith, first, rest, more, sum)
 
 called_shares : (plan : LivePlan) (seats : List Seat) (ends : List CallerLeft)
     → AllCalled (map (λ seat. caller_of plan seat) seats) ends
-    → shares_in ends + unplaced_in ends * shares_each plan ≡ length seats * (plan.sweeps * shares_each plan)
-called_shares plan [] [] all = refl
+    → shares_in ends + unplaced_in ends * shares_each plan
+    ≡ shares_of seats + length seats * (plan.sweeps * shares_each plan)
+called_shares plan [] [] all =
+    let a : unplaced_in [] * shares_each plan ≡ 0 = zero-mul (shares_each plan) in
+    let b : length {A = Seat} [] * (plan.sweeps * shares_each plan) ≡ 0 = zero-mul (plan.sweeps * shares_each plan) in
+    let none : shares_in [] ≡ 0 = refl in
+    let new : shares_of [] ≡ 0 = refl in
+    omega (arith, a, b, none, new)
 called_shares plan [] (left ∷ ends) all = absurd all
 called_shares plan (seat ∷ seats) [] all = absurd all
 called_shares plan (seat ∷ seats) (left ∷ ends) all =
     let each = shares_each plan in
     let first = all.0.shares in
     let rest = called_shares plan seats ends all.1 in
-    let both : (left.unplaced + unplaced_in ends) * each ≡ left.unplaced * each + unplaced_in ends * each =
-    add-mul left.unplaced (unplaced_in ends) each in
-    let more : suc (length seats) * (plan.sweeps * each) ≡ length seats * (plan.sweeps * each) + plan.sweeps * each =
+    let given : unplaced_in (left ∷ ends) ≡ left.unplaced + unplaced_in ends =
+    sum_by-cons (λ (l : CallerLeft). l.unplaced) left ends in
+    let both : unplaced_in (left ∷ ends) * each ≡ left.unplaced * each + unplaced_in ends * each =
+    ap (λ n. n * each) given ∙ add-mul left.unplaced (unplaced_in ends) each in
+    let more : length (seat ∷ seats) * (plan.sweeps * each) ≡ length seats * (plan.sweeps * each) + plan.sweeps * each =
     suc-mul (length seats) (plan.sweeps * each) in
-    omega (arith, first, rest, both, more)
+    let sum = sum_by-cons (λ (l : CallerLeft). l.seat.shares) left ends in
+    let before = sum_by-cons (λ (s : Seat). s.shares) seat seats in
+    omega (arith, first, rest, both, more, sum, before)
 
--- the callers of a plan, with all parts among them
+-- seats on which nothing was counted
+none_counted : (seats : List Seat) → All (λ (s : Seat). s.shares ≡ 0) seats → shares_of seats ≡ 0
+none_counted [] new = refl
+none_counted (seat ∷ seats) new =
+    let first = new.0 in
+    let rest = none_counted seats new.1 in
+    let sum = sum_by-cons (λ (s : Seat). s.shares) seat seats in
+    omega (arith, first, rest, sum)
+
+-- the callers of a plan, with all parts among them, and nothing counted before
 pub are_called : (plan : LivePlan) (seats : List Seat) (ends : List CallerLeft) → length seats ≡ plan.callers
     → seat_parts seats ≡ 1024
+    → All (λ (s : Seat). s.shares ≡ 0) seats
     → AllCalled (map (λ seat. caller_of plan seat) seats) ends
     → AreCalled plan ends
-are_called plan seats ends many whole all = record {
-  parts = called_parts plan seats ends all ∙ whole;
-  few = rw (sym many) (called_few plan seats ends all);
-  shares = called_shares plan seats ends all ∙ ap (λ n. n * (plan.sweeps * shares_each plan)) many;
-}
+are_called plan seats ends many whole new all =
+    let shares = called_shares plan seats ends all in
+    let none = none_counted seats new in
+    let count : length seats * (plan.sweeps * shares_each plan) ≡ plan.callers * (plan.sweeps * shares_each plan) =
+    ap (λ n. n * (plan.sweeps * shares_each plan)) many in
+    let few = called_few plan seats ends all in
+    let most : length seats * plan.sweeps ≡ plan.callers * plan.sweeps = ap (λ n. n * plan.sweeps) many in
+    record {
+      parts = called_parts plan seats ends all ∙ whole;
+      few = omega (arith, few, most);
+      shares = omega (arith, shares, none, count);
+    }
+
+module _ {T P : Type 0} (g : Promise.Ghosts P T) (caller : P → Caller) (left : T → CallerLeft)
+    (keeps : (p : P) (r : T) → g.kept_by p r → Called (caller p) (left r)) where
+  -- each result keeps the promise of the handle at its place, so each caller did as it was to
+  pub all_called : (handles : List (PromisedHandle T P)) (results : List T) → length results ≡ length handles
+      → ((i : ℕ) (d : T) → i < length handles → KeepsAt g handles i (slice_index_or results i d))
+      → AllCalled (map (λ h. caller h.promise) handles) (map left results)
+  all_called [] [] same each = tt
+  all_called [] (r ∷ results) same each = absurd (omega arith)
+  all_called (h ∷ handles) [] same each = absurd (omega arith)
+  all_called (h ∷ handles) (r ∷ results) same each =
+      let first = each 0 r (omega arith) in
+      let kept : g.kept_by h.promise r = subst (λ (x : PromisedHandle T P). g.kept_by x.promise r) first.handle_is first.kept in (
+        keeps h.promise r kept,
+        all_called handles results (omega arith) (λ i d below. (let next = each (suc i) d (omega (arith, below)) in
+            record { handle = next.handle; handle_is = next.handle_is; kept = next.kept })),
+      )

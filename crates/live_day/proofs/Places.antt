@@ -1,8 +1,10 @@
 -- The workers of a day keep their places: each is that of its venue, and their seats have all parts.
-use Rattle.std.proofs.Common.{◌≡◌, ◌⊎◌, inl, inr, ◌+◌, ℕ, zero, suc, ◌<◌, List, [], ◌∷◌, ◌++◌, length, map, Option, Some, None, refl, sym, ap, subst, ◌∙◌, add-one, arith}
+use Rattle.std.proofs.Common.{◌≡◌, ◌⊎◌, inl, inr, ◌+◌, ℕ, zero, suc, ◌<◌, List, [], ◌∷◌, ◌++◌, length, map, All, replicate, Option, Some, None, refl, sym, ap, subst, ◌∙◌, add-one, arith}
 use Rattle.std.specs.Prelude.{slice_get, sum_by}
 use Rattle.std.proofs.lemmas.List.{length-append}
-use Rattle.exec_collector.specs.Seats.{Seat, parts_of as seat_parts}
+use Rattle.std.proofs.lemmas.List.Elements.{All-push}
+use Rattle.std.proofs.lemmas.List.Sums.{sum_by-cons}
+use Rattle.exec_collector.specs.Seats.{Seat, new_seat, parts_of as seat_parts}
 use Rattle.release_lock.specs.Queues.{DrainParts, new_drains, Took, AreInOrder}
 use Rattle.session_worker.specs.Events.{WorkerParts}
 use Rattle.session_worker.specs.Ends.{WorkerStart, WorkerLeft, Runs, AllRan}
@@ -30,12 +32,22 @@ snoc_at (first ∷ xs) y (suc at) x e =
       | inr last ↦ inr (ap suc last.0, last.1)
     ]
 
-drains_length : (venues : ℕ) → length (new_drains venues) ≡ venues
+pub drains_length : (venues : ℕ) → length (new_drains venues) ≡ venues
 drains_length zero = refl
 drains_length (suc venues) =
     let rest = drains_length venues in
     let one = length-append (new_drains venues) (record { venue = venues; popped = [] } ∷ []) in
     omega (arith, rest, one)
+
+-- nothing was popped from a new drain
+pub none_popped : (venues : ℕ) → All (λ (d : DrainParts). d.popped ≡ []) (new_drains venues)
+none_popped zero = tt
+none_popped (suc venues) = All-push (λ (d : DrainParts). d.popped ≡ []) (new_drains venues) (record { venue = venues; popped = [] })
+    (none_popped venues) refl
+
+pub all_new : (count : ℕ) → All (λ (s : Seat). s ≡ new_seat) (replicate count new_seat)
+all_new zero = tt
+all_new (suc count) = (refl, all_new count)
 
 drain_at : (venues at : ℕ) (drain : DrainParts) → slice_get (new_drains venues) at ≡ Some drain → drain.venue ≡ at
 drain_at zero at drain e = absurd cc
@@ -89,11 +101,16 @@ parts_kept parts seat same (start ∷ starts) [] kept = absurd kept
 parts_kept parts seat same (start ∷ starts) (end ∷ ends) kept =
     let first : (seat end).parts ≡ start.seat_parts = sym (same end) ∙ kept.0.1 in
     let rest = parts_kept parts seat same starts ends kept.1 in
-    omega (arith, first, rest)
+    let seats = sum_by-cons (λ (s : Seat). s.parts) (seat end) (map seat ends) in
+    let befores = sum_by-cons (λ (w : WorkerParts). w.seat_parts) start starts in
+    omega (arith, first, rest, seats, befores)
 
 one_each : (drains : List DrainParts) → sum_by (λ (w : WorkerParts). w.seat_parts) (map new_worker drains) ≡ length drains
 one_each [] = refl
-one_each (drain ∷ drains) = let rest = one_each drains in omega (arith, rest)
+one_each (drain ∷ drains) =
+    let rest = one_each drains in
+    let all = sum_by-cons (λ (w : WorkerParts). w.seat_parts) (new_worker drain) (map new_worker drains) in
+    omega (arith, rest, all)
 
 -- and their seats have one part for each venue
 pub all_parts : {A : Type 0} (parts : A → WorkerParts) (seat : A → Seat)

@@ -64,13 +64,13 @@ AllKeepPlace [] (after ∷ ends) = ⊥
 AllKeepPlace (before ∷ starts) [] = ⊥
 AllKeepPlace (before ∷ starts) (after ∷ ends) = KeepsPlace before after × AllKeepPlace starts ends
 
--- a caller before its first sweep: the day's plan, and the parts of its seat
+-- a caller before its first sweep: the day's plan, and its seat
 pub record Caller : Type 0 where
   pub plan : LivePlan
-  pub parts : ℕ
+  pub seat : Seat
 
 abbrev pub caller_of : LivePlan → Seat → Caller
-caller_of plan seat = record { plan = plan; parts = seat.parts }
+caller_of plan seat = record { plan = plan; seat = seat }
 
 -- what it leaves: its seat, and how many of its sweeps it gave up
 pub record CallerLeft : Type 0 where
@@ -84,11 +84,13 @@ left_of seat unplaced = record { seat = seat; unplaced = unplaced }
 abbrev pub shares_each : LivePlan → ℕ
 shares_each plan = 10 * plan.venues
 
--- a caller released its sweeps or gave them up: the seat has as many parts, and the shares of those that it released
+-- a caller released its sweeps or gave them up: the seat has as many parts, and gained the shares of those that it
+-- released
 pub record Called (caller : Caller) (left : CallerLeft) : Type 0 where
-  pub parts : left.seat.parts ≡ caller.parts
+  pub parts : left.seat.parts ≡ caller.seat.parts
   pub few : left.unplaced ≤ caller.plan.sweeps
-  pub shares : left.seat.shares + left.unplaced * shares_each caller.plan ≡ caller.plan.sweeps * shares_each caller.plan
+  pub shares : left.seat.shares + left.unplaced * shares_each caller.plan
+      ≡ caller.seat.shares + caller.plan.sweeps * shares_each caller.plan
 
 -- and so did each of these, in order
 abbrev pub AllCalled : List Caller → List CallerLeft → Type 0

@@ -33,8 +33,7 @@ pub fn call<L: Run, M: Ledger>(
     floor: &Floor<L, M>,
     seat: CallerSeat<L>,
 ) -> CallerEnd<L>
-    requires plan { IsLivePlan floor.now.plan }
-    requires new { seat.shares ≡ 0 }
+    requires { IsLivePlan floor.now.plan }
     ensures { Called (caller_of floor.now.plan seat) (left_of result.seat result.unplaced) }
 {
     let mut seat = seat;
@@ -73,6 +72,7 @@ fn places<L: Run, M: Ledger>(
 }
 
 /// Tries a sweep once, and says whether it was placed.
+#[tactic(auto, using(crate::proofs::Orders::orders_shares))]
 fn releases<L: Run, M: Ledger>(
     rt: &impl Wait,
     alloc: Global,

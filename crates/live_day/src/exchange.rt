@@ -17,10 +17,17 @@ use std::time::Clock;
 /// How many shares of each order an exchange trades.
 const FILL: u64 = 6;
 
+/// Serves clients in a thread of a day.
+pub trait Serve {
+    /// Serves its clients until the day is over. The only refusal is want of memory.
+    fn serve(self, is_over: &AtomicBool) -> Result<(), AllocError>;
+}
+
 /// A simulated exchange, and the socket that it listens on.
 #[derive(Drop)]
 pub struct Exchange<'a, R: Clock> {
     pub addr: SocketAddr,
+    net: &'a R,
     listener: TcpListener,
     acceptor: Acceptor<Plain, UtcClock<'a, R>>,
 }
@@ -45,15 +52,17 @@ impl<'a, R: Net<Listener = TcpListener, Stream = TcpStream> + Clock> Exchange<'a
         let acceptor = Acceptor::new(alloc, Plain, UtcClock::new(rt), exchange_end(), plan);
         Ok(Exchange {
             addr,
+            net: rt,
             listener,
             acceptor,
         })
     }
+}
 
-    /// Serves its clients until the day is over. The only refusal is want of memory.
-    pub fn serve(self, rt: &R, is_over: &AtomicBool) -> Result<(), AllocError> {
+impl<'a, R: Net<Listener = TcpListener, Stream = TcpStream> + Clock> Serve for Exchange<'a, R> {
+    fn serve(self, is_over: &AtomicBool) -> Result<(), AllocError> {
         let mut acceptor = self.acceptor;
-        serve(rt, &self.listener, &mut acceptor, is_over, u64::MAX)
+        serve(self.net, &self.listener, &mut acceptor, is_over, u64::MAX)
     }
 }
 

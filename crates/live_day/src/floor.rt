@@ -1,6 +1,6 @@
 //! What the threads of a day share.
 
-use crate::exchange::Exchange;
+use crate::exchange::Serve;
 use crate::signals::{Running, Signals};
 use crate::{LivePlan, Progress, SoFar};
 use exec_collector::Collector;
@@ -8,7 +8,6 @@ use leg::VenueId;
 use release_lock::{ReleaseLock, Run};
 use session_worker::shut_gate;
 use std::alloc::AllocError;
-use std::net::{Net, TcpListener, TcpStream};
 use std::sync::Wait;
 use std::sync::ledger::Ledger;
 use std::thread;
@@ -52,19 +51,16 @@ impl<L: Run, M: Ledger> Floor<L, M> {
     }
 
     /// Tells how far the day is until it ends; once the callers have ended it shuts the gates, so that the workers end.
-    pub fn keep<R: Wait + Clock, P: Progress>(&self, rt: &R, progress: &mut P) {
-        self.watch(rt, &self.signals.callers, progress);
+    pub fn keep<R: Wait + Clock, P: Progress + Drop>(&self, rt: &R, progress: P) {
+        let mut progress = progress;
+        self.watch(rt, &self.signals.callers, &mut progress);
         self.shut_gates(rt);
-        self.watch(rt, &self.signals.workers, progress);
+        self.watch(rt, &self.signals.workers, &mut progress);
     }
 
     /// Serves an exchange's clients until it is stopped. Where it wants memory the callers are to give up.
-    pub fn serve<R: Net<Listener = TcpListener, Stream = TcpStream> + Clock>(
-        &self,
-        rt: &R,
-        exchange: Exchange<'_, R>,
-    ) -> Result<(), AllocError> {
-        let served = exchange.serve(rt, &self.signals.is_over);
+    pub fn serve<X: Serve>(&self, exchange: X) -> Result<(), AllocError> {
+        let served = exchange.serve(&self.signals.is_over);
         if served.is_err() {
             self.signals.end();
         }

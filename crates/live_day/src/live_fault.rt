@@ -5,7 +5,7 @@ ghost use Rattle.live_day.specs.declared.live_fault.LiveFault.TheVariants.{OutOf
 ghost use Rattle.live_day.specs.Faults.{run_fault};
 
 use session_worker::RunFault;
-use std::alloc::AllocError;
+use std::alloc::{AllocError, AllocFailed};
 use thiserror::Error;
 
 /// Why a day can't be run, or its audit fails. All its threads have ended.
@@ -34,6 +34,14 @@ impl From<AllocError> for LiveFault {
     ghost from_gives = { λ _ fault. fault ≡ OutOfMemory };
 
     fn from(_: AllocError) -> LiveFault {
+        LiveFault::OutOfMemory
+    }
+}
+
+impl<T: Drop> From<AllocFailed<T>> for LiveFault {
+    ghost from_gives = { λ _ fault. fault ≡ OutOfMemory };
+
+    fn from(_: AllocFailed<T>) -> LiveFault {
         LiveFault::OutOfMemory
     }
 }

@@ -38,11 +38,11 @@ pub fn run_live<R, P>(
     rt: &R,
     alloc: Global,
     plan: LivePlan,
-    progress: &mut P,
+    progress: P,
 ) -> Result<LiveDay, LiveFault>
 where
     R: Net<Listener = TcpListener, Stream = TcpStream> + Threads + Wait + Clock + Sync,
-    P: Progress + Send,
+    P: Progress + Drop + Send,
     requires { IsLivePlan plan }
     ensures sweeps { IfOk result (λ day. (book : BookParts) × Replays book × (day.sweeps.items ≡ sweeps_in book)) }
     ensures placed { IfOk result (λ day. day.report.placed + day.unplaced * shares_each plan
@@ -81,13 +81,13 @@ fn named_day<L, M, R, P>(
     callers: Blank,
     workers: Blank,
     rings: VecDeque<(Feed, Drain)>,
-    progress: &mut P,
+    progress: P,
 ) -> Result<LiveDay, LiveFault>
 where
     L: Run + Send + Sync,
     M: Ledger + Send + Sync,
     R: Net<Listener = TcpListener, Stream = TcpStream> + Threads + Wait + Clock + Sync,
-    P: Progress + Send,
+    P: Progress + Drop + Send,
     requires plan { IsLivePlan plan }
     requires callers { (callers.name ≡ L.name) × (callers.parts ≡ L.parts) × (L.parts ≡ 1024) }
     requires workers { (workers.name ≡ M.name) × (workers.parts ≡ M.parts) × (M.parts ≡ plan.venues) }
@@ -125,11 +125,11 @@ where
 }
 
 /// What became of a day whose threads have ended.
-fn told<'a, L: Run, M: Ledger, R: Net + Clock + Wait>(
-    rt: &R,
+fn told<K: Link, L: Run, M: Ledger>(
+    rt: &impl Wait,
     alloc: Global,
     floor: Floor<L, M>,
-    ended: Ended<'a, L, M, R>,
+    ended: Ended<K, L, M>,
 ) -> Result<LiveDay, LiveFault>
     requires plan { IsLivePlan floor.plan }
     requires order { AreInOrder (map (λ e. e.took) ended.workers.items) }

@@ -19,14 +19,14 @@ pub fn booked_sweeps(alloc: Global, book: &Book) -> Result<Vec<LiveSweep>, Alloc
     let mut sweeps = Vec::new(alloc);
     for place in 0..book.history().len() {
         let number = place as u64 + 1;
-        let Some(totals) = book.totals(number) else {
-            return Ok(sweeps);
-        };
-        sweeps.push(LiveSweep {
-            number,
-            shares: sum_of(&totals),
-            totals,
-        })?;
+        match book.totals(number) {
+            Some(totals) => sweeps.push(LiveSweep {
+                number,
+                shares: sum_of(&totals),
+                totals,
+            })?,
+            None => return Ok(sweeps),
+        }
     }
     Ok(sweeps)
 }

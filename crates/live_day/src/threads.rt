@@ -1,60 +1,62 @@
 //! The threads of a day.
 
 ghost use Rattle.std.specs.Prelude.{◌≡◌, map, IfOk, IfErr};
-ghost use Rattle.std.specs.List.{All};
 ghost use Rattle.session_worker.specs.Events.{parts_of};
 ghost use Rattle.live_day.specs.Faults.{IsNoMismatch};
 ghost use Rattle.live_day.specs.Day.{IsLivePlan, caller_of, left_of, AllCalled, AllKeepPlace};
 
 use crate::caller::{CallerEnd, call};
-use crate::exchange::Exchange;
+use crate::exchange::Serve;
 use crate::floor::Floor;
 use crate::promise::EndOf;
-use crate::workers::{LiveEnd, LiveWorker};
 use crate::{LiveFault, Progress};
+use clock::Clock;
+use dialect::Dialect;
+use link::Link;
 use release_lock::{CallerSeat, Run};
-use session_worker::run_all;
+use session_worker::{Worker, WorkerEnd, run_all};
 use std::alloc::{AllocError, Global};
 use std::collections::VecDeque;
-use std::net::{Net, TcpListener, TcpStream};
 use std::snapshot::Snapshot;
 use std::sync::Wait;
 use std::sync::ledger::Ledger;
-use std::thread;
 use std::thread::{JoinHandle, PromisedHandle, Scope, Threads, join_promised};
-use std::time::Clock;
+use std::{thread, time};
 
 /// Who takes part in a day.
 #[derive(Drop)]
-pub struct Cast<'a, L: Run, M: Ledger, R: Net + Clock> {
-    pub exchanges: Vec<Exchange<'a, R>>,
-    pub workers: Vec<LiveWorker<'a, R, L, M>>,
+pub struct Cast<X, D: Dialect + Drop, K: Link, C: Clock + Drop, L: Run, M: Ledger> {
+    pub exchanges: Vec<X>,
+    pub workers: Vec<Worker<D, K, C, L, M>>,
     pub callers: Vec<CallerSeat<L>>,
 }
 
 /// What its threads leave.
 #[derive(Drop)]
-pub struct Ended<'a, L: Run, M: Ledger, R: Net + Clock> {
-    pub workers: Vec<LiveEnd<'a, R, L, M>>,
+pub struct Ended<K: Link, L: Run, M: Ledger> {
+    pub workers: Vec<WorkerEnd<K, L, M>>,
     pub callers: Vec<CallerEnd<L>>,
 }
 
 /// Runs a day: its exchanges, its callers and its workers, each in a thread of its own. Once the callers have ended the gates
 /// are shut, and once the workers have ended the exchanges are stopped.
-pub fn in_threads<'a, L, M, R, P>(
-    rt: &'a R,
+pub fn in_threads<X, D, K, C, L, M, R, P>(
+    rt: &R,
     alloc: Global,
     floor: &Floor<L, M>,
-    cast: Cast<'a, L, M, R>,
-    progress: &mut P,
-) -> Result<Ended<'a, L, M, R>, LiveFault>
+    cast: Cast<X, D, K, C, L, M>,
+    progress: P,
+) -> Result<Ended<K, L, M>, LiveFault>
 where
+    X: Serve + Drop + Send,
+    D: Dialect + Drop + Send,
+    K: Link + Send,
+    C: Clock + Drop + Send,
     L: Run + Send + Sync,
     M: Ledger + Send + Sync,
-    R: Net<Listener = TcpListener, Stream = TcpStream> + Threads + Wait + Clock + Sync,
-    P: Progress + Send,
-    requires plan { IsLivePlan floor.now.plan }
-    requires new { All (λ s. s.shares ≡ 0) cast.callers.items }
+    R: Threads + Wait + time::Clock + Sync,
+    P: Progress + Drop + Send,
+    requires { IsLivePlan floor.now.plan }
     ensures workers { IfOk result (λ ended. AllKeepPlace (map (λ w. parts_of w.post.linked.session w.post.takings w.post.seat) cast.workers.items) (map (λ e. parts_of e.session e.took e.seat) ended.workers.items)) }
     ensures callers { IfOk result (λ ended. AllCalled (map (λ s. caller_of floor.now.plan s) cast.callers.items) (map (λ e. left_of e.seat e.unplaced) ended.callers.items)) }
     ensures only { IfErr result IsNoMismatch }
@@ -62,28 +64,33 @@ where
     thread::scope(
         thread::scope_env(),
         rt,
-        |scope| day_in(scope, rt, alloc, floor, cast, progress),
+        |scope| -> Result<Ended<K, L, M>, LiveFault>
+            requires { IsLivePlan floor.now.plan }
+            ensures { IfOk result (λ ended. AllKeepPlace (map (λ w. parts_of w.post.linked.session w.post.takings w.post.seat) cast.workers.items) (map (λ e. parts_of e.session e.took e.seat) ended.workers.items) × AllCalled (map (λ s. caller_of floor.entry.now.plan s) cast.callers.items) (map (λ e. left_of e.seat e.unplaced) ended.callers.items)) × IfErr result IsNoMismatch }
+        { day_in(scope, rt, alloc, floor, cast, progress) },
     )
 }
 
 /// The same, in a scope. Where a thread can't be made, or one wanted memory, callers and exchanges are told to stop, and
 /// the scope waits for them.
-fn day_in<'s, 'a, E, L, M, R, P>(
+fn day_in<'s, E, X, D, K, C, L, M, R, P>(
     scope: &Scope<'s, E>,
-    rt: &'a R,
+    rt: &'s R,
     alloc: Global,
     floor: &'s Floor<L, M>,
-    cast: Cast<'a, L, M, R>,
-    progress: &'s mut P,
-) -> Result<Ended<'a, L, M, R>, LiveFault>
+    cast: Cast<X, D, K, C, L, M>,
+    progress: P,
+) -> Result<Ended<K, L, M>, LiveFault>
 where
-    'a: 's,
-    L: Run + Send + Sync,
-    M: Ledger + Send + Sync,
-    R: Net<Listener = TcpListener, Stream = TcpStream> + Threads + Wait + Clock + Sync,
-    P: Progress + Send,
-    requires plan { IsLivePlan floor.now.plan }
-    requires new { All (λ s. s.shares ≡ 0) cast.callers.items }
+    X: Serve + Drop + Send + 's,
+    D: Dialect + Drop + Send + 's,
+    K: Link + Send + 's,
+    C: Clock + Drop + Send + 's,
+    L: Run + Send + Sync + 's,
+    M: Ledger + Send + Sync + 's,
+    R: Threads + Wait + time::Clock + Sync + 's,
+    P: Progress + Drop + Send + 's,
+    requires { IsLivePlan floor.now.plan }
     ensures workers { IfOk result (λ ended. AllKeepPlace (map (λ w. parts_of w.post.linked.session w.post.takings w.post.seat) cast.workers.items) (map (λ e. parts_of e.session e.took e.seat) ended.workers.items)) }
     ensures callers { IfOk result (λ ended. AllCalled (map (λ s. caller_of floor.now.plan s) cast.callers.items) (map (λ e. left_of e.seat e.unplaced) ended.callers.items)) }
     ensures only { IfErr result IsNoMismatch }
@@ -95,22 +102,24 @@ where
 }
 
 /// Starts the threads, and waits for them.
-fn all_started<'s, 'a, E, L, M, R, P>(
+fn all_started<'s, E, X, D, K, C, L, M, R, P>(
     scope: &Scope<'s, E>,
-    rt: &'a R,
+    rt: &'s R,
     alloc: Global,
     floor: &'s Floor<L, M>,
-    cast: Cast<'a, L, M, R>,
-    progress: &'s mut P,
-) -> Result<Ended<'a, L, M, R>, LiveFault>
+    cast: Cast<X, D, K, C, L, M>,
+    progress: P,
+) -> Result<Ended<K, L, M>, LiveFault>
 where
-    'a: 's,
-    L: Run + Send + Sync,
-    M: Ledger + Send + Sync,
-    R: Net<Listener = TcpListener, Stream = TcpStream> + Threads + Wait + Clock + Sync,
-    P: Progress + Send,
-    requires plan { IsLivePlan floor.now.plan }
-    requires new { All (λ s. s.shares ≡ 0) cast.callers.items }
+    X: Serve + Drop + Send + 's,
+    D: Dialect + Drop + Send + 's,
+    K: Link + Send + 's,
+    C: Clock + Drop + Send + 's,
+    L: Run + Send + Sync + 's,
+    M: Ledger + Send + Sync + 's,
+    R: Threads + Wait + time::Clock + Sync + 's,
+    P: Progress + Drop + Send + 's,
+    requires { IsLivePlan floor.now.plan }
     ensures workers { IfOk result (λ ended. AllKeepPlace (map (λ w. parts_of w.post.linked.session w.post.takings w.post.seat) cast.workers.items) (map (λ e. parts_of e.session e.took e.seat) ended.workers.items)) }
     ensures callers { IfOk result (λ ended. AllCalled (map (λ s. caller_of floor.now.plan s) cast.callers.items) (map (λ e. left_of e.seat e.unplaced) ended.callers.items)) }
     ensures only { IfErr result IsNoMismatch }
@@ -120,7 +129,7 @@ where
         workers,
         callers,
     } = cast;
-    let exchanges = start_exchanges(scope, rt, alloc, floor, exchanges)?;
+    let exchanges = start_exchanges(scope, alloc, floor, exchanges)?;
     let callers = start_callers(scope, rt, alloc, floor, callers)?;
     if scope.spawn(move || floor.keep(rt, progress)).is_err() {
         return Err(LiveFault::NoThread);
@@ -136,16 +145,19 @@ where
 }
 
 /// Runs the workers. Once they have ended callers are to give up what isn't placed.
-fn run_workers<'a, L, M, R>(
+fn run_workers<D, K, C, L, M, R>(
     rt: &R,
     alloc: Global,
     floor: &Floor<L, M>,
-    workers: Vec<LiveWorker<'a, R, L, M>>,
-) -> Result<Vec<LiveEnd<'a, R, L, M>>, LiveFault>
+    workers: Vec<Worker<D, K, C, L, M>>,
+) -> Result<Vec<WorkerEnd<K, L, M>>, LiveFault>
 where
+    D: Dialect + Drop + Send,
+    K: Link + Send,
+    C: Clock + Drop + Send,
     L: Run + Send + Sync,
     M: Ledger + Send + Sync,
-    R: Net<Listener = TcpListener, Stream = TcpStream> + Threads + Wait + Clock + Sync,
+    R: Threads + Wait + Sync,
     ensures kept { IfOk result (λ ends. AllKeepPlace (map (λ w. parts_of w.post.linked.session w.post.takings w.post.seat) workers.items) (map (λ e. parts_of e.session e.took e.seat) ends.items)) }
     ensures only { IfErr result IsNoMismatch }
 {
@@ -163,25 +175,23 @@ where
 }
 
 /// Starts the exchanges.
-fn start_exchanges<'s, 'a, E, L, M, R>(
+fn start_exchanges<'s, E, X, L, M>(
     scope: &Scope<'s, E>,
-    rt: &'a R,
     alloc: Global,
     floor: &'s Floor<L, M>,
-    exchanges: Vec<Exchange<'a, R>>,
+    exchanges: Vec<X>,
 ) -> Result<Vec<JoinHandle<Result<(), AllocError>>>, LiveFault>
 where
-    'a: 's,
-    L: Run + Send + Sync,
-    M: Ledger + Send + Sync,
-    R: Net<Listener = TcpListener, Stream = TcpStream> + Clock + Sync,
+    X: Serve + Drop + Send + 's,
+    L: Run + Send + Sync + 's,
+    M: Ledger + Send + Sync + 's,
     ensures { IfErr result IsNoMismatch }
 {
     let mut exchanges = VecDeque::from(exchanges);
     let mut handles = Vec::new(alloc);
     while let Some(exchange) = exchanges.pop_front() {
         handles.reserve(1)?;
-        match scope.spawn(move || floor.serve(rt, exchange)) {
+        match scope.spawn(move || floor.serve(exchange)) {
             Ok(handle) => handles.push_reserved(handle),
             Err(_) => return Err(LiveFault::NoThread),
         }
@@ -190,20 +200,18 @@ where
 }
 
 /// Starts the callers.
-fn start_callers<'s, 'a, E, L, M, R>(
+fn start_callers<'s, E, L, M, R>(
     scope: &Scope<'s, E>,
-    rt: &'a R,
+    rt: &'s R,
     alloc: Global,
     floor: &'s Floor<L, M>,
     seats: Vec<CallerSeat<L>>,
 ) -> Result<Vec<PromisedHandle<CallerEnd<L>, EndOf<L>>>, LiveFault>
 where
-    'a: 's,
-    L: Run + Send + Sync,
-    M: Ledger + Send + Sync,
-    R: Wait + Clock + Sync,
-    requires plan { IsLivePlan floor.now.plan }
-    requires new { All (λ s. s.shares ≡ 0) seats.items }
+    L: Run + Send + Sync + 's,
+    M: Ledger + Send + Sync + 's,
+    R: Wait + time::Clock + Sync + 's,
+    requires { IsLivePlan floor.now.plan }
     ensures started { IfOk result (λ handles. map (λ h. caller_of h.promise.1 h.promise.0.value) handles.items ≡ map (λ s. caller_of floor.now.plan s) seats.items) }
     ensures only { IfErr result IsNoMismatch }
 {

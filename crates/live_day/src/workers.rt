@@ -13,7 +13,7 @@ use dialect::Plain;
 use exec_collector::WorkerSeat;
 use link::TcpLink;
 use release_lock::{Run, VenueDrain};
-use session_worker::{Pace, Worker, WorkerEnd};
+use session_worker::{Pace, Worker};
 use std::alloc::{AllocError, Global};
 use std::collections::VecDeque;
 use std::net::Net;
@@ -28,9 +28,6 @@ const PACE: Pace = Pace {
 
 /// The worker of a venue, over loopback.
 pub type LiveWorker<'a, R, L, M> = Worker<Plain, TcpLink<'a, R>, UtcClock<'a, R>, L, M>;
-
-/// What it gives back.
-pub type LiveEnd<'a, R, L, M> = WorkerEnd<TcpLink<'a, R>, L, M>;
 
 /// The workers of these drains, in order, each linked to the exchange at its place.
 pub fn new_workers<'a, L: Run, M: Ledger, R: Net + Clock>(

@@ -12,7 +12,10 @@ impl<E: Write + IsTerminal> Progress for ProgressLines<E> {
         let ProgressLines(err) = self;
         if err.is_terminal() {
             let SoFar { placed, resolved } = so_far;
-            let _ = writeln!(err, "dispatch: {placed} sweeps placed, {resolved} shares resolved");
+            let _ = writeln!(
+                err,
+                "dispatch: {placed} sweeps placed, {resolved} shares resolved"
+            );
         }
     }
 }

@@ -28,7 +28,7 @@ where
     let words: Vec<&str> = line.split(' ').collect(alloc)?;
     let mut out = Vec::new(alloc);
     let mut err = Vec::new(alloc);
-    let status = live_run(rt, alloc, words.as_slice(), &mut Untold, &mut out, &mut err);
+    let status = live_run(rt, alloc, words.as_slice(), Untold, &mut out, &mut err);
     Ok(Run { status, out, err })
 }
 
@@ -54,11 +54,23 @@ fn numbers_in<'a>(alloc: Global, line: &'a str, names: &[&str]) -> Result<Option
 
 /// The words of a sweep's line.
 const SWEEP: [&str; 7] = [
-    "sweep", "legs", "filled", "busted", "cancelled", "withdrawn", "open",
+    "sweep",
+    "legs",
+    "filled",
+    "busted",
+    "cancelled",
+    "withdrawn",
+    "open",
 ];
 
 /// Checks the text of a day in which no sweep is given up: each sweep has so many shares, and its parts add up to them.
-fn is_day(rt: &impl Abort, alloc: Global, out: &[u8], sweeps: u64, shares: u64) -> Result<(), Fail> {
+fn is_day(
+    rt: &impl Abort,
+    alloc: Global,
+    out: &[u8],
+    sweeps: u64,
+    shares: u64,
+) -> Result<(), Fail> {
     let text = str::from_utf8(out)?;
     let mut lines = text.lines();
     for number in 1..=sweeps {

@@ -1,4 +1,4 @@
-use Rattle.std.proofs.Common.{◌≡◌, ◌++◌, List, length, map, All}
+use Rattle.std.proofs.Common.{◌≡◌, ◌++◌, List, length, map}
 use Rattle.exec_collector.specs.Seats.{Seat}
 use Rattle.live_day.specs.Day.{Caller, caller_of}
 use Rattle.live_day.proofs.threads.start_callers.Given as goal
@@ -8,7 +8,7 @@ invariant-loop-seat g l =
     let started : List Caller = map (λ h. caller_of h.promise.1 h.promise.0.value) l.handles.items in
     let left : List Caller = map (λ (s : Seat). caller_of l.floor.plan s) l.seats.items in
     let all : List Caller = map (λ (s : Seat). caller_of l.floor.plan s) l.initial.seats.items in
-    (started ++ left ≡ all) × All (λ (s : Seat). s.shares ≡ 0) l.seats.items
+    started ++ left ≡ all
 
 abbrev pub decreases-loop-seat : goal.decreases-loop-seat
 decreases-loop-seat g l = length l.seats.items
