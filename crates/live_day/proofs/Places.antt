@@ -6,19 +6,20 @@ use Rattle.std.proofs.lemmas.List.Elements.{All-push}
 use Rattle.std.proofs.lemmas.List.Sums.{sum_by-cons}
 use Rattle.exec_collector.specs.Seats.{Seat, new_seat, parts_of as seat_parts}
 use Rattle.release_lock.specs.Queues.{DrainParts, new_drains, Took, AreInOrder}
+use Rattle.dialect.specs.Framed.{Writers}
 use Rattle.session_worker.specs.Events.{WorkerParts}
 use Rattle.session_worker.specs.Ends.{WorkerStart, WorkerLeft, Runs, AllRan}
 use Rattle.live_day.specs.Day.{new_worker, new_workers, KeepsPlace, AllKeepPlace}
 
 -- each worker that ran keeps its place
-pub kept_places : {A B : Type 0} (f : A → WorkerStart) (g : B → WorkerLeft) (xs : List A) (ys : List B)
-    → AllRan (map f xs) (map g ys) → AllKeepPlace (map (λ x. (f x).parts) xs) (map (λ y. (g y).parts) ys)
-kept_places f g [] [] ran = tt
-kept_places f g [] (y ∷ ys) ran = absurd ran
-kept_places f g (x ∷ xs) [] ran = absurd ran
-kept_places f g (x ∷ xs) (y ∷ ys) ran =
+pub kept_places : {A B : Type 0} (writes : A → Writers) (f : A → WorkerStart) (g : B → WorkerLeft) (xs : List A) (ys : List B)
+    → AllRan writes f xs (map g ys) → AllKeepPlace (map (λ x. (f x).parts) xs) (map (λ y. (g y).parts) ys)
+kept_places writes f g [] [] ran = tt
+kept_places writes f g [] (y ∷ ys) ran = absurd ran
+kept_places writes f g (x ∷ xs) [] ran = absurd ran
+kept_places writes f g (x ∷ xs) (y ∷ ys) ran =
     let runs = ran.0 in
-    ((runs.last.venue ∙ runs.goes.venue, runs.last.seat ∙ runs.goes.seat), kept_places f g xs ys ran.1)
+    ((runs.last.venue ∙ runs.goes.venue, runs.last.seat ∙ runs.goes.seat), kept_places writes f g xs ys ran.1)
 
 -- what stands at a place of a list with one element more
 snoc_at : {A : Type 0} (xs : List A) (y : A) (at : ℕ) (x : A) → slice_get (xs ++ y ∷ []) at ≡ Some x

@@ -1,5 +1,5 @@
 -- A day: how large it is, and what its threads begin and end with.
-use Rattle.std.specs.Prelude.{◌≡◌, ℕ, zero, suc, ◌+◌, ◌*◌, ◌≤◌, false, List, [], ◌∷◌, ◌++◌, codes, map, sum_by}
+use Rattle.std.specs.Prelude.{◌≡◌, ℕ, zero, suc, ◌+◌, ◌*◌, ◌≤◌, false, List, [], ◌∷◌, ◌++◌, None, codes, map, sum_by}
 use Rattle.fix_tags.specs.Config.{ConfigParts}
 use Rattle.exec_collector.specs.Seats.{Seat}
 use Rattle.exchange_sim.specs.declared.plan.Plan.{Plan}
@@ -48,6 +48,7 @@ new_worker drain = record {
   session = new_session dispatcher;
   took = record { venue = drain.venue; taken = [] };
   seat_parts = 1;
+  wire = None;
 }
 
 abbrev pub new_workers : ℕ → List WorkerParts

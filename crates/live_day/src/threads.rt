@@ -57,7 +57,7 @@ where
     R: Threads + Wait + time::Clock + Sync,
     P: Progress + Drop + Send,
     requires { IsLivePlan floor.now.plan }
-    ensures workers { IfOk result (λ ended. AllKeepPlace (map (λ w. parts_of w.post.linked.session w.post.takings w.post.seat) cast.workers.items) (map (λ e. parts_of e.session e.took e.seat) ended.workers.items)) }
+    ensures workers { IfOk result (λ ended. AllKeepPlace (map (λ w. parts_of w.post.linked.session w.post.takings w.post.seat (K.wire w.post.linked.link)) cast.workers.items) (map (λ e. parts_of e.session e.took e.seat (K.wire e.link)) ended.workers.items)) }
     ensures callers { IfOk result (λ ended. AllCalled (map (λ s. caller_of floor.now.plan s) cast.callers.items) (map (λ e. left_of e.seat e.unplaced) ended.callers.items)) }
     ensures only { IfErr result IsNoMismatch }
 {
@@ -66,7 +66,7 @@ where
         rt,
         |scope| -> Result<Ended<K, L, M>, LiveFault>
             requires { IsLivePlan floor.now.plan }
-            ensures { IfOk result (λ ended. AllKeepPlace (map (λ w. parts_of w.post.linked.session w.post.takings w.post.seat) cast.workers.items) (map (λ e. parts_of e.session e.took e.seat) ended.workers.items) × AllCalled (map (λ s. caller_of floor.entry.now.plan s) cast.callers.items) (map (λ e. left_of e.seat e.unplaced) ended.callers.items)) × IfErr result IsNoMismatch }
+            ensures { IfOk result (λ ended. AllKeepPlace (map (λ w. parts_of w.post.linked.session w.post.takings w.post.seat (K.wire w.post.linked.link)) cast.workers.items) (map (λ e. parts_of e.session e.took e.seat (K.wire e.link)) ended.workers.items) × AllCalled (map (λ s. caller_of floor.entry.now.plan s) cast.callers.items) (map (λ e. left_of e.seat e.unplaced) ended.callers.items)) × IfErr result IsNoMismatch }
         { day_in(scope, rt, alloc, floor, cast, progress) },
     )
 }
@@ -91,7 +91,7 @@ where
     R: Threads + Wait + time::Clock + Sync + 's,
     P: Progress + Drop + Send + 's,
     requires { IsLivePlan floor.now.plan }
-    ensures workers { IfOk result (λ ended. AllKeepPlace (map (λ w. parts_of w.post.linked.session w.post.takings w.post.seat) cast.workers.items) (map (λ e. parts_of e.session e.took e.seat) ended.workers.items)) }
+    ensures workers { IfOk result (λ ended. AllKeepPlace (map (λ w. parts_of w.post.linked.session w.post.takings w.post.seat (K.wire w.post.linked.link)) cast.workers.items) (map (λ e. parts_of e.session e.took e.seat (K.wire e.link)) ended.workers.items)) }
     ensures callers { IfOk result (λ ended. AllCalled (map (λ s. caller_of floor.now.plan s) cast.callers.items) (map (λ e. left_of e.seat e.unplaced) ended.callers.items)) }
     ensures only { IfErr result IsNoMismatch }
 {
@@ -120,7 +120,7 @@ where
     R: Threads + Wait + time::Clock + Sync + 's,
     P: Progress + Drop + Send + 's,
     requires { IsLivePlan floor.now.plan }
-    ensures workers { IfOk result (λ ended. AllKeepPlace (map (λ w. parts_of w.post.linked.session w.post.takings w.post.seat) cast.workers.items) (map (λ e. parts_of e.session e.took e.seat) ended.workers.items)) }
+    ensures workers { IfOk result (λ ended. AllKeepPlace (map (λ w. parts_of w.post.linked.session w.post.takings w.post.seat (K.wire w.post.linked.link)) cast.workers.items) (map (λ e. parts_of e.session e.took e.seat (K.wire e.link)) ended.workers.items)) }
     ensures callers { IfOk result (λ ended. AllCalled (map (λ s. caller_of floor.now.plan s) cast.callers.items) (map (λ e. left_of e.seat e.unplaced) ended.callers.items)) }
     ensures only { IfErr result IsNoMismatch }
 {
@@ -158,7 +158,7 @@ where
     L: Run + Send + Sync,
     M: Ledger + Send + Sync,
     R: Threads + Wait + Sync,
-    ensures kept { IfOk result (λ ends. AllKeepPlace (map (λ w. parts_of w.post.linked.session w.post.takings w.post.seat) workers.items) (map (λ e. parts_of e.session e.took e.seat) ends.items)) }
+    ensures kept { IfOk result (λ ends. AllKeepPlace (map (λ w. parts_of w.post.linked.session w.post.takings w.post.seat (K.wire w.post.linked.link)) workers.items) (map (λ e. parts_of e.session e.took e.seat (K.wire e.link)) ends.items)) }
     ensures only { IfErr result IsNoMismatch }
 {
     let ends = run_all(

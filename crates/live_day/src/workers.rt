@@ -1,6 +1,6 @@
 //! The workers of a day.
 
-ghost use Rattle.std.specs.Prelude.{◌≡◌, [], length, replicate, IfOk, map};
+ghost use Rattle.std.specs.Prelude.{◌≡◌, [], None, length, replicate, IfOk, map};
 ghost use Rattle.exec_collector.specs.Seats.{new_seat};
 ghost use Rattle.release_lock.specs.Queues.{new_drains};
 ghost use Rattle.session_worker.specs.Events.{parts_of};
@@ -39,7 +39,7 @@ pub fn new_workers<'a, L: Run, M: Ledger, R: Net + Clock>(
 ) -> Result<Vec<LiveWorker<'a, R, L, M>>, AllocError>
     requires drains { drains.items ≡ new_drains (length exchanges.now) }
     requires seats { seats.items ≡ replicate (length exchanges.now) new_seat }
-    ensures { IfOk result (λ workers. map (λ w. parts_of w.post.linked.session w.post.takings w.post.seat) workers.items ≡ new_workers (length exchanges.now)) }
+    ensures { IfOk result (λ workers. map (λ w. parts_of w.post.linked.session w.post.takings w.post.seat None) workers.items ≡ new_workers (length exchanges.now)) }
 {
     let mut workers = Vec::new(alloc);
     let mut drains = VecDeque::from(drains);

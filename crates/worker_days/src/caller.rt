@@ -1,15 +1,14 @@
 //! A caller.
 
-ghost use Rattle.release_lock.specs.Locked.{OnlyTurns};
-
 use crate::order::{Order, sweep_of};
 use exec_collector::Collector;
 use leg::VenueId;
 use release_lock::{CallerSeat, ReleaseLock, Run};
+use session_worker::shut_gate;
 use std::alloc::Global;
 use std::sync::Wait;
 use std::sync::ledger::Ledger;
-use sweep_release::{Desk, Receipt};
+use sweep_release::Receipt;
 
 /// A caller: it releases sweeps, and keeps what it gets for them.
 #[derive(Drop)]
@@ -27,19 +26,6 @@ pub struct Caller<'a, R: Wait, L: Run, M: Ledger> {
 pub struct CallerEnd<L: Run> {
     pub seat: CallerSeat<L>,
     pub receipts: Vec<Receipt>,
-}
-
-fn let_shut(desk: &mut Desk, venue: VenueId)
-    ensures { OnlyTurns desk.old desk.new }
-{
-    if usize::from(venue.number()) < desk.venues() {
-        desk.shut(venue);
-    }
-}
-
-/// Shuts the gate of a venue, for good.
-pub fn shut<L: Run>(rt: &impl Wait, lock: &ReleaseLock<L>, venue: VenueId) {
-    lock.with(rt, |desk: &mut Desk| let_shut(desk, venue));
 }
 
 impl<'a, R: Wait, L: Run, M: Ledger> Caller<'a, R, L, M> {
@@ -83,7 +69,7 @@ impl<'a, R: Wait, L: Run, M: Ledger> Caller<'a, R, L, M> {
 
     /// Shuts the gate of a venue, for good.
     pub fn shut(&self, venue: VenueId) {
-        shut(self.rt, self.lock, venue);
+        shut_gate(self.rt, self.lock, venue);
     }
 
     /// What it gives back.

@@ -5,7 +5,7 @@ ghost use Rattle.std.specs.List.{All};
 ghost use Rattle.release_lock.specs.Queues.{IsFresh};
 
 use super::failing::TRADES_SIX;
-use crate::caller::{Caller, CallerEnd, shut};
+use crate::caller::{Caller, CallerEnd};
 use crate::day_fault::DayFault;
 use crate::ending::outcome;
 use crate::opening::{memory_link, worker_of};
@@ -17,7 +17,7 @@ use exchange_sim::{MemoryLink, MemoryPlan, Plan};
 use exec_collector::{Collector, WorkerSeat};
 use leg::VenueId;
 use release_lock::{CallerSeat, Opened, ReleaseLock, Run, VenueDrain, rings};
-use session_worker::{EndReason, Pace, Worker, run_all};
+use session_worker::{EndReason, Pace, Worker, run_all, shut_gate};
 use std::alloc::Global;
 use std::collections::VecDeque;
 use std::marker::Brand;
@@ -117,7 +117,7 @@ fn all_call<L: Run + Send + Sync, M: Ledger + Send + Sync, R: Threads + Wait + C
         &|seat| calls(rt, alloc, lock, collector, seat, orders),
     );
     for order in orders {
-        shut(rt, lock, VenueId::new(order.venue)?);
+        shut_gate(rt, lock, VenueId::new(order.venue)?);
     }
     Ok(ends?)
 }

@@ -1,4 +1,4 @@
-use Rattle.std.proofs.Common.{◌≡◌, ◌+◌, ◌++◌, [], List, length, map, All}
+use Rattle.std.proofs.Common.{◌≡◌, ◌+◌, ◌++◌, [], List, None, length, map, All}
 use Rattle.exec_collector.specs.Seats.{Seat, new_seat}
 use Rattle.release_lock.specs.Queues.{DrainParts}
 use Rattle.session_worker.specs.Events.{WorkerParts, parts_of}
@@ -7,7 +7,7 @@ use Rattle.live_day.proofs.workers.new_workers.Given as goal
 
 abbrev pub invariant-loop-exchange : goal.invariant-loop-exchange
 invariant-loop-exchange g l =
-    let made : List WorkerParts = map (λ w. parts_of w.post.linked.session w.post.takings w.post.seat) l.workers.items in
+    let made : List WorkerParts = map (λ w. parts_of w.post.linked.session w.post.takings w.post.seat None) l.workers.items in
     record {
       made_are : made ++ map new_worker l.drains.items ≡ map new_worker l.initial.drains.items;
       none_popped : All (λ (d : DrainParts). d.popped ≡ []) l.drains.items;
