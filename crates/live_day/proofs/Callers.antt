@@ -3,6 +3,7 @@ use Rattle.std.proofs.Common.{◌≡◌, ◌+◌, ◌*◌, ◌≤◌, ℕ, zero,
 use Rattle.std.proofs.Math.Nat.{add-mul, suc-mul, zero-mul}
 use Rattle.std.specs.Prelude.{sum_by, slice_index_or, slice_get}
 use Rattle.std.proofs.lemmas.List.Sums.{sum_by-cons}
+use Rattle.std.proofs.lemmas.List.Elements.{All-head, All-tail}
 use Rattle.std.specs.declared.thread.PromisedHandle.{PromisedHandle}
 use Rattle.std.specs.declared.thread.Promise as Promise
 use Rattle.std.specs.PromisedHandle.{KeepsAt}
@@ -73,8 +74,8 @@ called_shares plan (seat ∷ seats) (left ∷ ends) all =
 none_counted : (seats : List Seat) → All (λ (s : Seat). s.shares ≡ 0) seats → shares_of seats ≡ 0
 none_counted [] new = refl
 none_counted (seat ∷ seats) new =
-    let first = new.0 in
-    let rest = none_counted seats new.1 in
+    let first = All-head (λ (s : Seat). s.shares ≡ 0) seat seats new in
+    let rest = none_counted seats (All-tail (λ (s : Seat). s.shares ≡ 0) seat seats new) in
     let sum = sum_by-cons (λ (s : Seat). s.shares) seat seats in
     omega (arith, first, rest, sum)
 
