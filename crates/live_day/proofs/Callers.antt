@@ -3,12 +3,13 @@ use Rattle.std.proofs.Common.{◌≡◌, ◌+◌, ◌*◌, ◌≤◌, ℕ, zero,
 use Rattle.std.proofs.Math.Nat.{add-mul, suc-mul, zero-mul}
 use Rattle.std.specs.Prelude.{sum_by, slice_index_or, slice_get}
 use Rattle.std.proofs.lemmas.List.Sums.{sum_by-cons}
+use Rattle.std.proofs.lemmas.List.Elements.{All-head, All-tail}
 use Rattle.std.specs.declared.thread.PromisedHandle.{PromisedHandle}
 use Rattle.std.specs.declared.thread.Promise as Promise
 use Rattle.std.specs.PromisedHandle.{KeepsAt}
 use Rattle.exec_collector.specs.Seats.{Seat, parts_of as seat_parts, shares_of}
 use Rattle.live_day.specs.declared.live_plan.LivePlan.{LivePlan}
-use Rattle.live_day.specs.Day.{Caller, caller_of, CallerLeft, shares_each, Called, AllCalled, AreCalled}
+use Rattle.live_day.specs.Day.{Caller, caller_of, CallerLeft, left_of, shares_each, Called, AllCalled, AreCalled}
 
 abbrev unplaced_in : List CallerLeft → ℕ
 unplaced_in ends = sum_by (λ (left : CallerLeft). left.unplaced) ends
@@ -73,8 +74,8 @@ called_shares plan (seat ∷ seats) (left ∷ ends) all =
 none_counted : (seats : List Seat) → All (λ (s : Seat). s.shares ≡ 0) seats → shares_of seats ≡ 0
 none_counted [] new = refl
 none_counted (seat ∷ seats) new =
-    let first = new.0 in
-    let rest = none_counted seats new.1 in
+    let first = All-head (λ (s : Seat). s.shares ≡ 0) seat seats new in
+    let rest = none_counted seats (All-tail (λ (s : Seat). s.shares ≡ 0) seat seats new) in
     let sum = sum_by-cons (λ (s : Seat). s.shares) seat seats in
     omega (arith, first, rest, sum)
 
@@ -96,6 +97,27 @@ are_called plan seats ends many whole new all =
       few = omega (arith, few, most);
       shares = omega (arith, shares, none, count);
     }
+
+-- the sums over what callers leave are those over their seats and counts
+pub sums_of : {A : Type 0} (seat : A → Seat) (unplaced : A → ℕ) (ends : List A)
+    → (parts_in (map (λ e. left_of (seat e) (unplaced e)) ends) ≡ seat_parts (map seat ends))
+    × (unplaced_in (map (λ e. left_of (seat e) (unplaced e)) ends) ≡ sum_by unplaced ends)
+    × (shares_in (map (λ e. left_of (seat e) (unplaced e)) ends) ≡ shares_of (map seat ends))
+sums_of seat unplaced [] = (refl, refl, refl)
+sums_of seat unplaced (end ∷ ends) =
+    let rest = sums_of seat unplaced ends in
+    let left : CallerLeft = left_of (seat end) (unplaced end) in
+    let lefts : List CallerLeft = map (λ e. left_of (seat e) (unplaced e)) ends in
+    let parts = sum_by-cons (λ (l : CallerLeft). l.seat.parts) left lefts in
+    let counts = sum_by-cons (λ (l : CallerLeft). l.unplaced) left lefts in
+    let shares = sum_by-cons (λ (l : CallerLeft). l.seat.shares) left lefts in
+    let seats_parts = sum_by-cons (λ (s : Seat). s.parts) (seat end) (map seat ends) in
+    let all_counts = sum_by-cons unplaced end ends in
+    let seats_shares = sum_by-cons (λ (s : Seat). s.shares) (seat end) (map seat ends) in
+    let p = rest.0 in
+    let u = rest.1 in
+    let s = rest.2 in
+    (omega (arith, p, parts, seats_parts), omega (arith, u, counts, all_counts), omega (arith, s, shares, seats_shares))
 
 module _ {T P : Type 0} (g : Promise.Ghosts P T) (caller : P → Caller) (left : T → CallerLeft)
     (keeps : (p : P) (r : T) → g.kept_by p r → Called (caller p) (left r)) where

@@ -18,8 +18,8 @@ loop-place-preserved c =
     let place = c.loop-place.place in
     let told = sym c.totals.ensures ∙ c.in-Some.is in (
       one_more c.args.book.now place (place + 1) c.sum_of.result c.in-Some.totals c.loop-place.sweeps.items _ c.requires
-          told refl c.sum_of.ensures c.in_ok-push.ensures.items c.loop-place.invariant.0,
-      rw c.in_ok-push.ensures.items
+          told refl c.sum_of.ensures c.in_ok-push-in-Some.ensures.items c.loop-place.invariant.0,
+      rw c.in_ok-push-in-Some.ensures.items
           (All-push AddsUp c.loop-place.sweeps.items _ c.loop-place.invariant.1 c.sum_of.ensures),
     )
 
