@@ -1,4 +1,5 @@
 mod Booked
+mod Both
 mod Callers
 mod Exchanges
 mod Orders

@@ -1,15 +1,17 @@
 -- The workers of a day keep their places: each is that of its venue, and their seats have all parts.
 use Rattle.std.proofs.Common.{◌≡◌, ◌⊎◌, inl, inr, ◌+◌, ℕ, zero, suc, ◌<◌, List, [], ◌∷◌, ◌++◌, length, map, All, replicate, Option, Some, None, refl, sym, ap, subst, ◌∙◌, add-one, arith}
 use Rattle.std.specs.Prelude.{slice_get, sum_by}
-use Rattle.std.proofs.lemmas.List.{length-append}
-use Rattle.std.proofs.lemmas.List.Elements.{All-push}
+use Rattle.std.proofs.lemmas.List.{length-append, append-nil, append_assoc, map-append}
+use Rattle.std.proofs.lemmas.List.Elements.{All-nil, All-replicate, All-push}
 use Rattle.std.proofs.lemmas.List.Sums.{sum_by-cons}
 use Rattle.exec_collector.specs.Seats.{Seat, new_seat, parts_of as seat_parts}
 use Rattle.release_lock.specs.Queues.{DrainParts, new_drains, Took, AreInOrder}
 use Rattle.dialect.specs.Framed.{Writers}
-use Rattle.session_worker.specs.Events.{WorkerParts}
+use Rattle.fix_tags.specs.Config.{ConfigParts}
+use Rattle.session_core.specs.Session.{new_session}
+use Rattle.session_worker.specs.Events.{WorkerParts, parts_of}
 use Rattle.session_worker.specs.Ends.{WorkerStart, WorkerLeft, Runs, AllRan}
-use Rattle.live_day.specs.Day.{new_worker, new_workers, KeepsPlace, AllKeepPlace}
+use Rattle.live_day.specs.Day.{dispatcher, new_worker, new_workers, KeepsPlace, AllKeepPlace}
 
 -- each worker that ran keeps its place
 pub kept_places : {A B : Type 0} (writes : A → Writers) (f : A → WorkerStart) (g : B → WorkerLeft) (xs : List A) (ys : List B)
@@ -42,13 +44,12 @@ drains_length (suc venues) =
 
 -- nothing was popped from a new drain
 pub none_popped : (venues : ℕ) → All (λ (d : DrainParts). d.popped ≡ []) (new_drains venues)
-none_popped zero = tt
+none_popped zero = All-nil (λ (d : DrainParts). d.popped ≡ [])
 none_popped (suc venues) = All-push (λ (d : DrainParts). d.popped ≡ []) (new_drains venues) (record { venue = venues; popped = [] })
     (none_popped venues) refl
 
 pub all_new : (count : ℕ) → All (λ (s : Seat). s ≡ new_seat) (replicate count new_seat)
-all_new zero = tt
-all_new (suc count) = (refl, all_new count)
+all_new count = All-replicate (λ (s : Seat). s ≡ new_seat) count new_seat refl
 
 drain_at : (venues at : ℕ) (drain : DrainParts) → slice_get (new_drains venues) at ≡ Some drain → drain.venue ≡ at
 drain_at zero at drain e = absurd cc
@@ -119,3 +120,29 @@ pub all_parts : {A : Type 0} (parts : A → WorkerParts) (seat : A → Seat)
     → AllKeepPlace (new_workers venues) (map parts ends) → seat_parts (map seat ends) ≡ venues
 all_parts parts seat same venues ends kept =
     parts_kept parts seat same (new_workers venues) ends kept ∙ (one_each (new_drains venues) ∙ drains_length venues)
+
+-- a worker that was made of a new seat is the new one of its drain's venue
+pub is_new : (config : ConfigParts) (drain : DrainParts) (seat : Seat) → config ≡ dispatcher → seat ≡ new_seat
+    → parts_of (new_session config) (record { venue = drain.venue; taken = [] }) seat None ≡ new_worker drain
+is_new config drain seat is same =
+    ap (λ (c : ConfigParts). parts_of (new_session c) (record { venue = drain.venue; taken = [] }) seat None) is
+    ∙ ap (λ (s : Seat). parts_of (new_session dispatcher) (record { venue = drain.venue; taken = [] }) s None) same
+
+-- one worker more was made, of the first drain left
+pub one_made : {A : Type 0} (parts : A → WorkerParts) (made : List A) (worker : A) (drain : DrainParts)
+    (before rest all : List DrainParts) → parts worker ≡ new_worker drain → before ≡ drain ∷ rest
+    → map parts made ++ map new_worker before ≡ map new_worker all
+    → map parts (made ++ worker ∷ []) ++ map new_worker rest ≡ map new_worker all
+one_made parts made worker drain before rest all is here so_far =
+    ap (λ ws. ws ++ map new_worker rest) (map-append parts made (worker ∷ []))
+    ∙ (append_assoc (map parts made) (parts worker ∷ []) (map new_worker rest)
+    ∙ (ap (λ w. map parts made ++ w ∷ map new_worker rest) is
+    ∙ (sym (ap (λ ds. map parts made ++ map new_worker ds) here) ∙ so_far)))
+
+-- where no drain is left, all were made
+pub all_made : {A : Type 0} (parts : A → WorkerParts) (made : List A) (left all : List DrainParts) (venues : ℕ)
+    → length left ≡ 0 → all ≡ new_drains venues → map parts made ++ map new_worker left ≡ map new_worker all
+    → map parts made ≡ new_workers venues
+all_made parts made [] all venues none is so_far =
+    sym (append-nil (map parts made)) ∙ (so_far ∙ ap (map new_worker) is)
+all_made parts made (drain ∷ drains) all venues none is so_far = absurd (omega (arith, none))

@@ -20,7 +20,7 @@ use crate::workers::new_workers;
 use crate::{LiveDay, LiveFault, LivePlan, Progress};
 use exec_collector::Collector;
 use link::Link;
-use release_lock::{CallerSeat, Opened, ReleaseLock, Run};
+use release_lock::{CallerSeat, Opened, ReleaseLock, Run, rings};
 use session_worker::{AuditFault, DayReport, WorkerEnd, audit};
 use share_ledger::Book;
 use std::alloc::{AllocError, Global};
@@ -31,7 +31,7 @@ use std::sync::Wait;
 use std::sync::ledger::{Blank, Ledger};
 use std::thread::Threads;
 use std::time::Clock;
-use venue_queue::{Drain, Feed, pair};
+use venue_queue::{Drain, Feed};
 
 /// Runs a day over loopback, and audits it. Each caller releases its sweeps, with an order of 10 shares for each venue.
 pub fn run_live<R, P>(
@@ -60,17 +60,6 @@ where
         rings,
         progress,
     )
-}
-
-/// The rings of so many venues.
-fn rings(alloc: Global, venues: u8) -> Result<VecDeque<(Feed, Drain)>, AllocError>
-    ensures { IfOk result (λ rings. (length rings.items ≡ venues) × All IsFresh rings.items) }
-{
-    let mut rings = VecDeque::new(alloc);
-    for _ in 0..venues {
-        rings.push_back(pair(alloc, 64)?)?;
-    }
-    Ok(rings)
 }
 
 /// A day whose names were picked.
