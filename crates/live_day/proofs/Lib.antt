@@ -1,6 +1,0 @@
-mod Booked
-mod Both
-mod Callers
-mod Exchanges
-mod Orders
-mod Places
