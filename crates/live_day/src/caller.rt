@@ -4,7 +4,7 @@ ghost use Rattle.std.specs.Prelude.{◌≡◌, ◌+◌, ◌≤◌, length, if◌
 ghost use Rattle.std.specs.List.{All};
 ghost use Rattle.exec_collector.specs.Seats.{parts_of};
 ghost use Rattle.release_lock.specs.Seats.{first_seat};
-ghost use Rattle.live_day.specs.Day.{IsLivePlan, caller_of, left_of, shares_each, Called};
+ghost use Rattle.live_day.specs.Day.{caller_of, left_of, shares_each, Called};
 
 use crate::floor::Floor;
 use crate::order::one_sweep;
@@ -33,7 +33,6 @@ pub fn call<L: Run, M: Ledger>(
     floor: &Floor<L, M>,
     seat: CallerSeat<L>,
 ) -> CallerEnd<L>
-    requires { IsLivePlan floor.now.plan }
     ensures { Called (caller_of floor.now.plan seat) (left_of result.seat result.unplaced) }
 {
     let mut seat = seat;
@@ -54,7 +53,6 @@ fn places<L: Run, M: Ledger>(
     floor: &Floor<L, M>,
     seat: &mut CallerSeat<L>,
 ) -> bool
-    requires { IsLivePlan floor.now.plan }
     ensures parts { seat.new.parts ≡ seat.old.parts }
     ensures shares { seat.new.shares ≡ (if result then seat.old.shares + shares_each floor.now.plan else seat.old.shares) }
 {
@@ -79,11 +77,10 @@ fn releases<L: Run, M: Ledger>(
     floor: &Floor<L, M>,
     seat: &mut CallerSeat<L>,
 ) -> bool
-    requires { IsLivePlan floor.now.plan }
     ensures parts { seat.new.parts ≡ seat.old.parts }
     ensures shares { seat.new.shares ≡ (if result then seat.old.shares + shares_each floor.now.plan else seat.old.shares) }
 {
-    let Ok(sweep) = one_sweep(alloc, floor.plan.venues) else {
+    let Some(sweep) = one_sweep(alloc, floor.plan.venues) else {
         return false;
     };
     match floor.lock.release(rt, &floor.collector, sweep, seat) {

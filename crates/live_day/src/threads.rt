@@ -3,7 +3,7 @@
 ghost use Rattle.std.specs.Prelude.{◌≡◌, map, IfOk, IfErr};
 ghost use Rattle.session_worker.specs.Events.{parts_of};
 ghost use Rattle.live_day.specs.Faults.{IsNoMismatch};
-ghost use Rattle.live_day.specs.Day.{IsLivePlan, caller_of, left_of, AllCalled, AllKeepPlace};
+ghost use Rattle.live_day.specs.Day.{caller_of, left_of, AllCalled, AllKeepPlace};
 
 use crate::caller::{CallerEnd, call};
 use crate::exchange::Serve;
@@ -56,16 +56,12 @@ where
     M: Ledger + Send + Sync,
     R: Threads + Wait + time::Clock + Sync,
     P: Progress + Drop + Send,
-    requires { IsLivePlan floor.now.plan }
-    ensures workers { IfOk result (λ ended. AllKeepPlace (map (λ w. parts_of w.post.linked.session w.post.takings w.post.seat (K.wire w.post.linked.link)) cast.workers.items) (map (λ e. parts_of e.session e.took e.seat (K.wire e.link)) ended.workers.items)) }
-    ensures callers { IfOk result (λ ended. AllCalled (map (λ s. caller_of floor.now.plan s) cast.callers.items) (map (λ e. left_of e.seat e.unplaced) ended.callers.items)) }
-    ensures only { IfErr result IsNoMismatch }
+    ensures { IfOk result (λ ended. AllKeepPlace (map (λ w. parts_of w.post.linked.session w.post.takings w.post.seat (K.wire w.post.linked.link)) cast.workers.items) (map (λ e. parts_of e.session e.took e.seat (K.wire e.link)) ended.workers.items) × AllCalled (map (λ s. caller_of floor.now.plan s) cast.callers.items) (map (λ e. left_of e.seat e.unplaced) ended.callers.items)) × IfErr result IsNoMismatch }
 {
     thread::scope(
         thread::scope_env(),
         rt,
         |scope| -> Result<Ended<K, L, M>, LiveFault>
-            requires { IsLivePlan floor.now.plan }
             ensures { IfOk result (λ ended. AllKeepPlace (map (λ w. parts_of w.post.linked.session w.post.takings w.post.seat (K.wire w.post.linked.link)) cast.workers.items) (map (λ e. parts_of e.session e.took e.seat (K.wire e.link)) ended.workers.items) × AllCalled (map (λ s. caller_of floor.entry.now.plan s) cast.callers.items) (map (λ e. left_of e.seat e.unplaced) ended.callers.items)) × IfErr result IsNoMismatch }
         { day_in(scope, rt, alloc, floor, cast, progress) },
     )
@@ -90,7 +86,6 @@ where
     M: Ledger + Send + Sync + 's,
     R: Threads + Wait + time::Clock + Sync + 's,
     P: Progress + Drop + Send + 's,
-    requires { IsLivePlan floor.now.plan }
     ensures workers { IfOk result (λ ended. AllKeepPlace (map (λ w. parts_of w.post.linked.session w.post.takings w.post.seat (K.wire w.post.linked.link)) cast.workers.items) (map (λ e. parts_of e.session e.took e.seat (K.wire e.link)) ended.workers.items)) }
     ensures callers { IfOk result (λ ended. AllCalled (map (λ s. caller_of floor.now.plan s) cast.callers.items) (map (λ e. left_of e.seat e.unplaced) ended.callers.items)) }
     ensures only { IfErr result IsNoMismatch }
@@ -119,7 +114,6 @@ where
     M: Ledger + Send + Sync + 's,
     R: Threads + Wait + time::Clock + Sync + 's,
     P: Progress + Drop + Send + 's,
-    requires { IsLivePlan floor.now.plan }
     ensures workers { IfOk result (λ ended. AllKeepPlace (map (λ w. parts_of w.post.linked.session w.post.takings w.post.seat (K.wire w.post.linked.link)) cast.workers.items) (map (λ e. parts_of e.session e.took e.seat (K.wire e.link)) ended.workers.items)) }
     ensures callers { IfOk result (λ ended. AllCalled (map (λ s. caller_of floor.now.plan s) cast.callers.items) (map (λ e. left_of e.seat e.unplaced) ended.callers.items)) }
     ensures only { IfErr result IsNoMismatch }
@@ -211,7 +205,6 @@ where
     L: Run + Send + Sync + 's,
     M: Ledger + Send + Sync + 's,
     R: Wait + time::Clock + Sync + 's,
-    requires { IsLivePlan floor.now.plan }
     ensures started { IfOk result (λ handles. map (λ h. caller_of h.promise.1 h.promise.0.value) handles.items ≡ map (λ s. caller_of floor.now.plan s) seats.items) }
     ensures only { IfErr result IsNoMismatch }
 {

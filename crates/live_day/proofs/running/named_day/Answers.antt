@@ -24,7 +24,7 @@ told-requires-clause-order g c =
     let begun = c.in_ok-workers.ensures ∙ ap new_workers (ap length c.deref.ensures.value ∙ many) in
     in_order (λ e. parts_of e.session e.took e.seat None) c.args.plan.venues c.in_ok-ended.ended.workers.items
     (subst (λ (starts : List WorkerParts). AllKeepPlace starts (map (λ e. parts_of e.session e.took e.seat None) c.in_ok-ended.ended.workers.items))
-    begun c.in_ok-ended.ensures.workers)
+    begun c.in_ok-ended.ensures.0.0)
 
 pub told-requires-clause-shared : goal.told-requires-clause-shared
 told-requires-clause-shared g c =
@@ -32,10 +32,10 @@ told-requires-clause-shared g c =
     let begun = c.in_ok-workers.ensures ∙ ap new_workers (ap length c.deref.ensures.value ∙ many) in
     all_parts (λ e. parts_of e.session e.took e.seat None) (λ e. e.seat) (λ e. refl) c.args.plan.venues c.in_ok-ended.ended.workers.items
     (subst (λ (starts : List WorkerParts). AllKeepPlace starts (map (λ e. parts_of e.session e.took e.seat None) c.in_ok-ended.ended.workers.items))
-    begun c.in_ok-ended.ensures.workers)
+    begun c.in_ok-ended.ensures.0.0)
     ∙ sym c.requires.workers.2
 
 pub told-requires-clause-callers : goal.told-requires-clause-callers
 told-requires-clause-callers g c =
     are_called c.args.plan c.in_ok-callers.callers.items _ c.in_ok-callers.ensures.0 c.in_ok-callers.ensures.1
-    c.in_ok-callers.ensures.2 c.in_ok-ended.ensures.callers
+    c.in_ok-callers.ensures.2 c.in_ok-ended.ensures.0.1
