@@ -18,7 +18,7 @@ pub fn read_leg(alloc: Global, reader: &mut FrameReader, bytes: &[u8]) -> Result
         BodyRef::App {
             kind: [b'D'],
             fields,
-        } => Ok(Plain.read_order(fields.as_slice())?),
+        } => Ok(Plain.read_order(fields)?),
         _ => Err(BenchFault::BadMessage),
     }
 }
@@ -38,7 +38,7 @@ pub fn read_report(
         BodyRef::App {
             kind: [b'8'],
             fields,
-        } => Ok(Plain.read_report(fields.as_slice())?),
+        } => Ok(Plain.read_report(fields)?),
         _ => Err(BenchFault::BadMessage),
     }
 }

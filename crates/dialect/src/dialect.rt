@@ -3,8 +3,8 @@
 use crate::fault::{DialectFault, SpellFault};
 use crate::order_view::OrderView;
 use crate::report::Report;
-use fix_tags::Stamp;
-use fix_text::{Field, FieldRef};
+use fix_tags::{AppFields, Stamp};
+use fix_text::Field;
 use leg::Leg;
 use std::alloc::Global;
 
@@ -54,7 +54,7 @@ pub trait Dialect {
 
     /// Reads an order. Faults are tried in the written order of the fields, and the first one is answered. Of a tag
     /// that stands several times the first counts, and tags that an order doesn't have are passed over.
-    fn read_order(&self, fields: &[FieldRef<'_>]) -> Result<Leg, DialectFault>
+    fn read_order(&self, fields: &AppFields<'_>) -> Result<Leg, DialectFault>
         ensures value { result ≡ order_read self.now fields.now }
         ensures in_range { IfOk result IsLeg };
 
@@ -74,7 +74,7 @@ pub trait Dialect {
     /// Reads a report. It takes no memory. Faults are tried in the order 11, 17, 150, and then 32 and 31 of a trade or
     /// 19 of a bust, and the first one is answered. Of a tag that stands several times the first counts, and the other
     /// tags are passed over.
-    fn read_report(&self, fields: &[FieldRef<'_>]) -> Result<Report, DialectFault>
+    fn read_report(&self, fields: &AppFields<'_>) -> Result<Report, DialectFault>
         ensures value { result ≡ report_read self.now fields.now }
         ensures in_range { IfOk result IsInRange };
 

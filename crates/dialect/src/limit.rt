@@ -12,8 +12,8 @@ use crate::field_value::required;
 use crate::push::{push_number, push_short};
 use crate::spelling::Spelling;
 use crate::tag::{ORD_TYPE, ORDER_QTY, PRICE, SIDE};
-use fix_tags::{read_price, read_shares};
-use fix_text::{Field, FieldRef};
+use fix_tags::{AppFields, read_price, read_shares};
+use fix_text::Field;
 use leg::{Leg, LegId, MAX_SHARES, Side, Symbol, Terms};
 use std::alloc::{AllocError, Global};
 
@@ -58,7 +58,7 @@ fn read_side(text: &[u8]) -> Option<Side>
     }
 }
 
-fn shares_in(fields: &[FieldRef<'_>]) -> Result<u64, DialectFault>
+fn shares_in(fields: &AppFields<'_>) -> Result<u64, DialectFault>
     ensures value { result ≡ required_as order_shares_of fields.now 38 }
     ensures in_range { IfOk result IsShares }
 {
@@ -66,7 +66,7 @@ fn shares_in(fields: &[FieldRef<'_>]) -> Result<u64, DialectFault>
     read_order_shares(text).ok_or(DialectFault::Bad(ORDER_QTY))
 }
 
-fn check_limit_order(fields: &[FieldRef<'_>]) -> Result<(), DialectFault>
+fn check_limit_order(fields: &AppFields<'_>) -> Result<(), DialectFault>
     ensures { result ≡ limit_order_in fields.now }
 {
     let text = required(fields, ORD_TYPE)?;
@@ -77,7 +77,7 @@ fn check_limit_order(fields: &[FieldRef<'_>]) -> Result<(), DialectFault>
     }
 }
 
-fn price_in(fields: &[FieldRef<'_>]) -> Result<u64, DialectFault>
+fn price_in(fields: &AppFields<'_>) -> Result<u64, DialectFault>
     ensures value { result ≡ required_as price_of fields.now 44 }
     ensures in_range { IfOk result IsPrice }
 {
@@ -85,7 +85,7 @@ fn price_in(fields: &[FieldRef<'_>]) -> Result<u64, DialectFault>
     read_order_price(text).ok_or(DialectFault::Bad(PRICE))
 }
 
-fn side_in(fields: &[FieldRef<'_>]) -> Result<Side, DialectFault>
+fn side_in(fields: &AppFields<'_>) -> Result<Side, DialectFault>
     ensures { result ≡ required_as side_of fields.now 54 }
 {
     let text = required(fields, SIDE)?;
@@ -94,7 +94,7 @@ fn side_in(fields: &[FieldRef<'_>]) -> Result<Side, DialectFault>
 
 /// Reads 38 to 54, of which 40 must be `2`. The price may be spelled in every way that a price is read.
 #[tactic(auto, unfolding(crate::specs::Limit::limit_in))]
-pub(crate) fn read_limit(fields: &[FieldRef<'_>]) -> Result<Limit, DialectFault>
+pub(crate) fn read_limit(fields: &AppFields<'_>) -> Result<Limit, DialectFault>
     ensures value { result ≡ limit_in fields.now }
     ensures in_range { IfOk result IsInRange }
 {

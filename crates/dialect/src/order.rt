@@ -13,8 +13,8 @@ use crate::push::{all_or_nothing, push_short};
 use crate::spelling::Spelling;
 use crate::tag::CL_ORD_ID;
 use crate::time::{check_immediate, push_immediate};
-use fix_tags::Stamp;
-use fix_text::{Field, FieldRef};
+use fix_tags::{AppFields, Stamp};
+use fix_text::Field;
 use leg::{Leg, LegId};
 use std::alloc::{AllocError, Global};
 
@@ -24,7 +24,7 @@ const MAX_ORDER_LEN: usize = 10;
 /// The leg that ClOrdID (11) names.
 pub(crate) fn id_in<S: Spelling>(
     spelling: &S,
-    fields: &[FieldRef<'_>],
+    fields: &AppFields<'_>,
 ) -> Result<LegId, DialectFault>
     ensures { result ≡ required_as (S.spelling spelling.now).id_of fields.now 11 }
 {
@@ -36,7 +36,7 @@ pub(crate) fn id_in<S: Spelling>(
 #[tactic(auto, unfolding(crate::specs::Order::order_read_of))]
 pub(crate) fn read_order<S: Spelling>(
     spelling: &S,
-    fields: &[FieldRef<'_>],
+    fields: &AppFields<'_>,
 ) -> Result<Leg, DialectFault>
     ensures value { result ≡ order_read_of (S.spelling spelling.now) fields.now }
     ensures in_range { IfOk result IsLeg }

@@ -7,7 +7,7 @@ use crate::push::push_short;
 use crate::spelling::{IdText, Spelling};
 use crate::symbol_text::{joined_symbol_in, joined_symbol_text};
 use crate::tag::{EXEC_INST, SYMBOL};
-use fix_tags::{PriceText, price_short_text};
+use fix_tags::{AppFields, PriceText, price_short_text};
 use fix_text::{Field, FieldRef};
 use leg::{LegId, Symbol};
 use std::alloc::{AllocError, Global};
@@ -38,7 +38,7 @@ impl Spelling for Plain {
         FieldRef::new(EXEC_INST, INTERMARKET_SWEEP)
     }
 
-    fn is_marked(&self, fields: &[FieldRef<'_>]) -> bool {
+    fn is_marked(&self, fields: &AppFields<'_>) -> bool {
         has_instruction(fields, INTERMARKET_SWEEP)
     }
 
@@ -60,7 +60,7 @@ impl Spelling for Plain {
         )
     }
 
-    fn read_symbol(&self, fields: &[FieldRef<'_>]) -> Result<Symbol, DialectFault> {
+    fn read_symbol(&self, fields: &AppFields<'_>) -> Result<Symbol, DialectFault> {
         joined_symbol_in(POINT, fields)
     }
 

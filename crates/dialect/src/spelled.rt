@@ -8,8 +8,8 @@ use crate::report::Report;
 use crate::report_read::read_report;
 use crate::report_write::write_report;
 use crate::spelling::Spelling;
-use fix_tags::Stamp;
-use fix_text::{Field, FieldRef};
+use fix_tags::{AppFields, Stamp};
+use fix_text::Field;
 use leg::Leg;
 use std::alloc::Global;
 
@@ -51,7 +51,7 @@ impl<S: Spelling> Dialect for S {
         write_order(self, alloc, leg, stamp, fields)
     }
 
-    fn read_order(&self, fields: &[FieldRef<'_>]) -> Result<Leg, DialectFault>
+    fn read_order(&self, fields: &AppFields<'_>) -> Result<Leg, DialectFault>
         ensures value { result ≡ order_read_of (S.spelling self.now) fields.now }
         ensures in_range { IfOk result IsLeg }
         ensures says { IfOk result (λ leg. IsReadingOf (S.spelling self.now) leg fields.now) }
@@ -74,7 +74,7 @@ impl<S: Spelling> Dialect for S {
         write_report(self, alloc, report, view, fields)
     }
 
-    fn read_report(&self, fields: &[FieldRef<'_>]) -> Result<Report, DialectFault>
+    fn read_report(&self, fields: &AppFields<'_>) -> Result<Report, DialectFault>
         ensures value { result ≡ report_read_of (S.spelling self.now) fields.now }
         ensures in_range { IfOk result IsInRange }
         ensures says { IfOk result (λ report. IsReportReadingOf (S.spelling self.now) report fields.now) }

@@ -2,7 +2,7 @@
 
 use crate::fault::DialectFault;
 use arrayvec::ArrayVec;
-use fix_tags::PriceText;
+use fix_tags::{AppFields, PriceText};
 use fix_text::{Field, FieldRef};
 use leg::{LegId, Symbol};
 use std::alloc::{AllocError, Global};
@@ -38,7 +38,7 @@ pub trait Spelling {
         ensures short { length result.value ≤ 24 };
 
     /// Whether fields carry the mark of a leg of a sweep.
-    fn is_marked(&self, fields: &[FieldRef<'_>]) -> bool
+    fn is_marked(&self, fields: &AppFields<'_>) -> bool
         ensures value { result ≡ (spelling self.now).is_marked fields.now };
 
     /// The value of Price (44), of a price in ten-thousandths of a dollar.
@@ -61,7 +61,7 @@ pub trait Spelling {
         ensures full { OnErr result (vec_capacity fields.old < vec_len fields.old + 2) };
 
     /// Reads a symbol from its fields, or answers the first fault.
-    fn read_symbol(&self, fields: &[FieldRef<'_>]) -> Result<Symbol, DialectFault>
+    fn read_symbol(&self, fields: &AppFields<'_>) -> Result<Symbol, DialectFault>
         ensures value { result ≡ (spelling self.now).symbol_in fields.now };
 
     // What is written is read back, and can be written.

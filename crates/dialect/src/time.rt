@@ -8,8 +8,8 @@ use crate::fault::DialectFault;
 use crate::field_value::{is_value, required};
 use crate::push::push_short;
 use crate::tag::{TIME_IN_FORCE, TRANSACT_TIME};
-use fix_tags::{Stamp, stamp_bytes};
-use fix_text::{Field, FieldRef};
+use fix_tags::{AppFields, Stamp, stamp_bytes};
+use fix_text::Field;
 use std::alloc::{AllocError, Global};
 
 /// TimeInForce (59) of an order that is filled at once or cancelled.
@@ -17,7 +17,7 @@ pub(crate) const IMMEDIATE_OR_CANCEL: &[u8] = b"3";
 
 /// Reads 59, which must be `3`, and then 60, which must be there with any value.
 #[tactic(auto, unfolding(crate::specs::Time::immediate_in))]
-pub(crate) fn check_immediate(fields: &[FieldRef<'_>]) -> Result<(), DialectFault>
+pub(crate) fn check_immediate(fields: &AppFields<'_>) -> Result<(), DialectFault>
     ensures { result ≡ immediate_in fields.now }
 {
     if !is_value(fields, TIME_IN_FORCE, IMMEDIATE_OR_CANCEL) {

@@ -2,6 +2,7 @@
 //! and written.
 #![tactic(auto)]
 
+mod app_fields;
 mod append;
 mod body;
 mod comp_id;
@@ -9,7 +10,7 @@ mod config;
 mod digits;
 mod envelope;
 mod flag;
-mod gather;
+mod header_fields;
 pub mod laws;
 mod limits;
 mod number;
@@ -28,6 +29,7 @@ mod writable;
 mod write;
 mod write_fault;
 
+pub use app_fields::AppFields;
 pub use body::{Body, BodyRef};
 pub use comp_id::{CompId, is_comp_id};
 pub use config::Config;

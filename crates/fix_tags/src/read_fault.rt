@@ -12,7 +12,7 @@ pub enum ReadFault {
     /// The fields say no message.
     #[error("{0}")]
     Tag(TagFault),
-    /// There is no memory left for the list of an application message's fields.
+    /// Not answered: a message is read without memory.
     #[error("M03 out of memory")]
     OutOfMemory,
 }

@@ -24,7 +24,7 @@ pub use fault::TextFault;
 pub use field::{Field, FieldRef, first, first_ref};
 pub use frame::Frame;
 pub use frame_fields::FrameFields;
-pub use lists::{FieldRefs, Fields};
+pub use lists::Fields;
 pub use place::Place;
 pub use reader::FrameReader;
 pub use reader_fault::ReaderFault;

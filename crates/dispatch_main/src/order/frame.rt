@@ -53,9 +53,7 @@ fn order_of_message<D: Dialect>(dialect: &D, message: &EnvelopeRef<'_>) -> Resul
         BodyRef::App {
             kind: [b'D'],
             fields,
-        } => dialect
-            .read_order(fields.as_slice())
-            .map_err(OrderFault::BadOrder),
+        } => dialect.read_order(fields).map_err(OrderFault::BadOrder),
         _ => Err(OrderFault::NoOrder),
     }
 }

@@ -188,10 +188,8 @@ fn application_messages(rt: HostRuntime) -> Result<(), Fail> {
             return Err("an application message".into());
         };
         assert_eq!(rt; *read_kind, kind);
-        assert_eq!(rt; fields.as_slice().len(), pairs.len());
-        for (field, (tag, value)) in fields.as_slice().iter().zip(pairs) {
-            assert_eq!(rt; field.tag(), *tag);
-            assert_eq!(rt; field.value(), *value);
+        for (tag, value) in pairs {
+            assert_eq!(rt; fields.get(*tag), Some(*value));
         }
     }
     Ok(())

@@ -1,7 +1,7 @@
 use Rattle.fix_text.specs.FrameFields.{fields_in}
 use Rattle.fix_text.proofs.NoSoh.{places_hold_no_soh}
 use Rattle.fix_tags.proofs.Received.{message_is}
-use Rattle.fix_tags.proofs.read.session_message.Goals as goal
+use Rattle.fix_tags.proofs.read.message.Goals as goal
 
 pub new-requires : goal.new-requires
 new-requires c =
