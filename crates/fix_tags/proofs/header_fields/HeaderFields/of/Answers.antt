@@ -1,4 +1,4 @@
-use Rattle.std.proofs.Common.{◌≡◌, List, sym, ap, ◌∙◌}
+use Rattle.std.proofs.Common.{◌≡◌, List, ap, ◌∙◌}
 use Rattle.fix_text.specs.FrameFields.{fields_in}
 use Rattle.fix_text.specs.Tagged.{Tagged, value_of, left_after}
 use Rattle.fix_tags.proofs.Behind.{apps, behind_kind, behind_sender, behind_target, behind_number, behind_time, behind_poss_dup, sender_value, target_value, number_value, time_value, poss_dup_value, poss_resend_value, apps_behind}
