@@ -35,6 +35,7 @@ struct Header<'a> {
 }
 
 /// The body of a kind. The fields of an application message are those that are left behind the header's.
+#[inline]
 #[tactic(auto, using(crate::proofs::Apps::app_kind))]
 fn body_of_kind<'a>(
     kind: &'a [u8],
