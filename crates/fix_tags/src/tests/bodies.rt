@@ -1,6 +1,6 @@
 //! What the fields of each body are read as.
 
-use super::support::{Lender, Pair, with_header};
+use super::support::{Lender, Pair, told, with_header};
 use crate::*;
 use std::test::Fail;
 
@@ -36,7 +36,7 @@ fn bodies_are_read(rt: HostRuntime) -> Result<(), Fail> {
         let mut lender = Lender::of_pairs(alloc, pairs.as_slice())?;
         let frame = lender.frame()?;
         let read = read_envelope(alloc, &frame)?;
-        assert_eq!(rt; format!(in alloc; "{:?}", read.body())?.as_str(), text);
+        assert_eq!(rt; told(alloc, read.body())?.as_str(), text);
     }
     Ok(())
 }

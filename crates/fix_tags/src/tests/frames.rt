@@ -1,6 +1,6 @@
 //! Whole messages, written byte for byte and read back.
 
-use super::support::{Lender, Pair, app, message, stamp};
+use super::support::{Lender, Pair, app, message, stamp, told};
 use crate::*;
 use std::alloc::Global;
 use std::process::Abort;
@@ -69,7 +69,7 @@ fn assert_session(rt: &impl Abort, alloc: Global, body: Body, row: SessionRow) -
     assert_eq!(rt; read.number(), number);
     assert_eq!(rt; read.poss_dup(), poss_dup);
     assert!(rt; !read.poss_resend());
-    assert_eq!(rt; format!(in alloc; "{:?}", read.body())?.as_str(), read_body);
+    assert_eq!(rt; told(alloc, read.body())?.as_str(), read_body);
     Ok(())
 }
 
