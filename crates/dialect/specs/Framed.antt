@@ -1,5 +1,5 @@
 -- A message as the bytes of one frame, in a dialect, and as what a stream that begins with it reads as.
-use Rattle.std.specs.Prelude.{◌≡◌, ℕ, false, List, [], ◌∷◌, Option, Some, None, Result, Ok, Err, codes}
+use Rattle.std.specs.Prelude.{◌≡◌, ℕ, false, List, [], ◌∷◌, ◌++◌, Option, Some, None, Result, Ok, Err, codes}
 use Rattle.fix_text.specs.Tagged.{Tagged}
 use Rattle.fix_text.specs.Frame.{frame_text}
 use Rattle.fix_text.specs.Reading.{Stream, next_read}
@@ -66,6 +66,16 @@ pub record IsFramed (w : Writers) (stamp : StampParts) (out : Outgoing) (bytes :
   pub says : Body
   pub is_body : IsBody w stamp out.beside out.message.content says
   pub written : bytes ≡ frame_text (envelope_fields (envelope_of out.message says) stamp)
+
+-- new is old with the frame of an application message of this kind behind it, with fields of which this holds
+abbrev pub AppendsApp : (List Tagged → Type 0) → Message → StampParts → List ℕ → List ℕ → List ℕ → Type 0
+AppendsApp IsWritten m stamp kind old new =
+    (fields : List Tagged) × IsWritten fields
+    × (new ≡ old ++ frame_text (envelope_fields (envelope_of m (body.App kind fields)) stamp))
+
+-- new is old with the one frame of this message behind it
+abbrev pub AppendsFrame : Writers → StampParts → Outgoing → List ℕ → List ℕ → Type 0
+AppendsFrame w stamp out old new = (bytes : List ℕ) × IsFramed w stamp out bytes × (new ≡ old ++ bytes)
 
 -- the frames are those of these messages, one each and in order, each written at this moment
 abbrev pub AreFramed : Writers → StampParts → List Outgoing → List (List ℕ) → Type 0

@@ -9,7 +9,7 @@ use crate::plain::Plain;
 use crate::spelling::{IdText, Spelling};
 use crate::split4::Split4;
 use fix_tags::PriceText;
-use fix_text::{Field, FieldRef};
+use fix_text::{FieldRef, FieldSink};
 use leg::{LegId, Symbol};
 use std::alloc::{AllocError, Global};
 
@@ -81,11 +81,11 @@ impl Spelling for AnyDialect {
         }
     }
 
-    fn push_symbol(
+    fn push_symbol<F: FieldSink>(
         &self,
         alloc: Global,
         symbol: &Symbol,
-        fields: &mut Vec<Field>,
+        fields: &mut F,
     ) -> Result<(), AllocError> {
         match self {
             AnyDialect::Plain => Plain.push_symbol(alloc, symbol, fields),

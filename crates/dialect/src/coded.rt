@@ -12,7 +12,7 @@ use crate::spelling::{IdText, Spelling};
 use crate::symbol_text::{joined_symbol_in, joined_symbol_text};
 use crate::tag::{SWEEP_LEG, SYMBOL};
 use fix_tags::{PriceText, price_four_text};
-use fix_text::{Field, FieldRef};
+use fix_text::{FieldRef, FieldSink};
 use leg::{LegId, Symbol};
 use std::alloc::{AllocError, Global};
 
@@ -78,11 +78,11 @@ impl Spelling for Coded {
         price_four_text(price)
     }
 
-    fn push_symbol(
+    fn push_symbol<F: FieldSink>(
         &self,
         alloc: Global,
         symbol: &Symbol,
-        fields: &mut Vec<Field>,
+        fields: &mut F,
     ) -> Result<(), AllocError> {
         push_short(
             alloc,

@@ -8,7 +8,7 @@ use crate::spelling::{IdText, Spelling};
 use crate::symbol_text::{joined_symbol_in, joined_symbol_text};
 use crate::tag::{EXEC_INST, SYMBOL};
 use fix_tags::{PriceText, price_short_text};
-use fix_text::{Field, FieldRef};
+use fix_text::{FieldRef, FieldSink};
 use leg::{LegId, Symbol};
 use std::alloc::{AllocError, Global};
 
@@ -46,11 +46,11 @@ impl Spelling for Plain {
         price_short_text(price)
     }
 
-    fn push_symbol(
+    fn push_symbol<F: FieldSink>(
         &self,
         alloc: Global,
         symbol: &Symbol,
-        fields: &mut Vec<Field>,
+        fields: &mut F,
     ) -> Result<(), AllocError> {
         push_short(
             alloc,

@@ -14,7 +14,7 @@ use crate::spelling::{IdText, Spelling};
 use crate::split::split_round;
 use crate::tag::{EXEC_INST, SYMBOL, SYMBOL_SFX};
 use fix_tags::{PriceText, price_four_text};
-use fix_text::{Field, FieldRef, first_ref};
+use fix_text::{FieldRef, FieldSink, first_ref};
 use leg::{LegId, Symbol};
 use std::alloc::{AllocError, Global};
 
@@ -102,11 +102,11 @@ impl Spelling for Split4 {
         price_four_text(price)
     }
 
-    fn push_symbol(
+    fn push_symbol<F: FieldSink>(
         &self,
         alloc: Global,
         symbol: &Symbol,
-        fields: &mut Vec<Field>,
+        fields: &mut F,
     ) -> Result<(), AllocError> {
         push_short(alloc, SYMBOL, symbol.root(), fields)?;
         let suffix = symbol.suffix();

@@ -11,6 +11,7 @@ mod envelope;
 mod flag;
 mod gather;
 pub mod laws;
+mod header;
 mod limits;
 mod number;
 mod price;
@@ -33,6 +34,7 @@ pub use comp_id::{CompId, is_comp_id};
 pub use config::Config;
 pub use envelope::{Envelope, EnvelopeRef};
 pub use flag::{read_flag, write_flag};
+pub use header::{Header, push_header};
 pub use limits::MAX_MESSAGE_NUMBER;
 pub use number::{read_number, write_number};
 pub use price::{

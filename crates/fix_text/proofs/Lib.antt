@@ -20,3 +20,4 @@ pub mod Streams
 pub mod Lent
 pub mod Replays
 pub mod NoSoh
+pub mod Sinks
