@@ -60,7 +60,7 @@ test_id_is : (id : List ℕ) → IsFreeText 64 id → is_test_id id ≡ true
 test_id_is id range =
     let parts = and_parts (nat_le (length id) 64) (is_writable_value id) range in and_from _ _ parts.1 parts.0
 
-number_is : (n : ℕ) → 1 ≤ n → n ≤ 999999998 → is_message_number n ≡ true
+pub number_is : (n : ℕ) → 1 ≤ n → n ≤ 999999998 → is_message_number n ≡ true
 number_is n low high = grind (arith, nat_tests)
 
 reference_is : (n : ℕ) → n ≤ 999999999 → is_reference n ≡ true

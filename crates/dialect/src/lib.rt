@@ -2,6 +2,7 @@
 #![tactic(auto)]
 
 mod any_dialect;
+mod app_write;
 mod coded;
 mod content;
 mod dialect;

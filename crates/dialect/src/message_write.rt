@@ -1,12 +1,12 @@
 //! A message is written as its frame.
-ghost use Rattle.std.specs.Prelude.{◌≡◌, ◌++◌, [], None, IfOk, IsSome, IsSomeAnd, OnOk, OnErr, codes};
-ghost use Rattle.fix_text.specs.Frame.{framed, frame_text};
-ghost use Rattle.fix_text.specs.Sink.{Pushes, TakesFields};
+ghost use Rattle.std.specs.Prelude.{◌≡◌, ◌++◌, None, IfOk, OnOk, OnErr, codes};
+ghost use Rattle.fix_text.specs.Frame.{frame_text};
 ghost use Rattle.fix_tags.specs.CompId.{IsCompId};
-ghost use Rattle.fix_tags.specs.Message.{header_fields, envelope_fields, envelope_refusal};
-ghost use Rattle.dialect.specs.Framed.{IsApp, IsBody, envelope_of, IsFramed, AppendsApp, AppendsFrame};
-ghost use Rattle.dialect.specs.Writable.{IsAddressed, IsWritableContent, IsWritable};
+ghost use Rattle.fix_tags.specs.Message.{envelope_fields, envelope_refusal};
+ghost use Rattle.dialect.specs.Framed.{IsApp, IsBody, envelope_of, IsFramed, AppendsFrame};
+ghost use Rattle.dialect.specs.Writable.{IsWritableContent, IsWritable};
 
+use crate::app_write::{append_order, append_report};
 use crate::content::Content;
 use crate::dialect::Dialect;
 use crate::fault::SpellFault;
@@ -16,10 +16,8 @@ use crate::order_view::OrderView;
 use crate::outgoing::Outgoing;
 use crate::report::Report;
 use crate::text_ref::TextRef;
-use fix_tags::{
-    Body, CompId, Envelope, Header, Stamp, Text, WriteFault, push_header, stamp_bytes, write_envelope,
-};
-use fix_text::{Field, Fields, FrameBody, TextFault, write_body};
+use fix_tags::{Body, CompId, Envelope, Stamp, Text, WriteFault, write_envelope};
+use fix_text::{Field, Fields};
 use leg::Leg;
 use std::alloc::{AllocError, Global};
 
@@ -170,83 +168,6 @@ fn append_listed<D: Dialect>(
     append_envelope(&envelope, stamp, out)
 }
 
-/// Pushes the header of an application message of this kind, with this text as its sending time.
-fn push_app_header(
-    alloc: Global,
-    message: &Message<'_>,
-    kind: &[u8],
-    time: &[u8],
-    body: &mut FrameBody,
-) -> Result<(), AllocError>
-    ensures { Pushes TakesFields (header_fields (envelope_of message.now (Body.App kind.now [])) time.now) body.old body.new result }
-{
-    let header = Header {
-        kind,
-        sender: message.from.as_bytes(),
-        target: message.to.as_bytes(),
-        number: message.number,
-        poss_dup: message.poss_dup,
-        poss_resend: false,
-        time,
-    };
-    push_header(alloc, &header, body)
-}
-
-/// Appends the frame of a body that isn't too long.
-fn append_body(body: &FrameBody, out: &mut Vec<u8>) -> Result<(), AllocError>
-    requires { IsSome body.now }
-    ensures ok { OnOk result (IsSomeAnd body.now (λ text. out.new.items ≡ out.old.items ++ framed text)) }
-    ensures err { OnErr result (out.new.items ≡ out.old.items) }
-{
-    match write_body(body, out) {
-        Ok(()) => Ok(()),
-        Err(TextFault::OutOfMemory) => Err(AllocError),
-        Err(_) => unreachable!(),
-    }
-}
-
-/// Appends the frame of an order, written straight into it. One text is SendingTime (52) and TransactTime (60).
-fn append_order<D: Dialect>(
-    alloc: Global,
-    dialect: &D,
-    stamp: &Stamp,
-    message: &Message<'_>,
-    leg: &Leg,
-    out: &mut Vec<u8>,
-) -> Result<(), AllocError>
-    requires { IsAddressed message.now }
-    ensures ok { OnOk result (AppendsApp (D.IsOrder dialect.now leg.now stamp.now) message.now stamp.now (codes "D") out.old.items out.new.items) }
-    ensures err { OnErr result (out.new.items ≡ out.old.items) }
-{
-    let time = stamp_bytes(stamp);
-    let mut body = FrameBody::new();
-    push_app_header(alloc, message, ORDER_KIND, &time, &mut body)?;
-    dialect.push_order(alloc, leg, stamp, &time, &mut body)?;
-    append_body(&body, out)
-}
-
-/// Appends the frame of a report, written straight into it.
-fn append_report<D: Dialect>(
-    alloc: Global,
-    dialect: &D,
-    stamp: &Stamp,
-    message: &Message<'_>,
-    report: &Report,
-    view: &OrderView,
-    out: &mut Vec<u8>,
-) -> Result<(), AllocError>
-    requires addressed { IsAddressed message.now }
-    requires own_leg { view.now.leg.id ≡ report.now.id }
-    ensures ok { OnOk result (AppendsApp (D.IsReport dialect.now report.now view.now) message.now stamp.now (codes "8") out.old.items out.new.items) }
-    ensures err { OnErr result (out.new.items ≡ out.old.items) }
-{
-    let time = stamp_bytes(stamp);
-    let mut body = FrameBody::new();
-    push_app_header(alloc, message, REPORT_KIND, &time, &mut body)?;
-    dialect.push_report(alloc, report, view, &mut body)?;
-    append_body(&body, out)
-}
-
 /// Appends the one frame of a message that is sent at this moment, in this dialect: the stamp is its SendingTime (52), and
 /// TransactTime (60) of an order. Where the message may have been sent before (43=Y) the stamp is OrigSendingTime (122)
 /// too. The only refusal is want of memory, and leaves `out` as it was: an order and a report take none where `out` has
@@ -265,11 +186,12 @@ pub fn append_message<D: Dialect>(
     ensures err { OnErr result (out.new.items ≡ out.old.items) }
 {
     let message = &outgoing.message;
-    match (&message.content, &outgoing.beside) {
-        (Content::Order(Ok(leg)), _) => append_order(alloc, dialect, stamp, message, leg, out),
-        (Content::ExecutionReport(Ok(report)), Some(view)) => {
-            append_report(alloc, dialect, stamp, message, report, view, out)
-        }
+    match &message.content {
+        Content::Order(Ok(leg)) => append_order(alloc, dialect, stamp, message, leg, out),
+        Content::ExecutionReport(Ok(report)) => match &outgoing.beside {
+            Some(view) => append_report(alloc, dialect, stamp, message, report, view, out),
+            None => unreachable!(),
+        },
         _ => append_listed(alloc, dialect, stamp, outgoing, out),
     }
 }

@@ -4,10 +4,11 @@ use Rattle.fix_tags.specs.declared.envelope.Envelope.{Envelope}
 use Rattle.dialect.specs.Framed.{Writers, IsBody}
 use Rattle.dialect.specs.Message.{Readers}
 use Rattle.dialect.proofs.FrameBack.{Agrees, never_refused}
-use Rattle.dialect.proofs.message_write.write_message.Goals as goal
+use Rattle.dialect.proofs.StraightFrame.{framed_listed}
+use Rattle.dialect.proofs.message_write.append_listed.Goals as goal
 
-pub frame_of-requires : goal.frame_of-requires
-frame_of-requires g c =
+pub append_envelope-requires : goal.append_envelope-requires
+append_envelope-requires g c =
     let laws = g.met.D.Dialect in
     let d = c.args.dialect.now in
     let w : Writers = record { IsOrder = g.D.Dialect.IsOrder d; IsReport = g.D.Dialect.IsReport d } in
@@ -24,3 +25,14 @@ frame_of-requires g c =
     let is_body : IsBody w stamp out.beside out.message.content body = search rules in
     let refused = never_refused w read stamp out body agrees c.requires is_body in
     subst (λ (e : Envelope). envelope_refusal e stamp ≡ None) (sym c.envelope_of-envelope.ensures) refused
+
+pub returns-clause-ok : goal.returns-clause-ok
+returns-clause-ok g c =
+    let d = c.args.dialect.now in
+    let w : Writers = record { IsOrder = g.D.Dialect.IsOrder d; IsReport = g.D.Dialect.IsReport d } in
+    let stamp = c.args.stamp.now in
+    let out = c.args.outgoing.now in
+    let body = c.in_ok-body.body in
+    let is_body : IsBody w stamp out.beside out.message.content body = search rules in
+    framed_listed w stamp out body c.envelope_of-envelope.result c.args.out.now.items c.append_envelope.new.out.items
+    c.append_envelope.result is_body c.envelope_of-envelope.ensures c.append_envelope.ensures.ok
