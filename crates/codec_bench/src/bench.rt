@@ -6,7 +6,7 @@ use crate::part::Part;
 use crate::reading::{read_leg, read_report};
 use crate::request::{Request, read_request};
 use crate::stream::read_stream;
-use crate::worked::{TRADE_REPORT, session};
+use crate::worked::TRADE_REPORT;
 use dialect::{Report, ReportKind};
 use fix_tags::read_number;
 use fix_text::FrameReader;
@@ -30,8 +30,7 @@ fn check_sum(frame: &[u8]) -> u64 {
 
 /// Writes the worked order under rising numbers.
 fn write_orders<W: Write>(alloc: Global, count: u64, out: &mut W) -> Result<(), BenchFault> {
-    let config = session()?;
-    let mut writer = OrderWriter::new(alloc, &config)?;
+    let mut writer = OrderWriter::new(alloc)?;
     let mut sum = 0u64;
     for _ in 0..count {
         sum = sum.saturating_add(check_sum(writer.write()?));
@@ -41,8 +40,7 @@ fn write_orders<W: Write>(alloc: Global, count: u64, out: &mut W) -> Result<(), 
 
 /// Reads the first order that was written, again and again.
 fn read_orders<W: Write>(alloc: Global, count: u64, out: &mut W) -> Result<(), BenchFault> {
-    let config = session()?;
-    let mut writer = OrderWriter::new(alloc, &config)?;
+    let mut writer = OrderWriter::new(alloc)?;
     let frame = writer.write()?;
     let mut reader = FrameReader::new(alloc);
     let mut shares = 0u64;
@@ -79,8 +77,7 @@ fn read_pieces<W: Write>(
     piece_len: usize,
     out: &mut W,
 ) -> Result<(), BenchFault> {
-    let config = session()?;
-    let mut writer = OrderWriter::new(alloc, &config)?;
+    let mut writer = OrderWriter::new(alloc)?;
     let found = read_stream(alloc, writer.write()?, count, piece_len)?;
     let frames = found.frames;
     let fields = found.fields;

@@ -1,39 +1,66 @@
 //! Orders are written, with the room of one for the next.
 
 use crate::fault::BenchFault;
-use crate::worked::{FIRST_NUMBER, order_leg, order_stamp};
-use dialect::{Content, Message, Outgoing, Plain, append_message};
-use fix_tags::{Config, Stamp};
+use crate::worked::{FIRST_NUMBER, order_leg, order_stamp, sender, target};
+use dialect::{Dialect, ORDER_KIND, Plain};
+use fix_tags::{Body, Envelope, Stamp, Text, write_envelope};
+use fix_text::Fields;
+use leg::Leg;
 use std::alloc::Global;
+use std::mem;
 
 /// The worked order under its next number, and the frame that was written last.
 #[derive(Drop)]
-pub struct OrderWriter<'a> {
+pub struct OrderWriter {
     alloc: Global,
+    leg: Leg,
     stamp: Stamp,
-    order: Outgoing<'a>,
+    envelope: Envelope,
     frame: Vec<u8>,
 }
 
-impl<'a> OrderWriter<'a> {
-    /// An order from one end of a session to its peer.
-    pub fn new(alloc: Global, config: &'a Config) -> Result<OrderWriter<'a>, BenchFault> {
-        let content = Content::Order(Ok(order_leg()?));
-        let message = Message::to_peer(config, FIRST_NUMBER, false, content);
+impl OrderWriter {
+    pub fn new(alloc: Global) -> Result<OrderWriter, BenchFault> {
+        let kind = Text::from_slice(alloc, ORDER_KIND)?;
+        let fields = Fields::new(Vec::new(alloc));
+        let envelope = Envelope {
+            sender: sender()?,
+            target: target()?,
+            number: FIRST_NUMBER,
+            poss_dup: false,
+            poss_resend: false,
+            body: Body::App { kind, fields },
+        };
         Ok(OrderWriter {
             alloc,
+            leg: order_leg()?,
             stamp: order_stamp()?,
-            order: Outgoing::alone(message),
+            envelope,
             frame: Vec::new(alloc),
         })
     }
 
+    /// The leg's order in the place of the last one's fields, whose list is used again.
+    fn renew_body(&mut self) -> Result<(), BenchFault> {
+        match mem::replace(&mut self.envelope.body, Body::Logout) {
+            Body::App { kind, fields } => {
+                let mut fields = fields.into_vec();
+                fields.clear();
+                Plain.write_order(self.alloc, &self.leg, &self.stamp, &mut fields)?;
+                let fields = Fields::new(fields);
+                self.envelope.body = Body::App { kind, fields };
+                Ok(())
+            }
+            _ => Err(BenchFault::BadMessage),
+        }
+    }
+
     /// The frame of the order under the next number, in the room of the last one.
     pub fn write(&mut self) -> Result<&[u8], BenchFault> {
+        self.renew_body()?;
         self.frame.clear();
-        append_message(self.alloc, &Plain, &self.stamp, &self.order, &mut self.frame)?;
-        let number = self.order.message.number;
-        self.order.message.number = number.saturating_add(1);
+        write_envelope(&self.envelope, &self.stamp, &mut self.frame)?;
+        self.envelope.number = self.envelope.number.saturating_add(1);
         Ok(self.frame.as_slice())
     }
 }

@@ -106,12 +106,12 @@ pub framed_listed : (w : Writers) (stamp : StampParts) (out : Outgoing) (b : Bod
     (result : Result (Unit {0}) AllocError) → IsBody w stamp out.beside out.message.content b → e ≡ envelope_of out.message b
     → OnOk result (new ≡ old ++ frame_text (envelope_fields e stamp)) → OnOk result (AppendsFrame w stamp out old new)
 framed_listed w stamp out b e old new (Ok done) is_body is appended = (
-      frame_text (envelope_fields e stamp),
-      record {
-        says = b;
-        is_body = is_body;
-        written = ap (λ (e : Envelope). frame_text (envelope_fields e stamp)) is;
-      },
-      appended,
-    )
+  frame_text (envelope_fields e stamp),
+  record {
+    says = b;
+    is_body = is_body;
+    written = ap (λ (e : Envelope). frame_text (envelope_fields e stamp)) is;
+  },
+  appended,
+)
 framed_listed w stamp out b e old new (Err fault) is_body is appended = tt

@@ -68,7 +68,11 @@ fn push_cancelled<F: FieldSink>(
 }
 
 /// Pushes 32 and 31 for a trade.
-fn push_fill<F: FieldSink>(alloc: Global, kind: &ReportKind, fields: &mut F) -> Result<(), AllocError>
+fn push_fill<F: FieldSink>(
+    alloc: Global,
+    kind: &ReportKind,
+    fields: &mut F,
+) -> Result<(), AllocError>
     ensures { Pushes F.Takes (fill_fields kind.now) fields.old fields.new result }
 {
     match kind {
@@ -95,11 +99,7 @@ fn push_event<S: Spelling, F: FieldSink>(
     fields.push_field(alloc, EXEC_ID, report.exec.as_bytes())?;
     push_cancelled(alloc, kind, fields)?;
     fields.push_field(alloc, EXEC_TYPE, exec_type_text(kind))?;
-    fields.push_field(
-        alloc,
-        ORD_STATUS,
-        ord_status_text(kind, view.leaves()),
-    )?;
+    fields.push_field(alloc, ORD_STATUS, ord_status_text(kind, view.leaves()))?;
     push_short(
         alloc,
         CL_ORD_ID,
