@@ -128,8 +128,9 @@ fn two_workers<M: Ledger + Send + Sync, R: Threads + Wait + Sync>(
     gone.ok().ok_or("a withdrawal")?;
     let counts = (first.shares(), second.shares());
     let totals = collector.totals(rt, 1);
+    // The sweep, 26 trades and an end at each venue, and the withdrawal.
     let entries = collector.read(rt, |book: &Book| book.history().len());
-    if collector.resolved(rt) != 230 || entries != 7 {
+    if collector.resolved(rt) != 230 || entries != 56 {
         return Err(Fail::from("another count"));
     }
     seats.push(first)?;
