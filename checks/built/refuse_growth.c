@@ -1,10 +1,10 @@
 // Loaded before the C library, it refuses one growth of memory of a program: that whose count, from 1, is in the
-// environment as REFUSED. When the program ends it writes how many growths there were to the file that GROWTHS names.
+// environment as REFUSED. Where the program comes so far, the file that MET names is made.
 #define _GNU_SOURCE
-#include <dlfcn.h>
 #include <errno.h>
-#include <stdio.h>
+#include <fcntl.h>
 #include <stdlib.h>
+#include <unistd.h>
 
 static long growths;
 static long refused = -1;
@@ -14,6 +14,14 @@ void *__libc_calloc(size_t count, size_t size);
 void *__libc_realloc(void *old, size_t size);
 void *__libc_memalign(size_t align, size_t size);
 
+static void tell(void) {
+    const char *path = getenv("MET");
+    int file = path ? open(path, O_CREAT | O_WRONLY, 0600) : -1;
+    if (file >= 0) {
+        close(file);
+    }
+}
+
 static int is_refused(void) {
     if (refused < 0) {
         const char *text = getenv("REFUSED");
@@ -22,6 +30,7 @@ static int is_refused(void) {
     if (__atomic_add_fetch(&growths, 1, __ATOMIC_SEQ_CST) != refused) {
         return 0;
     }
+    tell();
     errno = ENOMEM;
     return 1;
 }
@@ -48,14 +57,4 @@ int posix_memalign(void **place, size_t align, size_t size) {
     }
     *place = __libc_memalign(align, size);
     return *place ? 0 : ENOMEM;
-}
-
-__attribute__((destructor)) static void tell(void) {
-    const char *path = getenv("GROWTHS");
-    long count = growths;
-    FILE *file = path ? fopen(path, "w") : NULL;
-    if (file) {
-        fprintf(file, "%ld\n", count);
-        fclose(file);
-    }
 }

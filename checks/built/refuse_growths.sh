@@ -11,17 +11,15 @@ clang -O2 -shared -fPIC -o "$place/refuse_growth.so" checks/built/refuse_growth.
 refuse_each_growth() {
     local judge=$1
     shift
-    local count=0
-    local met
+    growths=0
     while :; do
-        count=$((count + 1))
-        REFUSED=$count GROWTHS=$place/growths LD_PRELOAD=$place/refuse_growth.so "$@" \
+        rm -f "$place/met"
+        REFUSED=$((growths + 1)) MET=$place/met LD_PRELOAD=$place/refuse_growth.so "$@" \
             < "$input" > "$place/out" 2> "$place/err"
-        "$judge" "$count" $?
-        met=$(cat "$place/growths")
-        [ "$met" -ge "$count" ] || break
+        "$judge" $((growths + 1)) $?
+        [ -e "$place/met" ] || break
+        growths=$((growths + 1))
     done
-    growths=$((count - 1))
 }
 
 same_lines() {

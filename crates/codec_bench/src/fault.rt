@@ -1,7 +1,7 @@
 //! Why a run failed, and the exit status that tells it.
 
 use dialect::{DialectFault, SpellFault};
-use fix_tags::{ReadFault, WriteFault};
+use fix_tags::{TagFault, WriteFault};
 use fix_text::ReaderFault;
 use std::alloc::AllocError;
 use std::io::Write;
@@ -41,12 +41,9 @@ impl From<ReaderFault> for BenchFault {
     }
 }
 
-impl From<ReadFault> for BenchFault {
-    fn from(fault: ReadFault) -> BenchFault {
-        match fault {
-            ReadFault::OutOfMemory => BenchFault::OutOfMemory,
-            ReadFault::Tag(_) => BenchFault::BadMessage,
-        }
+impl From<TagFault> for BenchFault {
+    fn from(_: TagFault) -> BenchFault {
+        BenchFault::BadMessage
     }
 }
 

@@ -13,12 +13,12 @@ pub fn read_leg(alloc: Global, reader: &mut FrameReader, bytes: &[u8]) -> Result
     let Some(frame) = reader.next()? else {
         return Err(BenchFault::BadMessage);
     };
-    let message = read_envelope(alloc, &frame)?;
+    let message = read_envelope(&frame)?;
     match message.body() {
         BodyRef::App {
             kind: [b'D'],
             fields,
-        } => Ok(Plain.read_order(fields.as_slice())?),
+        } => Ok(Plain.read_order(fields)?),
         _ => Err(BenchFault::BadMessage),
     }
 }
@@ -33,12 +33,12 @@ pub fn read_report(
     let Some(frame) = reader.next()? else {
         return Err(BenchFault::BadMessage);
     };
-    let message = read_envelope(alloc, &frame)?;
+    let message = read_envelope(&frame)?;
     match message.body() {
         BodyRef::App {
             kind: [b'8'],
             fields,
-        } => Ok(Plain.read_report(fields.as_slice())?),
+        } => Ok(Plain.read_report(fields)?),
         _ => Err(BenchFault::BadMessage),
     }
 }

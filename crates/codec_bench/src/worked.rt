@@ -1,11 +1,17 @@
 //! The worked messages: an order of sweep 12, and the report on a trade.
 
 use crate::fault::BenchFault;
-use fix_tags::{CompId, Stamp};
+use fix_tags::{CompId, Config, Stamp};
 use leg::{Leg, LegId, Side, Symbol, Terms};
 
 /// MsgSeqNum (34) of the first order.
 pub const FIRST_NUMBER: u64 = 4;
+
+/// The heartbeat interval of the session (108), in seconds.
+const HEART: u64 = 30;
+
+/// The number that no message of the session reaches.
+const MAX_NUMBER: u64 = 999_999_999;
 
 /// The report on a trade of 60 shares of the first leg of sweep 1.
 pub const TRADE_REPORT: &[u8] =
@@ -26,10 +32,9 @@ pub fn order_stamp() -> Result<Stamp, BenchFault> {
     Stamp::new(2024, 1, 2, 14, 30, 0, 0).ok_or(BenchFault::BadMessage)
 }
 
-pub fn sender() -> Result<CompId, BenchFault> {
-    CompId::new(b"A").ok_or(BenchFault::BadMessage)
-}
-
-pub fn target() -> Result<CompId, BenchFault> {
-    CompId::new(b"B").ok_or(BenchFault::BadMessage)
+/// The session on which the order is sent, from A to B.
+pub fn session() -> Result<Config, BenchFault> {
+    let me = CompId::new(b"A").ok_or(BenchFault::BadMessage)?;
+    let peer = CompId::new(b"B").ok_or(BenchFault::BadMessage)?;
+    Config::new(me, peer, HEART, MAX_NUMBER).ok_or(BenchFault::BadMessage)
 }

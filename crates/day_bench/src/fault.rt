@@ -1,7 +1,7 @@
 //! Why a run failed, and the exit status that tells it.
 
 use exchange_core::ExchangeFault;
-use fix_tags::ReadFault;
+use fix_tags::TagFault;
 use fix_text::ReaderFault;
 use leg::LegFault;
 use session_core::SessionFault;
@@ -93,12 +93,9 @@ impl From<ReaderFault> for BenchFault {
     }
 }
 
-impl From<ReadFault> for BenchFault {
-    fn from(fault: ReadFault) -> BenchFault {
-        match fault {
-            ReadFault::OutOfMemory => BenchFault::OutOfMemory,
-            _ => BenchFault::NotDone,
-        }
+impl From<TagFault> for BenchFault {
+    fn from(_: TagFault) -> BenchFault {
+        BenchFault::NotDone
     }
 }
 

@@ -91,7 +91,7 @@ impl SessionDay {
         let Some(frame) = self.to_session.next()? else {
             return Err(BenchFault::NotDone);
         };
-        let envelope = read_envelope(self.alloc, &frame)?;
+        let envelope = read_envelope(&frame)?;
         let step = self.session.receive(&Plain, &envelope, &self.stamp)?;
         self.session.confirm();
         Ok(step.out.into_vec())
@@ -104,7 +104,7 @@ impl SessionDay {
         let Some(frame) = self.to_exchange.next()? else {
             return Err(BenchFault::NotDone);
         };
-        let envelope = read_envelope(alloc, &frame)?;
+        let envelope = read_envelope(&frame)?;
         Ok(
             self.exchange
                 .take(alloc, &Plain, 1, &envelope, &self.stamp)?,

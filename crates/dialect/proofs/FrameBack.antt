@@ -21,9 +21,10 @@ use Rattle.fix_tags.proofs.MessageBack.{envelope_read-written}
 use Rattle.fix_tags.proofs.WritableFields.{good_message, good_tags, good_values}
 use Rattle.leg.specs.declared.leg.Leg.{Leg}
 use Rattle.leg.specs.Leg.{IsLeg}
+use Rattle.dialect.specs.declared.fault.DialectFault.TheVariants.{NotMarked}
 use Rattle.dialect.specs.declared.report.Report.{Report}
 use Rattle.dialect.specs.Dialect.{FitsMessage}
-use Rattle.dialect.specs.Framed.{Writers, IsBody, envelope_of, IsFramed, IsReadAs}
+use Rattle.dialect.specs.Framed.{Writers, IsSessionBody, IsBody, envelope_of, IsFramed, IsReadAs}
 use Rattle.dialect.specs.FreeText.{IsFreeText}
 use Rattle.dialect.specs.declared.content.Content.{Content}
 use Rattle.dialect.specs.declared.content.Content.TheVariants.{Logon, Heartbeat, TestRequest, ResendRequest, Reject, GapFill, Reset, Logout, BusinessReject, Order, ExecutionReport, Other}
@@ -60,7 +61,7 @@ test_id_is : (id : List ℕ) → IsFreeText 64 id → is_test_id id ≡ true
 test_id_is id range =
     let parts = and_parts (nat_le (length id) 64) (is_writable_value id) range in and_from _ _ parts.1 parts.0
 
-number_is : (n : ℕ) → 1 ≤ n → n ≤ 999999998 → is_message_number n ≡ true
+pub number_is : (n : ℕ) → 1 ≤ n → n ≤ 999999998 → is_message_number n ≡ true
 number_is n low high = grind (arith, nat_tests)
 
 reference_is : (n : ℕ) → n ≤ 999999999 → is_reference n ≡ true
@@ -378,6 +379,44 @@ pub never_refused : (w : Writers) (read : Readers) (stamp : StampParts) (out : O
 never_refused w read stamp out b agrees range is =
     let fine = good w read stamp out.beside out.message.content b agrees range.content is in
     unrefused out.message b stamp fine.kind fine.body fine.short_kind fine.short range.from range.to (number_is out.message.number range.number_from range.number_to)
+
+-- what may be written of the session may be written in any dialect
+pub session_body_is : (w : Writers) (stamp : StampParts) (beside : Option OrderViewParts) (content : Content) (b : Body)
+    → IsSessionBody content b → IsBody w stamp beside content b
+session_body_is w stamp beside (Logon heart reset next) b is = is
+session_body_is w stamp beside (Heartbeat id) b is = is
+session_body_is w stamp beside (TestRequest id) b is = is
+session_body_is w stamp beside (ResendRequest begin last) b is = is
+session_body_is w stamp beside (Reject number) b is = is
+session_body_is w stamp beside (GapFill number) b is = is
+session_body_is w stamp beside (Reset number) b is = is
+session_body_is w stamp beside Logout b is = is
+session_body_is w stamp beside (BusinessReject number) b is = is
+session_body_is w stamp beside (Order read) b is = absurd is
+session_body_is w stamp beside (ExecutionReport read) b is = absurd is
+session_body_is w stamp beside Other b is = absurd is
+
+-- a dialect of no orders and no reports
+abbrev no_writers : Writers
+no_writers = record { IsOrder = λ leg stamp fields. ⊥; IsReport = λ report view fields. ⊥ }
+
+abbrev no_readers : Readers
+no_readers = record { order = λ fields. Err NotMarked; report = λ fields. Err NotMarked }
+
+none_agree : Agrees no_writers no_readers
+none_agree = record {
+  order_back = λ leg stamp fields is. absurd is;
+  order_fits = λ leg stamp fields is. absurd is;
+  report_back = λ report view fields is. absurd is;
+  report_fits = λ report view fields is. absurd is;
+}
+
+-- a message of the session that can be written is never refused
+pub session_unrefused : (stamp : StampParts) (out : Outgoing) (b : Body) → IsWritable out
+    → IsSessionBody out.message.content b → envelope_refusal (envelope_of out.message b) stamp ≡ None
+session_unrefused stamp out b range is =
+    never_refused no_writers no_readers stamp out b none_agree range
+    (session_body_is no_writers stamp out.beside out.message.content b is)
 
 -- its frame is read back
 pub frame_back : (w : Writers) (read : Readers) (stamp : StampParts) (out : Outgoing) (bytes rest : List ℕ)

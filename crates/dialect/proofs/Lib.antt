@@ -8,3 +8,5 @@ pub mod ReportReading
 pub mod FrameBack
 pub mod PriceLength
 pub mod ReadRanges
+pub mod StraightFrame
+pub mod Pushed

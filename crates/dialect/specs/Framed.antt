@@ -1,5 +1,5 @@
 -- A message as the bytes of one frame, in a dialect, and as what a stream that begins with it reads as.
-use Rattle.std.specs.Prelude.{◌≡◌, ℕ, false, List, [], ◌∷◌, Option, Some, None, Result, Ok, Err, codes}
+use Rattle.std.specs.Prelude.{◌≡◌, ℕ, false, List, [], ◌∷◌, ◌++◌, Option, Some, None, Result, Ok, Err, codes}
 use Rattle.fix_text.specs.Tagged.{Tagged}
 use Rattle.fix_text.specs.Frame.{frame_text}
 use Rattle.fix_text.specs.Reading.{Stream, next_read}
@@ -41,20 +41,31 @@ IsReportBody w (Ok report) (Some view) b = IsApp (w.IsReport report view) (codes
 IsReportBody w (Ok report) None b = ⊥
 IsReportBody w (Err fault) beside b = ⊥
 
--- the bodies that may be written for a content: of the session's, only its own
+-- a content of the session, and none of the application
+abbrev pub IsSession : Content → Type 0
+IsSession (Order read) = ⊥
+IsSession (ExecutionReport read) = ⊥
+IsSession Other = ⊥
+IsSession _ = Unit {0}
+
+-- the body of a content of the session: only its own
+abbrev pub IsSessionBody : Content → Body → Type 0
+IsSessionBody (Logon heart reset next) b = b ≡ body.Logon heart reset next
+IsSessionBody (Heartbeat id) b = b ≡ body.Heartbeat id
+IsSessionBody (TestRequest id) b = b ≡ body.TestRequest id
+IsSessionBody (ResendRequest begin last) b = b ≡ body.ResendRequest begin last
+IsSessionBody (Reject number) b = b ≡ body.Reject number
+IsSessionBody (GapFill new_number) b = b ≡ body.GapFill new_number
+IsSessionBody (Reset new_number) b = b ≡ body.Reset new_number
+IsSessionBody Logout b = b ≡ body.Logout
+IsSessionBody (BusinessReject number) b = b ≡ body.BusinessReject number
+IsSessionBody _ b = ⊥
+
+-- the bodies that may be written for a content
 abbrev pub IsBody : Writers → StampParts → Option OrderViewParts → Content → Body → Type 0
-IsBody w stamp beside (Logon heart reset next) b = b ≡ body.Logon heart reset next
-IsBody w stamp beside (Heartbeat id) b = b ≡ body.Heartbeat id
-IsBody w stamp beside (TestRequest id) b = b ≡ body.TestRequest id
-IsBody w stamp beside (ResendRequest begin last) b = b ≡ body.ResendRequest begin last
-IsBody w stamp beside (Reject number) b = b ≡ body.Reject number
-IsBody w stamp beside (GapFill new_number) b = b ≡ body.GapFill new_number
-IsBody w stamp beside (Reset new_number) b = b ≡ body.Reset new_number
-IsBody w stamp beside Logout b = b ≡ body.Logout
-IsBody w stamp beside (BusinessReject number) b = b ≡ body.BusinessReject number
 IsBody w stamp beside (Order read) b = IsOrderBody w stamp read b
 IsBody w stamp beside (ExecutionReport read) b = IsReportBody w read beside b
-IsBody w stamp beside Other b = ⊥
+IsBody w stamp beside content b = IsSessionBody content b
 
 -- the message under its header, never under another number again (no 97)
 abbrev pub envelope_of : Message → Body → Envelope
@@ -66,6 +77,21 @@ pub record IsFramed (w : Writers) (stamp : StampParts) (out : Outgoing) (bytes :
   pub says : Body
   pub is_body : IsBody w stamp out.beside out.message.content says
   pub written : bytes ≡ frame_text (envelope_fields (envelope_of out.message says) stamp)
+
+-- new is old with the frame of an application message of this kind behind it, with fields of which this holds
+abbrev pub AppendsApp : (List Tagged → Type 0) → Message → StampParts → List ℕ → List ℕ → List ℕ → Type 0
+AppendsApp IsWritten m stamp kind old new =
+    (fields : List Tagged) × IsWritten fields
+    × (new ≡ old ++ frame_text (envelope_fields (envelope_of m (body.App kind fields)) stamp))
+
+-- new is old with the frame of a message of the session behind it
+abbrev pub AppendsSession : Message → StampParts → List ℕ → List ℕ → Type 0
+AppendsSession m stamp old new =
+    (b : Body) × IsSessionBody m.content b × (new ≡ old ++ frame_text (envelope_fields (envelope_of m b) stamp))
+
+-- new is old with the one frame of this message behind it
+abbrev pub AppendsFrame : Writers → StampParts → Outgoing → List ℕ → List ℕ → Type 0
+AppendsFrame w stamp out old new = (bytes : List ℕ) × IsFramed w stamp out bytes × (new ≡ old ++ bytes)
 
 -- the frames are those of these messages, one each and in order, each written at this moment
 abbrev pub AreFramed : Writers → StampParts → List Outgoing → List (List ℕ) → Type 0

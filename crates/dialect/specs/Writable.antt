@@ -8,6 +8,7 @@ use Rattle.dialect.specs.declared.report.Report.{Report}
 use Rattle.dialect.specs.FreeText.{IsFreeText}
 use Rattle.dialect.specs.declared.content.Content.{Content}
 use Rattle.dialect.specs.declared.content.Content.TheVariants.{Logon, Heartbeat, TestRequest, ResendRequest, Reject, GapFill, Reset, Logout, BusinessReject, Order, ExecutionReport, Other}
+use Rattle.dialect.specs.declared.message.Message.{Message}
 use Rattle.dialect.specs.OrderView.{OrderViewParts, IsOrderView}
 use Rattle.dialect.specs.declared.outgoing.Outgoing.{Outgoing}
 use Rattle.dialect.specs.Report.{IsReport}
@@ -62,6 +63,13 @@ IsWritableContent beside (BusinessReject number) = IsRefused number
 IsWritableContent beside (Order read) = IsWritableOrder read
 IsWritableContent beside (ExecutionReport read) = IsWritableReport read beside
 IsWritableContent beside Other = ⊥
+
+-- its names are comp ids, and its number (34) is 1 to 999,999,998
+pub record IsAddressed (m : Message) : Type 0 where
+  pub from : IsCompId m.from
+  pub to : IsCompId m.to
+  pub number_from : 1 ≤ m.number
+  pub number_to : m.number ≤ 999999998
 
 -- a message that is never refused: its names are comp ids, its number (34) is 1 to 999,999,998, and what it says can
 -- be written

@@ -8,8 +8,8 @@ use crate::fault::DialectFault;
 use crate::plain::Plain;
 use crate::spelling::{IdText, Spelling};
 use crate::split4::Split4;
-use fix_tags::PriceText;
-use fix_text::{Field, FieldRef};
+use fix_tags::{AppFields, PriceText};
+use fix_text::{FieldRef, FieldSink};
 use leg::{LegId, Symbol};
 use std::alloc::{AllocError, Global};
 
@@ -65,7 +65,7 @@ impl Spelling for AnyDialect {
         }
     }
 
-    fn is_marked(&self, fields: &[FieldRef<'_>]) -> bool {
+    fn is_marked(&self, fields: &AppFields<'_>) -> bool {
         match self {
             AnyDialect::Plain => Plain.is_marked(fields),
             AnyDialect::Split4 => Split4.is_marked(fields),
@@ -81,11 +81,11 @@ impl Spelling for AnyDialect {
         }
     }
 
-    fn push_symbol(
+    fn push_symbol<F: FieldSink>(
         &self,
         alloc: Global,
         symbol: &Symbol,
-        fields: &mut Vec<Field>,
+        fields: &mut F,
     ) -> Result<(), AllocError> {
         match self {
             AnyDialect::Plain => Plain.push_symbol(alloc, symbol, fields),
@@ -94,7 +94,7 @@ impl Spelling for AnyDialect {
         }
     }
 
-    fn read_symbol(&self, fields: &[FieldRef<'_>]) -> Result<Symbol, DialectFault> {
+    fn read_symbol(&self, fields: &AppFields<'_>) -> Result<Symbol, DialectFault> {
         match self {
             AnyDialect::Plain => Plain.read_symbol(fields),
             AnyDialect::Split4 => Split4.read_symbol(fields),

@@ -11,8 +11,8 @@ use crate::push::push_short;
 use crate::spelling::{IdText, Spelling};
 use crate::symbol_text::{joined_symbol_in, joined_symbol_text};
 use crate::tag::{SWEEP_LEG, SYMBOL};
-use fix_tags::{PriceText, price_four_text};
-use fix_text::{Field, FieldRef};
+use fix_tags::{AppFields, PriceText, price_four_text};
+use fix_text::{FieldRef, FieldSink};
 use leg::{LegId, Symbol};
 use std::alloc::{AllocError, Global};
 
@@ -70,7 +70,7 @@ impl Spelling for Coded {
         FieldRef::new(SWEEP_LEG, YES)
     }
 
-    fn is_marked(&self, fields: &[FieldRef<'_>]) -> bool {
+    fn is_marked(&self, fields: &AppFields<'_>) -> bool {
         is_value(fields, SWEEP_LEG, YES)
     }
 
@@ -78,11 +78,11 @@ impl Spelling for Coded {
         price_four_text(price)
     }
 
-    fn push_symbol(
+    fn push_symbol<F: FieldSink>(
         &self,
         alloc: Global,
         symbol: &Symbol,
-        fields: &mut Vec<Field>,
+        fields: &mut F,
     ) -> Result<(), AllocError> {
         push_short(
             alloc,
@@ -92,7 +92,7 @@ impl Spelling for Coded {
         )
     }
 
-    fn read_symbol(&self, fields: &[FieldRef<'_>]) -> Result<Symbol, DialectFault> {
+    fn read_symbol(&self, fields: &AppFields<'_>) -> Result<Symbol, DialectFault> {
         joined_symbol_in(SLASH, fields)
     }
 

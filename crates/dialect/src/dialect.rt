@@ -3,10 +3,10 @@
 use crate::fault::{DialectFault, SpellFault};
 use crate::order_view::OrderView;
 use crate::report::Report;
-use fix_tags::Stamp;
-use fix_text::{Field, FieldRef};
+use fix_tags::{AppFields, Stamp};
+use fix_text::{Field, FieldSink};
 use leg::Leg;
-use std::alloc::Global;
+use std::alloc::{AllocError, Global};
 
 /// How a venue spells an order (FIX 4.4 Volume 4, NewOrderSingle) in the fields of a message of kind `D`, and a report
 /// on it (ExecutionReport) in those of kind `8`, without those of the header. What is written for a leg or a report is
@@ -21,7 +21,7 @@ pub trait Dialect {
     ghost use Rattle.dialect.specs.declared.report.Report.{Report};
     ghost use Rattle.dialect.specs.OrderView.{OrderViewParts, IsOrderView};
     ghost use Rattle.dialect.specs.Report.{IsReport as IsInRange};
-    ghost use Rattle.dialect.specs.Dialect.{Appends, IsMarked, FitsMessage, SaysView};
+    ghost use Rattle.dialect.specs.Dialect.{Appends, PushesSuch, IsMarked, FitsMessage, SaysView};
 
     // The fields that may be written for a leg, with this stamp as TransactTime (60).
     ghost IsOrder: { Self → Leg → StampParts → List Tagged → Type 0 };
@@ -52,9 +52,22 @@ pub trait Dialect {
         ensures err { OnErr result (fields.new.items ≡ fields.old.items) }
         ensures full { OnErr result (vec_capacity fields.old < vec_len fields.old + 16) };
 
+    /// Pushes the fields of an order for the leg, with the stamp as TransactTime (60), to a list or to the body of a frame.
+    /// `time` is the stamp's text. A refused growth leaves some of them behind.
+    fn push_order<F: FieldSink>(
+        &self,
+        alloc: Global,
+        leg: &Leg,
+        stamp: &Stamp,
+        time: &[u8],
+        fields: &mut F,
+    ) -> Result<(), AllocError>
+        requires { time.now ≡ stamp_text stamp.now }
+        ensures { PushesSuch F.Takes (IsOrder self.now leg.now stamp.now) fields.old fields.new result };
+
     /// Reads an order. Faults are tried in the written order of the fields, and the first one is answered. Of a tag
     /// that stands several times the first counts, and tags that an order doesn't have are passed over.
-    fn read_order(&self, fields: &[FieldRef<'_>]) -> Result<Leg, DialectFault>
+    fn read_order(&self, fields: &AppFields<'_>) -> Result<Leg, DialectFault>
         ensures value { result ≡ order_read self.now fields.now }
         ensures in_range { IfOk result IsLeg };
 
@@ -71,10 +84,22 @@ pub trait Dialect {
             (Appends (IsReport self.now report.now view.now) fields.old.items fields.new.items) }
         ensures err { OnErr result (fields.new.items ≡ fields.old.items) };
 
+    /// Pushes the fields of a report, beside what its exchange knows of the order, to a list or to the body of a frame. A
+    /// refused growth leaves some of them behind.
+    fn push_report<F: FieldSink>(
+        &self,
+        alloc: Global,
+        report: &Report,
+        view: &OrderView,
+        fields: &mut F,
+    ) -> Result<(), AllocError>
+        requires { view.now.leg.id ≡ report.now.id }
+        ensures { PushesSuch F.Takes (IsReport self.now report.now view.now) fields.old fields.new result };
+
     /// Reads a report. It takes no memory. Faults are tried in the order 11, 17, 150, and then 32 and 31 of a trade or
     /// 19 of a bust, and the first one is answered. Of a tag that stands several times the first counts, and the other
     /// tags are passed over.
-    fn read_report(&self, fields: &[FieldRef<'_>]) -> Result<Report, DialectFault>
+    fn read_report(&self, fields: &AppFields<'_>) -> Result<Report, DialectFault>
         ensures value { result ≡ report_read self.now fields.now }
         ensures in_range { IfOk result IsInRange };
 

@@ -5,20 +5,20 @@ ghost use Rattle.std.specs.Result.{result_map_both};
 ghost use Rattle.dialect.specs.Fields.{required, has_value, is_text};
 
 use crate::fault::DialectFault;
-use fix_text::{FieldRef, first_ref};
+use fix_tags::AppFields;
 
 /// The value of a field that must be there.
-pub(crate) fn required<'a>(fields: &[FieldRef<'a>], tag: u32) -> Result<&'a [u8], DialectFault>
+pub(crate) fn required<'a>(fields: &AppFields<'a>, tag: u32) -> Result<&'a [u8], DialectFault>
     ensures { result_map_both (λ value. value.now) (λ fault. fault) result ≡ required fields.now tag }
 {
-    first_ref(fields, tag).ok_or(DialectFault::Missing(tag))
+    fields.get(tag).ok_or(DialectFault::Missing(tag))
 }
 
 /// Whether a field is there with exactly this value.
-pub(crate) fn is_value(fields: &[FieldRef<'_>], tag: u32, text: &[u8]) -> bool
+pub(crate) fn is_value(fields: &AppFields<'_>, tag: u32, text: &[u8]) -> bool
     ensures { result ≡ has_value (is_text text.now) fields.now tag }
 {
-    match first_ref(fields, tag) {
+    match fields.get(tag) {
         Some(value) => value == text,
         None => false,
     }

@@ -2,6 +2,7 @@
 #![tactic(auto)]
 
 mod any_dialect;
+mod app_write;
 mod coded;
 mod content;
 mod dialect;
@@ -53,7 +54,7 @@ pub use laws::{
 };
 pub use message::Message;
 pub use message_read::see;
-pub use message_write::write_message;
+pub use message_write::{append_message, write_message};
 pub use note::Note;
 pub use order_view::OrderView;
 pub use outgoing::Outgoing;

@@ -1,10 +1,11 @@
 //! How much an order is for, at which limit, and on which side: OrderQty (38), OrdType (40), Price (44) and Side (54).
 
-ghost use Rattle.std.specs.Prelude.{◌≡◌, ◌+◌, ◌<◌, ◌≤◌, ◌++◌, IfOk, IfSome, OnOk, OnErr, length, vec_len, vec_capacity};
+ghost use Rattle.std.specs.Prelude.{◌≡◌, ◌+◌, ◌<◌, ◌≤◌, IfOk, IfSome, OnErr, length};
 ghost use Rattle.fix_tags.specs.Price.{price_of};
 ghost use Rattle.leg.specs.Leg.{IsLeg};
 ghost use Rattle.leg.specs.Terms.{IsShares, IsPrice};
-ghost use Rattle.dialect.specs.Fields.{required_as, IsGrown};
+ghost use Rattle.fix_text.specs.Sink.{Pushes};
+ghost use Rattle.dialect.specs.Fields.{required_as};
 ghost use Rattle.dialect.specs.Limit.{order_shares_of, limit_order_in, side_of, limit_in, limit_fields, leg_of, side_text, IsInRange};
 
 use crate::fault::DialectFault;
@@ -12,8 +13,8 @@ use crate::field_value::required;
 use crate::push::{push_number, push_short};
 use crate::spelling::Spelling;
 use crate::tag::{ORD_TYPE, ORDER_QTY, PRICE, SIDE};
-use fix_tags::{read_price, read_shares};
-use fix_text::{Field, FieldRef};
+use fix_tags::{AppFields, read_price, read_shares};
+use fix_text::FieldSink;
 use leg::{Leg, LegId, MAX_SHARES, Side, Symbol, Terms};
 use std::alloc::{AllocError, Global};
 
@@ -58,7 +59,7 @@ fn read_side(text: &[u8]) -> Option<Side>
     }
 }
 
-fn shares_in(fields: &[FieldRef<'_>]) -> Result<u64, DialectFault>
+fn shares_in(fields: &AppFields<'_>) -> Result<u64, DialectFault>
     ensures value { result ≡ required_as order_shares_of fields.now 38 }
     ensures in_range { IfOk result IsShares }
 {
@@ -66,7 +67,7 @@ fn shares_in(fields: &[FieldRef<'_>]) -> Result<u64, DialectFault>
     read_order_shares(text).ok_or(DialectFault::Bad(ORDER_QTY))
 }
 
-fn check_limit_order(fields: &[FieldRef<'_>]) -> Result<(), DialectFault>
+fn check_limit_order(fields: &AppFields<'_>) -> Result<(), DialectFault>
     ensures { result ≡ limit_order_in fields.now }
 {
     let text = required(fields, ORD_TYPE)?;
@@ -77,7 +78,7 @@ fn check_limit_order(fields: &[FieldRef<'_>]) -> Result<(), DialectFault>
     }
 }
 
-fn price_in(fields: &[FieldRef<'_>]) -> Result<u64, DialectFault>
+fn price_in(fields: &AppFields<'_>) -> Result<u64, DialectFault>
     ensures value { result ≡ required_as price_of fields.now 44 }
     ensures in_range { IfOk result IsPrice }
 {
@@ -85,7 +86,7 @@ fn price_in(fields: &[FieldRef<'_>]) -> Result<u64, DialectFault>
     read_order_price(text).ok_or(DialectFault::Bad(PRICE))
 }
 
-fn side_in(fields: &[FieldRef<'_>]) -> Result<Side, DialectFault>
+fn side_in(fields: &AppFields<'_>) -> Result<Side, DialectFault>
     ensures { result ≡ required_as side_of fields.now 54 }
 {
     let text = required(fields, SIDE)?;
@@ -94,7 +95,7 @@ fn side_in(fields: &[FieldRef<'_>]) -> Result<Side, DialectFault>
 
 /// Reads 38 to 54, of which 40 must be `2`. The price may be spelled in every way that a price is read.
 #[tactic(auto, unfolding(crate::specs::Limit::limit_in))]
-pub(crate) fn read_limit(fields: &[FieldRef<'_>]) -> Result<Limit, DialectFault>
+pub(crate) fn read_limit(fields: &AppFields<'_>) -> Result<Limit, DialectFault>
     ensures value { result ≡ limit_in fields.now }
     ensures in_range { IfOk result IsInRange }
 {
@@ -132,19 +133,18 @@ pub(crate) fn side_text(side: Side) -> &'static [u8]
     }
 }
 
-/// Appends 38 to 54 for the terms, the price as the dialect spells it.
-pub(crate) fn push_limit<S: Spelling>(
+/// Pushes 38 to 54 for the terms, the price as the dialect spells it.
+pub(crate) fn push_limit<S: Spelling, F: FieldSink>(
     spelling: &S,
     alloc: Global,
     terms: &Terms,
-    fields: &mut Vec<Field>,
+    fields: &mut F,
 ) -> Result<(), AllocError>
-    ensures ok { OnOk result (fields.new.items ≡ fields.old.items
-        ++ limit_fields terms.now.shares ((S.spelling spelling.now).price_text terms.now.price) terms.now.side) }
-    ensures err { OnErr result (IsGrown fields.old.items fields.new.items) }
-    ensures len { vec_len fields.new ≤ vec_len fields.old + 4 }
-    ensures room { vec_capacity fields.old ≤ vec_capacity fields.new }
-    ensures full { OnErr result (vec_capacity fields.old < vec_len fields.old + 4) }
+    ensures pushed { Pushes F.Takes
+        (limit_fields terms.now.shares ((S.spelling spelling.now).price_text terms.now.price) terms.now.side)
+        fields.old fields.new result }
+    ensures left { F.room fields.old ≤ F.room fields.new + 4 }
+    ensures full { OnErr result (F.room fields.old < 4) }
 {
     push_number(alloc, ORDER_QTY, terms.shares(), fields)?;
     push_short(alloc, ORD_TYPE, LIMIT_ORDER, fields)?;

@@ -5,7 +5,7 @@ ghost use Rattle.dialect.specs.Mark.{is_among};
 ghost use Rattle.dialect.specs.Fields.{has_value};
 
 use crate::tag::EXEC_INST;
-use fix_text::{FieldRef, first_ref};
+use fix_tags::AppFields;
 
 /// ExecInst (18) of a leg of a sweep: an intermarket sweep.
 pub(crate) const INTERMARKET_SWEEP: &[u8] = b"f";
@@ -19,10 +19,10 @@ fn is_among(value: &[u8], text: &[u8]) -> bool
 }
 
 /// Whether ExecInst (18) is there with this value among its values.
-pub(crate) fn has_instruction(fields: &[FieldRef<'_>], value: &[u8]) -> bool
+pub(crate) fn has_instruction(fields: &AppFields<'_>, value: &[u8]) -> bool
     ensures { result ≡ has_value (is_among value.now) fields.now 18 }
 {
-    match first_ref(fields, EXEC_INST) {
+    match fields.get(EXEC_INST) {
         Some(text) => is_among(value, text),
         None => false,
     }

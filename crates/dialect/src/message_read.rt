@@ -9,11 +9,10 @@ use crate::content::Content;
 use crate::dialect::Dialect;
 use crate::message::Message;
 use crate::text_ref::TextRef;
-use fix_tags::{BodyRef, EnvelopeRef};
-use fix_text::FieldRef;
+use fix_tags::{AppFields, BodyRef, EnvelopeRef};
 
 /// What an application message of one kind says.
-fn application<D: Dialect>(dialect: &D, kind: &[u8], fields: &[FieldRef<'_>]) -> Content<'static>
+fn application<D: Dialect>(dialect: &D, kind: &[u8], fields: &AppFields<'_>) -> Content<'static>
     ensures value { result ≡ application
         (record { order = D.order_read dialect.now; report = D.report_read dialect.now }) kind.now fields.now }
     ensures in_range { IsReadContent result }
@@ -60,7 +59,7 @@ fn content_of<'a, D: Dialect>(dialect: &D, body: &BodyRef<'a>) -> Content<'a>
         },
         BodyRef::Logout => Content::Logout,
         BodyRef::BusinessReject { number } => Content::BusinessReject { number: *number },
-        BodyRef::App { kind, fields } => application(dialect, kind, fields.as_slice()),
+        BodyRef::App { kind, fields } => application(dialect, kind, fields),
     }
 }
 

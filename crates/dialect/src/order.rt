@@ -1,6 +1,8 @@
 //! An order is written and read, in any spelling.
 
 ghost use Rattle.std.specs.Prelude.{◌≡◌, ◌+◌, ◌<◌, ◌++◌, IfOk, OnOk, OnErr, vec_len, vec_capacity};
+ghost use Rattle.fix_text.specs.Sink.{Pushes};
+ghost use Rattle.fix_tags.specs.Stamp.{stamp_text};
 ghost use Rattle.leg.specs.Leg.{IsLeg};
 ghost use Rattle.dialect.specs.Dialect.{Appends};
 ghost use Rattle.dialect.specs.Fields.{required_as, IsGrown};
@@ -13,18 +15,20 @@ use crate::push::{all_or_nothing, push_short};
 use crate::spelling::Spelling;
 use crate::tag::CL_ORD_ID;
 use crate::time::{check_immediate, push_immediate};
-use fix_tags::Stamp;
-use fix_text::{Field, FieldRef};
+use fix_tags::{AppFields, Stamp, stamp_bytes};
+use fix_text::{Field, FieldSink};
 use leg::{Leg, LegId};
 use std::alloc::{AllocError, Global};
 
 /// How many fields an order has at most.
 const MAX_ORDER_LEN: usize = 10;
 
-/// The leg that ClOrdID (11) names.
+/// The leg that ClOrdID (11) names. Orders and reports share it, and it is on the way of each: so it is inlined, with the
+/// spelling's reading below it.
+#[inline(always)]
 pub(crate) fn id_in<S: Spelling>(
     spelling: &S,
-    fields: &[FieldRef<'_>],
+    fields: &AppFields<'_>,
 ) -> Result<LegId, DialectFault>
     ensures { result ≡ required_as (S.spelling spelling.now).id_of fields.now 11 }
 {
@@ -36,7 +40,7 @@ pub(crate) fn id_in<S: Spelling>(
 #[tactic(auto, unfolding(crate::specs::Order::order_read_of))]
 pub(crate) fn read_order<S: Spelling>(
     spelling: &S,
-    fields: &[FieldRef<'_>],
+    fields: &AppFields<'_>,
 ) -> Result<Leg, DialectFault>
     ensures value { result ≡ order_read_of (S.spelling spelling.now) fields.now }
     ensures in_range { IfOk result IsLeg }
@@ -51,8 +55,35 @@ pub(crate) fn read_order<S: Spelling>(
     Ok(leg_of(id, symbol, limit))
 }
 
-/// Appends the order, or on a refused growth only a part of it.
-fn push_order<S: Spelling>(
+/// Pushes the fields of an order, as a venue spells it. The stamp's text is given.
+pub(crate) fn push_order<S: Spelling, F: FieldSink>(
+    spelling: &S,
+    alloc: Global,
+    leg: &Leg,
+    stamp: &Stamp,
+    time: &[u8],
+    fields: &mut F,
+) -> Result<(), AllocError>
+    requires { time.now ≡ stamp_text stamp.now }
+    ensures pushed { Pushes F.Takes (order_fields (S.spelling spelling.now) leg.now stamp.now)
+        fields.old fields.new result }
+    ensures full { OnErr result (F.room fields.old < 10) }
+{
+    push_short(
+        alloc,
+        CL_ORD_ID,
+        spelling.id_text(&leg.id).as_slice(),
+        fields,
+    )?;
+    let mark = spelling.mark();
+    push_short(alloc, mark.tag(), mark.value(), fields)?;
+    push_limit(spelling, alloc, &leg.terms, fields)?;
+    spelling.push_symbol(alloc, leg.terms.symbol(), fields)?;
+    push_immediate(alloc, stamp, time, fields)
+}
+
+/// Appends the order to a list, or on a refused growth only a part of it.
+fn list_order<S: Spelling>(
     spelling: &S,
     alloc: Global,
     leg: &Leg,
@@ -65,17 +96,7 @@ fn push_order<S: Spelling>(
     ensures full { OnErr result (vec_capacity fields.old < vec_len fields.old + 10) }
 {
     fields.reserve(MAX_ORDER_LEN)?;
-    push_short(
-        alloc,
-        CL_ORD_ID,
-        spelling.id_text(&leg.id).as_slice(),
-        fields,
-    )?;
-    let mark = spelling.mark();
-    push_short(alloc, mark.tag(), mark.value(), fields)?;
-    push_limit(spelling, alloc, &leg.terms, fields)?;
-    spelling.push_symbol(alloc, leg.terms.symbol(), fields)?;
-    push_immediate(alloc, stamp, fields)
+    push_order(spelling, alloc, leg, stamp, &stamp_bytes(stamp), fields)
 }
 
 /// Appends the fields of an order, as a venue spells it. V05, which comes only where the list has no room for ten more
@@ -96,6 +117,6 @@ pub(crate) fn write_order<S: Spelling>(
     leg.in_range();
     let _year = stamp.year();
     let start = fields.len();
-    let written = push_order(spelling, alloc, leg, stamp, fields);
+    let written = list_order(spelling, alloc, leg, stamp, fields);
     all_or_nothing(written, start, fields)
 }

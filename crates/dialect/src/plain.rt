@@ -7,8 +7,8 @@ use crate::push::push_short;
 use crate::spelling::{IdText, Spelling};
 use crate::symbol_text::{joined_symbol_in, joined_symbol_text};
 use crate::tag::{EXEC_INST, SYMBOL};
-use fix_tags::{PriceText, price_short_text};
-use fix_text::{Field, FieldRef};
+use fix_tags::{AppFields, PriceText, price_short_text};
+use fix_text::{FieldRef, FieldSink};
 use leg::{LegId, Symbol};
 use std::alloc::{AllocError, Global};
 
@@ -26,10 +26,12 @@ impl Spelling for Plain {
 
     ghost spelling = { λ _. plain };
 
+    #[inline(always)]
     fn id_text(&self, id: &LegId) -> IdText {
         plain_id_text(id)
     }
 
+    #[inline(always)]
     fn read_id(&self, text: &[u8]) -> Option<LegId> {
         read_plain_id(text)
     }
@@ -38,7 +40,7 @@ impl Spelling for Plain {
         FieldRef::new(EXEC_INST, INTERMARKET_SWEEP)
     }
 
-    fn is_marked(&self, fields: &[FieldRef<'_>]) -> bool {
+    fn is_marked(&self, fields: &AppFields<'_>) -> bool {
         has_instruction(fields, INTERMARKET_SWEEP)
     }
 
@@ -46,11 +48,11 @@ impl Spelling for Plain {
         price_short_text(price)
     }
 
-    fn push_symbol(
+    fn push_symbol<F: FieldSink>(
         &self,
         alloc: Global,
         symbol: &Symbol,
-        fields: &mut Vec<Field>,
+        fields: &mut F,
     ) -> Result<(), AllocError> {
         push_short(
             alloc,
@@ -60,7 +62,7 @@ impl Spelling for Plain {
         )
     }
 
-    fn read_symbol(&self, fields: &[FieldRef<'_>]) -> Result<Symbol, DialectFault> {
+    fn read_symbol(&self, fields: &AppFields<'_>) -> Result<Symbol, DialectFault> {
         joined_symbol_in(POINT, fields)
     }
 

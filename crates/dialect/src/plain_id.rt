@@ -22,6 +22,7 @@ fn read_numbers(text: &[u8]) -> Option<LegId>
 
 /// Reads the one spelling of a leg's number, with no leading zeros.
 #[tactic(auto, unfolding(crate::specs::Plain::plain_id_of))]
+#[inline(always)]
 pub(crate) fn read_plain_id(text: &[u8]) -> Option<LegId>
     ensures { result ≡ plain_id_of text.now }
 {
@@ -32,6 +33,7 @@ pub(crate) fn read_plain_id(text: &[u8]) -> Option<LegId>
 }
 
 /// The one spelling of a leg's number.
+#[inline(always)]
 pub(crate) fn plain_id_text(id: &LegId) -> IdText
     ensures { result.items ≡ leg_id_text id.now }
 {

@@ -1,60 +1,41 @@
-//! Appending one field to a list.
+//! Pushing one field.
 
-ghost use Rattle.std.specs.Prelude.{◌≡◌, ◌+◌, ◌<◌, ◌≤◌, ◌++◌, ◌∷◌, [], Ok, Err, OnOk, OnErr, take, length, decimal, vec_len, vec_capacity};
+ghost use Rattle.std.specs.Prelude.{◌≡◌, ◌+◌, ◌<◌, ◌≤◌, ◌∷◌, [], Ok, Err, OnOk, OnErr, take, length, decimal};
+ghost use Rattle.fix_text.specs.Sink.{Pushes};
 ghost use Rattle.dialect.specs.Fields.{field};
 
 use crate::fault::SpellFault;
-use fix_text::Field;
+use fix_text::{Field, FieldSink};
 use itoa::Buffer;
 use std::alloc::{AllocError, Global};
 
-/// Appends a field with a copy of this value.
-pub(crate) fn push_text(
+/// Pushes a field with a copy of this value of at most 24 bytes, which wants no memory of its own.
+pub(crate) fn push_short<F: FieldSink>(
     alloc: Global,
     tag: u32,
     value: &[u8],
-    fields: &mut Vec<Field>,
-) -> Result<(), AllocError>
-    ensures ok { OnOk result (fields.new.items ≡ fields.old.items ++ field tag value.now ∷ []) }
-    ensures err { OnErr result (fields.new.items ≡ fields.old.items) }
-    ensures len { vec_len fields.new ≤ vec_len fields.old + 1 }
-    ensures room { vec_capacity fields.old ≤ vec_capacity fields.new }
-    ensures full { length value.now ≤ 24 → OnErr result (vec_capacity fields.old < vec_len fields.old + 1) }
-{
-    let field = Field::from_slice(alloc, tag, value)?;
-    fields.push(field)?;
-    Ok(())
-}
-
-/// The same, of a value of at most 24 bytes, which lies in its field: only the list may want memory.
-pub(crate) fn push_short(
-    alloc: Global,
-    tag: u32,
-    value: &[u8],
-    fields: &mut Vec<Field>,
+    fields: &mut F,
 ) -> Result<(), AllocError>
     requires { length value.now ≤ 24 }
-    ensures ok { OnOk result (fields.new.items ≡ fields.old.items ++ field tag value.now ∷ []) }
-    ensures err { OnErr result (fields.new.items ≡ fields.old.items) }
-    ensures len { vec_len fields.new ≤ vec_len fields.old + 1 }
-    ensures room { vec_capacity fields.old ≤ vec_capacity fields.new }
-    ensures full { OnErr result (vec_capacity fields.old < vec_len fields.old + 1) }
+    ensures pushed { Pushes F.Takes (field tag value.now ∷ []) fields.old fields.new result }
+    ensures left { F.room fields.old ≤ F.room fields.new + 1 }
+    ensures full { OnErr result (F.room fields.old < 1) }
 {
-    push_text(alloc, tag, value, fields)
+    fields.push_field(alloc, tag, value)
 }
 
-/// Appends a field of a number, in the shortest decimal.
-pub(crate) fn push_number(
+/// Pushes a field of a number, in the shortest decimal. It is inlined: so the tag is known where its text is
+/// looked up.
+#[inline(always)]
+pub(crate) fn push_number<F: FieldSink>(
     alloc: Global,
     tag: u32,
     number: u64,
-    fields: &mut Vec<Field>,
+    fields: &mut F,
 ) -> Result<(), AllocError>
-    ensures ok { OnOk result (fields.new.items ≡ fields.old.items ++ field tag (decimal number) ∷ []) }
-    ensures err { OnErr result (fields.new.items ≡ fields.old.items) }
-    ensures len { vec_len fields.new ≤ vec_len fields.old + 1 }
-    ensures room { vec_capacity fields.old ≤ vec_capacity fields.new }
-    ensures full { OnErr result (vec_capacity fields.old < vec_len fields.old + 1) }
+    ensures pushed { Pushes F.Takes (field tag (decimal number) ∷ []) fields.old fields.new result }
+    ensures left { F.room fields.old ≤ F.room fields.new + 1 }
+    ensures full { OnErr result (F.room fields.old < 1) }
 {
     let mut digits = Buffer::new();
     push_short(alloc, tag, digits.format(number).as_bytes(), fields)

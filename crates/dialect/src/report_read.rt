@@ -17,16 +17,16 @@ use crate::order::id_in;
 use crate::report::{Report, ReportKind};
 use crate::report_tag::{EXEC_ID, EXEC_REF_ID, EXEC_TYPE, LAST_PX, LAST_QTY};
 use crate::spelling::Spelling;
-use fix_text::FieldRef;
+use fix_tags::AppFields;
 
-fn exec_id_in(fields: &[FieldRef<'_>], tag: u32) -> Result<ExecId, DialectFault>
+fn exec_id_in(fields: &AppFields<'_>, tag: u32) -> Result<ExecId, DialectFault>
     ensures { result ≡ required_as (free_text_of 64) fields.now tag }
 {
     let text = required(fields, tag)?;
     ExecId::new(text).ok_or(DialectFault::Bad(tag))
 }
 
-fn last_shares_in(fields: &[FieldRef<'_>]) -> Result<u64, DialectFault>
+fn last_shares_in(fields: &AppFields<'_>) -> Result<u64, DialectFault>
     ensures value { result ≡ required_as order_shares_of fields.now 32 }
     ensures in_range { IfOk result IsShares }
 {
@@ -34,7 +34,7 @@ fn last_shares_in(fields: &[FieldRef<'_>]) -> Result<u64, DialectFault>
     read_order_shares(text).ok_or(DialectFault::Bad(LAST_QTY))
 }
 
-fn last_px_in(fields: &[FieldRef<'_>]) -> Result<LastPx, DialectFault>
+fn last_px_in(fields: &AppFields<'_>) -> Result<LastPx, DialectFault>
     ensures { result ≡ required_as (free_text_of 20) fields.now 31 }
 {
     let text = required(fields, LAST_PX)?;
@@ -43,7 +43,7 @@ fn last_px_in(fields: &[FieldRef<'_>]) -> Result<LastPx, DialectFault>
 
 /// Reads 32 and 31.
 #[tactic(auto, unfolding(crate::specs::ReportRead::fill_in))]
-fn fill_in(fields: &[FieldRef<'_>]) -> Result<Fill, DialectFault>
+fn fill_in(fields: &AppFields<'_>) -> Result<Fill, DialectFault>
     ensures { result ≡ fill_in fields.now }
 {
     let shares = last_shares_in(fields)?;
@@ -51,14 +51,14 @@ fn fill_in(fields: &[FieldRef<'_>]) -> Result<Fill, DialectFault>
     Ok(Fill::new(shares, px).unwrap())
 }
 
-fn trade_in(fields: &[FieldRef<'_>]) -> Result<ReportKind, DialectFault>
+fn trade_in(fields: &AppFields<'_>) -> Result<ReportKind, DialectFault>
     ensures { result ≡ trade_in fields.now }
 {
     let fill = fill_in(fields)?;
     Ok(ReportKind::Trade(fill))
 }
 
-fn bust_in(fields: &[FieldRef<'_>]) -> Result<ReportKind, DialectFault>
+fn bust_in(fields: &AppFields<'_>) -> Result<ReportKind, DialectFault>
     ensures { result ≡ bust_in fields.now }
 {
     let cancelled_id = exec_id_in(fields, EXEC_REF_ID)?;
@@ -66,7 +66,7 @@ fn bust_in(fields: &[FieldRef<'_>]) -> Result<ReportKind, DialectFault>
 }
 
 /// Reads what the byte of 150 says, with the fields that it needs.
-fn kind_by(fields: &[FieldRef<'_>], byte: u8) -> Result<ReportKind, DialectFault>
+fn kind_by(fields: &AppFields<'_>, byte: u8) -> Result<ReportKind, DialectFault>
     ensures { result ≡ kind_of_byte fields.now byte }
 {
     match byte {
@@ -80,7 +80,7 @@ fn kind_by(fields: &[FieldRef<'_>], byte: u8) -> Result<ReportKind, DialectFault
     }
 }
 
-fn kind_in(fields: &[FieldRef<'_>]) -> Result<ReportKind, DialectFault>
+fn kind_in(fields: &AppFields<'_>) -> Result<ReportKind, DialectFault>
     ensures { result ≡ kind_in fields.now }
 {
     match required(fields, EXEC_TYPE)? {
@@ -94,7 +94,7 @@ fn kind_in(fields: &[FieldRef<'_>]) -> Result<ReportKind, DialectFault>
 #[tactic(auto, unfolding(crate::specs::ReportRead::report_read_of))]
 pub(crate) fn read_report<S: Spelling>(
     spelling: &S,
-    fields: &[FieldRef<'_>],
+    fields: &AppFields<'_>,
 ) -> Result<Report, DialectFault>
     ensures value { result ≡ report_read_of (S.spelling spelling.now) fields.now }
     ensures in_range { IfOk result IsReport }

@@ -1,6 +1,7 @@
 //! A report is written.
 
 ghost use Rattle.std.specs.Prelude.{◌≡◌, ◌++◌, OnOk, OnErr};
+ghost use Rattle.fix_text.specs.Sink.{Pushes};
 ghost use Rattle.dialect.specs.Dialect.{Appends};
 ghost use Rattle.dialect.specs.Fields.{IsGrown};
 ghost use Rattle.dialect.specs.ReportFields.{exec_type_text, ord_status_text, cancelled_fields, fill_fields, event_fields, amount_fields, report_fields, IsReportOf};
@@ -8,7 +9,7 @@ ghost use Rattle.dialect.specs.ReportFields.{exec_type_text, ord_status_text, ca
 use crate::fault::SpellFault;
 use crate::limit::side_text;
 use crate::order_view::OrderView;
-use crate::push::{all_or_nothing, push_number, push_short, push_text};
+use crate::push::{all_or_nothing, push_number, push_short};
 use crate::report::{Report, ReportKind};
 use crate::report_tag::{
     AVG_PX, CUM_QTY, EXEC_ID, EXEC_REF_ID, EXEC_TYPE, LAST_PX, LAST_QTY, LEAVES_QTY, ORD_STATUS,
@@ -16,7 +17,7 @@ use crate::report_tag::{
 };
 use crate::spelling::Spelling;
 use crate::tag::{CL_ORD_ID, SIDE};
-use fix_text::Field;
+use fix_text::{Field, FieldSink};
 use std::alloc::{AllocError, Global};
 
 /// AvgPx (6), which must be there and isn't kept.
@@ -50,60 +51,55 @@ fn ord_status_text(kind: &ReportKind, leaves: u64) -> &'static [u8]
     }
 }
 
-/// Appends 19 for a bust.
-fn push_cancelled(
+/// Pushes 19 for a bust.
+fn push_cancelled<F: FieldSink>(
     alloc: Global,
     kind: &ReportKind,
-    fields: &mut Vec<Field>,
+    fields: &mut F,
 ) -> Result<(), AllocError>
-    ensures ok { OnOk result (fields.new.items ≡ fields.old.items ++ cancelled_fields kind.now) }
-    ensures err { OnErr result (IsGrown fields.old.items fields.new.items) }
+    ensures { Pushes F.Takes (cancelled_fields kind.now) fields.old fields.new result }
 {
     match kind {
         ReportKind::Bust { cancelled_id } => {
-            push_text(alloc, EXEC_REF_ID, cancelled_id.as_bytes(), fields)
+            fields.push_field(alloc, EXEC_REF_ID, cancelled_id.as_bytes())
         }
         _ => Ok(()),
     }
 }
 
-/// Appends 32 and 31 for a trade.
-fn push_fill(alloc: Global, kind: &ReportKind, fields: &mut Vec<Field>) -> Result<(), AllocError>
-    ensures ok { OnOk result (fields.new.items ≡ fields.old.items ++ fill_fields kind.now) }
-    ensures err { OnErr result (IsGrown fields.old.items fields.new.items) }
+/// Pushes 32 and 31 for a trade.
+fn push_fill<F: FieldSink>(
+    alloc: Global,
+    kind: &ReportKind,
+    fields: &mut F,
+) -> Result<(), AllocError>
+    ensures { Pushes F.Takes (fill_fields kind.now) fields.old fields.new result }
 {
     match kind {
         ReportKind::Trade(fill) => {
             push_number(alloc, LAST_QTY, fill.shares(), fields)?;
-            push_text(alloc, LAST_PX, fill.px().as_bytes(), fields)
+            fields.push_field(alloc, LAST_PX, fill.px().as_bytes())
         }
         _ => Ok(()),
     }
 }
 
-/// Appends 37 to 11.
-fn push_event<S: Spelling>(
+/// Pushes 37 to 11.
+fn push_event<S: Spelling, F: FieldSink>(
     spelling: &S,
     alloc: Global,
     report: &Report,
     view: &OrderView,
-    fields: &mut Vec<Field>,
+    fields: &mut F,
 ) -> Result<(), AllocError>
-    ensures ok { OnOk result (fields.new.items
-        ≡ fields.old.items ++ event_fields (S.spelling spelling.now) report.now view.now) }
-    ensures err { OnErr result (IsGrown fields.old.items fields.new.items) }
+    ensures { Pushes F.Takes (event_fields (S.spelling spelling.now) report.now view.now) fields.old fields.new result }
 {
     let kind = &report.kind;
-    push_text(alloc, ORDER_ID, view.order_id().as_bytes(), fields)?;
-    push_text(alloc, EXEC_ID, report.exec.as_bytes(), fields)?;
+    fields.push_field(alloc, ORDER_ID, view.order_id().as_bytes())?;
+    fields.push_field(alloc, EXEC_ID, report.exec.as_bytes())?;
     push_cancelled(alloc, kind, fields)?;
-    push_text(alloc, EXEC_TYPE, exec_type_text(kind), fields)?;
-    push_text(
-        alloc,
-        ORD_STATUS,
-        ord_status_text(kind, view.leaves()),
-        fields,
-    )?;
+    fields.push_field(alloc, EXEC_TYPE, exec_type_text(kind))?;
+    fields.push_field(alloc, ORD_STATUS, ord_status_text(kind, view.leaves()))?;
     push_short(
         alloc,
         CL_ORD_ID,
@@ -112,25 +108,39 @@ fn push_event<S: Spelling>(
     )
 }
 
-/// Appends 54 to 6.
-fn push_amounts(
+/// Pushes 54 to 6.
+fn push_amounts<F: FieldSink>(
     alloc: Global,
     report: &Report,
     view: &OrderView,
-    fields: &mut Vec<Field>,
+    fields: &mut F,
 ) -> Result<(), AllocError>
-    ensures ok { OnOk result (fields.new.items ≡ fields.old.items ++ amount_fields report.now view.now) }
-    ensures err { OnErr result (IsGrown fields.old.items fields.new.items) }
+    ensures { Pushes F.Takes (amount_fields report.now view.now) fields.old fields.new result }
 {
-    push_text(alloc, SIDE, side_text(view.leg().terms.side()), fields)?;
+    fields.push_field(alloc, SIDE, side_text(view.leg().terms.side()))?;
     push_fill(alloc, &report.kind, fields)?;
     push_number(alloc, LEAVES_QTY, view.leaves(), fields)?;
     push_number(alloc, CUM_QTY, view.cum(), fields)?;
-    push_text(alloc, AVG_PX, NO_AVERAGE, fields)
+    fields.push_field(alloc, AVG_PX, NO_AVERAGE)
 }
 
-/// Appends the report, or on a refused growth only a part of it.
-fn push_report<S: Spelling>(
+/// Pushes the fields of a report, as a venue spells them.
+pub(crate) fn push_report<S: Spelling, F: FieldSink>(
+    spelling: &S,
+    alloc: Global,
+    report: &Report,
+    view: &OrderView,
+    fields: &mut F,
+) -> Result<(), AllocError>
+    ensures { Pushes F.Takes (report_fields (S.spelling spelling.now) report.now view.now) fields.old fields.new result }
+{
+    push_event(spelling, alloc, report, view, fields)?;
+    spelling.push_symbol(alloc, view.leg().terms.symbol(), fields)?;
+    push_amounts(alloc, report, view, fields)
+}
+
+/// Appends the report to a list, or on a refused growth only a part of it.
+fn list_report<S: Spelling>(
     spelling: &S,
     alloc: Global,
     report: &Report,
@@ -142,9 +152,7 @@ fn push_report<S: Spelling>(
     ensures err { OnErr result (IsGrown fields.old.items fields.new.items) }
 {
     fields.reserve(REPORT_LEN)?;
-    push_event(spelling, alloc, report, view, fields)?;
-    spelling.push_symbol(alloc, view.leg().terms.symbol(), fields)?;
-    push_amounts(alloc, report, view, fields)
+    push_report(spelling, alloc, report, view, fields)
 }
 
 /// Appends the fields of a report, as a venue spells them, beside what its exchange knows of the order. V05 leaves the
@@ -165,6 +173,6 @@ pub(crate) fn write_report<S: Spelling>(
     report.in_range();
     let _leaves = view.leaves();
     let start = fields.len();
-    let written = push_report(spelling, alloc, report, view, fields);
+    let written = list_report(spelling, alloc, report, view, fields);
     all_or_nothing(written, start, fields)
 }

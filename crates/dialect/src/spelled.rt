@@ -2,16 +2,16 @@
 
 use crate::dialect::Dialect;
 use crate::fault::{DialectFault, SpellFault};
-use crate::order::{read_order, write_order};
+use crate::order::{push_order, read_order, write_order};
 use crate::order_view::OrderView;
 use crate::report::Report;
 use crate::report_read::read_report;
-use crate::report_write::write_report;
+use crate::report_write::{push_report, write_report};
 use crate::spelling::Spelling;
-use fix_tags::Stamp;
-use fix_text::{Field, FieldRef};
+use fix_tags::{AppFields, Stamp};
+use fix_text::{Field, FieldSink};
 use leg::Leg;
-use std::alloc::Global;
+use std::alloc::{AllocError, Global};
 
 impl<S: Spelling> Dialect for S {
     ghost use Rattle.std.specs.Prelude.{◌≡◌, ◌+◌, ◌<◌, refl, IfOk, OnOk, OnErr, vec_len, vec_capacity};
@@ -51,7 +51,21 @@ impl<S: Spelling> Dialect for S {
         write_order(self, alloc, leg, stamp, fields)
     }
 
-    fn read_order(&self, fields: &[FieldRef<'_>]) -> Result<Leg, DialectFault>
+    fn push_order<F: FieldSink>(
+        &self,
+        alloc: Global,
+        leg: &Leg,
+        stamp: &Stamp,
+        time: &[u8],
+        fields: &mut F,
+    ) -> Result<(), AllocError> {
+        // That the leg and the stamp are in range is known once they were read.
+        leg.in_range();
+        let _year = stamp.year();
+        push_order(self, alloc, leg, stamp, time, fields)
+    }
+
+    fn read_order(&self, fields: &AppFields<'_>) -> Result<Leg, DialectFault>
         ensures value { result ≡ order_read_of (S.spelling self.now) fields.now }
         ensures in_range { IfOk result IsLeg }
         ensures says { IfOk result (λ leg. IsReadingOf (S.spelling self.now) leg fields.now) }
@@ -74,7 +88,20 @@ impl<S: Spelling> Dialect for S {
         write_report(self, alloc, report, view, fields)
     }
 
-    fn read_report(&self, fields: &[FieldRef<'_>]) -> Result<Report, DialectFault>
+    fn push_report<F: FieldSink>(
+        &self,
+        alloc: Global,
+        report: &Report,
+        view: &OrderView,
+        fields: &mut F,
+    ) -> Result<(), AllocError> {
+        // That the report and the view are in range is known once they were read.
+        report.in_range();
+        let _leaves = view.leaves();
+        push_report(self, alloc, report, view, fields)
+    }
+
+    fn read_report(&self, fields: &AppFields<'_>) -> Result<Report, DialectFault>
         ensures value { result ≡ report_read_of (S.spelling self.now) fields.now }
         ensures in_range { IfOk result IsInRange }
         ensures says { IfOk result (λ report. IsReportReadingOf (S.spelling self.now) report fields.now) }

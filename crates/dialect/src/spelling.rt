@@ -2,8 +2,8 @@
 
 use crate::fault::DialectFault;
 use arrayvec::ArrayVec;
-use fix_tags::PriceText;
-use fix_text::{Field, FieldRef};
+use fix_tags::{AppFields, PriceText};
+use fix_text::{FieldRef, FieldSink};
 use leg::{LegId, Symbol};
 use std::alloc::{AllocError, Global};
 
@@ -17,9 +17,9 @@ pub type IdText = ArrayVec<u8, MAX_ID_TEXT>;
 /// The rest of an order and of a report, and every law, is proved once of any spelling. Each value is so short that a
 /// field takes no memory.
 pub trait Spelling {
-    ghost use Rattle.std.specs.Prelude.{◌≡◌, ◌+◌, ◌<◌, ◌≤◌, ◌++◌, List, length, OnOk, OnErr, vec_len, vec_capacity};
+    ghost use Rattle.std.specs.Prelude.{◌≡◌, ◌+◌, ◌<◌, ◌≤◌, List, length, OnErr};
+    ghost use Rattle.fix_text.specs.Sink.{Pushes};
     ghost use Rattle.fix_text.specs.Tagged.{Tagged};
-    ghost use Rattle.dialect.specs.Fields.{IsGrown};
     ghost use Rattle.dialect.specs.Spelling.{SpellingParts, IsSpelling};
 
     ghost spelling: { Self → SpellingParts };
@@ -38,7 +38,7 @@ pub trait Spelling {
         ensures short { length result.value ≤ 24 };
 
     /// Whether fields carry the mark of a leg of a sweep.
-    fn is_marked(&self, fields: &[FieldRef<'_>]) -> bool
+    fn is_marked(&self, fields: &AppFields<'_>) -> bool
         ensures value { result ≡ (spelling self.now).is_marked fields.now };
 
     /// The value of Price (44), of a price in ten-thousandths of a dollar.
@@ -46,22 +46,20 @@ pub trait Spelling {
         ensures value { result.items ≡ (spelling self.now).price_text price }
         ensures short { length result.items ≤ 24 };
 
-    /// Appends the fields of a symbol: Symbol (55) and, where the venue parts it and there is a suffix, SymbolSfx (65).
-    /// It wants memory only where the list has no room for two more fields.
-    fn push_symbol(
+    /// Pushes the fields of a symbol: Symbol (55) and, where the venue parts it and there is a suffix, SymbolSfx (65).
+    /// It wants memory only where there is no room for two more fields.
+    fn push_symbol<F: FieldSink>(
         &self,
         alloc: Global,
         symbol: &Symbol,
-        fields: &mut Vec<Field>,
+        fields: &mut F,
     ) -> Result<(), AllocError>
-        ensures ok { OnOk result (fields.new.items ≡ fields.old.items ++ (spelling self.now).symbol_fields symbol.now) }
-        ensures err { OnErr result (IsGrown fields.old.items fields.new.items) }
-        ensures len { vec_len fields.new ≤ vec_len fields.old + 2 }
-        ensures room { vec_capacity fields.old ≤ vec_capacity fields.new }
-        ensures full { OnErr result (vec_capacity fields.old < vec_len fields.old + 2) };
+        ensures pushed { Pushes F.Takes ((spelling self.now).symbol_fields symbol.now) fields.old fields.new result }
+        ensures left { F.room fields.old ≤ F.room fields.new + 2 }
+        ensures full { OnErr result (F.room fields.old < 2) };
 
     /// Reads a symbol from its fields, or answers the first fault.
-    fn read_symbol(&self, fields: &[FieldRef<'_>]) -> Result<Symbol, DialectFault>
+    fn read_symbol(&self, fields: &AppFields<'_>) -> Result<Symbol, DialectFault>
         ensures value { result ≡ (spelling self.now).symbol_in fields.now };
 
     // What is written is read back, and can be written.

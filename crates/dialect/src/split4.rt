@@ -13,8 +13,8 @@ use crate::push::push_short;
 use crate::spelling::{IdText, Spelling};
 use crate::split::split_round;
 use crate::tag::{EXEC_INST, SYMBOL, SYMBOL_SFX};
-use fix_tags::{PriceText, price_four_text};
-use fix_text::{Field, FieldRef, first_ref};
+use fix_tags::{AppFields, PriceText, price_four_text};
+use fix_text::{FieldRef, FieldSink};
 use leg::{LegId, Symbol};
 use std::alloc::{AllocError, Global};
 
@@ -54,7 +54,7 @@ fn read_id(text: &[u8]) -> Option<LegId>
 }
 
 /// Reads Symbol (55) as a root, with no suffix.
-fn root_in(fields: &[FieldRef<'_>]) -> Result<Symbol, DialectFault>
+fn root_in(fields: &AppFields<'_>) -> Result<Symbol, DialectFault>
     ensures { result ≡ required_as root_of fields.now 55 }
 {
     let text = required(fields, SYMBOL)?;
@@ -63,11 +63,11 @@ fn root_in(fields: &[FieldRef<'_>]) -> Result<Symbol, DialectFault>
 
 /// Reads SymbolSfx (65), where it is there, as the suffix of a symbol.
 #[tactic(auto, unfolding(crate::specs::Split4::split4_symbol_in))]
-fn read_symbol(fields: &[FieldRef<'_>]) -> Result<Symbol, DialectFault>
+fn read_symbol(fields: &AppFields<'_>) -> Result<Symbol, DialectFault>
     ensures { result ≡ split4_symbol_in fields.now }
 {
     let symbol = root_in(fields)?;
-    match first_ref(fields, SYMBOL_SFX) {
+    match fields.get(SYMBOL_SFX) {
         None => Ok(symbol),
         Some([]) => Err(DialectFault::Bad(SYMBOL_SFX)),
         Some(suffix) => {
@@ -94,7 +94,7 @@ impl Spelling for Split4 {
         FieldRef::new(EXEC_INST, INTERMARKET_SWEEP)
     }
 
-    fn is_marked(&self, fields: &[FieldRef<'_>]) -> bool {
+    fn is_marked(&self, fields: &AppFields<'_>) -> bool {
         has_instruction(fields, INTERMARKET_SWEEP)
     }
 
@@ -102,11 +102,11 @@ impl Spelling for Split4 {
         price_four_text(price)
     }
 
-    fn push_symbol(
+    fn push_symbol<F: FieldSink>(
         &self,
         alloc: Global,
         symbol: &Symbol,
-        fields: &mut Vec<Field>,
+        fields: &mut F,
     ) -> Result<(), AllocError> {
         push_short(alloc, SYMBOL, symbol.root(), fields)?;
         let suffix = symbol.suffix();
@@ -117,7 +117,7 @@ impl Spelling for Split4 {
         }
     }
 
-    fn read_symbol(&self, fields: &[FieldRef<'_>]) -> Result<Symbol, DialectFault> {
+    fn read_symbol(&self, fields: &AppFields<'_>) -> Result<Symbol, DialectFault> {
         read_symbol(fields)
     }
 

@@ -10,7 +10,7 @@ use crate::field_value::required;
 use crate::split::split_round;
 use crate::tag::SYMBOL;
 use arrayvec::ArrayVec;
-use fix_text::FieldRef;
+use fix_tags::AppFields;
 use leg::Symbol;
 
 /// The greatest length of a symbol: a root of 6 letters, a separator and 3 letters.
@@ -31,7 +31,7 @@ fn read_joined_symbol(separator: u8, text: &[u8]) -> Option<Symbol>
 /// Reads a symbol in the one field Symbol (55).
 pub(crate) fn joined_symbol_in(
     separator: u8,
-    fields: &[FieldRef<'_>],
+    fields: &AppFields<'_>,
 ) -> Result<Symbol, DialectFault>
     ensures { result ≡ required_as (joined_symbol_of separator) fields.now 55 }
 {

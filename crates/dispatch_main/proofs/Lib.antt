@@ -1,4 +1,3 @@
 pub mod OrderBack
-pub mod WantedOrders
 pub mod Grown
 pub mod ShownEnds

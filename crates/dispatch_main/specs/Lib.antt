@@ -1,5 +1,8 @@
 pub mod ExitStatus
 pub mod Header
+pub mod LiveOption
+pub mod LivePlan
+pub mod LiveText
 pub mod Options
 pub mod OrderFrame
 pub mod OrderLines

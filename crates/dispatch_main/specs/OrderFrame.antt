@@ -3,8 +3,6 @@ use Rattle.std.specs.Prelude.{
   ◌≡◌,
   ℕ,
   ◌<◌,
-  ◌⊎◌,
-  Bool,
   false,
   List,
   [],
@@ -76,11 +74,6 @@ abbrev pub order_in : (List Tagged → Result Leg DialectFault) → Body → Res
 order_in read (App (c ∷ []) fields) = if c == 68 then as_order (read fields) else Err of.NoOrder
 order_in read _ = Err of.NoOrder
 
--- whether the value of MsgType (35), if it is there, is that of an order
-abbrev pub is_order_kind : Option (List ℕ) → Bool
-is_order_kind (Some (c ∷ [])) = c == 68
-is_order_kind _ = false
-
 -- the leg of a message
 abbrev pub order_of_message : (List Tagged → Result Leg DialectFault) → Result Envelope TagFault
     → Result Leg OrderFault
@@ -100,22 +93,15 @@ stream_of bytes = record { rest = bytes; skipped = 0; garbled = 0 }
 abbrev pub order_read_from : (List Tagged → Result Leg DialectFault) → Stream → Result Leg OrderFault
 order_read_from read stream = order_of_fields read (next_read stream).frame
 
--- an order of the dialect was read, or one that it refuses
-abbrev pub IsOrderRead : Result Leg OrderFault → Type 0
-IsOrderRead (Ok leg) = Unit {0}
-IsOrderRead (Err (of.BadOrder fault)) = Unit {0}
-IsOrderRead (Err other) = ⊥
-
--- want of memory may be answered for a frame alone that is there: one of more than 64 fields, or one of an order, whose
--- fields are kept in a list
-abbrev pub MayWantMemory : (List Tagged → Result Leg DialectFault) → Option (List Tagged) → Type 0
-MayWantMemory read (Some fields) = (64 < length fields) ⊎ IsOrderRead (order_of_message read (envelope_read fields))
-MayWantMemory read None = ⊥
+-- want of memory may be answered for a frame alone that is there, of more than 64 fields
+abbrev pub MayWantMemory : Option (List Tagged) → Type 0
+MayWantMemory (Some fields) = 64 < length fields
+MayWantMemory None = ⊥
 
 -- what a call answers for the frame with these fields, if there is one: what is read of them, or want of memory
 abbrev pub ReadsOrder : (List Tagged → Result Leg DialectFault) → Option (List Tagged) → Result Leg OrderFault → Type 0
 ReadsOrder read frame (Ok leg) = order_of_fields read frame ≡ Ok leg
-ReadsOrder read frame (Err of.OutOfMemory) = MayWantMemory read frame
+ReadsOrder read frame (Err of.OutOfMemory) = MayWantMemory frame
 ReadsOrder read frame (Err of.NoFrame) = order_of_fields read frame ≡ Err of.NoFrame
 ReadsOrder read frame (Err (of.NoMessage fault)) = order_of_fields read frame ≡ Err (of.NoMessage fault)
 ReadsOrder read frame (Err of.NoOrder) = order_of_fields read frame ≡ Err of.NoOrder

@@ -2,6 +2,7 @@
 ghost use Rattle.dispatch_main.specs.ExitStatus.{IsOfCommandLine};
 
 use crate::fault::ProgramFault;
+use crate::live::live_command;
 use crate::order::order_command;
 use crate::replay_script::replay_command;
 use clap::Command;
@@ -16,7 +17,8 @@ fn program<'a>(alloc: Global) -> Result<Command<'a>, AllocError> {
         .about("The dispatcher of a smart order router")
         .subcommand_required(true)
         .subcommand(order_command(alloc)?)?
-        .subcommand(replay_command(alloc)?)
+        .subcommand(replay_command(alloc)?)?
+        .subcommand(live_command(alloc)?)
 }
 
 /// The help that lists the commands, where the words name none of them.

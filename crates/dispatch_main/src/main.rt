@@ -1,10 +1,11 @@
-//! The program `dispatch`: `dispatch order ..` writes a leg as an order frame and reads it back, and `dispatch replay` runs
-//! a day from a script.
+//! The program `dispatch`: `dispatch order ..` writes a leg as an order frame and reads it back, `dispatch replay` runs a
+//! day from a script, and `dispatch live ..` runs one over loopback, in threads.
 #![tactic(auto)]
 
 mod command;
 mod fault;
 mod frame_text;
+mod live;
 mod order;
 mod out;
 mod replay_script;
@@ -12,20 +13,27 @@ mod status;
 
 use crate::command::no_command;
 use crate::fault::ProgramFault;
+use crate::live::{ProgressLines, live_run};
 use crate::order::order_run;
 use crate::replay_script::replay_run;
 use crate::status::tell;
 use clock::{Clock, UtcClock};
+use live_day::Progress;
 use std::alloc::Global;
 use std::convert::AsStr;
 use std::io::{Read, Write};
+use std::net::{Net, TcpListener, TcpStream};
 use std::process::ExitCode;
-use std::{env, io};
+use std::sync::Wait;
+use std::thread::Threads;
+use std::{env, io, time};
 
 #[cfg(test)]
 mod fake_clock;
 #[cfg(test)]
 mod tests;
+#[cfg(test)]
+mod untold;
 
 /// The words of the command line, of which the first is the program's own name.
 fn words(rt: &HostRuntime) -> Result<Vec<String>, ProgramFault> {
@@ -37,20 +45,34 @@ fn words(rt: &HostRuntime) -> Result<Vec<String>, ProgramFault> {
 }
 
 /// Runs the command that the words ask for, and gives the exit status.
-fn run<S: AsStr, C: Clock, R: Read, W: Write, E: Write>(
+fn run<S, H, C, P, R, W, E>(
+    rt: &H,
     alloc: Global,
     words: &[S],
     clock: &mut C,
+    progress: P,
     input: &mut R,
     out: &mut W,
     err: &mut E,
-) -> u8 {
+) -> u8
+where
+    S: AsStr,
+    H: Net<Listener = TcpListener, Stream = TcpStream> + Threads + Wait + time::Clock + Sync,
+    C: Clock,
+    P: Progress + Drop + Send,
+    R: Read,
+    W: Write,
+    E: Write,
+{
     match words {
         [_, command, ..] if command.as_str() == "order" => {
             order_run(alloc, &words[1..], clock, out, err)
         }
         [_, command, ..] if command.as_str() == "replay" => {
             replay_run(alloc, &words[1..], input, out, err)
+        }
+        [_, command, ..] if command.as_str() == "live" => {
+            live_run(rt, alloc, &words[1..], progress, out, err)
         }
         _ => tell(&no_command(alloc, words), err),
     }
@@ -63,9 +85,11 @@ fn main(rt: HostRuntime) -> ExitCode {
     let mut err = rt.stderr();
     let status = match words(&rt) {
         Ok(words) => run(
+            &rt,
             rt.alloc(),
             words.as_slice(),
             &mut clock,
+            ProgressLines(rt.stderr()),
             &mut input,
             &mut out,
             &mut err,

@@ -84,7 +84,7 @@ fn order_text<D: Dialect>(
 {
     let Request { leg, header } = request;
     let frame = write_order_frame(alloc, dialect, &leg, header, OrderRoom::new(alloc)?);
-    let read = match read_order_frame(alloc, dialect, stream_of(alloc, &frame)?) {
+    let read = match read_order_frame(dialect, stream_of(alloc, &frame)?) {
         Ok(read) => read,
         // What was written is read back, unless memory runs out.
         Err(_) => return Err(AllocError),

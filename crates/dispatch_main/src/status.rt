@@ -5,15 +5,24 @@ ghost use Rattle.dispatch_main.specs.ExitStatus.{fault_status, exit_status};
 use crate::fault::ProgramFault;
 use std::io::Write;
 
-/// 2 for the command line, 3 for a bad value or line, 4 for a failed read or write, 5 for memory.
+/// 2 for the command line, 3 for a bad value or line, 4 for a failed read or write, or where there is no socket or
+/// thread, 5 for memory, 6 for an audit that fails.
 fn status_of(fault: &ProgramFault) -> u8
     ensures { result ≡ fault_status fault.now }
 {
     match fault {
-        ProgramFault::NoCommand(_) | ProgramFault::CommandLine(_) | ProgramFault::NoValue(_) => 2,
-        ProgramFault::BadValue(_) | ProgramFault::BadLine(_) => 3,
-        ProgramFault::ReadFailed | ProgramFault::WriteFailed => 4,
+        ProgramFault::NoCommand(_)
+        | ProgramFault::CommandLine(_)
+        | ProgramFault::NoValue(_)
+        | ProgramFault::NoNumber(_) => 2,
+        ProgramFault::BadValue(_) | ProgramFault::BadNumber(_) | ProgramFault::BadLine(_) => 3,
+        ProgramFault::ReadFailed
+        | ProgramFault::WriteFailed
+        | ProgramFault::NoSocket
+        | ProgramFault::NoThread => 4,
         ProgramFault::OutOfMemory => 5,
+        ProgramFault::MismatchQueue | ProgramFault::MismatchShares | ProgramFault::MismatchPlaced =>
+            6,
     }
 }
 

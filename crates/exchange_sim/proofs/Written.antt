@@ -1,5 +1,6 @@
 -- What stands behind the bytes that waited.
 use Rattle.std.proofs.Common.{◌≡◌, ℕ, ◌+◌, ◌<◌, List, [], ◌∷◌, ◌++◌, length, get_or, drop, min, Result, Ok, Err, Option, Some, None, option_to_list, slice_get, refl, sym, ap, ◌∙◌, append_assoc}
+use Rattle.std.specs.List.{concat}
 use Rattle.std.proofs.lemmas.List.{append-nil, at_drop_more}
 use Rattle.std.specs.Global.{Vec}
 use Rattle.fix_tags.specs.Price.{price_short}
@@ -11,23 +12,23 @@ use Rattle.exchange_core.specs.Exchange.{ExchangeParts, Answer, accepted_by, tak
 use Rattle.exchange_core.specs.Acts.{ActAnswer}
 use Rattle.exchange_core.specs.Frames.{ActResult, ActGives, TakeGives, bytes_of}
 use Rattle.exchange_sim.specs.Dealing.{IsKnown}
-use Rattle.exchange_sim.specs.Sending.{joined, frames_of, messages_of, Sends, Reports, ReportsOn, Answers}
+use Rattle.exchange_sim.specs.Sending.{frames_of, messages_of, Sends, Reports, ReportsOn, Answers}
 
 -- a frame more was put behind the others
 pub put_more : (frames : List (Vec ℕ)) (i : ℕ) (frame : Vec ℕ) (old new all : List ℕ) → i < length frames
-    → frame ≡ get_or frames i frame → new ≡ old ++ frame.items → old ++ joined (bytes_of (drop i frames)) ≡ all
-    → new ++ joined (bytes_of (drop (i + 1) frames)) ≡ all
+    → frame ≡ get_or frames i frame → new ≡ old ++ frame.items → old ++ concat (bytes_of (drop i frames)) ≡ all
+    → new ++ concat (bytes_of (drop (i + 1) frames)) ≡ all
 put_more frames i frame old new all inside is new_is before =
-    let rest = joined (bytes_of (drop (i + 1) frames)) in
-    let more : joined (bytes_of (drop i frames)) ≡ frame.items ++ rest =
-    at_drop_more (λ (fs : List (Vec ℕ)). joined (bytes_of fs)) frames i frame inside
+    let rest = concat (bytes_of (drop (i + 1) frames)) in
+    let more : concat (bytes_of (drop i frames)) ≡ frame.items ++ rest =
+    at_drop_more (λ (fs : List (Vec ℕ)). concat (bytes_of fs)) frames i frame inside
     ∙ ap (λ (f : Vec ℕ). f.items ++ rest) (sym is) in
     ap (λ (l : List ℕ). l ++ rest) new_is
     ∙ (append_assoc old frame.items rest ∙ (ap (λ (l : List ℕ). old ++ l) (sym more) ∙ before))
 
 -- what an act writes is sent; one that is refused writes nothing
 pub act_sends : (w : Writers) (s at : StampParts) (x : ExchangeParts) (answer : ActAnswer) (given : ActResult) (y : ExchangeParts)
-    (old new : List ℕ) → s ≡ at → ActGives w s x answer given y → IsKnown given → new ≡ old ++ joined (frames_of given)
+    (old new : List ℕ) → s ≡ at → ActGives w s x answer given y → IsKnown given → new ≡ old ++ concat (frames_of given)
     → Sends w at (messages_of answer.0) old new
 act_sends w s at x (Err fault, after) given y old new moment gives known is =
     record { frames = []; framed = tt; behind = rw gives.0 at is }
@@ -37,7 +38,7 @@ act_sends w s at x (Ok written, after) (Err fault) y old new moment gives known 
 
 -- what is answered to a message is sent
 pub take_sends : (w : Writers) (s at : StampParts) (x : ExchangeParts) (answer : Answer) (frames : Vec (Vec ℕ)) (y : ExchangeParts)
-    (old new : List ℕ) → s ≡ at → TakeGives w s x answer (Ok frames) y → new ≡ old ++ joined (bytes_of frames.items)
+    (old new : List ℕ) → s ≡ at → TakeGives w s x answer (Ok frames) y → new ≡ old ++ concat (bytes_of frames.items)
     → Sends w at answer.0 old new
 take_sends w s at x (written, after) frames y old new moment gives is =
     record { frames = bytes_of frames.items; framed = rw moment at gives.0; behind = is }

@@ -1,5 +1,6 @@
 -- What a simulated exchange puts behind the bytes that wait to be sent.
 use Rattle.std.specs.Prelude.{◌≡◌, ℕ, ◌+◌, min, List, [], ◌∷◌, ◌++◌, length, Option, Some, None, option_to_list, Result, Ok, Err, slice_get}
+use Rattle.std.specs.List.{concat}
 use Rattle.fix_tags.specs.Price.{price_short}
 use Rattle.fix_tags.specs.Stamp.{StampParts}
 use Rattle.leg.specs.declared.leg.Leg.{Leg}
@@ -10,11 +11,6 @@ use Rattle.exchange_core.specs.declared.exchange_fault.ExchangeFault.{ExchangeFa
 use Rattle.exchange_core.specs.Acts as acts
 use Rattle.exchange_core.specs.Exchange.{ExchangeParts, accepted_by, take}
 use Rattle.exchange_core.specs.Frames.{ActResult, bytes_of}
-
--- frames behind one another
-abbrev pub joined : List (List ℕ) → List ℕ
-joined [] = []
-joined (frame ∷ frames) = frame ++ joined frames
 
 -- the frame of an act, if there is one
 abbrev pub frames_of : ActResult → List (List ℕ)
@@ -30,7 +26,7 @@ messages_of (Err fault) = []
 pub record Sends (w : Writers) (at : StampParts) (written : List Outgoing) (old new : List ℕ) : Type 0 where
   pub frames : List (List ℕ)
   pub framed : AreFramed w at written frames
-  pub behind : new ≡ old ++ joined frames
+  pub behind : new ≡ old ++ concat frames
 
 -- the reports on an order that is dealt with: on the trade, and on the cancel of its rest
 pub record Reports (w : Writers) (place shares : ℕ) (px : List ℕ) (x : ExchangeParts) (old new : List ℕ) : Type 0 where

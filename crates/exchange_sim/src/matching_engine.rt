@@ -1,6 +1,7 @@
 //! An exchange that deals with its orders by itself.
 
 ghost use Rattle.std.specs.Prelude.{◌≡◌, ◌++◌, [], OnOk, if◌then◌else◌};
+ghost use Rattle.std.specs.List.{concat};
 ghost use Rattle.fix_text.specs.FrameFields.{fields_in};
 ghost use Rattle.fix_tags.specs.Reading.{envelope_read};
 ghost use Rattle.dialect.specs.Message.{seen};
@@ -8,14 +9,14 @@ ghost use Rattle.exchange_core.specs.Acts as acts;
 ghost use Rattle.exchange_core.specs.Exchange.{new_exchange, take, drop_connection};
 ghost use Rattle.exchange_core.specs.Frames.{bytes_of};
 ghost use Rattle.exchange_sim.specs.Dealing.{IsKnown, dealt, takes, takes_frame};
-ghost use Rattle.exchange_sim.specs.Sending.{Answers, Reports, Sends, frames_of, joined, messages_of};
+ghost use Rattle.exchange_sim.specs.Sending.{Answers, Reports, Sends, frames_of, messages_of};
 
 use crate::outbox::Outbox;
 use crate::trade_price::trade_price;
 use clock::Clock;
 use dialect::{Dialect, LastPx};
 use exchange_core::{Exchange, ExchangeFault};
-use fix_tags::{Config, EnvelopeRef, ReadFault, read_envelope};
+use fix_tags::{Config, EnvelopeRef, read_envelope};
 use fix_text::Frame;
 use std::alloc::{AllocError, Global};
 
@@ -62,10 +63,9 @@ impl<D: Dialect, C: Clock> MatchingEngine<D, C> {
         ensures dialect { self.new.dialect ≡ self.old.dialect }
         ensures fill { self.new.fill ≡ self.old.fill }
     {
-        match read_envelope(self.alloc, frame) {
+        match read_envelope(frame) {
             Ok(envelope) => self.take(connection, &envelope),
-            Err(ReadFault::Tag(_)) => Ok(()),
-            Err(ReadFault::OutOfMemory) => Err(AllocError),
+            Err(_) => Ok(()),
         }
     }
 
@@ -189,7 +189,7 @@ fn put_answer(
     outbox: &mut Outbox,
 ) -> Result<(), AllocError>
     ensures known { OnOk result (IsKnown answer) }
-    ensures sends { OnOk result (outbox.new ≡ outbox.old ++ joined (frames_of answer)) }
+    ensures sends { OnOk result (outbox.new ≡ outbox.old ++ concat (frames_of answer)) }
 {
     match answer {
         Ok(Some(frame)) => outbox.put(frame.as_slice()),
@@ -201,7 +201,7 @@ fn put_answer(
 
 /// Puts frames behind the bytes that wait, in order.
 fn put_all(frames: &[Vec<u8>], outbox: &mut Outbox) -> Result<(), AllocError>
-    ensures { OnOk result (outbox.new ≡ outbox.old ++ joined (bytes_of frames.now)) }
+    ensures { OnOk result (outbox.new ≡ outbox.old ++ concat (bytes_of frames.now)) }
 {
     for frame in frames {
         outbox.put(frame.as_slice())?;

@@ -55,8 +55,7 @@ fn wait_for_end<S: Read>(stream: &mut S, most_reads: u64) {
     let mut buf = [0; MOST_DROPPED];
     for _ in 0..most_reads {
         match hear(stream, &mut buf) {
-            Heard::Bytes(_) => {}
-            Heard::Nothing => {}
+            Heard::Bytes(_) | Heard::Nothing => {}
             Heard::Gone => return,
         }
     }

@@ -1,10 +1,9 @@
-pub mod AppFields
+pub mod Behind
 pub mod AppFits
 pub mod Apps
 pub mod Bodies
 pub mod Decimals
 pub mod DigitsRead
-pub mod Gathered
 pub mod HeaderBack
 pub mod Lookups
 pub mod MessageBack

@@ -1,6 +1,6 @@
 -- What is known of a message that was read: its ranges, and what the fields say.
-use Rattle.std.proofs.Common.{◌≡◌, ◌==◌, ℕ, ◌≤◌, Bool, true, false, cond, List, [], ◌∷◌, codes, Option, Some, None, Result, Ok, Err, IsSome, IfOk, refl, sym, ap, subst, ◌∙◌, arith}
-use Rattle.std.specs.Prelude.{filter, IfSome}
+use Rattle.std.proofs.Common.{◌≡◌, ◌==◌, ℕ, ◌≤◌, Bool, true, false, cond, List, [], ◌∷◌, codes, Option, Some, None, Result, Ok, IsSome, refl, sym, ap, subst, ◌∙◌, arith}
+use Rattle.std.specs.Prelude.{Err, IfOk, IfSome, filter}
 use Rattle.std.specs.List.{list_all}
 use Rattle.std.proofs.lemmas.Bool.{eqb-true}
 use Rattle.std.proofs.lemmas.Bool.Decides.{nat_tests}
@@ -9,13 +9,11 @@ use Rattle.fix_tags.specs.App.{is_app_tag}
 use Rattle.fix_tags.specs.CompId.{comp_id_of}
 use Rattle.fix_tags.specs.Message.{is_reference, is_heart, is_message_number, is_next_number, is_session_byte, is_session_kind, kind_of}
 use Rattle.fix_tags.specs.Readable.{IsShortText, IsReference, IsNextNumber, IsReadableBody, IsReadable}
-use Rattle.fix_tags.specs.Reading.{ReadsEnvelope, required, optional, flag_at, short_text, some_text, number_if, some_number, no_encryption, anything, logon_read, heartbeat_read, test_request_read, resend_request_read, reject_read, reset_or_fill, sequence_reset_read, business_reject_read, app_read, body_of_byte, body_read, envelope_read}
+use Rattle.fix_tags.specs.Reading.{Gives, required, optional, flag_at, short_text, some_text, number_if, some_number, no_encryption, anything, logon_read, heartbeat_read, test_request_read, resend_request_read, reject_read, reset_or_fill, sequence_reset_read, business_reject_read, app_read, body_of_byte, body_read, envelope_read}
 use Rattle.fix_tags.specs.Says.{SaysNumber, SaysFlag, SaysBody, IsReadingOf}
 use Rattle.fix_tags.specs.declared.body.Body.{Body}
 use Rattle.fix_tags.specs.declared.body.Body.TheVariants.{Logon, Heartbeat, TestRequest, ResendRequest, Reject, Logout, BusinessReject, App}
 use Rattle.fix_tags.specs.declared.envelope.Envelope.{Envelope}
-use Rattle.fix_tags.specs.declared.read_fault.ReadFault.{ReadFault}
-use Rattle.fix_tags.specs.declared.read_fault.ReadFault.TheVariants.{Tag, OutOfMemory}
 use Rattle.fix_tags.specs.declared.tag_fault.TagFault.{TagFault}
 use Rattle.fix_tags.proofs.Steps.{step, same_ok, required-Ok, comp_id_of-Some, IfAny, says_number, says_number_if_any, says_text, says_text_if_any, says_flag, says_no_encryption}
 
@@ -235,15 +233,8 @@ in_range fields e read = (envelope_read-Ok fields e read).range
 pub is_reading : (fields : List Tagged) (e : Envelope) → envelope_read fields ≡ Ok e → IsReadingOf e fields
 is_reading fields e read = (envelope_read-Ok fields e read).says
 
--- of whatever the reading of a message answers
-pub read_in_range : (fields : List Tagged) (result : Result Envelope ReadFault)
-    → ReadsEnvelope result (envelope_read fields) → IfOk result (λ e. IsReadable e)
-read_in_range fields (Ok e) read = in_range fields e read
-read_in_range fields (Err (Tag fault)) read = tt
-read_in_range fields (Err OutOfMemory) read = tt
-
-pub read_says : (fields : List Tagged) (result : Result Envelope ReadFault)
-    → ReadsEnvelope result (envelope_read fields) → IfOk result (λ e. IsReadingOf e fields)
-read_says fields (Ok e) read = is_reading fields e read
-read_says fields (Err (Tag fault)) read = tt
-read_says fields (Err OutOfMemory) read = tt
+-- what is known of each message that these fields are read as is known of an answer
+pub of_given : {P : Envelope → Type 0} (fields : List Tagged) (answer : Result Envelope TagFault)
+    → ((e : Envelope) → envelope_read fields ≡ Ok e → P e) → Gives (λ e. e) answer (envelope_read fields) → IfOk answer P
+of_given fields (Ok e) known read = known e read
+of_given fields (Err fault) known read = tt

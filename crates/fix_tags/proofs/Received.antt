@@ -1,6 +1,6 @@
 -- What is known of a message that is read from a frame, whose values hold no SOH.
-use Rattle.std.proofs.Common.{◌≡◌, ℕ, Bool, List, Option, Some, None, Result, Ok, Err, sym, ap, subst, ◌∙◌}
-use Rattle.std.specs.Prelude.{IsTrue, IfSome, IfOk}
+use Rattle.std.proofs.Common.{◌≡◌, ℕ, Bool, List, Option, Some, None, Ok, sym, ap, subst, ◌∙◌}
+use Rattle.std.specs.Prelude.{IsTrue, IfSome}
 use Rattle.fix_text.specs.Tagged.{Tagged, value_of}
 use Rattle.fix_text.specs.Text.{have_no_soh}
 use Rattle.fix_text.proofs.NoSoh.{value_holds_no_soh, kept_hold_no_soh}
@@ -9,13 +9,11 @@ use Rattle.fix_tags.specs.CompId.{comp_id_of}
 use Rattle.fix_tags.specs.Header.{IsHeader}
 use Rattle.fix_tags.specs.Message.{is_message_number, kind_of}
 use Rattle.fix_tags.specs.Readable.{HasNoSoh, HaveNoSoh, IsRead}
-use Rattle.fix_tags.specs.Reading.{ReadsEnvelope, required, short_text, number_if, body_read, message_of, envelope_read}
+use Rattle.fix_tags.specs.Reading.{required, short_text, number_if, body_read, message_of, envelope_read}
 use Rattle.fix_tags.specs.Says.{SaysBody}
 use Rattle.fix_tags.specs.declared.body.Body.{Body}
 use Rattle.fix_tags.specs.declared.body.Body.TheVariants.{Logon, Heartbeat, TestRequest, ResendRequest, Reject, GapFill, Reset, Logout, BusinessReject, App}
 use Rattle.fix_tags.specs.declared.envelope.Envelope.{Envelope}
-use Rattle.fix_tags.specs.declared.read_fault.ReadFault.{ReadFault}
-use Rattle.fix_tags.specs.declared.read_fault.ReadFault.TheVariants.{Tag, OutOfMemory}
 use Rattle.fix_tags.proofs.Steps.{required-Ok, comp_id_of-Some, says_number, says_text}
 use Rattle.fix_tags.proofs.Readings.{message_number_from, body_is, is_reading}
 
@@ -78,10 +76,3 @@ message_is fields kind sender target number poss_dup poss_resend body none heade
 -- a message that is read from fields
 pub no_soh : (fields : List Tagged) (e : Envelope) → IsTrue (have_no_soh fields) → envelope_read fields ≡ Ok e → HaveNoSoh e.body
 no_soh fields e none read = let says = is_reading fields e read in body_no_soh fields e.body none says.kind says.body
-
--- whatever the reading of a message answers
-pub read_no_soh : (fields : List Tagged) (result : Result Envelope ReadFault) → IsTrue (have_no_soh fields)
-    → ReadsEnvelope result (envelope_read fields) → IfOk result (λ e. HaveNoSoh e.body)
-read_no_soh fields (Ok e) none read = no_soh fields e none read
-read_no_soh fields (Err (Tag fault)) none read = tt
-read_no_soh fields (Err OutOfMemory) none read = tt

@@ -10,32 +10,13 @@ use Rattle.fix_tags.specs.Message.{is_reference, is_heart, is_message_number, is
 use Rattle.fix_tags.specs.declared.body.Body.{Body}
 use Rattle.fix_tags.specs.declared.body.Body.TheVariants.{Logon, Heartbeat, TestRequest, ResendRequest, Reject, GapFill, Reset, Logout, BusinessReject, App}
 use Rattle.fix_tags.specs.declared.envelope.Envelope.{Envelope}
-use Rattle.fix_tags.specs.declared.read_fault.ReadFault.{ReadFault}
-use Rattle.fix_tags.specs.declared.read_fault.ReadFault.TheVariants.{Tag, OutOfMemory}
 use Rattle.fix_tags.specs.declared.tag_fault.TagFault.{TagFault}
 use Rattle.fix_tags.specs.declared.tag_fault.TagFault.TheVariants.{Missing, BadField}
-
--- a body of the application, and none of the session's
-abbrev pub IsApp : Body → Type 0
-IsApp (App kind fields) = Unit {0}
-IsApp _ = ⊥
 
 -- what a call answers, seen by view, is what is read
 abbrev pub Gives : {X Y : Type 0} → (X → Y) → Result X TagFault → Result Y TagFault → Type 0
 Gives view (Ok x) read = read ≡ Ok (view x)
 Gives view (Err fault) read = read ≡ Err fault
-
--- a message of the application, whose fields are kept in a list
-abbrev pub IsApplication : Result Envelope TagFault → Type 0
-IsApplication (Ok e) = IsApp e.body
-IsApplication (Err fault) = ⊥
-
--- what the reading of a message answers: what the fields say; or want of memory, where they say a message of the
--- application and its list of fields needs room
-abbrev pub ReadsEnvelope : Result Envelope ReadFault → Result Envelope TagFault → Type 0
-ReadsEnvelope (Ok e) read = read ≡ Ok e
-ReadsEnvelope (Err (Tag fault)) read = read ≡ Err fault
-ReadsEnvelope (Err OutOfMemory) read = IsApplication read
 
 -- a value, or the fault of its tag
 abbrev pub good : {A : Type 0} → ℕ → Option A → Result A TagFault

@@ -1,7 +1,8 @@
 //! What a message says, owned or lent.
 
+use crate::app_fields::AppFields;
 use crate::text::Text;
-use fix_text::{FieldRefs, Fields};
+use fix_text::Fields;
 
 /// The body of a message (FIX 4.4 Volume 2): one of the session's, or an application message.
 /// `write_envelope` says which values can be written.
@@ -85,6 +86,6 @@ pub enum BodyRef<'a> {
     },
     App {
         kind: &'a [u8],
-        fields: FieldRefs<'a>,
+        fields: AppFields<'a>,
     },
 }

@@ -1,26 +1,26 @@
 //! Reading a message from the fields of a frame.
-ghost use Rattle.std.specs.Prelude.{true, false, ◌≡◌, IfOk};
+ghost use Rattle.std.specs.Prelude.{◌≡◌, IfOk, filter};
 ghost use Rattle.fix_text.specs.FrameFields.{fields_in};
-ghost use Rattle.fix_tags.specs.Message.{is_session_kind};
+ghost use Rattle.fix_tags.specs.App.{is_app_tag};
+ghost use Rattle.fix_tags.specs.Header.{IsHeader, IsFoundIn};
+ghost use Rattle.fix_tags.specs.Lent.{body_of};
 ghost use Rattle.fix_tags.specs.Readable.{HaveNoSoh, IsReadable};
-ghost use Rattle.fix_tags.specs.Header.{IsHeader};
-ghost use Rattle.fix_tags.specs.Reading.{Gives, ReadsEnvelope, message_read, envelope_read};
+ghost use Rattle.fix_tags.specs.Reading.{Gives, body_read, message_read, envelope_read};
 ghost use Rattle.fix_tags.specs.Says.{IsReadingOf};
 
+use crate::app_fields::AppFields;
 use crate::body::BodyRef;
 use crate::envelope::EnvelopeRef;
-use crate::gather::gather;
+use crate::header_fields::HeaderFields;
 use crate::limits::{MAX_KIND, MESSAGE_NUMBER};
 use crate::read_body::session_body;
-use crate::read_fault::ReadFault;
 use crate::tag::{
     MSG_SEQ_NUM, MSG_TYPE, POSS_DUP_FLAG, POSS_RESEND, SENDER_COMP_ID, SENDING_TIME, TARGET_COMP_ID,
 };
 use crate::tag_fault::TagFault;
-use crate::value_at::{comp_id_at, flag_at, flag_in, number_at, text_at};
+use crate::value_at::{firm_of, flag_in, number_of, text_of};
 use crate::writable::is_session_kind;
-use fix_text::{FieldRefs, Frame};
-use std::alloc::Global;
+use fix_text::Frame;
 
 /// What stands in the header before the marks.
 #[derive(Clone, Copy)]
@@ -31,50 +31,38 @@ struct Header<'a> {
     number: u64,
 }
 
-/// A message of the session. It takes no memory.
-fn session_message<'a>(header: Header<'a>, frame: &Frame<'a>) -> Result<EnvelopeRef<'a>, TagFault>
-    requires kind { is_session_kind header.kind.now ≡ true }
-    requires header { IsHeader header.kind.now header.sender.now header.target.now header.number (fields_in frame.now) }
-    ensures { Gives (λ e. e) result (message_read header.entry.kind.now header.entry.sender.now header.entry.target.now header.entry.number (fields_in frame.now)) }
-{
-    let poss_dup = flag_at(frame, POSS_DUP_FLAG)?;
-    let poss_resend = flag_at(frame, POSS_RESEND)?;
-    let body = session_body(header.kind, frame)?;
-    Ok(EnvelopeRef::new(
-        header.sender,
-        header.target,
-        header.number,
-        poss_dup,
-        poss_resend,
-        body,
-    ))
-}
-
-/// An application message, whose marks and fields are found in one pass. It is on a leg's way, and called once: so it is
-/// inlined.
+/// The body of a kind. The fields of an application message are those that are left behind the header's.
 #[inline(always)]
 #[tactic(auto, using(crate::proofs::Apps::app_kind))]
-fn app_message<'a>(
-    alloc: Global,
-    header: Header<'a>,
+fn body_of_kind<'a>(
+    kind: &'a [u8],
     frame: &Frame<'a>,
-) -> Result<EnvelopeRef<'a>, ReadFault>
-    requires kind { is_session_kind header.kind.now ≡ false }
-    requires header { IsHeader header.kind.now header.sender.now header.target.now header.number (fields_in frame.now) }
-    ensures { ReadsEnvelope result (message_read header.entry.kind.now header.entry.sender.now header.entry.target.now header.entry.number (fields_in frame.now)) }
+    left: Frame<'a>,
+) -> Result<BodyRef<'a>, TagFault>
+    requires { filter (λ f. is_app_tag f.tag) (fields_in left) ≡ filter (λ f. is_app_tag f.tag) (fields_in frame.now) }
+    ensures { Gives body_of result (body_read kind.entry.now (fields_in frame.now)) }
 {
-    let Ok(found) = gather(alloc, *frame) else {
-        // Want of memory is answered only where nothing else is wrong.
-        flag_at(frame, POSS_DUP_FLAG)?;
-        flag_at(frame, POSS_RESEND)?;
-        return Err(ReadFault::OutOfMemory);
-    };
+    if is_session_kind(kind) {
+        return session_body(kind, frame);
+    }
+    let fields = AppFields::new(left);
+    Ok(BodyRef::App { kind, fields })
+}
+
+/// The message of this header, from its marks on. It is on a leg's way, and called once: so it is inlined.
+#[inline(always)]
+fn message<'a>(
+    header: Header<'a>,
+    found: &HeaderFields<'a>,
+    frame: &Frame<'a>,
+) -> Result<EnvelopeRef<'a>, TagFault>
+    requires header { IsHeader header.kind.now header.sender.now header.target.now header.number (fields_in frame.now) }
+    requires found { IsFoundIn found.now (fields_in frame.now) }
+    ensures { Gives (λ e. e) result (message_read header.entry.kind.now header.entry.sender.now header.entry.target.now header.entry.number (fields_in frame.now)) }
+{
     let poss_dup = flag_in(POSS_DUP_FLAG, found.poss_dup)?;
     let poss_resend = flag_in(POSS_RESEND, found.poss_resend)?;
-    let body = BodyRef::App {
-        kind: header.kind,
-        fields: FieldRefs::new(found.fields),
-    };
+    let body = body_of_kind(header.kind, frame, found.left)?;
     Ok(EnvelopeRef::new(
         header.sender,
         header.target,
@@ -85,25 +73,20 @@ fn app_message<'a>(
     ))
 }
 
-/// Reads the message of a frame (FIX 4.4 Volume 2, "Standard Message Header" and the messages of the
-/// session), with its texts and fields lent from the frame's lender.
-///
-/// The fields are tried in the order 35, 49, 56, 34, 52, 43, 97 and then those of the body;
-/// `Missing` and `BadField` name the first that isn't there or isn't as it must be, and `OutOfMemory`
-/// comes only where nothing else is wrong.
+/// The message of a frame, or the first fault of its fields. Each message that is read goes
+/// through it: so it is inlined, with what it calls, where `read_envelope` is called.
+#[inline(always)]
 #[tactic(auto, unfolding(crate::specs::Reading::envelope_read))]
-pub fn read_envelope<'a>(alloc: Global, frame: &Frame<'a>) -> Result<EnvelopeRef<'a>, ReadFault>
-    ensures read { ReadsEnvelope result (envelope_read (fields_in frame.now)) }
-    ensures in_range { IfOk result (λ e. IsReadable e) }
-    ensures no_soh { IfOk result (λ e. HaveNoSoh e.body) }
-    ensures says { IfOk result (λ e. IsReadingOf e (fields_in frame.now)) }
+fn envelope_of<'a>(frame: &Frame<'a>) -> Result<EnvelopeRef<'a>, TagFault>
+    ensures { Gives (λ e. e) result (envelope_read (fields_in frame.now)) }
 {
-    let kind = text_at(frame, MSG_TYPE, MAX_KIND)?;
-    let sender = comp_id_at(frame, SENDER_COMP_ID)?;
-    let target = comp_id_at(frame, TARGET_COMP_ID)?;
-    let number = number_at(frame, MSG_SEQ_NUM, MESSAGE_NUMBER)?;
-    if frame.get(SENDING_TIME).is_none() {
-        return Err(TagFault::Missing(SENDING_TIME).into());
+    let found = HeaderFields::of(*frame);
+    let kind = text_of(MSG_TYPE, found.kind, MAX_KIND)?;
+    let sender = firm_of(SENDER_COMP_ID, found.sender)?;
+    let target = firm_of(TARGET_COMP_ID, found.target)?;
+    let number = number_of(MSG_SEQ_NUM, found.number, MESSAGE_NUMBER)?;
+    if found.sending_time.is_none() {
+        return Err(TagFault::Missing(SENDING_TIME));
     }
     let header = Header {
         kind,
@@ -111,8 +94,21 @@ pub fn read_envelope<'a>(alloc: Global, frame: &Frame<'a>) -> Result<EnvelopeRef
         target,
         number,
     };
-    if is_session_kind(kind) {
-        return Ok(session_message(header, frame)?);
-    }
-    app_message(alloc, header, frame)
+    message(header, &found, frame)
+}
+
+/// Reads the message of a frame (FIX 4.4 Volume 2, "Standard Message Header" and the messages of the
+/// session), with its texts and fields lent from the frame's lender. It takes no memory: an application message's
+/// fields stay where the frame has them.
+///
+/// The fields are tried in the order 35, 49, 56, 34, 52, 43, 97 and then those of the body;
+/// `Missing` and `BadField` name the first that isn't there or isn't as it must be.
+#[inline(always)]
+pub fn read_envelope<'a>(frame: &Frame<'a>) -> Result<EnvelopeRef<'a>, TagFault>
+    ensures read { Gives (λ e. e) result (envelope_read (fields_in frame.now)) }
+    ensures in_range { IfOk result (λ e. IsReadable e) }
+    ensures no_soh { IfOk result (λ e. HaveNoSoh e.body) }
+    ensures says { IfOk result (λ e. IsReadingOf e (fields_in frame.now)) }
+{
+    envelope_of(frame)
 }

@@ -1,11 +1,11 @@
-//! Reading the value of one field of a frame.
+//! Reading the value of one field.
 ghost use Rattle.std.specs.Prelude.{◌∷◌, [], false, None, ◌≡◌};
 ghost use Rattle.std.specs.Option.{option_map};
 ghost use Rattle.fix_text.specs.FrameFields.{fields_in};
 ghost use Rattle.fix_tags.specs.CompId.{comp_id_of};
 ghost use Rattle.fix_tags.specs.Flag.{flag_of};
 ghost use Rattle.fix_tags.specs.Message.{is_between};
-ghost use Rattle.fix_tags.specs.Reading.{Gives, good, required, optional, or_default, flag_at, short_text, some_text, number_if, some_number, no_encryption};
+ghost use Rattle.fix_tags.specs.Reading.{Gives, good, wanted, required, optional, or_default, flag_at, short_text, some_text, number_if, some_number, no_encryption};
 
 use crate::comp_id::is_comp_id;
 use crate::flag::read_flag;
@@ -28,13 +28,24 @@ fn text_in<'a>(tag: u32, value: &'a [u8], most: usize) -> Result<&'a [u8], TagFa
 
 /// A text of 1 to `most` bytes that must be there.
 #[inline]
-pub(crate) fn text_at<'a>(frame: &Frame<'a>, tag: u32, most: usize) -> Result<&'a [u8], TagFault>
-    ensures { Gives (λ text. text.now) result (required (fields_in frame.now) tag (short_text most)) }
+pub(crate) fn text_of<'a>(
+    tag: u32,
+    value: Option<&'a [u8]>,
+    most: usize,
+) -> Result<&'a [u8], TagFault>
+    ensures { Gives (λ text. text.now) result (wanted tag (short_text most) (option_map (λ value. value.now) value.entry)) }
 {
-    match frame.get(tag) {
+    match value {
         None => Err(TagFault::Missing(tag)),
         Some(value) => text_in(tag, value, most),
     }
+}
+
+/// The same of a frame's field.
+pub(crate) fn text_at<'a>(frame: &Frame<'a>, tag: u32, most: usize) -> Result<&'a [u8], TagFault>
+    ensures { Gives (λ text. text.now) result (required (fields_in frame.now) tag (short_text most)) }
+{
+    text_of(tag, frame.get(tag), most)
 }
 
 /// The id of a test request, if there is one.
@@ -47,11 +58,12 @@ pub(crate) fn test_id_if_any<'a>(frame: &Frame<'a>) -> Result<Option<&'a [u8]>, 
     }
 }
 
-/// The name of a firm.
-pub(crate) fn comp_id_at<'a>(frame: &Frame<'a>, tag: u32) -> Result<&'a [u8], TagFault>
-    ensures { Gives (λ value. value.now) result (required (fields_in frame.now) tag comp_id_of) }
+/// The name of a firm, which must be there.
+#[inline]
+pub(crate) fn firm_of<'a>(tag: u32, value: Option<&'a [u8]>) -> Result<&'a [u8], TagFault>
+    ensures { Gives (λ value. value.now) result (wanted tag comp_id_of (option_map (λ value. value.now) value.entry)) }
 {
-    match frame.get(tag) {
+    match value {
         None => Err(TagFault::Missing(tag)),
         Some(value) if is_comp_id(value) => Ok(value),
         Some(_) => Err(TagFault::BadField(tag)),
@@ -88,13 +100,20 @@ fn number_in(tag: u32, value: &[u8], range: NumberRange) -> Result<u64, TagFault
 
 /// A number that must be there.
 #[inline]
-pub(crate) fn number_at(frame: &Frame<'_>, tag: u32, range: NumberRange) -> Result<u64, TagFault>
-    ensures { result ≡ required (fields_in frame.now) tag (number_if (is_between range.least range.greatest)) }
+pub(crate) fn number_of(tag: u32, value: Option<&[u8]>, range: NumberRange) -> Result<u64, TagFault>
+    ensures { result ≡ wanted tag (number_if (is_between range.least range.greatest)) (option_map (λ value. value.now) value.entry) }
 {
-    match frame.get(tag) {
+    match value {
         None => Err(TagFault::Missing(tag)),
         Some(value) => number_in(tag, value, range),
     }
+}
+
+/// The same of a frame's field.
+pub(crate) fn number_at(frame: &Frame<'_>, tag: u32, range: NumberRange) -> Result<u64, TagFault>
+    ensures { result ≡ required (fields_in frame.now) tag (number_if (is_between range.least range.greatest)) }
+{
+    number_of(tag, frame.get(tag), range)
 }
 
 /// The same of a number that may be missing.

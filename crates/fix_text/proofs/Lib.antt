@@ -21,3 +21,4 @@ pub mod Waits
 pub mod Lent
 pub mod Replays
 pub mod NoSoh
+pub mod Sinks

@@ -1,11 +1,10 @@
 -- The places of fields in a text, as a loop finds them one after the other.
 use Rattle.std.proofs.Common.{◌≡◌, ℕ, ◌+◌, ◌-◌, ◌*◌, ◌<◌, ◌≤◌, Bool, true, false, cond, eqb, ltb, leb, List, [], ◌∷◌, ◌++◌, length, get_or, take, drop, map, Option, Some, None, Result, Ok, Err, inl, inr, refl, sym, ap, subst, ◌∙◌, arith, append_assoc}
-use Rattle.std.specs.Prelude.{IsTrue, not, ◌&&◌, ◌||◌, IfSome, OnErr, slice_range, is_some, is_ok, is_err, slice_get}
+use Rattle.std.specs.Prelude.{IsTrue, not, ◌&&◌, ◌||◌, IfSome, OnErr, slice_range, is_some, is_ok, is_err}
 use Rattle.std.specs.Char.{is_ascii_digit}
 use Rattle.std.proofs.lemmas.Bool.Decides.{nat_tests}
 use Rattle.std.proofs.lemmas.Bool.{and_from, or_parts, eq-eqb, ne_eqb}
-use Rattle.std.proofs.lemmas.List.{length-append, length-take-le, length-drop, take-append-drop, drop-map, drop_more, length-map, map-append, take_more}
-use Rattle.std.proofs.lemmas.Option.{slice_get_within, get_or_from_slice_get}
+use Rattle.std.proofs.lemmas.List.{length-append, length-take-le, length-drop, take-append-drop, drop-map, drop_more, length-map, map-append}
 use Rattle.std.proofs.lemmas.List.Folds.{list_all-append}
 use Rattle.fix_text.specs.declared.place.Place.{Place}
 use Rattle.fix_text.specs.Tagged.{Tagged, value_of}
@@ -165,8 +164,3 @@ pub value_later : (text : List ℕ) (places : List Place) (k : ℕ) (d : Place) 
 value_later text places k d tag total within miss so_far =
     sym (value_not_found (field_at text (get_or places k d)) (drop (k + 1) (fields_at text places)) tag miss)
     ∙ ap (λ (fields : List Tagged). value_of fields tag) (sym (field_here text places k d within)) ∙ so_far
-
--- the fields up to a place, with the field there
-pub take_field : (fields : List Tagged) (k : ℕ) (field : Tagged) → slice_get fields k ≡ Some field → take (k + 1) fields ≡ take k fields ++ field ∷ []
-take_field fields k field is =
-    take_more fields k field (slice_get_within fields k field is) ∙ ap (λ (f : Tagged). take k fields ++ f ∷ []) (get_or_from_slice_get fields k field field is)

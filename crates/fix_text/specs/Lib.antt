@@ -12,3 +12,5 @@ pub mod FrameParts
 pub mod Deciding
 pub mod Lending
 pub mod Calls
+pub mod Sink
+pub mod Lemmas

@@ -1,7 +1,7 @@
 //! A frame: fields that are lent from the text in which they lie.
 ghost use Rattle.std.specs.Prelude.{◌≡◌, ◌<◌, ◌==◌, Some, length, slice_get, IfOk, IsOkUnless, OnErr, vec_capacity};
 ghost use Rattle.std.specs.Option.{option_map};
-ghost use Rattle.fix_text.specs.Tagged.{value_of};
+ghost use Rattle.fix_text.specs.Tagged.{value_of, left_after};
 ghost use Rattle.fix_text.specs.Reading.{fields_of};
 ghost use Rattle.fix_text.specs.Placing.{AreMore, AreWithin, fields_at};
 
@@ -92,5 +92,21 @@ impl<'a> Frame<'a> {
             }
         }
         None
+    }
+
+    /// The value of the first field of this tag, as `get` gives it. If that is the first field of all, it is passed: so
+    /// a caller that asks for the tags in the order in which they stand looks at each field once.
+    #[inline]
+    pub fn take(&mut self, tag: u32) -> Option<&'a [u8]>
+        ensures value { option_map (λ value. value.now) result ≡ value_of (fields_in self.old) tag }
+        ensures left { fields_in self.new ≡ left_after tag (fields_in self.old) }
+    {
+        match self.places {
+            [place, others @ ..] if place.tag == tag => {
+                self.places = others;
+                Some(&self.text[place.start..place.end])
+            }
+            _ => self.get(tag),
+        }
     }
 }

@@ -1,5 +1,5 @@
 //! Writing a frame: one spelling, appended whole or not at all.
-ghost use Rattle.std.specs.Prelude.{true, Err, ◌≡◌, ◌+◌, ◌<◌, ◌≤◌, ◌++◌, List, length, drop, vec_len, vec_capacity, IsOkUnless, OnOk, OnErr, MatchOption, ℕ};
+ghost use Rattle.std.specs.Prelude.{true, Err, ◌≡◌, ◌+◌, ◌<◌, ◌≤◌, ◌++◌, List, length, drop, vec_len, vec_capacity, IsOkUnless, IsSomeAnd, OnOk, OnErr, MatchOption, ℕ};
 ghost use Rattle.std.specs.List.{flat_map};
 ghost use Rattle.fix_text.specs.Text.{field_text, fields_text, has_writable_tags, has_writable_values};
 ghost use Rattle.fix_text.specs.FrameParts.{all_fields};
@@ -8,6 +8,7 @@ ghost use Rattle.fix_text.specs.Frame.{HasRoom, Appends, header_text, trailer_te
 use crate::checksum::sum256;
 use crate::fault::TextFault;
 use crate::field::{Field, FieldRef, Lend};
+use crate::frame_body::FrameBody;
 use crate::frame_parts::FrameParts;
 use crate::refusal::{check_fields, digit_count, text_length};
 use itoa::Buffer;
@@ -59,6 +60,7 @@ fn push_fields<F: Lend>(fields: &[F], out: &mut Vec<u8>)
     }
 }
 
+#[inline(always)]
 fn push_header(body: usize, out: &mut Vec<u8>)
     requires { HasRoom out.old (header_text body) }
     ensures { Appends out.old out.new (header_text body) }
@@ -99,6 +101,18 @@ fn push_frame(length_of_text: usize, parts: &FrameParts<'_>, out: &mut Vec<u8>)
     push_fields(parts.head, out);
     push_fields(parts.body, out);
     push_fields(parts.rest, out);
+    push_trailer(start, out);
+}
+
+/// Appends the frame of a body, for which there is room.
+fn push_whole(body: &[u8], out: &mut Vec<u8>)
+    requires fits { length body.now ≤ 4096 }
+    requires room { HasRoom out.old (framed body.now) }
+    ensures { Appends out.old out.new (framed body.now) }
+{
+    let start = out.len();
+    push_header(body.len(), out);
+    push_text(body, out);
     push_trailer(start, out);
 }
 
@@ -163,4 +177,27 @@ pub fn write_frame(fields: &[Field], out: &mut Vec<u8>) -> Result<(), TextFault>
     ensures full { result ≡ Err TextFault.OutOfMemory → vec_capacity out.old < vec_len out.old + length (frame_text fields.now) }
 {
     write_frame_parts(&[], &[], fields, out)
+}
+
+/// Appends the one written frame of a body: BeginString (8), BodyLength (9), the fields as they were pushed, and CheckSum
+/// (10).
+///
+/// `TooLong`: the fields take more than 1,152 bytes. `OutOfMemory`: `out` has no room for the frame, and no memory is left. A
+/// refusal leaves `out` as it was. What the tags and values are is for the caller to know: the first must be MsgType (35), and
+/// each one that can be written.
+pub fn write_body(body: &FrameBody, out: &mut Vec<u8>) -> Result<(), TextFault>
+    ensures refusal { MatchOption body.now (result ≡ Err TextFault.TooLong) (λ text. IsOkUnless result TextFault.OutOfMemory) }
+    ensures ok { OnOk result (IsSomeAnd body.now (λ text. out.new.items ≡ out.old.items ++ framed text)) }
+    ensures err { OnErr result (out.new.items ≡ out.old.items) }
+    ensures asked { OnErr result (vec_capacity out.new ≡ vec_capacity out.old) }
+    ensures full { result ≡ Err TextFault.OutOfMemory → IsSomeAnd body.now (λ text. vec_capacity out.old < vec_len out.old + length (framed text)) }
+{
+    let Some(text) = body.text() else {
+        return Err(TextFault::TooLong);
+    };
+    if out.reserve(frame_length(text.len())).is_err() {
+        return Err(TextFault::OutOfMemory);
+    }
+    push_whole(text, out);
+    Ok(())
 }

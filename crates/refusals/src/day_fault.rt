@@ -1,7 +1,7 @@
 //! Why a day stopped.
 
 use exchange_core::ExchangeFault;
-use fix_tags::ReadFault;
+use fix_tags::TagFault;
 use fix_text::ReaderFault;
 use leg::LegFault;
 use session_core::SessionFault;
@@ -69,8 +69,8 @@ impl From<LegFault> for DayFault {
     }
 }
 
-impl From<ReadFault> for DayFault {
-    fn from(_: ReadFault) -> DayFault {
+impl From<TagFault> for DayFault {
+    fn from(_: TagFault) -> DayFault {
         DayFault::Impossible
     }
 }

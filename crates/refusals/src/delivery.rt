@@ -9,7 +9,7 @@ use crate::day_fault::DayFault;
 use crate::frame::Frame;
 use dialect::{Plain, see};
 use exchange_core::ExchangeFault;
-use fix_tags::{EnvelopeRef, ReadFault, read_envelope};
+use fix_tags::{EnvelopeRef, read_envelope};
 use fix_text::FrameReader;
 use session_core::{SessionFault, Step};
 use std::alloc::Global;
@@ -29,15 +29,12 @@ fn reader_of(alloc: Global, frame: &Frame) -> Result<FrameReader, DayFault> {
     Ok(reader)
 }
 
-/// The message of the frame that a reader was given, again where it is refused memory.
-fn envelope_in(alloc: Global, reader: &mut FrameReader) -> Result<EnvelopeRef<'_>, DayFault> {
+/// The message of the frame that a reader was given.
+fn envelope_in(reader: &mut FrameReader) -> Result<EnvelopeRef<'_>, DayFault> {
     let Some(frame) = reader.next()? else {
         return Err(DayFault::Impossible);
     };
-    match read_envelope(alloc, &frame) {
-        Err(ReadFault::OutOfMemory) => Ok(read_envelope(alloc, &frame)?),
-        answer => Ok(answer?),
-    }
+    Ok(read_envelope(&frame)?)
 }
 
 impl Day {
@@ -48,7 +45,7 @@ impl Day {
         let frame = frame_of(&self.to_exchange, count)?;
         let connection = frame.connection;
         let mut reader = reader_of(alloc, frame)?;
-        let envelope = envelope_in(alloc, &mut reader)?;
+        let envelope = envelope_in(&mut reader)?;
         let answer = self
             .exchange
             .take(alloc, &Plain, connection, &envelope, &self.stamp);
@@ -71,7 +68,7 @@ impl Day {
         let before = self.standing()?;
         let alloc = self.alloc;
         let mut reader = reader_of(alloc, frame_of(&self.from_exchange, count)?)?;
-        let envelope = envelope_in(alloc, &mut reader)?;
+        let envelope = envelope_in(&mut reader)?;
         match self.session.receive(&Plain, &envelope, &self.stamp) {
             Err(SessionFault::OutOfMemory) => {
                 self.is_still(&before)?;

@@ -11,7 +11,7 @@ ghost use Rattle.replay.specs.Delivering.{IsMessage, IsFrameOfMessage};
 ghost use Rattle.replay.specs.Network.{message_of, message_in, stream_of};
 
 use crate::frame::Frame;
-use fix_tags::{EnvelopeRef, ReadFault, read_envelope};
+use fix_tags::{EnvelopeRef, read_envelope};
 use fix_text::FrameReader;
 use schedule::FrameNumber;
 use std::alloc::{AllocError, Global};
@@ -38,30 +38,25 @@ pub fn stream_of(alloc: Global, bytes: &[u8]) -> Result<FrameReader, AllocError>
 }
 
 /// The message of the next frame of a stream. The only refusal is want of memory.
-pub fn next_message<'a>(
-    alloc: Global,
-    stream: &'a mut FrameReader,
-) -> Result<EnvelopeRef<'a>, AllocError>
+pub fn next_message(stream: &mut FrameReader) -> Result<EnvelopeRef<'_>, AllocError>
     requires { IsFrameOfMessage (next_read stream.old).frame }
     ensures { IfOk result (λ envelope. (read : SomeReaders)
         → message_in read (next_read stream.old).frame ≡ seen read envelope) }
 {
     match stream.next() {
-        Ok(Some(frame)) => message_of(alloc, &frame),
+        Ok(Some(frame)) => Ok(message_of(&frame)),
         Ok(None) => unreachable!(),
         Err(_) => Err(AllocError),
     }
 }
 
-/// The message of a frame. The only refusal is want of memory.
-fn message_of<'a>(alloc: Global, frame: &fix_text::Frame<'a>) -> Result<EnvelopeRef<'a>, AllocError>
+/// The message of a frame.
+fn message_of<'a>(frame: &fix_text::Frame<'a>) -> EnvelopeRef<'a>
     requires { IsMessage (envelope_read (fields_in frame.now)) }
-    ensures { IfOk result (λ envelope. (read : SomeReaders)
-        → message_of read (envelope_read (fields_in frame.now)) ≡ seen read envelope) }
+    ensures { (read : SomeReaders) → message_of read (envelope_read (fields_in frame.now)) ≡ seen read result }
 {
-    match read_envelope(alloc, frame) {
-        Ok(envelope) => Ok(envelope),
-        Err(ReadFault::Tag(_)) => unreachable!(),
-        Err(ReadFault::OutOfMemory) => Err(AllocError),
+    match read_envelope(frame) {
+        Ok(envelope) => envelope,
+        Err(_) => unreachable!(),
     }
 }

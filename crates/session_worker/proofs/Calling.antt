@@ -1,16 +1,15 @@
 -- What calls of a session leave, one after the other.
 use Rattle.std.proofs.Common.{◌≡◌, ℕ, Bool, true, false, List, [], ◌∷◌, ◌++◌, map, refl, sym, ap, subst, ◌∙◌, inl, inr, append_assoc, if◌then◌else◌}
+use Rattle.std.specs.List.{concat}
 use Rattle.std.specs.Prelude.{Option, Some, None, Result, Ok, Err}
 use Rattle.std.specs.Global.{Vec}
 use Rattle.leg.specs.declared.placed_leg.PlacedLeg.{PlacedLeg}
 use Rattle.fix_text.specs.Tagged.{Tagged}
 use Rattle.fix_text.specs.Reading.{Stream, next_read}
 use Rattle.fix_text.specs.Calls.{new_stream}
-use Rattle.fix_tags.specs.Reading.{ReadsEnvelope, envelope_read}
+use Rattle.fix_tags.specs.Reading.{envelope_read}
 use Rattle.fix_tags.specs.Stamp.{StampParts}
 use Rattle.fix_tags.specs.declared.envelope.Envelope.{Envelope}
-use Rattle.fix_tags.specs.declared.read_fault.ReadFault.{ReadFault}
-use Rattle.fix_tags.specs.declared.read_fault.ReadFault.TheVariants as read_fault
 use Rattle.fix_tags.specs.declared.tag_fault.TagFault.{TagFault}
 use Rattle.dialect.specs.declared.message.Message.{Message}
 use Rattle.dialect.specs.Framed.{Writers, IsFramed, AreFramed}
@@ -34,13 +33,13 @@ use Rattle.session_core.proofs.Adding.{chosen}
 use Rattle.session_core.proofs.Called.{connect_keeps, send_leg_keeps}
 use Rattle.session_core.proofs.CallsMade.{after-append}
 use Rattle.session_worker.specs.Hearing.{Said, said_with, said_after, Hears, ReaderOn}
-use Rattle.session_worker.specs.Speaking.{Wire, joined, Reads, TakesFirst, Puts, Begins, messages_in, Speak}
+use Rattle.session_worker.specs.Speaking.{Wire, Reads, TakesFirst, Puts, Begins, messages_in, Speak}
 use Rattle.session_worker.specs.Linking.{LinkedParts, linked_of, IsHearing, SpeaksOn, MayBreak, Writes, Moves, Hands, IsPlain, Gave, Asks, Receives}
 use Rattle.session_worker.specs.Events.{leg_in, legs_in, IsIdle}
 use Rattle.session_worker.specs.Events.WorkerEvent.{Calls, Fails}
 use Rattle.session_worker.proofs.Spoken.{stays_last, stays_here}
 use Rattle.session_worker.proofs.Hearing.{on_first, on_waits, on_gave, on_stays, on_takes, on_dials}
-use Rattle.session_worker.proofs.Speech.{stays_first, takes_first, speak_read, speak_on, speak_none, speak_made, speak_silent, begins_plain, joined_one, speak_broken}
+use Rattle.session_worker.proofs.Speech.{stays_first, takes_first, speak_read, speak_on, speak_none, speak_made, speak_silent, begins_plain, concat_one, speak_broken}
 use Rattle.session_worker.proofs.Connected.{gone, gone_malformed, gone_abandoned, send_on, hearing_same, hearing_takes, hearing_gone}
 
 -- the legs of calls and then others
@@ -220,7 +219,7 @@ moves_refused Is w read x y made (Err refused, after) why plain is hears same ba
 -- its frames were written
 speak_gave : (w : Writers) (read : Readers) (s now : SessionParts) (made : SessionCall) (step : Step)
     (gave : Gave w read made s step now) (said : Said) (later : List SessionCall) (a b c : Wire) → Hears said made a
-    → Puts (joined step.out) later a b → Speak w read now (said_with said made) later b c
+    → Puts (concat step.out) later a b → Speak w read now (said_with said made) later b c
     → Speak w read s said (made ∷ later) a c
 speak_gave w read s now made step gave said later a b c hears puts rest =
     speak_made w read s said made later gave.stamp step.out a a b c hears (begins_plain s made a a gave.plain (stays_here a))
@@ -230,7 +229,7 @@ speak_gave w read s now made step gave said later a b c hears puts rest =
 
 pub moves_gave : (w : Writers) (read : Readers) (x m y : LinkedParts) (step : Step) (asks : Asks w read x step m)
     (later : List SessionCall) (b : Wire) → y.session ≡ after_calls read m.session later → legs_in later ≡ []
-    → Puts (joined step.out) later x.wire b
+    → Puts (concat step.out) later x.wire b
     → ((said : Said) → IsHearing said m → Speak w read m.session said later b y.wire × IsHearing (said_after said later) y)
     → Moves w read x y
 moves_gave w read x m y step asks later b is no_leg puts rest = record {
@@ -246,30 +245,24 @@ moves_gave w read x m y step asks later b is no_leg puts rest = record {
 }
 
 pub moves_written : (w : Writers) (read : Readers) (x m y : LinkedParts) (step : Step) → Asks w read x step m
-    → Writes (joined step.out) m y → y.stream ≡ m.stream → Moves w read x y
+    → Writes (concat step.out) m y → y.stream ≡ m.stream → Moves w read x y
 moves_written w read x m y step asks (inl all) stream =
     moves_gave w read x m y step asks [] y.wire all.0 refl
-    (inl (stays_first (Takes (joined step.out)) x.wire m.wire y.wire asks.wire all.1))
+    (inl (stays_first (Takes (concat step.out)) x.wire m.wire y.wire asks.wire all.1))
     (λ said hearing. (
       speak_none w read m.session said y.wire y.wire (stays_here y.wire),
-      hearing_takes said (joined step.out) m y (λ on. subst (λ (s : SessionParts). is_connected s.phase ≡ true) all.0 on) all.1
+      hearing_takes said (concat step.out) m y (λ on. subst (λ (s : SessionParts). is_connected s.phase ≡ true) all.0 on) all.1
           stream hearing,
     ))
 moves_written w read x m y step asks (inr part) stream =
     moves_gave w read x m y step asks (call.Broken ∷ []) y.wire part.0 refl
-    (inr (tt, stays_first (TakesFirst (joined step.out)) x.wire m.wire y.wire asks.wire (takes_first (joined step.out) m.wire y.wire part.1)))
+    (inr (tt, stays_first (TakesFirst (concat step.out)) x.wire m.wire y.wire asks.wire (takes_first (concat step.out) m.wire y.wire part.1)))
     (λ said hearing. (
       speak_broken w read m.session said y.wire y.wire (stays_here y.wire),
       hearing_gone said y (gone m.session y.session part.0),
     ))
 
 -- ---- what comes of the next message
-
--- a frame that was read and is no message
-pub no_message : (f : ReadFault) (said : Result Envelope TagFault) → ReadsEnvelope (Err f) said
-    → (f ≡ read_fault.OutOfMemory → ⊥) → (fault : TagFault) × (said ≡ Err fault)
-no_message (read_fault.Tag fault) said reads other = (fault, reads)
-no_message read_fault.OutOfMemory said reads other = absurd (other refl)
 
 pub heard_nothing : (w : Writers) (read : Readers) (x y : LinkedParts) → y.session ≡ x.session → Tells x.wire y.wire Stays
     → (next_read x.stream).frame ≡ None → y.stream ≡ (next_read x.stream).stream → Moves w read x y
@@ -324,7 +317,7 @@ speak_message w read s now said made (Ok m, after) stamp frame later a b c d is 
     speak_made w read s said made later stamp (frame.items ∷ []) a b c d hears begins
     (subst (λ (adds : Option StepParts). AreFramed w stamp (map alone (messages_in adds)) (frame.items ∷ []))
     (sym (ap (λ (a : Addition). a.0) is)) (gives.0, tt))
-    (subst (λ (bytes : List ℕ). Puts bytes later b c) (sym (joined_one frame.items)) puts)
+    (subst (λ (bytes : List ℕ). Puts bytes later b c) (sym (concat_one frame.items)) puts)
     (subst (λ (t : SessionParts). Speak w read t (said_with said made) later c d) (gives.1 ∙ sym (ap (λ (a : Addition). a.1) is)) rest)
 
 after_message : (answer : SessionAnswer Message) → (added_message answer).1 ≡ answer.1

@@ -1,5 +1,6 @@
 -- What a worker's events do, one after the other.
 use Rattle.std.proofs.Common.{◌≡◌, ◌⊎◌, true, List, [], ◌∷◌, ◌++◌, map, refl, sym, ap, subst, ◌∙◌, inl, inr, append_assoc}
+use Rattle.std.specs.List.{concat}
 use Rattle.std.specs.Prelude.{Option, Some, None, MatchOption}
 use Rattle.std.proofs.lemmas.List.{append-nil}
 use Rattle.leg.specs.declared.placed_leg.PlacedLeg.{PlacedLeg}
@@ -20,7 +21,7 @@ use Rattle.session_worker.specs.declared.end_reason.EndReason.TheVariants as rea
 use Rattle.session_worker.specs.Ends.{reason_of, last_calls}
 use Rattle.session_worker.specs.Taking.{with_taken}
 use Rattle.session_worker.specs.Hearing.{Said, said_after}
-use Rattle.session_worker.specs.Speaking.{Wire, joined, TakesFirst, Speak}
+use Rattle.session_worker.specs.Speaking.{Wire, TakesFirst, Speak}
 use Rattle.session_worker.specs.Linking.{LinkedParts, SpeaksOn, PostParts, worker_in, linked_in, MayConfirm, Moves, Hands, Asks, CarriesOut, Does, Drains}
 use Rattle.session_worker.specs.Events.{WorkerEvent, calls_in, calls_of, leg_in, legs_in, taken_in, taken_of, IsIdle, IsAllowedCall, IsAllowed, AreAllowed, WorkerParts, Goes}
 use Rattle.session_worker.specs.Events.WorkerEvent.{Calls, Drops, Fails}
@@ -164,35 +165,35 @@ does_none w read a = does_same w read a a refl refl refl (stays_here a.wire) ref
 -- a call that gave a step, and then what the step wanted
 moves_carried : (w : Writers) (read : Readers) (x m y : LinkedParts) (step : Step) (noted : SessionParts) → Asks w read x step m
     → MayConfirm m.session noted
-    → ((y.session ≡ noted) × Tells m.wire y.wire (Takes (joined step.out)))
-    ⊎ ((y.session ≡ broken noted) × Tells m.wire y.wire (TakesFirst (joined step.out))) → y.stream ≡ m.stream
+    → ((y.session ≡ noted) × Tells m.wire y.wire (Takes (concat step.out)))
+    ⊎ ((y.session ≡ broken noted) × Tells m.wire y.wire (TakesFirst (concat step.out))) → y.stream ≡ m.stream
     → Moves w read x y
 moves_carried w read x m y step noted asks (inl same) (inl all) stream =
     moves_gave w read x m y step asks [] y.wire (all.0 ∙ same) refl
-    (inl (stays_first (Takes (joined step.out)) x.wire m.wire y.wire asks.wire all.1))
+    (inl (stays_first (Takes (concat step.out)) x.wire m.wire y.wire asks.wire all.1))
     (λ said hearing. (
       speak_none w read m.session said y.wire y.wire (stays_here y.wire),
-      hearing_takes said (joined step.out) m y (λ on. subst (λ (s : SessionParts). is_connected s.phase ≡ true) (all.0 ∙ same) on)
+      hearing_takes said (concat step.out) m y (λ on. subst (λ (s : SessionParts). is_connected s.phase ≡ true) (all.0 ∙ same) on)
           all.1 stream hearing,
     ))
 moves_carried w read x m y step noted asks (inr confirmed) (inl all) stream =
     moves_gave w read x m y step asks (call.Confirm ∷ []) y.wire (all.0 ∙ confirmed) refl
-    (inl (stays_first (Takes (joined step.out)) x.wire m.wire y.wire asks.wire all.1))
+    (inl (stays_first (Takes (concat step.out)) x.wire m.wire y.wire asks.wire all.1))
     (λ said hearing. (
       speak_silent w read m.session said call.Confirm [] y.wire y.wire y.wire tt (stays_here y.wire) refl
           (speak_none w read (confirm m.session) said y.wire y.wire (stays_here y.wire)),
-      hearing_takes said (joined step.out) m y (confirm_on m.session y.session (all.0 ∙ confirmed)) all.1 stream hearing,
+      hearing_takes said (concat step.out) m y (confirm_on m.session y.session (all.0 ∙ confirmed)) all.1 stream hearing,
     ))
 moves_carried w read x m y step noted asks (inl same) (inr part) stream =
     moves_gave w read x m y step asks (call.Broken ∷ []) y.wire (part.0 ∙ ap broken same) refl
-    (inr (tt, stays_first (TakesFirst (joined step.out)) x.wire m.wire y.wire asks.wire part.1))
+    (inr (tt, stays_first (TakesFirst (concat step.out)) x.wire m.wire y.wire asks.wire part.1))
     (λ said hearing. (
       speak_broken w read m.session said y.wire y.wire (stays_here y.wire),
       hearing_gone said y (gone noted y.session part.0),
     ))
 moves_carried w read x m y step noted asks (inr confirmed) (inr part) stream =
     moves_gave w read x m y step asks (call.Confirm ∷ call.Broken ∷ []) y.wire (part.0 ∙ ap broken confirmed) refl
-    (inr (tt, stays_first (TakesFirst (joined step.out)) x.wire m.wire y.wire asks.wire part.1))
+    (inr (tt, stays_first (TakesFirst (concat step.out)) x.wire m.wire y.wire asks.wire part.1))
     (λ said hearing. (
       speak_silent w read m.session said call.Confirm (call.Broken ∷ []) y.wire y.wire y.wire tt (stays_here y.wire) refl
           (speak_broken w read (confirm m.session) said y.wire y.wire (stays_here y.wire)),
@@ -200,7 +201,7 @@ moves_carried w read x m y step noted asks (inr confirmed) (inr part) stream =
     ))
 
 pub does_asked : (w : Writers) (read : Readers) (a b d : PostParts) (step : Step) → Asks w read (linked_in a) step (linked_in b)
-    → b.took ≡ a.took → b.seat_parts ≡ a.seat_parts → CarriesOut (joined step.out) b d → Does w read a d
+    → b.took ≡ a.took → b.seat_parts ≡ a.seat_parts → CarriesOut (concat step.out) b d → Does w read a d
 does_asked w read a b d step asks took seat carries =
     does_moves w read a d
     (moves_carried w read (linked_in a) (linked_in b) (linked_in d) step carries.noted asks carries.notes carries.writes carries.stream)

@@ -1,5 +1,6 @@
 -- What goes over a link, one call of the session after another.
 use Rattle.std.proofs.Common.{◌≡◌, ℕ, List, [], ◌∷◌, ◌++◌, Some, None, map, refl, sym, ap, subst, ◌∙◌, inl, inr, append_assoc}
+use Rattle.std.specs.List.{concat}
 use Rattle.std.proofs.lemmas.List.{append-nil}
 use Rattle.fix_tags.specs.Stamp.{StampParts}
 use Rattle.dialect.specs.declared.message.Message.{Message}
@@ -13,7 +14,7 @@ use Rattle.session_core.specs.declared.session_call.SessionCall.TheVariants as c
 use Rattle.session_core.specs.Session.{SessionParts}
 use Rattle.session_core.specs.Trial.{called, after_calls}
 use Rattle.session_worker.specs.Hearing.{Said, said_with, said_after, Hears}
-use Rattle.session_worker.specs.Speaking.{Wire, joined, Reads, TakesFirst, IsGivenUp, Puts, Begins, messages_in, Speaks, Speak}
+use Rattle.session_worker.specs.Speaking.{Wire, Reads, TakesFirst, IsGivenUp, Puts, Begins, messages_in, Speaks, Speak}
 use Rattle.session_worker.specs.Linking.{IsPlain}
 use Rattle.session_worker.proofs.Spoken.{stays_last, stays_here}
 
@@ -112,7 +113,7 @@ speaks_more w read s said made first more a b one = record {
   stamp = one.stamp;
   frames = one.frames;
   framed = one.framed;
-  puts = puts_more (joined one.frames) first more one.ready b one.puts;
+  puts = puts_more (concat one.frames) first more one.ready b one.puts;
 }
 
 -- bytes that were read before
@@ -155,7 +156,7 @@ speak_none w read s said a b stays = reads_none a b stays
 -- one call, whose messages were written with a stamp
 pub speak_made : (w : Writers) (read : Readers) (s : SessionParts) (said : Said) (made : SessionCall) (later : List SessionCall)
     (stamp : StampParts) (frames : List (List ℕ)) (a b c d : Wire) → Hears said made a → Begins s made a b
-    → AreFramed w stamp (map alone (messages_in (called read s made).0)) frames → Puts (joined frames) later b c
+    → AreFramed w stamp (map alone (messages_in (called read s made).0)) frames → Puts (concat frames) later b c
     → Speak w read (called read s made).1 (said_with said made) later c d → Speak w read s said (made ∷ later) a d
 speak_made w read s said made later stamp frames a b c d hears begins framed puts rest = (
   c,
@@ -198,8 +199,8 @@ begins_plain s call.Malformed a b plain stays = stays
 begins_plain s call.Abandon a b plain stays = stays
 
 -- the one frame of a call's message
-pub joined_one : (frame : List ℕ) → joined (frame ∷ []) ≡ frame
-joined_one frame = append-nil frame
+pub concat_one : (frame : List ℕ) → concat (frame ∷ []) ≡ frame
+concat_one frame = append-nil frame
 
 -- the connection is given up
 pub speak_broken : (w : Writers) (read : Readers) (s : SessionParts) (said : Said) (a b : Wire) → Tells a b Stays

@@ -1,5 +1,6 @@
 -- Frames that are written, one after another.
 use Rattle.std.proofs.Common.{◌≡◌, ℕ, suc, ◌+◌, ◌<◌, ◌≤◌, List, [], ◌∷◌, ◌++◌, length, Some, None, map, take, drop, get_or, refl, sym, ap, subst, ◌∙◌, inl, inr, append_assoc, arith, length-append}
+use Rattle.std.specs.List.{concat}
 use Rattle.std.specs.Global.{Vec}
 use Rattle.std.proofs.lemmas.List.{append-nil, map-append, take_all, take_more, take-append-drop}
 use Rattle.std.proofs.Math.Seq.{drop-cons}
@@ -8,7 +9,7 @@ use Rattle.link.specs.Traffic.{Traffic, Tells, Takes, TakesPart, Stays}
 use Rattle.link.proofs.Taking.{tells_more}
 use Rattle.session_core.specs.Session.{SessionParts}
 use Rattle.session_core.specs.Calling.{broken}
-use Rattle.session_worker.specs.Speaking.{Wire, joined}
+use Rattle.session_worker.specs.Speaking.{Wire}
 use Rattle.session_worker.specs.Linking.{LinkedParts, linked_of, MayBreak, Writes}
 
 pub stays_last : (R : List Traffic → List Traffic → Type 0) (a b c : Wire) → Tells a b R → Tells b c Stays → Tells a c R
@@ -56,49 +57,49 @@ writes_breaks bytes x y (inl all) = inl all.0
 writes_breaks bytes x y (inr part) = inr part.0
 
 -- frames one behind the other
-joined-append : (xs ys : List (List ℕ)) → joined (xs ++ ys) ≡ joined xs ++ joined ys
-joined-append [] ys = refl
-joined-append (x ∷ xs) ys = ap (λ l. x ++ l) (joined-append xs ys) ∙ sym (append_assoc x (joined xs) (joined ys))
+concat-append : (xs ys : List (List ℕ)) → concat (xs ++ ys) ≡ concat xs ++ concat ys
+concat-append [] ys = refl
+concat-append (x ∷ xs) ys = ap (λ l. x ++ l) (concat-append xs ys) ∙ sym (append_assoc x (concat xs) (concat ys))
 
 abbrev pub texts : List (Vec ℕ) → List (List ℕ)
 texts frames = map (λ (frame : Vec ℕ). frame.items) frames
 
 -- the first so many frames, the next one, and the others
 frames_cut : (frames : List (Vec ℕ)) (i : ℕ) (frame : Vec ℕ) → i < length frames → frame ≡ get_or frames i frame
-    → joined (texts frames) ≡ joined (texts (take i frames)) ++ (frame.items ++ joined (texts (drop (suc i) frames)))
+    → concat (texts frames) ≡ concat (texts (take i frames)) ++ (frame.items ++ concat (texts (drop (suc i) frames)))
 frames_cut frames i frame below is =
     let rest : drop i frames ≡ frame ∷ drop (suc i) frames =
     drop-cons frames i frame below ∙ ap (λ (x : Vec ℕ). x ∷ drop (suc i) frames) (sym is) in
-    ap (λ l. joined (texts l)) (sym (take-append-drop i frames))
-    ∙ (ap joined (map-append (λ (x : Vec ℕ). x.items) (take i frames) (drop i frames))
-    ∙ (joined-append (texts (take i frames)) (texts (drop i frames))
-    ∙ ap (λ l. joined (texts (take i frames)) ++ joined (texts l)) rest))
+    ap (λ l. concat (texts l)) (sym (take-append-drop i frames))
+    ∙ (ap concat (map-append (λ (x : Vec ℕ). x.items) (take i frames) (drop i frames))
+    ∙ (concat-append (texts (take i frames)) (texts (drop i frames))
+    ∙ ap (λ l. concat (texts (take i frames)) ++ concat (texts l)) rest))
 
 -- one frame more was written
 pub frame_more : (frames : List (Vec ℕ)) (i : ℕ) (frame : Vec ℕ) → i < length frames → frame ≡ get_or frames i frame
-    → (a b c : Wire) → Tells a b (Takes (joined (texts (take i frames)))) → Tells b c (Takes frame.items)
-    → Tells a c (Takes (joined (texts (take (i + 1) frames))))
+    → (a b c : Wire) → Tells a b (Takes (concat (texts (take i frames)))) → Tells b c (Takes frame.items)
+    → Tells a c (Takes (concat (texts (take (i + 1) frames))))
 frame_more frames i frame below is a b c first next =
     let more : take (i + 1) frames ≡ take i frames ++ frame ∷ [] =
     take_more frames i frame below ∙ ap (λ (x : Vec ℕ). take i frames ++ x ∷ []) (sym is) in
-    let all : joined (texts (take (i + 1) frames)) ≡ joined (texts (take i frames)) ++ frame.items =
-    ap (λ l. joined (texts l)) more
-    ∙ (ap joined (map-append (λ (x : Vec ℕ). x.items) (take i frames) (frame ∷ []))
-    ∙ (joined-append (texts (take i frames)) (frame.items ∷ [])
-    ∙ ap (λ l. joined (texts (take i frames)) ++ l) (append-nil frame.items))) in
+    let all : concat (texts (take (i + 1) frames)) ≡ concat (texts (take i frames)) ++ frame.items =
+    ap (λ l. concat (texts l)) more
+    ∙ (ap concat (map-append (λ (x : Vec ℕ). x.items) (take i frames) (frame ∷ []))
+    ∙ (concat-append (texts (take i frames)) (frame.items ∷ [])
+    ∙ ap (λ l. concat (texts (take i frames)) ++ l) (append-nil frame.items))) in
     subst (λ bytes. Tells a c (Takes bytes)) (sym all)
-    (tells_more (joined (texts (take i frames))) frame.items a b c first next)
+    (tells_more (concat (texts (take i frames))) frame.items a b c first next)
 
 -- a frame wasn't written whole
 pub frame_part : (frames : List (Vec ℕ)) (i : ℕ) (frame : Vec ℕ) → i < length frames → frame ≡ get_or frames i frame
-    → (a b c : Wire) → Tells a b (Takes (joined (texts (take i frames)))) → Tells b c (TakesPart frame.items)
-    → Tells a c (TakesPart (joined (texts frames)))
+    → (a b c : Wire) → Tells a b (Takes (concat (texts (take i frames)))) → Tells b c (TakesPart frame.items)
+    → Tells a c (TakesPart (concat (texts frames)))
 frame_part frames i frame below is a b c first part =
     subst (λ bytes. Tells a c (TakesPart bytes)) (sym (frames_cut frames i frame below is))
-    (part_more (joined (texts (take i frames))) frame.items (joined (texts (drop (suc i) frames))) a b c first part)
+    (part_more (concat (texts (take i frames))) frame.items (concat (texts (drop (suc i) frames))) a b c first part)
 
 -- all frames were written
 pub frames_all : (frames : List (Vec ℕ)) (i : ℕ) (a b : Wire) → length frames ≤ i
-    → Tells a b (Takes (joined (texts (take i frames)))) → Tells a b (Takes (joined (texts frames)))
+    → Tells a b (Takes (concat (texts (take i frames)))) → Tells a b (Takes (concat (texts frames)))
 frames_all frames i a b past told =
-    subst (λ (first : List (Vec ℕ)). Tells a b (Takes (joined (texts first)))) (take_all i frames past) told
+    subst (λ (first : List (Vec ℕ)). Tells a b (Takes (concat (texts first)))) (take_all i frames past) told

@@ -1,5 +1,6 @@
 -- What goes over a worker's link beside the calls of its session.
 use Rattle.std.specs.Prelude.{◌≡◌, ◌⊎◌, ℕ, List, [], ◌∷◌, ◌++◌, map, Option, Some, None}
+use Rattle.std.specs.List.{concat}
 use mathlib.Core.List.{IsPrefix}
 use Rattle.fix_tags.specs.Stamp.{StampParts}
 use Rattle.dialect.specs.declared.message.Message.{Message}
@@ -18,11 +19,6 @@ use Rattle.session_worker.specs.Hearing.{Said, said_with, Hears}
 -- what a link tells
 abbrev pub Wire : Type 0
 Wire = Option (List Traffic)
-
--- frames one behind the other
-abbrev pub joined : List (List ℕ) → List ℕ
-joined [] = []
-joined (frame ∷ frames) = frame ++ joined frames
 
 -- some bytes were read, or none
 abbrev pub Reads : Wire → Wire → Type 0
@@ -67,7 +63,7 @@ pub record Speaks (w : Writers) (read : Readers) (s : SessionParts) (said : Said
   pub stamp : StampParts
   pub frames : List (List ℕ)
   pub framed : AreFramed w stamp (map alone (messages_in (called read s made).0)) frames
-  pub puts : Puts (joined frames) later ready after
+  pub puts : Puts (concat frames) later ready after
 
 -- calls one after the other, where the frames of the present connection said this before them
 abbrev pub Speak : Writers → Readers → SessionParts → Said → List SessionCall → Wire → Wire → Type 0

@@ -1,12 +1,13 @@
 //! A session and the link over which it speaks.
 
 ghost use Rattle.std.specs.Prelude.{◌≡◌, false, MatchOption};
+ghost use Rattle.std.specs.List.{concat};
 ghost use Rattle.session_core.specs.Session.{new_session, is_connected, has_doubt};
 ghost use Rattle.session_core.specs.Receiving.{confirm};
 ghost use Rattle.session_core.specs.Calling.{broken, abandon};
 ghost use Rattle.fix_text.specs.Reading.{Stream};
 ghost use Rattle.link.specs.Traffic.{Tells, Dials, Stays};
-ghost use Rattle.session_worker.specs.Speaking.{Wire, joined, Reads};
+ghost use Rattle.session_worker.specs.Speaking.{Wire, Reads};
 ghost use Rattle.session_worker.specs.Hearing.{Said};
 ghost use Rattle.session_worker.specs.Linking.{linked_of, IsHearing, MayBreak, TakesIn, Writes, Moves, Hands, Asks};
 ghost use Rattle.session_worker.specs.Events.{IsIdle};
@@ -141,7 +142,7 @@ impl<K: Link, C: Clock + Drop> Linked<K, C> {
 
     /// Writes frames, in order, until one fails.
     pub(crate) fn write_all(&mut self, frames: Frames)
-        ensures wire { Writes (joined frames) (linked_of self.old.session (K.wire self.old.link) self.old.reader) (linked_of self.new.session (K.wire self.new.link) self.new.reader) }
+        ensures wire { Writes (concat frames) (linked_of self.old.session (K.wire self.old.link) self.old.reader) (linked_of self.new.session (K.wire self.new.link) self.new.reader) }
         ensures reader { self.new.reader ≡ self.old.reader }
     {
         let frames = frames.into_vec();
@@ -261,13 +262,7 @@ impl<K: Link, C: Clock + Drop> Linked<K, C> {
             return None;
         }
         let stamp = self.clock.now();
-        match hear(
-            self.alloc,
-            dialect,
-            &mut self.reader,
-            &mut self.session,
-            &stamp,
-        ) {
+        match hear(dialect, &mut self.reader, &mut self.session, &stamp) {
             Heard::Nothing => None,
             Heard::Step(step) => Some(step),
             Heard::Malformed => {

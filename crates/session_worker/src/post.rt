@@ -1,12 +1,12 @@
 //! What a worker does in its turns.
 
 ghost use Rattle.std.specs.Prelude.{◌≡◌, true, false, MatchOption, MatchResult};
+ghost use Rattle.std.specs.List.{concat};
 ghost use Rattle.dialect.specs.Message.{Readers};
 ghost use Rattle.link.specs.Traffic.{Tells, Stays};
 ghost use Rattle.session_core.specs.declared.phase.Phase.TheVariants as phase;
 ghost use Rattle.session_core.specs.Receiving.{confirm};
 ghost use Rattle.session_core.specs.Calling.{broken};
-ghost use Rattle.session_worker.specs.Speaking.{joined};
 ghost use Rattle.session_worker.specs.Events.{Goes, parts_of};
 ghost use Rattle.session_worker.specs.Linking.{linked_of, post_of, MayConfirm, Hands, Does, Drains, CarriesOut};
 ghost use Rattle.session_worker.specs.Ends.{reason_of, last_calls};
@@ -270,7 +270,7 @@ impl<K: Link, C: Clock + Drop, L: Run, M: Ledger> Post<K, C, L, M> {
     /// Does what a step of the session wants: the legs that it names are withdrawn in the book, its note is booked and
     /// then confirmed, and its frames are written. Where the book wants memory the connection is given up.
     fn carry_out(&mut self, rt: &impl Wait, collector: &Collector<M>, step: Step)
-        ensures { CarriesOut (joined step.out) (post_of self.old.linked.session self.old.takings self.old.seat (K.wire self.old.linked.link) self.old.linked.reader) (post_of self.new.linked.session self.new.takings self.new.seat (K.wire self.new.linked.link) self.new.linked.reader) }
+        ensures { CarriesOut (concat step.out) (post_of self.old.linked.session self.old.takings self.old.seat (K.wire self.old.linked.link) self.old.linked.reader) (post_of self.new.linked.session self.new.takings self.new.seat (K.wire self.new.linked.link) self.new.linked.reader) }
     {
         let Step {
             out,

@@ -3,10 +3,9 @@
 ghost use Rattle.session_worker.specs.Linking.{HeardGives, StandsBehind};
 
 use dialect::Dialect;
-use fix_tags::{ReadFault, Stamp, read_envelope};
+use fix_tags::{Stamp, read_envelope};
 use fix_text::FrameReader;
 use session_core::{Session, Step};
-use std::alloc::Global;
 
 /// What came of the next message.
 #[derive(Drop)]
@@ -17,13 +16,12 @@ pub(crate) enum Heard {
     Step(Step),
     /// The frame was no message, and the session ended the connection.
     Malformed,
-    /// The frame or the message wanted memory, and the session hasn't received it.
+    /// The frame or the session wanted memory, and the session hasn't received the message.
     OutOfMemory,
 }
 
 /// Hands the next message that was read to a session.
 pub(crate) fn hear<D: Dialect>(
-    alloc: Global,
     dialect: &D,
     reader: &mut FrameReader,
     session: &mut Session,
@@ -37,15 +35,14 @@ pub(crate) fn hear<D: Dialect>(
         Ok(None) => return Heard::Nothing,
         Err(_) => return Heard::OutOfMemory,
     };
-    match read_envelope(alloc, &frame) {
+    match read_envelope(&frame) {
         Ok(envelope) => match session.receive(dialect, &envelope, stamp) {
             Ok(step) => Heard::Step(step),
             Err(_) => Heard::OutOfMemory,
         },
-        Err(ReadFault::Tag(_)) => {
+        Err(_) => {
             let _ = session.malformed();
             Heard::Malformed
         }
-        Err(ReadFault::OutOfMemory) => Heard::OutOfMemory,
     }
 }

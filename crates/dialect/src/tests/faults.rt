@@ -5,7 +5,6 @@ use crate::dialect::Dialect;
 use crate::fault::{DialectFault, SpellFault};
 use crate::plain::Plain;
 use crate::split4::Split4;
-use fix_text::FieldRef;
 use std::test::Fail;
 
 #[test]
@@ -19,18 +18,19 @@ fn the_first_fault_wins(rt: HostRuntime) -> Result<(), Fail> {
         ((59, None), (60, None), DialectFault::NotIoc),
     ];
     for (one, other, fault) in rows {
-        let fields = changed(rt.alloc(), SPLIT4, &[one, other])?;
-        assert_eq!(rt; Split4.read_order(&fields).err(), Some(fault));
+        let mut lender = changed(rt.alloc(), SPLIT4, &[one, other])?;
+        assert_eq!(rt; Split4.read_order(&lender.fields()?).err(), Some(fault));
     }
     Ok(())
 }
 
 #[test]
 fn the_first_of_a_tag_counts(rt: HostRuntime) -> Result<(), Fail> {
-    let mut fields = changed(rt.alloc(), PLAIN, &[])?;
-    fields.push(FieldRef::new(54, b"2"))?;
-    fields.push(FieldRef::new(21, b"1"))?;
-    let read = Plain.read_order(&fields)?;
+    let alloc = rt.alloc();
+    let mut lender = changed(alloc, PLAIN, &[])?;
+    lender.push(alloc, 54, b"2")?;
+    lender.push(alloc, 21, b"1")?;
+    let read = Plain.read_order(&lender.fields()?)?;
     assert!(rt; read == buy().ok_or("a leg")?);
     Ok(())
 }

@@ -45,7 +45,7 @@ fn is_read_as<D: Dialect>(
     let mut reader = FrameReader::new(alloc);
     reader.feed(bytes.as_bytes())?;
     let frame = reader.next()?.ok_or("a frame")?;
-    let envelope = read_envelope(alloc, &frame)?;
+    let envelope = read_envelope(&frame)?;
     let read = see(dialect, &envelope);
     let wanted = format!(in alloc; "{message:?}")?;
     assert_eq!(rt; format!(in alloc; "{read:?}")?.as_str(), wanted.as_str());

@@ -1,12 +1,12 @@
 //! Worked orders, written and read back.
 
-use super::support::{CODED, Order, PLAIN, SPLIT4, buy};
+use super::support::{CODED, Lender, Order, PLAIN, SPLIT4, buy};
 use crate::coded::Coded;
 use crate::dialect::Dialect;
 use crate::plain::Plain;
 use crate::split4::Split4;
 use fix_tags::Stamp;
-use fix_text::{Field, FieldRef};
+use fix_text::Field;
 use leg::{Leg, LegId, Side, Symbol, Terms};
 use std::alloc::Global;
 use std::process::Abort;
@@ -71,13 +71,12 @@ pub(crate) fn is_written_as<D: Dialect>(
     fields.push(Field::from_slice(alloc, 1, b"before")?)?;
     dialect.write_order(alloc, leg, &stamp, &mut fields)?;
     assert_eq!(rt; fields.len(), wanted.len() + 1);
-    let mut lent = Vec::new(alloc);
     for (field, (tag, value)) in fields[1..].iter().zip(wanted) {
         assert_eq!(rt; field.tag(), *tag);
         assert_eq!(rt; field.value(), *value);
-        lent.push(FieldRef::new(field.tag(), field.value()))?;
     }
-    let read = dialect.read_order(&lent)?;
+    let mut lender = Lender::of_fields(alloc, &fields[1..])?;
+    let read = dialect.read_order(&lender.fields()?)?;
     assert!(rt; read == *leg);
     Ok(())
 }

@@ -18,8 +18,8 @@ fn is_refused<D: Dialect>(
     changes: &[Value],
     fault: DialectFault,
 ) -> Result<(), Fail> {
-    let fields = changed(alloc, order, changes)?;
-    assert_eq!(rt; dialect.read_order(&fields).err(), Some(fault));
+    let mut lender = changed(alloc, order, changes)?;
+    assert_eq!(rt; dialect.read_order(&lender.fields()?).err(), Some(fault));
     Ok(())
 }
 

@@ -2,6 +2,7 @@
 
 ghost use Rattle.std.specs.Prelude.{◌≡◌, IfSome};
 
+use super::support::Lender;
 use crate::*;
 use fix_tags::{read_number, write_number};
 use fix_text::{Field, FieldRef};
@@ -69,14 +70,6 @@ fn joined(alloc: Global, fields: &[Field]) -> Result<Vec<u8>, AllocError> {
     Ok(text)
 }
 
-fn lent<'a>(alloc: Global, fields: &'a [Field]) -> Result<Vec<FieldRef<'a>>, AllocError> {
-    let mut lent = Vec::new(alloc);
-    for field in fields {
-        lent.push(FieldRef::new(field.tag(), field.value()))?;
-    }
-    Ok(lent)
-}
-
 /// Writes a report behind a field that is there, and reads it back.
 fn is_written_as<D: Dialect>(
     rt: &impl Abort,
@@ -94,7 +87,8 @@ fn is_written_as<D: Dialect>(
     assert!(rt; !fields.is_empty());
     assert_eq!(rt; fields[0].value(), b"before".as_slice());
     assert_eq!(rt; joined(alloc, &fields[1..])?.as_slice(), text);
-    let read = dialect.read_report(&lent(alloc, &fields[1..])?)?;
+    let mut lender = Lender::of_fields(alloc, &fields[1..])?;
+    let read = dialect.read_report(&lender.fields()?)?;
     assert!(rt; read == *report);
     Ok(())
 }
@@ -127,12 +121,8 @@ fn field_of(text: &'static [u8]) -> Option<FieldRef<'static>> {
 }
 
 /// The fields of a text, with these values in the place of their own.
-fn changed(
-    alloc: Global,
-    text: &'static [u8],
-    changes: &[Value],
-) -> Result<Vec<FieldRef<'static>>, AllocError> {
-    let mut fields = Vec::new(alloc);
+fn changed(alloc: Global, text: &'static [u8], changes: &[Value]) -> Result<Lender, AllocError> {
+    let mut lender = Lender::new(alloc);
     for part in text.split(|c| *c == b'|') {
         if let Some(own) = field_of(part) {
             let mut value = Some(own.value());
@@ -142,11 +132,11 @@ fn changed(
                 }
             }
             if let Some(value) = value {
-                fields.push(FieldRef::new(own.tag(), value))?;
+                lender.push(alloc, own.tag(), value)?;
             }
         }
     }
-    Ok(fields)
+    Ok(lender)
 }
 
 #[test]
@@ -161,8 +151,9 @@ fn faults_of_each_kind(rt: HostRuntime) -> Result<(), Fail> {
     ];
     for text in [NEW, TRADE, LAST_TRADE, CANCELED, REJECTED, EXPIRED, BUST] {
         for (change, fault) in rows {
-            let fields = changed(rt.alloc(), text, &[change])?;
-            assert_eq!(rt; Plain.read_report(&fields).err(), Some(fault), "{change:?}");
+            let mut lender = changed(rt.alloc(), text, &[change])?;
+            let read = Plain.read_report(&lender.fields()?);
+            assert_eq!(rt; read.err(), Some(fault), "{change:?}");
         }
     }
     Ok(())
@@ -185,8 +176,9 @@ fn faults_of_what_a_kind_needs(rt: HostRuntime) -> Result<(), Fail> {
         (NEW, (150, Some(b"F")), DialectFault::Missing(32)),
     ];
     for (text, change, fault) in rows {
-        let fields = changed(rt.alloc(), text, &[change])?;
-        assert_eq!(rt; Plain.read_report(&fields).err(), Some(fault), "{change:?}");
+        let mut lender = changed(rt.alloc(), text, &[change])?;
+        let read = Plain.read_report(&lender.fields()?);
+        assert_eq!(rt; read.err(), Some(fault), "{change:?}");
     }
     Ok(())
 }
@@ -206,8 +198,8 @@ fn the_first_fault_of_a_report_wins(rt: HostRuntime) -> Result<(), Fail> {
         (BUST, (150, None), (19, None), DialectFault::Missing(150)),
     ];
     for (text, one, other, fault) in rows {
-        let fields = changed(rt.alloc(), text, &[one, other])?;
-        assert_eq!(rt; Plain.read_report(&fields).err(), Some(fault));
+        let mut lender = changed(rt.alloc(), text, &[one, other])?;
+        assert_eq!(rt; Plain.read_report(&lender.fields()?).err(), Some(fault));
     }
     Ok(())
 }
@@ -225,10 +217,11 @@ fn the_rest_of_a_report_is_passed_over(rt: HostRuntime) -> Result<(), Fail> {
         (6, None),
         (1, Some(b"")),
     ];
-    let mut fields = changed(rt.alloc(), TRADE, &changes)?;
-    fields.push(FieldRef::new(150, b"0"))?;
-    fields.push(FieldRef::new(19, b"E1"))?;
-    let read = Plain.read_report(&fields)?;
+    let alloc = rt.alloc();
+    let mut lender = changed(alloc, TRADE, &changes)?;
+    lender.push(alloc, 150, b"0")?;
+    lender.push(alloc, 19, b"E1")?;
+    let read = Plain.read_report(&lender.fields()?)?;
     let kind = trade(60, b"10.25").ok_or("a trade")?;
     assert!(rt; read == report(b"E2", kind).ok_or("a report")?);
     Ok(())
@@ -237,13 +230,15 @@ fn the_rest_of_a_report_is_passed_over(rt: HostRuntime) -> Result<(), Fail> {
 #[test]
 fn an_order_is_no_report(rt: HostRuntime) -> Result<(), Fail> {
     let order = b"11=S1L1|18=f|38=100|40=2|44=10.25|54=1|55=BRK.B|59=3|60=20240102-14:30:00.000|";
-    let fields = changed(rt.alloc(), order, &[])?;
+    let mut lender = changed(rt.alloc(), order, &[])?;
+    let fields = lender.fields()?;
     assert_eq!(rt; Plain.read_order(&fields).err(), None);
     assert_eq!(rt;
         Plain.read_report(&fields).err(),
         Some(DialectFault::Missing(17))
     );
-    let fields = changed(rt.alloc(), TRADE, &[])?;
+    let mut lender = changed(rt.alloc(), TRADE, &[])?;
+    let fields = lender.fields()?;
     assert_eq!(rt; Plain.read_report(&fields).err(), None);
     assert_eq!(rt;
         Plain.read_order(&fields).err(),
@@ -256,27 +251,38 @@ const LONG: &[u8] = b"0123456789ABCDEFGHIJKLMNOPQRSTUVWXYZabcdefghijklmnopqrstuv
 
 #[test]
 fn texts_at_the_ends_of_their_ranges(rt: HostRuntime) -> Result<(), Fail> {
-    let rows: [(&'static [u8], bool, bool); 7] = [
+    let rows: [(&'static [u8], bool, bool); 6] = [
         (b"", false, false),
         (b"\x7f", true, true),
         (&LONG[..20], true, true),
         (&LONG[..21], true, false),
         (&LONG[..64], true, false),
         (LONG, false, false),
-        (b"E\x01", false, false),
     ];
     for (text, is_id, is_px) in rows {
         assert_eq!(rt; ExecId::new(text).is_some(), is_id, "{text:?}");
         assert_eq!(rt; OrderId::new(text).is_some(), is_id, "{text:?}");
         assert_eq!(rt; LastPx::new(text).is_some(), is_px, "{text:?}");
-        let exec = changed(rt.alloc(), NEW, &[(17, Some(text))])?;
-        assert_eq!(rt; Plain.read_report(&exec).is_ok(), is_id, "{text:?}");
-        let cancelled = changed(rt.alloc(), BUST, &[(19, Some(text))])?;
-        assert_eq!(rt; Plain.read_report(&cancelled).is_ok(), is_id, "{text:?}");
-        let px = changed(rt.alloc(), TRADE, &[(31, Some(text))])?;
-        assert_eq!(rt; Plain.read_report(&px).is_ok(), is_px, "{text:?}");
+        let mut exec = changed(rt.alloc(), NEW, &[(17, Some(text))])?;
+        assert_eq!(rt;
+            Plain.read_report(&exec.fields()?).is_ok(),
+            is_id,
+            "{text:?}"
+        );
+        let mut cancelled = changed(rt.alloc(), BUST, &[(19, Some(text))])?;
+        assert_eq!(rt;
+            Plain.read_report(&cancelled.fields()?).is_ok(),
+            is_id,
+            "{text:?}"
+        );
+        let mut px = changed(rt.alloc(), TRADE, &[(31, Some(text))])?;
+        assert_eq!(rt; Plain.read_report(&px.fields()?).is_ok(), is_px, "{text:?}");
     }
     assert_eq!(rt; LONG.len(), 65);
+    // A text with SOH in it is no field's value, and none of these.
+    assert!(rt; ExecId::new(b"E\x01").is_none());
+    assert!(rt; OrderId::new(b"E\x01").is_none());
+    assert!(rt; LastPx::new(b"E\x01").is_none());
     Ok(())
 }
 
@@ -290,8 +296,8 @@ fn shares_at_the_ends_of_their_ranges(rt: HostRuntime) -> Result<(), Fail> {
     ];
     for (shares, text, fits) in rows {
         assert_eq!(rt; trade(shares, b"1").is_some(), fits);
-        let fields = changed(rt.alloc(), TRADE, &[(32, Some(text))])?;
-        assert_eq!(rt; Plain.read_report(&fields).is_ok(), fits);
+        let mut lender = changed(rt.alloc(), TRADE, &[(32, Some(text))])?;
+        assert_eq!(rt; Plain.read_report(&lender.fields()?).is_ok(), fits);
     }
     Ok(())
 }

@@ -2,7 +2,8 @@
 
 use crate::dialect::Dialect;
 use crate::fault::DialectFault;
-use fix_text::FieldRef;
+use fix_tags::AppFields;
+use fix_text::{Field, Frame, Place};
 use leg::{Leg, LegId, Side, Symbol, Terms};
 use std::alloc::{AllocError, Global};
 use std::process::Abort;
@@ -64,13 +65,51 @@ pub(crate) fn buy() -> Option<Leg> {
     Some(Leg { id, terms })
 }
 
+/// The text of fields, with the room for where they lie.
+#[derive(Drop)]
+pub(crate) struct Lender {
+    text: Vec<u8>,
+    places: Vec<Place>,
+}
+
+impl Lender {
+    pub(crate) fn new(alloc: Global) -> Lender {
+        Lender {
+            text: Vec::new(alloc),
+            places: Vec::new(alloc),
+        }
+    }
+
+    /// The text of these fields, written as they are.
+    pub(crate) fn of_fields(alloc: Global, fields: &[Field]) -> Result<Lender, AllocError> {
+        let mut lender = Lender::new(alloc);
+        for field in fields {
+            lender.push(alloc, field.tag(), field.value())?;
+        }
+        Ok(lender)
+    }
+
+    pub(crate) fn push(&mut self, alloc: Global, tag: u32, value: &[u8]) -> Result<(), AllocError> {
+        let name = format!(in alloc; "{tag}=")?;
+        self.text.extend_from_slice(name.as_bytes())?;
+        self.text.extend_from_slice(value)?;
+        self.text.push(1).map_err(|_| AllocError)
+    }
+
+    /// The fields, as those of a message that was read.
+    pub(crate) fn fields(&mut self) -> Result<AppFields<'_>, Fail> {
+        let frame = Frame::read(self.text.as_slice(), &mut self.places)?.ok_or("fields")?;
+        Ok(AppFields::new(frame))
+    }
+}
+
 /// The order with these values in the place of its own.
 pub(crate) fn changed(
     alloc: Global,
     order: Order,
     changes: &[Value],
-) -> Result<Vec<FieldRef<'static>>, AllocError> {
-    let mut fields = Vec::new(alloc);
+) -> Result<Lender, AllocError> {
+    let mut lender = Lender::new(alloc);
     for (tag, own) in order {
         let mut value = Some(*own);
         for (other, instead) in changes {
@@ -79,10 +118,10 @@ pub(crate) fn changed(
             }
         }
         if let Some(value) = value {
-            fields.push(FieldRef::new(*tag, value))?;
+            lender.push(alloc, *tag, value)?;
         }
     }
-    Ok(fields)
+    Ok(lender)
 }
 
 /// Changes one field of an order in turn.
@@ -94,8 +133,12 @@ pub(crate) fn fault_by_row<D: Dialect>(
     rows: &[Row],
 ) -> Result<(), Fail> {
     for (change, fault) in rows {
-        let fields = changed(alloc, order, &[*change])?;
-        assert_eq!(rt; dialect.read_order(&fields).err(), *fault, "{change:?}");
+        let mut lender = changed(alloc, order, &[*change])?;
+        assert_eq!(rt;
+            dialect.read_order(&lender.fields()?).err(),
+            *fault,
+            "{change:?}"
+        );
     }
     Ok(())
 }

@@ -1,23 +1,20 @@
 //! The way of an order: from a leg to the bytes of a frame, and back.
-ghost use Rattle.std.specs.Prelude.{◌≡◌, ℕ, List, Some, IfOk};
+ghost use Rattle.std.specs.Prelude.{◌≡◌, ℕ, List, IfOk};
 ghost use Rattle.fix_text.specs.FrameFields.{fields_in};
 ghost use Rattle.fix_text.specs.Reading.{next_read};
-ghost use Rattle.fix_text.specs.Tagged.{value_of};
+ghost use Rattle.fix_tags.specs.Reading.{envelope_read};
 ghost use Rattle.leg.specs.declared.leg.Leg.{Leg};
 ghost use Rattle.dispatch_main.specs.Header.{HeaderParts};
-ghost use Rattle.dispatch_main.specs.OrderFrame.{stream_of, IsOrderFrame, is_order_kind, order_in, ReadsOrder, GivesLeg};
+ghost use Rattle.dispatch_main.specs.OrderFrame.{stream_of, IsOrderFrame, order_in, order_of_message, ReadsOrder, GivesLeg};
 
 use crate::order::header::Header;
 use crate::order::order_fault::OrderFault;
 use crate::order::room::OrderRoom;
 use dialect::Dialect;
-use fix_tags::{Body, BodyRef, EnvelopeRef, ReadFault, read_envelope, write_envelope};
+use fix_tags::{Body, BodyRef, EnvelopeRef, read_envelope, write_envelope};
 use fix_text::{Fields, Frame, FrameReader};
 use leg::Leg;
 use std::alloc::{AllocError, Global};
-
-/// MsgType.
-const MSG_TYPE: u32 = 35;
 
 /// The leg as the frame of an order, in this dialect. It takes no memory but the room that it is given, so nothing is
 /// refused.
@@ -53,34 +50,18 @@ fn order_of_message<D: Dialect>(dialect: &D, message: &EnvelopeRef<'_>) -> Resul
         BodyRef::App {
             kind: [b'D'],
             fields,
-        } => dialect
-            .read_order(fields.as_slice())
-            .map_err(OrderFault::BadOrder),
+        } => dialect.read_order(fields).map_err(OrderFault::BadOrder),
         _ => Err(OrderFault::NoOrder),
     }
 }
 
-/// Whether a frame's MsgType (35) is that of an order.
-fn is_order(frame: &Frame<'_>) -> bool
-    ensures { result ≡ is_order_kind (value_of (fields_in frame.now) 35) }
+/// The leg of a frame's message.
+fn order_of_frame<D: Dialect>(dialect: &D, frame: &Frame<'_>) -> Result<Leg, OrderFault>
+    ensures { result ≡ order_of_message (D.order_read dialect.now) (envelope_read (fields_in frame.now)) }
 {
-    matches!(frame.get(MSG_TYPE), Some([b'D']))
-}
-
-/// The leg of a frame's message. Where there is no memory for the list of an application message's fields, its kind is
-/// looked at nevertheless.
-fn order_of_frame<D: Dialect>(
-    alloc: Global,
-    dialect: &D,
-    frame: &Frame<'_>,
-) -> Result<Leg, OrderFault>
-    ensures { ReadsOrder (D.order_read dialect.now) (Some (fields_in frame.now)) result }
-{
-    match read_envelope(alloc, frame) {
+    match read_envelope(frame) {
         Ok(message) => order_of_message(dialect, &message),
-        Err(ReadFault::Tag(fault)) => Err(OrderFault::NoMessage(fault)),
-        Err(ReadFault::OutOfMemory) if is_order(frame) => Err(OrderFault::OutOfMemory),
-        Err(ReadFault::OutOfMemory) => Err(OrderFault::NoOrder),
+        Err(fault) => Err(OrderFault::NoMessage(fault)),
     }
 }
 
@@ -95,15 +76,11 @@ pub fn stream_of(alloc: Global, bytes: &[u8]) -> Result<FrameReader, AllocError>
     }
 }
 
-fn first_order<D: Dialect>(
-    alloc: Global,
-    dialect: &D,
-    stream: &mut FrameReader,
-) -> Result<Leg, OrderFault>
+fn first_order<D: Dialect>(dialect: &D, stream: &mut FrameReader) -> Result<Leg, OrderFault>
     ensures { ReadsOrder (D.order_read dialect.now) (next_read stream.old).frame result }
 {
     match stream.next() {
-        Ok(Some(frame)) => order_of_frame(alloc, dialect, &frame),
+        Ok(Some(frame)) => order_of_frame(dialect, &frame),
         Ok(None) => Err(OrderFault::NoFrame),
         Err(_) => Err(OrderFault::OutOfMemory),
     }
@@ -113,18 +90,14 @@ fn first_order<D: Dialect>(
 ///
 /// `NoFrame`: there is no whole valid frame; `NoMessage`: its fields aren't a message; `NoOrder`: it
 /// is none of kind `D`; `BadOrder`: the dialect refuses its fields.
-pub fn read_order_frame<D: Dialect>(
-    alloc: Global,
-    dialect: &D,
-    mut stream: FrameReader,
-) -> Result<Leg, OrderFault>
+pub fn read_order_frame<D: Dialect>(dialect: &D, mut stream: FrameReader) -> Result<Leg, OrderFault>
     ensures read { ReadsOrder (D.order_read dialect.now) (next_read stream).frame result }
     // The frame of an order is read back as its leg.
     ensures order { (leg : Leg) (header : HeaderParts) (bytes : List ℕ) → stream ≡ stream_of bytes
         → IsOrderFrame (record { IsOrder = D.IsOrder dialect.now; IsReport = D.IsReport dialect.now }) leg header bytes
         → GivesLeg leg result }
 {
-    first_order(alloc, dialect, &mut stream)
+    first_order(dialect, &mut stream)
 }
 
 #[cfg(test)]

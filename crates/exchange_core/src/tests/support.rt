@@ -166,7 +166,7 @@ pub(super) fn takes(
     let mut reader = FrameReader::new(alloc);
     reader.feed(bytes.as_bytes())?;
     let frame = reader.next()?.ok_or("a frame")?;
-    let envelope = read_envelope(alloc, &frame)?;
+    let envelope = read_envelope(&frame)?;
     Ok(exchange.take(alloc, &Plain, connection, &envelope, &moment()?))
 }
 

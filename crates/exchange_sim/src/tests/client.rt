@@ -137,7 +137,7 @@ impl<K: Link> Client<K> {
         let Some(frame) = self.reader.next()? else {
             return Ok(None);
         };
-        let envelope = read_envelope(self.alloc, &frame)?;
+        let envelope = read_envelope(&frame)?;
         let step = self.session.receive(&Plain, &envelope, &self.stamp)?;
         Ok(Some(step))
     }

@@ -26,11 +26,7 @@ fn fault_with(
 /// The fault of a frame of these fields, if it has one.
 fn fault_of(alloc: Global, pairs: &[Pair<'_>]) -> Result<Option<TagFault>, Fail> {
     let mut lender = Lender::of_pairs(alloc, pairs)?;
-    match read_envelope(alloc, &lender.frame()?) {
-        Ok(_) => Ok(None),
-        Err(ReadFault::Tag(fault)) => Ok(Some(fault)),
-        Err(fault) => Err(fault.into()),
-    }
+    Ok(read_envelope(&lender.frame()?).err())
 }
 
 /// A kind, its fields, the one that is changed, whether it has to be there, values at the limits of its form,

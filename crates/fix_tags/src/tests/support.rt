@@ -79,6 +79,11 @@ impl Lender {
     }
 }
 
+/// A body as it is told.
+pub(super) fn told(alloc: Global, body: &BodyRef<'_>) -> Result<String, AllocError> {
+    format!(in alloc; "{body:?}")
+}
+
 /// The fields of a good header, and then those of a body.
 pub(super) fn with_header<'a>(
     alloc: Global,

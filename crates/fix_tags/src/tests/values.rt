@@ -185,20 +185,8 @@ fn faults_print_their_codes(rt: HostRuntime) -> Result<(), Fail> {
             format!(in rt.alloc(); "{}", WriteFault::OutOfMemory)?,
             "M03 out of memory",
         ),
-        (
-            format!(in rt.alloc(); "{}", ReadFault::OutOfMemory)?,
-            "M03 out of memory",
-        ),
         (format!(in rt.alloc(); "{missing}")?, "M04 missing tag 11"),
-        (
-            format!(in rt.alloc(); "{}", ReadFault::Tag(missing))?,
-            "M04 missing tag 11",
-        ),
         (format!(in rt.alloc(); "{bad}")?, "M05 bad value of tag 98"),
-        (
-            format!(in rt.alloc(); "{}", ReadFault::Tag(bad))?,
-            "M05 bad value of tag 98",
-        ),
     ];
     for (printed, text) in texts {
         assert_eq!(rt; printed.as_str(), text);

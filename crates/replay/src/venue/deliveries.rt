@@ -64,7 +64,7 @@ fn take_next<D: Dialect>(
         (record { order = D.order_read dialect.now; report = D.report_read dialect.now }) (next_read stream.old).frame))
         result exchange.new }
 {
-    match next_message(alloc, stream) {
+    match next_message(stream) {
         Ok(envelope) => exchange.take(alloc, dialect, connection, &envelope, &stamp()),
         Err(_) => Err(ExchangeFault::OutOfMemory),
     }

@@ -42,7 +42,7 @@ impl<D: Dialect + Drop> Venue<D> {
             return Ok(None);
         }
         let mut stream = stream_of(alloc, &frame.bytes)?;
-        match hear_next(alloc, &self.dialect, &mut self.session, &mut stream) {
+        match hear_next(&self.dialect, &mut self.session, &mut stream) {
             Ok(step) => {
                 let connection = self.session.connection();
                 keep(&mut self.to_exchange, connection, step.out.into_vec())?;
@@ -73,7 +73,6 @@ impl<D: Dialect + Drop> Venue<D> {
 
 /// A session receives the next frame of a stream. The only refusal is want of memory, S04.
 fn hear_next<D: Dialect>(
-    alloc: Global,
     dialect: &D,
     session: &mut Session,
     stream: &mut FrameReader,
@@ -84,7 +83,7 @@ fn hear_next<D: Dialect>(
         (record { order = D.order_read dialect.now; report = D.report_read dialect.now }) (next_read stream.old).frame)))
         result session.new }
 {
-    match next_message(alloc, stream) {
+    match next_message(stream) {
         Ok(envelope) => session.receive(dialect, &envelope, &stamp()),
         Err(_) => Err(SessionFault::OutOfMemory),
     }

@@ -4,7 +4,7 @@ use super::dialogue::{Setup, new_session};
 use super::wire::{Text, assert_shown, moment, read_fault, shown};
 use crate::{Ended, Phase};
 use dialect::Plain;
-use fix_tags::{ReadFault, TagFault};
+use fix_tags::TagFault;
 use std::test::Fail;
 
 /// A message, its two ends, and its frame.
@@ -45,12 +45,12 @@ fn frames(rt: HostRuntime) -> Result<(), Fail> {
     let first = session.connect(&Plain, &moment()?)?;
     assert_shown(&rt, alloc, first, FIRST, "the first frame")?;
     let no_number = read_fault(alloc, "35=0|49=B|56=A|52=20240102-14:30:00.000|")?;
-    assert_eq!(rt; no_number, Some(ReadFault::Tag(TagFault::Missing(34))));
+    assert_eq!(rt; no_number, Some(TagFault::Missing(34)));
     let next = read_fault(
         alloc,
         "35=A|49=B|56=A|34=1|52=20240102-14:30:00.000|98=0|108=30|789=0|",
     )?;
-    assert_eq!(rt; next, Some(ReadFault::Tag(TagFault::BadField(789))));
+    assert_eq!(rt; next, Some(TagFault::BadField(789)));
     assert_eq!(rt; session.malformed(), Some(Ended::Malformed));
     assert_eq!(rt; session.phase(), Phase::Down);
     Ok(())

@@ -23,7 +23,7 @@ fn a_list_of_calls(rt: HostRuntime) -> Result<(), Fail> {
     let mut reader = FrameReader::new(alloc);
     reader.feed(logon.as_bytes())?;
     let frame = reader.next()?.ok_or("a frame")?;
-    let envelope = read_envelope(alloc, &frame)?;
+    let envelope = read_envelope(&frame)?;
     let calls = [
         SessionCall::Quiet,
         SessionCall::Connect,

@@ -2,7 +2,7 @@
 
 use crate::{Session, Step};
 use dialect::Plain;
-use fix_tags::{ReadFault, Stamp, read_envelope};
+use fix_tags::{Stamp, TagFault, read_envelope};
 use fix_text::{FrameReader, sum256};
 use std::alloc::Global;
 use std::process::Abort;
@@ -54,17 +54,17 @@ pub(super) fn hand(alloc: Global, session: &mut Session, shown: &str) -> Result<
     let mut reader = FrameReader::new(alloc);
     reader.feed(bytes.as_bytes())?;
     let frame = reader.next()?.ok_or("a frame")?;
-    let envelope = read_envelope(alloc, &frame)?;
+    let envelope = read_envelope(&frame)?;
     Ok(session.receive(&Plain, &envelope, &moment()?)?)
 }
 
 /// Why a frame of these fields is no message, with `|` for SOH.
-pub(super) fn read_fault(alloc: Global, fields: &str) -> Result<Option<ReadFault>, Fail> {
+pub(super) fn read_fault(alloc: Global, fields: &str) -> Result<Option<TagFault>, Fail> {
     let bytes = framed(alloc, fields)?.replace(alloc, "|", "\x01")?;
     let mut reader = FrameReader::new(alloc);
     reader.feed(bytes.as_bytes())?;
     let frame = reader.next()?.ok_or("a frame")?;
-    Ok(read_envelope(alloc, &frame).err())
+    Ok(read_envelope(&frame).err())
 }
 
 /// A frame is as it is shown, with `|` for SOH.

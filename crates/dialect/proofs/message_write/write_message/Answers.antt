@@ -1,26 +1,11 @@
-use Rattle.std.proofs.Common.{◌≡◌, None, rules, sym, subst}
-use Rattle.fix_tags.specs.Message.{envelope_refusal}
-use Rattle.fix_tags.specs.declared.envelope.Envelope.{Envelope}
-use Rattle.dialect.specs.Framed.{Writers, IsBody}
-use Rattle.dialect.specs.Message.{Readers}
-use Rattle.dialect.proofs.FrameBack.{Agrees, never_refused}
+use Rattle.std.proofs.Common.{List, ℕ, sym, subst}
+use Rattle.dialect.specs.Framed.{Writers, IsFramed}
 use Rattle.dialect.proofs.message_write.write_message.Goals as goal
 
-pub frame_of-requires : goal.frame_of-requires
-frame_of-requires g c =
-    let laws = g.met.D.Dialect in
+pub returns : goal.returns
+returns g c =
     let d = c.args.dialect.now in
     let w : Writers = record { IsOrder = g.D.Dialect.IsOrder d; IsReport = g.D.Dialect.IsReport d } in
-    let read : Readers = record { order = g.D.Dialect.order_read d; report = g.D.Dialect.report_read d } in
-    let agrees : Agrees w read = record {
-      order_back = laws.order_reads_back d;
-      order_fits = laws.order_fits d;
-      report_back = laws.report_reads_back d;
-      report_fits = laws.report_fits d;
-    } in
-    let stamp = c.args.stamp.now in
-    let out = c.args.outgoing.now in
-    let body = c.in_ok-body.body in
-    let is_body : IsBody w stamp out.beside out.message.content body = search rules in
-    let refused = never_refused w read stamp out body agrees c.requires is_body in
-    subst (λ (e : Envelope). envelope_refusal e stamp ≡ None) (sym c.envelope_of-envelope.ensures) refused
+    let appended = c.in_ok-append_message.ensures.ok in
+    let alone = rw c.new-frame.ensures.items at appended.2 in
+    subst (λ (bytes : List ℕ). IsFramed w c.args.stamp.now c.args.outgoing.now bytes) (sym alone) appended.1

@@ -19,7 +19,7 @@ fn fault_of<D: Dialect>(
 ) -> Result<Option<OrderFault>, AllocError> {
     let bytes = shown.replace(alloc, "|", "\x01")?;
     let stream = stream_of(alloc, bytes.as_bytes())?;
-    Ok(read_order_frame(alloc, dialect, stream).err())
+    Ok(read_order_frame(dialect, stream).err())
 }
 
 #[test]

@@ -1,14 +1,12 @@
 use Rattle.std.proofs.Common.{◌≡◌, refl, sym, ap, ◌∙◌}
 use Rattle.std.specs.Prelude.{option_map}
 use Rattle.fix_text.specs.FrameFields.{fields_in}
-use Rattle.fix_tags.specs.Reading.{envelope_read}
-use Rattle.fix_tags.specs.declared.read_fault.ReadFault.TheVariants as read_fault
 use Rattle.dialect.specs.Framed.{Writers}
 use Rattle.dialect.specs.Message.{Readers, seen}
 use Rattle.session_core.specs.declared.session_call.SessionCall.TheVariants as call
 use Rattle.session_core.specs.Calling.{answers}
 use Rattle.session_core.specs.Receiving.{receive}
-use Rattle.session_worker.proofs.Calling.{gave_step, no_message}
+use Rattle.session_worker.proofs.Calling.{gave_step}
 use Rattle.session_worker.proofs.reading.hear.Goals as goal
 
 pub returns-in-Ok-receive-clause-heard : goal.returns-in-Ok-receive-clause-heard
@@ -28,13 +26,11 @@ returns-in-Ok-receive-clause-heard g c =
 pub returns-in-Ok-None-clause-heard : goal.returns-in-Ok-None-clause-heard
 returns-in-Ok-None-clause-heard g c = (refl, sym c.in-Ok-None.ensures.fields ∙ ap (option_map fields_in) c.in-Ok-None.field-0-is)
 
-pub returns-in-Err-Tag-clause-heard : goal.returns-in-Err-Tag-clause-heard
-returns-in-Err-Tag-clause-heard g c =
-    let other : c.in-Err-Tag.field-0 ≡ read_fault.OutOfMemory → ⊥ = λ e. let same = sym c.in-Err-Tag.field-0-is ∙ e in absurd cc in
-    let none = no_message c.in-Err-Tag.field-0 (envelope_read (fields_in c.in-Ok-Some.frame)) c.in-Err-Tag.ensures.read other in (
-      fields_in c.in-Ok-Some.frame,
-      none.0,
-      sym c.in-Ok-Some.ensures.fields ∙ ap (option_map fields_in) c.in-Ok-Some.field-0-is,
-      none.1,
-      ap (λ p. p.1) c.malformed.ensures,
-    )
+pub returns-in-Err-read_envelope-clause-heard : goal.returns-in-Err-read_envelope-clause-heard
+returns-in-Err-read_envelope-clause-heard g c = (
+  fields_in c.in-Ok-Some.frame,
+  c.in-Err-read_envelope.field-0,
+  sym c.in-Ok-Some.ensures.fields ∙ ap (option_map fields_in) c.in-Ok-Some.field-0-is,
+  c.in-Err-read_envelope.ensures.read,
+  ap (λ p. p.1) c.malformed.ensures,
+)

@@ -1,4 +1,5 @@
 use Rattle.std.proofs.Common.{rules, ◌≡◌, refl, sym, subst}
+use Rattle.std.specs.List.{concat}
 use Rattle.dialect.specs.Framed.{Writers}
 use Rattle.dialect.specs.Message.{Readers}
 use Rattle.session_core.specs.declared.session_call.SessionCall.TheVariants as call
@@ -6,7 +7,6 @@ use Rattle.session_core.specs.declared.session_fault.SessionFault.{SessionFault}
 use Rattle.session_core.specs.Calling.{close}
 use Rattle.session_core.specs.Given.{IsStep}
 use Rattle.session_worker.specs.Events.{IsIdle}
-use Rattle.session_worker.specs.Speaking.{joined}
 use Rattle.session_worker.specs.Linking.{LinkedParts, linked_of}
 use Rattle.session_worker.proofs.Spoken.{stays_here, writes_breaks}
 use Rattle.session_worker.proofs.Connected.{close_on}
@@ -33,7 +33,7 @@ returns-in-Ok-clause-idle g c =
     let between : LinkedParts = linked_of c.close.new.self old.wire old.stream in
     idle_may_break between.session now.session
     (idle_closed (IsStep w c.now-stamp.result) old.session between.session c.in-Ok.step c.in-Ok.ensures)
-    (writes_breaks (joined c.in-Ok.step.out) between now c.write_all.ensures.wire)
+    (writes_breaks (concat c.in-Ok.step.out) between now c.write_all.ensures.wire)
 
 pub returns-in-Err-OutOfMemory-clause-moves : goal.returns-in-Err-OutOfMemory-clause-moves
 returns-in-Err-OutOfMemory-clause-moves g c =

@@ -1,8 +1,9 @@
 use Rattle.std.proofs.Common.{ℕ, List, inl, inr, refl, ap, subst, ◌∙◌}
+use Rattle.std.specs.List.{concat}
 use Rattle.link.specs.Traffic.{Tells, Takes, TakesPart}
 use Rattle.link.proofs.Taking.{tells_nothing}
 use Rattle.session_core.specs.Calling.{broken}
-use Rattle.session_worker.specs.Speaking.{Wire, joined}
+use Rattle.session_worker.specs.Speaking.{Wire}
 use Rattle.session_worker.proofs.Spoken.{texts, stays_last, frame_more, frame_part, frames_all}
 use Rattle.session_worker.proofs.linked.Linked.write_all.Goals as goal
 
@@ -30,13 +31,13 @@ returns-in-Err-clause-wire g c =
     let e : Wire = g.K.Link.wire c.break_off.new.self.link in
     let wrote : Tells b d (TakesPart c.frame-item.result.items) =
     subst (λ (bytes : List ℕ). Tells b d (TakesPart bytes)) c.as_slice.ensures.value c.in-Err.ensures.wire in
-    let part : Tells a d (TakesPart (joined c.args.frames)) =
-    subst (λ (frames : List (List ℕ)). Tells a d (TakesPart (joined frames))) (ap texts c.deref-frame-items.ensures.value ∙ c.into_vec-frames.ensures)
+    let part : Tells a d (TakesPart (concat c.args.frames)) =
+    subst (λ (frames : List (List ℕ)). Tells a d (TakesPart (concat frames))) (ap texts c.deref-frame-items.ensures.value ∙ c.into_vec-frames.ensures)
     (frame_part c.deref-frame-items.result.now c.loop-frame.frame-index c.frame-item.result c.loop-frame-test.true
     c.frame-item.is a b d c.loop-frame.invariant.1 wrote) in
     inr (
       c.break_off.ensures.session ∙ ap broken c.loop-frame.invariant.0,
-      stays_last (TakesPart (joined c.args.frames)) a d e part c.break_off.ensures.wire,
+      stays_last (TakesPart (concat c.args.frames)) a d e part c.break_off.ensures.wire,
     )
 
 pub returns-clause-wire : goal.returns-clause-wire
@@ -45,7 +46,7 @@ returns-clause-wire g c =
     let b : Wire = g.K.Link.wire c.loop-frame.self.link in
     inl (
       c.loop-frame.invariant.0,
-      subst (λ (frames : List (List ℕ)). Tells a b (Takes (joined frames))) (ap texts c.deref-frame-items.ensures.value ∙ c.into_vec-frames.ensures)
+      subst (λ (frames : List (List ℕ)). Tells a b (Takes (concat frames))) (ap texts c.deref-frame-items.ensures.value ∙ c.into_vec-frames.ensures)
           (frames_all c.deref-frame-items.result.now c.loop-frame.frame-index a b c.loop-frame-test.false c.loop-frame.invariant.1),
     )
 

@@ -1,0 +1,5 @@
+mod Booked
+mod Callers
+mod Exchanges
+mod Orders
+mod Places

@@ -1,0 +1,148 @@
+-- The workers of a day keep their places: each is that of its venue, and their seats have all parts.
+use Rattle.std.proofs.Common.{◌≡◌, ◌⊎◌, inl, inr, ℕ, zero, suc, List, [], ◌∷◌, ◌++◌, length, map, All, replicate, Some, None, refl, sym, ap, subst, ◌∙◌, arith}
+use Rattle.std.specs.Prelude.{slice_get, sum_by}
+use Rattle.std.proofs.lemmas.List.{length-append, append-nil, append_assoc, map-append}
+use Rattle.std.proofs.lemmas.List.Elements.{All-nil, All-replicate, All-push}
+use Rattle.std.proofs.lemmas.List.Sums.{sum_by-cons}
+use Rattle.exec_collector.specs.Seats.{Seat, new_seat, parts_of as seat_parts}
+use Rattle.release_lock.specs.Queues.{DrainParts, new_drains, Took, AreInOrder}
+use Rattle.dialect.specs.Framed.{Writers}
+use Rattle.fix_tags.specs.Config.{ConfigParts}
+use Rattle.session_core.specs.Session.{new_session}
+use Rattle.session_worker.specs.Events.{WorkerParts, parts_of}
+use Rattle.session_worker.specs.Ends.{WorkerStart, WorkerLeft, AllRan}
+use Rattle.live_day.specs.Day.{dispatcher, new_worker, new_workers, KeepsPlace, AllKeepPlace}
+
+-- each worker that ran keeps its place
+pub kept_places : {A B : Type 0} (writes : A → Writers) (f : A → WorkerStart) (g : B → WorkerLeft) (xs : List A) (ys : List B)
+    → AllRan writes f xs (map g ys) → AllKeepPlace (map (λ x. (f x).parts) xs) (map (λ y. (g y).parts) ys)
+kept_places writes f g [] [] ran = tt
+kept_places writes f g [] (y ∷ ys) ran = absurd ran
+kept_places writes f g (x ∷ xs) [] ran = absurd ran
+kept_places writes f g (x ∷ xs) (y ∷ ys) ran =
+    let runs = ran.0 in
+    ((runs.last.venue ∙ runs.goes.venue, runs.last.seat ∙ runs.goes.seat), kept_places writes f g xs ys ran.1)
+
+-- what stands at a place of a list with one element more
+snoc_at : {A : Type 0} (xs : List A) (y : A) (at : ℕ) (x : A) → slice_get (xs ++ y ∷ []) at ≡ Some x
+    → (slice_get xs at ≡ Some x) ⊎ ((at ≡ length xs) × (y ≡ x))
+snoc_at [] y zero x e = inr (refl, cc)
+snoc_at [] y (suc at) x e = absurd cc
+snoc_at (first ∷ xs) y zero x e = inl e
+snoc_at (first ∷ xs) y (suc at) x e =
+    elim (snoc_at xs y at x e) [
+      | inl there ↦ inl there
+      | inr last ↦ inr (ap suc last.0, last.1)
+    ]
+
+pub drains_length : (venues : ℕ) → length (new_drains venues) ≡ venues
+drains_length zero = refl
+drains_length (suc venues) =
+    let rest = drains_length venues in
+    let one = length-append (new_drains venues) (record { venue = venues; popped = [] } ∷ []) in
+    omega (arith, rest, one)
+
+-- nothing was popped from a new drain
+pub none_popped : (venues : ℕ) → All (λ (d : DrainParts). d.popped ≡ []) (new_drains venues)
+none_popped zero = All-nil (λ (d : DrainParts). d.popped ≡ [])
+none_popped (suc venues) = All-push (λ (d : DrainParts). d.popped ≡ []) (new_drains venues) (record { venue = venues; popped = [] })
+    (none_popped venues) refl
+
+pub all_new : (count : ℕ) → All (λ (s : Seat). s ≡ new_seat) (replicate count new_seat)
+all_new count = All-replicate (λ (s : Seat). s ≡ new_seat) count new_seat refl
+
+drain_at : (venues at : ℕ) (drain : DrainParts) → slice_get (new_drains venues) at ≡ Some drain → drain.venue ≡ at
+drain_at zero at drain e = absurd cc
+drain_at (suc venues) at drain e =
+    elim (snoc_at (new_drains venues) (record { venue = venues; popped = [] }) at drain e) [
+      | inl there ↦ drain_at venues at drain there
+      | inr last ↦ sym (ap (λ (d : DrainParts). d.venue) last.1) ∙ sym (last.0 ∙ drains_length venues)
+    ]
+
+-- what stands at a place of a list that was mapped
+source_at : {A B : Type 0} (f : A → B) (xs : List A) (at : ℕ) (y : B) → slice_get (map f xs) at ≡ Some y
+    → (x : A) × (slice_get xs at ≡ Some x) × (f x ≡ y)
+source_at f [] at y e = absurd cc
+source_at f (x ∷ xs) zero y e = (x, refl, cc)
+source_at f (x ∷ xs) (suc at) y e = source_at f xs at y e
+
+at_map : {A B : Type 0} (f : A → B) (xs : List A) (at : ℕ) (x : A) → slice_get xs at ≡ Some x
+    → slice_get (map f xs) at ≡ Some (f x)
+at_map f [] at x e = absurd cc
+at_map f (first ∷ xs) zero x e = (let same : first ≡ x = cc in ap (λ y. Some (f y)) same)
+at_map f (first ∷ xs) (suc at) x e = at_map f xs at x e
+
+kept_at : (starts ends : List WorkerParts) (at : ℕ) (end : WorkerParts) → AllKeepPlace starts ends
+    → slice_get ends at ≡ Some end
+    → (start : WorkerParts) × (slice_get starts at ≡ Some start) × KeepsPlace start end
+kept_at [] [] at end kept e = absurd cc
+kept_at [] (after ∷ ends) at end kept e = absurd kept
+kept_at (before ∷ starts) [] at end kept e = absurd kept
+kept_at (before ∷ starts) (after ∷ ends) zero end kept e =
+    (let same : after ≡ end = cc in (before, refl, subst (KeepsPlace before) same kept.0))
+kept_at (before ∷ starts) (after ∷ ends) (suc at) end kept e = kept_at starts ends at end kept.1 e
+
+-- workers that were new, one for each venue, are in the order of the venues
+pub in_order : {A : Type 0} (parts : A → WorkerParts) (venues : ℕ) (ends : List A)
+    → AllKeepPlace (new_workers venues) (map parts ends) → AreInOrder (map (λ e. (parts e).took) ends)
+in_order parts venues ends kept at took e =
+    let end = source_at (λ e. (parts e).took) ends at took e in
+    let there = at_map parts ends at end.0 end.1 in
+    let start = kept_at (new_workers venues) (map parts ends) at (parts end.0) kept there in
+    let drain = source_at new_worker (new_drains venues) at start.0 start.1 in
+    let is_drain : start.0.took.venue ≡ drain.0.venue = sym (ap (λ (w : WorkerParts). w.took.venue) drain.2) in
+    sym (ap (λ (t : Took). t.venue) end.2) ∙ (start.2.0 ∙ (is_drain ∙ drain_at venues at drain.0 drain.1))
+
+parts_kept : {A : Type 0} (parts : A → WorkerParts) (seat : A → Seat)
+    → ((x : A) → (parts x).seat_parts ≡ (seat x).parts) → (starts : List WorkerParts) (ends : List A)
+    → AllKeepPlace starts (map parts ends)
+    → seat_parts (map seat ends) ≡ sum_by (λ (w : WorkerParts). w.seat_parts) starts
+parts_kept parts seat same [] [] kept = refl
+parts_kept parts seat same [] (end ∷ ends) kept = absurd kept
+parts_kept parts seat same (start ∷ starts) [] kept = absurd kept
+parts_kept parts seat same (start ∷ starts) (end ∷ ends) kept =
+    let first : (seat end).parts ≡ start.seat_parts = sym (same end) ∙ kept.0.1 in
+    let rest = parts_kept parts seat same starts ends kept.1 in
+    let seats = sum_by-cons (λ (s : Seat). s.parts) (seat end) (map seat ends) in
+    let befores = sum_by-cons (λ (w : WorkerParts). w.seat_parts) start starts in
+    omega (arith, first, rest, seats, befores)
+
+one_each : (drains : List DrainParts) → sum_by (λ (w : WorkerParts). w.seat_parts) (map new_worker drains) ≡ length drains
+one_each [] = refl
+one_each (drain ∷ drains) =
+    let rest = one_each drains in
+    let all = sum_by-cons (λ (w : WorkerParts). w.seat_parts) (new_worker drain) (map new_worker drains) in
+    omega (arith, rest, all)
+
+-- and their seats have one part for each venue
+pub all_parts : {A : Type 0} (parts : A → WorkerParts) (seat : A → Seat)
+    → ((x : A) → (parts x).seat_parts ≡ (seat x).parts) → (venues : ℕ) (ends : List A)
+    → AllKeepPlace (new_workers venues) (map parts ends) → seat_parts (map seat ends) ≡ venues
+all_parts parts seat same venues ends kept =
+    parts_kept parts seat same (new_workers venues) ends kept ∙ (one_each (new_drains venues) ∙ drains_length venues)
+
+-- a worker that was made of a new seat is the new one of its drain's venue
+pub is_new : (config : ConfigParts) (drain : DrainParts) (seat : Seat) → config ≡ dispatcher → seat ≡ new_seat
+    → parts_of (new_session config) (record { venue = drain.venue; taken = [] }) seat None ≡ new_worker drain
+is_new config drain seat is same =
+    ap (λ (c : ConfigParts). parts_of (new_session c) (record { venue = drain.venue; taken = [] }) seat None) is
+    ∙ ap (λ (s : Seat). parts_of (new_session dispatcher) (record { venue = drain.venue; taken = [] }) s None) same
+
+-- one worker more was made, of the first drain left
+pub one_made : {A : Type 0} (parts : A → WorkerParts) (made : List A) (worker : A) (drain : DrainParts)
+    (before rest all : List DrainParts) → parts worker ≡ new_worker drain → before ≡ drain ∷ rest
+    → map parts made ++ map new_worker before ≡ map new_worker all
+    → map parts (made ++ worker ∷ []) ++ map new_worker rest ≡ map new_worker all
+one_made parts made worker drain before rest all is here so_far =
+    ap (λ ws. ws ++ map new_worker rest) (map-append parts made (worker ∷ []))
+    ∙ (append_assoc (map parts made) (parts worker ∷ []) (map new_worker rest)
+    ∙ (ap (λ w. map parts made ++ w ∷ map new_worker rest) is
+    ∙ (sym (ap (λ ds. map parts made ++ map new_worker ds) here) ∙ so_far)))
+
+-- where no drain is left, all were made
+pub all_made : {A : Type 0} (parts : A → WorkerParts) (made : List A) (left all : List DrainParts) (venues : ℕ)
+    → length left ≡ 0 → all ≡ new_drains venues → map parts made ++ map new_worker left ≡ map new_worker all
+    → map parts made ≡ new_workers venues
+all_made parts made [] all venues none is so_far =
+    sym (append-nil (map parts made)) ∙ (so_far ∙ ap (map new_worker) is)
+all_made parts made (drain ∷ drains) all venues none is so_far = absurd (omega (arith, none))

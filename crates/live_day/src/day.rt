@@ -1,0 +1,26 @@
+//! What became of a day.
+
+use leg::Totals;
+use session_worker::DayReport;
+
+/// A sweep as the book has it at the end of a day.
+#[derive(Clone, Copy, Debug, PartialEq, Eq)]
+pub struct LiveSweep {
+    /// Its number, from 1.
+    pub number: u64,
+    /// The shares of all its legs.
+    pub shares: u64,
+    /// What became of them.
+    pub totals: Totals,
+}
+
+/// What became of a day.
+#[derive(Debug, Drop)]
+pub struct LiveDay {
+    /// The sweeps, in the order of their numbers.
+    pub sweeps: Vec<LiveSweep>,
+    /// How many sweeps were given up, since each try of them was refused.
+    pub unplaced: u64,
+    /// What the audit tells.
+    pub report: DayReport,
+}

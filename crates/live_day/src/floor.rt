@@ -1,0 +1,84 @@
+//! What the threads of a day share.
+
+use crate::exchange::Serve;
+use crate::signals::{Running, Signals};
+use crate::{LivePlan, Progress, SoFar};
+use exec_collector::Collector;
+use leg::VenueId;
+use release_lock::{ReleaseLock, Run};
+use session_worker::shut_gate;
+use std::alloc::AllocError;
+use std::sync::Wait;
+use std::sync::ledger::Ledger;
+use std::thread;
+use std::time::{Clock, Duration};
+
+/// How many milliseconds pass between two looks at threads that run.
+const LOOK_MILLIS: u64 = 1;
+
+/// How many looks are a second at least.
+const LOOKS: u64 = 1_000;
+
+/// What the threads of a day share.
+#[derive(Drop)]
+pub struct Floor<L: Run, M: Ledger> {
+    pub plan: LivePlan,
+    pub lock: ReleaseLock<L>,
+    pub collector: Collector<M>,
+    pub signals: Signals,
+}
+
+impl<L: Run, M: Ledger> Floor<L, M> {
+    /// How far the day is.
+    fn so_far(&self, rt: &impl Wait) -> SoFar {
+        SoFar {
+            placed: self.signals.placed(),
+            resolved: self.collector.resolved(rt),
+        }
+    }
+
+    /// Waits until these threads have ended, and tells how far the day is once a second.
+    fn watch<R: Wait + Clock, P: Progress>(&self, rt: &R, running: &Running, progress: &mut P) {
+        for _ in rt.forever() {
+            for _ in 0..LOOKS {
+                if running.is_over() {
+                    return;
+                }
+                thread::sleep(rt, Duration::from_millis(LOOK_MILLIS));
+            }
+            progress.tell(self.so_far(rt));
+        }
+    }
+
+    /// Tells how far the day is until it ends; once the callers have ended it shuts the gates, so that the workers end.
+    pub fn keep<R: Wait + Clock, P: Progress + Drop>(&self, rt: &R, progress: P) {
+        let mut progress = progress;
+        self.watch(rt, &self.signals.callers, &mut progress);
+        self.shut_gates(rt);
+        self.watch(rt, &self.signals.workers, &mut progress);
+    }
+
+    /// Serves an exchange's clients until it is stopped. Where it wants memory the callers are to give up.
+    pub fn serve<X: Serve>(&self, exchange: X) -> Result<(), AllocError> {
+        let served = exchange.serve(&self.signals.is_over);
+        if served.is_err() {
+            self.signals.end();
+        }
+        served
+    }
+
+    /// Callers are to give up, and the gates are shut, so that the workers end.
+    pub fn give_up(&self, rt: &impl Wait) {
+        self.signals.end();
+        self.shut_gates(rt);
+    }
+
+    /// Shuts the gate of each venue.
+    fn shut_gates(&self, rt: &impl Wait) {
+        for number in 0..self.plan.venues {
+            if let Ok(venue) = VenueId::new(number) {
+                shut_gate(rt, &self.lock, venue);
+            }
+        }
+    }
+}

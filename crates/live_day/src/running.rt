@@ -1,0 +1,190 @@
+//! A day from its rings to its audit.
+
+ghost use Rattle.std.specs.Prelude.{◌≡◌, ◌+◌, ◌*◌, ◌<◌, ◌≤◌, length, map, sum_by, IfOk, IfErr};
+ghost use Rattle.std.specs.List.{All};
+ghost use Rattle.share_ledger.specs.Book.{BookParts};
+ghost use Rattle.exec_collector.specs.Resolved.{Replays};
+ghost use Rattle.exec_collector.specs.Seats.{parts_of as seat_parts, shares_of};
+ghost use Rattle.release_lock.specs.Queues.{IsFresh, AreInOrder};
+ghost use Rattle.live_day.specs.Faults.{IsNoMismatch};
+ghost use Rattle.live_day.specs.Day.{IsLivePlan, AreCalled, left_of, shares_each};
+ghost use Rattle.live_day.specs.Sweeps.{sweeps_in};
+
+use crate::caller::{CallerEnd, split_seats};
+use crate::exchange::open_exchanges;
+use crate::floor::Floor;
+use crate::signals::Signals;
+use crate::sweeps::booked_sweeps;
+use crate::threads::{Cast, Ended, in_threads};
+use crate::workers::new_workers;
+use crate::{LiveDay, LiveFault, LivePlan, Progress};
+use exec_collector::Collector;
+use link::Link;
+use release_lock::{CallerSeat, Opened, ReleaseLock, Run, rings};
+use session_worker::{AuditFault, DayReport, WorkerEnd, audit};
+use share_ledger::Book;
+use std::alloc::{AllocError, Global};
+use std::collections::VecDeque;
+use std::marker::Brand;
+use std::net::{Net, TcpListener, TcpStream};
+use std::sync::Wait;
+use std::sync::ledger::{Blank, Ledger};
+use std::thread::Threads;
+use std::time::Clock;
+use venue_queue::{Drain, Feed};
+
+/// Runs a day over loopback, and audits it. Each caller releases its sweeps, with an order of 10 shares for each venue.
+pub fn run_live<R, P>(
+    rt: &R,
+    alloc: Global,
+    plan: LivePlan,
+    progress: P,
+) -> Result<LiveDay, LiveFault>
+where
+    R: Net<Listener = TcpListener, Stream = TcpStream> + Threads + Wait + Clock + Sync,
+    P: Progress + Drop + Send,
+    requires { IsLivePlan plan }
+    ensures sweeps { IfOk result (λ day. (book : BookParts) × Replays book × (day.sweeps.items ≡ sweeps_in book)) }
+    ensures placed { IfOk result (λ day. day.report.placed + day.unplaced * shares_each plan
+        ≡ plan.callers * (plan.sweeps * shares_each plan)) }
+    ensures only { IfErr result IsNoMismatch }
+{
+    let rings = rings(alloc, plan.venues)?;
+    let workers = u64::from(plan.venues);
+    named_day::<Brand, Brand, R, P>(
+        rt,
+        alloc,
+        plan,
+        Blank::new(1024),
+        Blank::new(workers),
+        rings,
+        progress,
+    )
+}
+
+/// A day whose names were picked.
+fn named_day<L, M, R, P>(
+    rt: &R,
+    alloc: Global,
+    plan: LivePlan,
+    callers: Blank,
+    workers: Blank,
+    rings: VecDeque<(Feed, Drain)>,
+    progress: P,
+) -> Result<LiveDay, LiveFault>
+where
+    L: Run + Send + Sync,
+    M: Ledger + Send + Sync,
+    R: Net<Listener = TcpListener, Stream = TcpStream> + Threads + Wait + Clock + Sync,
+    P: Progress + Drop + Send,
+    requires plan { IsLivePlan plan }
+    requires callers { (callers.name ≡ L.name) × (callers.parts ≡ L.parts) × (L.parts ≡ 1024) }
+    requires workers { (workers.name ≡ M.name) × (workers.parts ≡ M.parts) × (M.parts ≡ plan.venues) }
+    requires rings { (length rings.items ≡ plan.venues) × All IsFresh rings.items }
+    requires queues { L.queues ≡ map (λ ends. ends.0.table) rings.items }
+    ensures sweeps { IfOk result (λ day. (book : BookParts) × Replays book × (day.sweeps.items ≡ sweeps_in book)) }
+    ensures placed { IfOk result (λ day. day.report.placed + day.unplaced * shares_each plan
+        ≡ plan.callers * (plan.sweeps * shares_each plan)) }
+    ensures only { IfErr result IsNoMismatch }
+{
+    let opened = ReleaseLock::<L>::new(alloc, plan.venues, callers, rings);
+    let Ok(Opened { lock, seat, drains }) = opened else {
+        return Err(LiveFault::OutOfMemory);
+    };
+    let made = Collector::<M>::new(alloc, plan.venues, workers);
+    let Ok((collector, seats)) = made else {
+        return Err(LiveFault::OutOfMemory);
+    };
+    let exchanges = open_exchanges(rt, alloc, plan.venues, plan.cut)?;
+    let workers = new_workers(rt, alloc, &exchanges, drains, seats)?;
+    let callers = split_seats(alloc, seat, plan.callers)?;
+    let cast = Cast {
+        exchanges,
+        workers,
+        callers,
+    };
+    let floor = Floor {
+        plan,
+        lock,
+        collector,
+        signals: Signals::new(plan.callers),
+    };
+    let ended = in_threads(rt, alloc, &floor, cast, progress)?;
+    told(rt, alloc, floor, ended)
+}
+
+/// What became of a day whose threads have ended.
+fn told<K: Link, L: Run, M: Ledger>(
+    rt: &impl Wait,
+    alloc: Global,
+    floor: Floor<L, M>,
+    ended: Ended<K, L, M>,
+) -> Result<LiveDay, LiveFault>
+    requires plan { IsLivePlan floor.plan }
+    requires order { AreInOrder (map (λ e. e.took) ended.workers.items) }
+    requires shared { seat_parts (map (λ e. e.seat) ended.workers.items) ≡ M.parts }
+    requires some { 0 < M.parts }
+    requires callers { AreCalled floor.plan (map (λ e. left_of e.seat e.unplaced) ended.callers.items) }
+    ensures sweeps { IfOk result (λ day. (book : BookParts) × Replays book × (day.sweeps.items ≡ sweeps_in book)) }
+    ensures placed { IfOk result (λ day. day.report.placed + day.unplaced * shares_each floor.plan
+        ≡ floor.plan.callers * (floor.plan.sweeps * shares_each floor.plan)) }
+    ensures only { IfErr result IsNoMismatch }
+{
+    let Floor {
+        plan: _,
+        lock,
+        collector,
+        signals: _,
+    } = floor;
+    let Ended { workers, callers } = ended;
+    let (seats, unplaced) = parted(alloc, callers)?;
+    let sweeps = collector.read(rt, |book: &Book| booked_sweeps(alloc, book))?;
+    let report = audited(alloc, lock, collector, seats, workers)?;
+    Ok(LiveDay {
+        sweeps,
+        unplaced,
+        report,
+    })
+}
+
+/// The callers' seats, and how many sweeps they gave up in all.
+fn parted<L: Run>(
+    alloc: Global,
+    ends: Vec<CallerEnd<L>>,
+) -> Result<(Vec<CallerSeat<L>>, u64), AllocError>
+    requires { sum_by (λ e. e.unplaced) ends.items ≤ 64000000 }
+    ensures { IfOk result (λ parts. (parts.0.items ≡ map (λ e. e.seat) ends.items) × (parts.1 ≡ sum_by (λ e. e.unplaced) ends.items)) }
+{
+    let mut ends = VecDeque::from(ends);
+    let mut seats = Vec::new(alloc);
+    let mut unplaced = 0;
+    while let Some(end) = ends.pop_front() {
+        unplaced += end.unplaced;
+        seats.push(end.seat)?;
+    }
+    Ok((seats, unplaced))
+}
+
+/// The audit of a day.
+fn audited<K: Link, L: Run, M: Ledger>(
+    alloc: Global,
+    lock: ReleaseLock<L>,
+    collector: Collector<M>,
+    callers: Vec<CallerSeat<L>>,
+    workers: Vec<WorkerEnd<K, L, M>>,
+) -> Result<DayReport, LiveFault>
+    requires order { AreInOrder (map (λ e. e.took) workers.items) }
+    requires shared { seat_parts (map (λ e. e.seat) workers.items) ≡ M.parts }
+    requires some { 0 < M.parts }
+    requires callers { seat_parts callers.items ≡ 1024 }
+    ensures placed { IfOk result (λ report. report.placed ≡ shares_of callers.items) }
+    ensures only { IfErr result (λ fault. fault ≡ LiveFault.OutOfMemory) }
+{
+    match audit(alloc, lock, collector, callers, workers) {
+        Ok(report) => Ok(report),
+        Err(AuditFault::MismatchQueue(_)) => Err(LiveFault::MismatchQueue),
+        Err(AuditFault::MismatchShares) => Err(LiveFault::MismatchShares),
+        Err(AuditFault::MismatchPlaced) => Err(LiveFault::MismatchPlaced),
+        Err(AuditFault::OutOfMemory) => Err(LiveFault::OutOfMemory),
+    }
+}
