@@ -1,11 +1,1 @@
-pub mod ExitStatus
-pub mod Header
-pub mod LiveOption
-pub mod LivePlan
-pub mod LiveText
-pub mod Options
-pub mod OrderFrame
-pub mod OrderLines
-pub mod OrderOption
-pub mod Replay
-pub mod Request
+pub mod Fault

@@ -1,12 +1,12 @@
 //! The commands of the program, as its help lists them.
-ghost use Rattle.dispatch_main.specs.ExitStatus.{IsOfCommandLine};
+ghost use Rattle.dispatch_main.specs.Fault.{IsOfCommandLine};
 
 use crate::fault::ProgramFault;
-use crate::live::live_command;
-use crate::order::order_command;
-use crate::replay_script::replay_command;
 use clap::Command;
 use clap::error::ErrorKind;
+use live_command::live_command;
+use order_command::order_command;
+use replay_command::replay_command;
 use std::alloc::{AllocError, Global};
 use std::convert::AsStr;
 

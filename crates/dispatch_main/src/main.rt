@@ -4,21 +4,15 @@
 
 mod command;
 mod fault;
-mod frame_text;
-mod live;
-mod order;
-mod out;
-mod replay_script;
-mod status;
 
 use crate::command::no_command;
 use crate::fault::ProgramFault;
-use crate::live::{ProgressLines, live_run};
-use crate::order::order_run;
-use crate::replay_script::replay_run;
-use crate::status::tell;
 use clock::{Clock, UtcClock};
+use command_line::tell;
+use live_command::{ProgressLines, live_run};
 use live_day::Progress;
+use order_command::order_run;
+use replay_command::replay_run;
 use std::alloc::Global;
 use std::convert::AsStr;
 use std::io::{Read, Write};
@@ -27,13 +21,6 @@ use std::process::ExitCode;
 use std::sync::Wait;
 use std::thread::Threads;
 use std::{env, io, time};
-
-#[cfg(test)]
-mod fake_clock;
-#[cfg(test)]
-mod tests;
-#[cfg(test)]
-mod untold;
 
 /// The words of the command line, of which the first is the program's own name.
 fn words(rt: &HostRuntime) -> Result<Vec<String>, ProgramFault> {

@@ -19,6 +19,3 @@ pub use frame::Frame;
 pub use running::run;
 pub use told::Told;
 pub use world::{World, venue_of};
-
-#[cfg(test)]
-mod tests;

@@ -1,0 +1,7 @@
+use Rattle.std.proofs.Common.{◌≡◌, take}
+use Rattle.std.specs.Prelude.{map}
+use Rattle.command_line.specs.FrameText.{shown_byte}
+use Rattle.command_line.proofs.frame_text.shown.Given as goal
+
+abbrev pub invariant-loop-byte : goal.invariant-loop-byte
+invariant-loop-byte l = l.text.items ≡ map shown_byte (take l.byte-index l.frame)

@@ -1,0 +1,3 @@
+pub mod ExitStatus
+pub mod FrameText
+pub mod Output

@@ -1,3 +1,0 @@
-pub mod OrderBack
-pub mod Grown
-pub mod ShownEnds

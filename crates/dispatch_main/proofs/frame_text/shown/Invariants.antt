@@ -1,7 +1,0 @@
-use Rattle.std.proofs.Common.{◌≡◌, take}
-use Rattle.std.specs.Prelude.{map}
-use Rattle.dispatch_main.specs.OrderLines.{shown_byte}
-use Rattle.dispatch_main.proofs.frame_text.shown.Given as goal
-
-abbrev pub invariant-loop-byte : goal.invariant-loop-byte
-invariant-loop-byte l = l.text.items ≡ map shown_byte (take l.byte-index l.frame)

@@ -1,0 +1,45 @@
+-- The faults of `dispatch live`.
+use Rattle.std.specs.Prelude.{ℕ}
+use Rattle.live_day.specs.declared.live_fault.LiveFault.{LiveFault}
+use Rattle.live_day.specs.declared.live_fault.LiveFault.TheVariants as live
+use Rattle.live_command.specs.declared.fault.CommandFault.{CommandFault}
+use Rattle.live_command.specs.declared.fault.CommandFault.TheVariants.{
+  CommandLine,
+  NoNumber,
+  BadNumber,
+  WriteFailed,
+  NoSocket,
+  NoThread,
+  OutOfMemory,
+  MismatchQueue,
+  MismatchShares,
+  MismatchPlaced,
+}
+
+-- the status that tells a fault
+abbrev pub fault_status : CommandFault → ℕ
+fault_status (CommandLine error) = 2
+fault_status (NoNumber option) = 2
+fault_status (BadNumber option) = 3
+fault_status WriteFailed = 4
+fault_status NoSocket = 4
+fault_status NoThread = 4
+fault_status OutOfMemory = 5
+fault_status MismatchQueue = 6
+fault_status MismatchShares = 6
+fault_status MismatchPlaced = 6
+
+-- a fault of the command line, or want of memory
+abbrev pub IsOfCommandLine : CommandFault → Type 0
+IsOfCommandLine (CommandLine error) = Unit {0}
+IsOfCommandLine OutOfMemory = Unit {0}
+IsOfCommandLine other = ⊥
+
+-- the fault of a day that can't be run, or whose audit fails
+abbrev pub live_fault : LiveFault → CommandFault
+live_fault live.NoSocket = NoSocket
+live_fault live.NoThread = NoThread
+live_fault live.OutOfMemory = OutOfMemory
+live_fault live.MismatchQueue = MismatchQueue
+live_fault live.MismatchShares = MismatchShares
+live_fault live.MismatchPlaced = MismatchPlaced

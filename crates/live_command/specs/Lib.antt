@@ -1,0 +1,4 @@
+pub mod Fault
+pub mod LiveOption
+pub mod LivePlan
+pub mod LiveText

@@ -1,0 +1,68 @@
+//! The options of `dispatch live`, as text.
+ghost use Rattle.std.specs.Prelude.{◌≡◌, Some, IfOk, IfErr};
+ghost use Rattle.live_command.specs.LiveOption.{matched, AreOptions};
+
+use crate::fault::CommandFault;
+use crate::option::{LIVE_OPTIONS, LiveOption};
+use clap::{Arg, ArgMatches, Command};
+use std::alloc::{AllocError, Global};
+use std::convert::AsStr;
+
+/// The values of the options, each as it was written. All are required.
+#[derive(Drop)]
+pub struct Options<'a> {
+    pub venues: &'a str,
+    pub callers: &'a str,
+    pub sweeps: &'a str,
+    pub cut: &'a str,
+    pub turns: &'a str,
+}
+
+/// The command `live`, with its options.
+pub fn live_command<'a>(alloc: Global) -> Result<Command<'a>, AllocError> {
+    let mut command = Command::new(alloc, "live").about(
+        "Runs a day over loopback, in threads, and prints what became of each sweep",
+    );
+    for option in &LIVE_OPTIONS {
+        let arg = Arg::new(alloc, option.name())
+            .long(option.name())
+            .value_name("N")
+            .help(option.help())
+            .required(true);
+        command = command.arg(arg)?;
+    }
+    Ok(command)
+}
+
+fn value<'a>(matches: &ArgMatches<'a>, option: LiveOption) -> Result<&'a str, CommandFault>
+    ensures ok { IfOk result (λ text. matched matches.now option ≡ Some text.now) }
+    ensures err { IfErr result (λ fault. fault ≡ CommandFault.NoNumber option) }
+{
+    match matches.get_str(option.name()) {
+        Some(text) => Ok(text),
+        None => Err(CommandFault::NoNumber(option)),
+    }
+}
+
+/// The options that the command line matched, each under its name.
+fn options_of<'a>(matches: &ArgMatches<'a>) -> Result<Options<'a>, CommandFault>
+    ensures { IfOk result (AreOptions matches.now) }
+{
+    Ok(Options {
+        venues: value(matches, LiveOption::Venues)?,
+        callers: value(matches, LiveOption::Callers)?,
+        sweeps: value(matches, LiveOption::Sweeps)?,
+        cut: value(matches, LiveOption::Cut)?,
+        turns: value(matches, LiveOption::Turns)?,
+    })
+}
+
+/// The options in these words. A missing, unknown or repeated option is a fault of the command line.
+pub fn read_options<'a, S: AsStr>(
+    alloc: Global,
+    words: &'a [S],
+) -> Result<Options<'a>, CommandFault> {
+    let command = live_command(alloc)?.bin_name("dispatch live")?;
+    let matches = command.try_get_matches_from(words)?;
+    options_of(&matches)
+}

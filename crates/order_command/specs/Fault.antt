@@ -1,0 +1,24 @@
+-- The faults of `dispatch order`.
+use Rattle.std.specs.Prelude.{ℕ}
+use Rattle.order_command.specs.declared.fault.CommandFault.{CommandFault}
+use Rattle.order_command.specs.declared.fault.CommandFault.TheVariants.{
+  CommandLine,
+  NoValue,
+  BadValue,
+  WriteFailed,
+  OutOfMemory,
+}
+
+-- the status that tells a fault
+abbrev pub fault_status : CommandFault → ℕ
+fault_status (CommandLine error) = 2
+fault_status (NoValue option) = 2
+fault_status (BadValue option) = 3
+fault_status WriteFailed = 4
+fault_status OutOfMemory = 5
+
+-- a fault of the command line, or want of memory
+abbrev pub IsOfCommandLine : CommandFault → Type 0
+IsOfCommandLine (CommandLine error) = Unit {0}
+IsOfCommandLine OutOfMemory = Unit {0}
+IsOfCommandLine other = ⊥

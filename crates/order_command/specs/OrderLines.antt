@@ -1,0 +1,40 @@
+-- What `dispatch order` prints: the frame of the order, and the leg that is read back from it.
+use Rattle.std.specs.Prelude.{◌≡◌, ℕ, List, ◌++◌, codes, Option, Result, Ok, Err}
+use Rattle.std.specs.Io.KnownBytes.{Appends}
+use Rattle.fix_text.specs.Tagged.{Tagged}
+use Rattle.leg.specs.Leg.{leg_text}
+use Rattle.leg.specs.declared.leg.Leg.{Leg}
+use Rattle.dialect.specs.Framed.{Writers}
+use Rattle.dialect.specs.declared.fault.DialectFault.{DialectFault}
+use Rattle.command_line.specs.FrameText.{shown}
+use Rattle.order_command.specs.declared.fault.CommandFault.{CommandFault}
+use Rattle.order_command.specs.declared.fault.CommandFault.TheVariants.{WriteFailed, OutOfMemory}
+use Rattle.order_command.specs.declared.request.Request.{Request}
+use Rattle.order_command.specs.OrderFrame.{IsOrderFrame, order_read_from, stream_of}
+
+-- a line of a frame, and a line of a leg
+abbrev pub order_lines : List ℕ → Leg → List ℕ
+order_lines frame leg = shown frame ++ codes "\n" ++ leg_text leg ++ codes "\n"
+
+-- the text shows the frame of what is asked for, and the leg that is read from that frame
+pub record IsOrderText (writers : Writers) (read : List Tagged → Result Leg DialectFault) (request : Request)
+    (text : List ℕ) : Type 0 where
+  pub frame : List ℕ
+  pub leg : Leg
+  pub written : IsOrderFrame writers request.leg request.header frame
+  pub back : order_read_from read (stream_of frame) ≡ Ok leg
+  pub lines : text ≡ order_lines frame leg
+
+-- the bytes of such a text are appended
+abbrev pub PrintsText : (List ℕ → Type 0) → Option (List ℕ) → Option (List ℕ) → Type 0
+PrintsText IsText before after = (text : List ℕ) × IsText text × Appends before after text
+
+-- how a run ends that is asked for this: what is asked for is printed, or the first bad value is named; only memory and
+-- the output can fail
+abbrev pub EndsOrder : (Request → Type 0) → Result Request CommandFault → {A : Type 0} → Result A CommandFault
+    → Type 0
+EndsOrder Prints (Ok request) (Ok done) = Prints request
+EndsOrder Prints (Ok request) (Err OutOfMemory) = Unit {0}
+EndsOrder Prints (Ok request) (Err WriteFailed) = Unit {0}
+EndsOrder Prints (Ok request) (Err other) = ⊥
+EndsOrder Prints (Err fault) done = done ≡ Err fault
