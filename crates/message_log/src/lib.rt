@@ -1,0 +1,12 @@
+//! The log of a venue's messages: the text of a line, and the lines that wait to be written.
+#![tactic(auto)]
+
+mod direction;
+mod line;
+mod queue;
+mod writer;
+
+pub use direction::Direction;
+pub use line::log_line;
+pub use queue::LogQueue;
+pub use writer::LogWriter;

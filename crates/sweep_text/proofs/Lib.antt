@@ -1,0 +1,2 @@
+pub mod FirstPiece
+pub mod LegsRead

@@ -1,0 +1,6 @@
+pub mod Words
+pub mod Fault
+pub mod Legs
+pub mod Line
+pub mod Answer
+pub mod News
