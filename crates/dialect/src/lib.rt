@@ -64,6 +64,3 @@ pub use spelling::{IdText, Spelling};
 pub use split4::Split4;
 pub use symbol_text::read_symbol;
 pub use text_ref::TextRef;
-
-#[cfg(test)]
-mod tests;

@@ -22,6 +22,3 @@ pub use exchange::Exchange;
 pub use exchange_fault::ExchangeFault;
 pub use live_connection::LiveConnection;
 pub use own::Own;
-
-#[cfg(test)]
-mod tests;

@@ -49,6 +49,3 @@ pub use tag_fault::TagFault;
 pub use text::Text;
 pub use write::write_envelope;
 pub use write_fault::WriteFault;
-
-#[cfg(test)]
-mod tests;

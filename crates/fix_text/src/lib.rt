@@ -35,6 +35,3 @@ pub use reader_fault::ReaderFault;
 pub use refusal::{MAX_BODY, can_write_tag, can_write_value};
 pub use sink::FieldSink;
 pub use write::{MAX_FRAME, write_body, write_frame, write_frame_parts, write_writable_parts};
-
-#[cfg(test)]
-mod tests;

@@ -26,6 +26,3 @@ pub use symbol::Symbol;
 pub use terms::{MAX_PRICE, MAX_SHARES, Terms};
 pub use totals::Totals;
 pub use venue::{MAX_VENUE, VenueId};
-
-#[cfg(test)]
-mod tests;

@@ -26,6 +26,3 @@ use numbered_id::NumberedId;
 pub use out_log::OutLog;
 pub use run::Run;
 pub use sent::Sent;
-
-#[cfg(test)]
-mod tests;

@@ -353,6 +353,7 @@ module _ (w : World) (v : ℕ) (venue : VenueParts) (there : venue_in w v ≡ So
       inr (line.receives frame.message
       (subst (λ c. Contains here.from_exchange (carried c frame.message)) same
       (contains_map frame_carried venue.from_exchange frame (numbered_contains number venue.from_exchange frame is)))
+      two.0
       (let e = carried_more venue.to_exchange turn.session.connection turn.step.written in rw e refl))))
       (λ old. advances-refl w)
 

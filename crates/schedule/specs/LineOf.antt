@@ -1,5 +1,5 @@
 -- The line of a venue of the world.
-use Rattle.std.specs.Prelude.{ℕ, map}
+use Rattle.std.specs.Prelude.{ℕ, map, None}
 use Rattle.exchange_core.specs.Acceptance.{Carried}
 use Rattle.exchange_core.specs.Keeping.{carried, rule_state}
 use Rattle.sweep_release.specs.Released.{released}
@@ -18,5 +18,6 @@ line_at desk v venue = record {
   exchange = rule_state venue.exchange;
   to_exchange = map frame_carried venue.to_exchange;
   from_exchange = map frame_carried venue.from_exchange;
+  waiting = None;
   given = venue.given;
 }

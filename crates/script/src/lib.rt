@@ -23,6 +23,3 @@ pub use lines::Line;
 pub use parts::Parts;
 pub use read::read_script;
 pub use script::Script;
-
-#[cfg(test)]
-mod tests;

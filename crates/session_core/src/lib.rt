@@ -36,6 +36,3 @@ pub use session_call::SessionCall;
 pub use session_fault::SessionFault;
 pub use step::{Frames, LegIds, Step};
 pub use trial_run::trial;
-
-#[cfg(test)]
-mod tests;

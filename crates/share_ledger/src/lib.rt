@@ -20,6 +20,3 @@ pub use book_fault::BookFault;
 pub use booked_leg::BookedLeg;
 pub use limits::{MAX_DAY_SHARES, MAX_LEGS};
 pub use sweep_shares::shares_of;
-
-#[cfg(test)]
-mod tests;

@@ -22,6 +22,3 @@ pub use gate_fault::GateFault;
 pub use placement::place;
 pub use receipt::Receipt;
 pub use release_fault::ReleaseFault;
-
-#[cfg(test)]
-mod tests;

@@ -46,9 +46,17 @@ pub record Goes (b : Line) (s : SessionParts) (to : List Carried) : Type 0 where
   pub closing : IsBelowClosing s s.log
   pub out : s.phase ≡ phase.LoggedOut → HasNoDoubt s.log
 
-pub close_goes : (b : Line) (released : List Leg) (left : ℕ) (s : SessionParts) (to : List Carried) (given : List Note)
-    → Goes b s to → Close b
-    → Close (record b { released = released; left = left; session = s; to_exchange = to; given = given })
+pub close_goes : {waiting : Option Note} (b : Line) (released : List Leg) (left : ℕ) (s : SessionParts)
+    (to : List Carried) (given : List Note) → Goes b s to → Close b
+    → Close
+    (record b {
+      released = released;
+      left = left;
+      session = s;
+      to_exchange = to;
+      waiting = waiting;
+      given = given;
+    })
 close_goes b released left s to given goes c = record {
   fence_above = goes.above;
   closing_above = goes.closing;
@@ -321,6 +329,9 @@ close_calls = record {
       close_goes b b.released b.left (with_marks expected requested pending silent close_asked b.session) b.to_exchange
       given
       (unwritten b _ (λ over. (over, refl, λ none. none)) c.fence_above c.closing_above c.out_no_doubt) c;
+  waits = λ b waiting j c.
+      close_goes b b.released b.left b.session b.to_exchange b.given
+      (unwritten b b.session (λ over. (over, refl, λ none. none)) c.fence_above c.closing_above c.out_no_doubt) c;
   admin = λ b content plain may j c. spends b (spending b.session) content
       (plain_no_logout content plain) refl refl refl refl (λ fence there. inl there) c;
   fence = λ b may j c.

@@ -139,6 +139,9 @@ copies_calls taken = record {
   marks = λ b expected requested pending silent close_asked given j c.
       copies_plain b (with_marks expected requested pending silent close_asked b.session) b.to_exchange given
       (unwritten b _ (goes-refl b.session.log) refl (λ early. early)) c;
+  waits = λ b waiting j c.
+      copies_plain b b.session b.to_exchange b.given
+      (unwritten b b.session (goes-refl b.session.log) refl (λ early. early)) c;
   admin = λ b content plain may j c. copies_framed b (spending b.session) (next_out b.session) content
       (goes-admin b.session.log) (plain_is_no_order content plain) (omega arith) (λ early. inl early) c;
   fence = λ b may j c. copies_framed b (spending (fenced b.session)) (next_out b.session) _ (goes-admin b.session.log)

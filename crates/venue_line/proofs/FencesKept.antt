@@ -189,6 +189,9 @@ module _ (taken : List Carried) where
     marks = λ b expected requested pending silent close_asked given j f.
         fences_goes b (with_marks expected requested pending silent close_asked b.session) b.to_exchange given
         (goes_stays taken b _ refl refl refl (λ fence there. there) refl f) f;
+    waits = λ b waiting j f.
+        fences_goes b b.session b.to_exchange b.given
+        (goes_stays taken b b.session refl refl refl (λ fence there. there) refl f) f;
     admin = λ b content plain may j f. spends b (spending b.session) content refl refl refl
         (λ fence there. there) refl may (λ id is. plain_no_test content id _ plain is)
         (λ n is. plain_no_fill content n plain is) f;

@@ -10,6 +10,3 @@ mod venue_text;
 pub use print::print_world;
 pub use sweep_text::write_sweep_line;
 pub use venue_text::phase_name;
-
-#[cfg(test)]
-mod tests;

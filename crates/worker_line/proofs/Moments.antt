@@ -1,0 +1,127 @@
+-- At each moment of a running worker its line is safe.
+use Rattle.std.proofs.Common.{◌≡◌, ◌≤◌, List, [], ◌∷◌, ◌++◌, length, map, refl, sym, ap, subst, ◌∙◌, arith}
+use Rattle.std.specs.List.{All, AllPairs}
+use Rattle.std.proofs.lemmas.List.Elements.{All-cons, All-nil}
+use Rattle.std.proofs.lemmas.List.Kept.{AllPairs-cons}
+use Rattle.std.proofs.lemmas.Option.{slice_get_within}
+use mathlib.Core.List.{IsPrefix}
+use Rattle.fix_tags.specs.Config.{ConfigParts}
+use Rattle.leg.specs.declared.leg.Leg.{Leg}
+use Rattle.dialect.specs.Message.{Readers}
+use Rattle.session_core.specs.Trial.{after_calls}
+use Rattle.sweep_release.specs.Released.{released}
+use Rattle.release_lock.specs.Queues.{placed_from}
+use Rattle.venue_line.specs.Line.{Line, new_line}
+use Rattle.venue_line.specs.Line as line
+use Rattle.venue_line.specs.LineTheorem.{LineHolds}
+use Rattle.venue_line.specs.ForGood.{StaysSettled}
+use Rattle.venue_line.proofs.GivenSteps.{Whole, whole_new, whole_step}
+use Rattle.venue_line.proofs.LineGives.{line_holds}
+use Rattle.venue_line.proofs.ForGood.{settled-trans}
+use Rattle.session_worker.specs.declared.end_reason.EndReason.{EndReason}
+use Rattle.session_worker.specs.Events.{WorkerParts, calls_of, taken_of, Goes}
+use Rattle.session_worker.specs.Events.WorkerEvent.{Drops}
+use Rattle.session_worker.specs.Ends.{last_calls, Runs}
+use Rattle.session_worker.proofs.Doing.{goes_on}
+use Rattle.dialect.specs.Framed.{Writers}
+use Rattle.worker_line.specs.Happening.{VenueEvent, works_of, after_event, after_events, moments_of, MayAllHappen, AllTakeNext}
+use Rattle.worker_line.specs.WorkerTheorem.{released_line, IsSafeLine, Worked, TheWorkerTheorem, works_in, Ran, TheRunTheorem, TheDayTheorem}
+use Rattle.worker_line.proofs.OneEvent.{event_leads}
+use Rattle.worker_line.proofs.TakenAlong.{session_along, given_along, HasTaken, taken_along, each_is_next}
+
+module _ (read : Readers) where
+  all_hold : (a : Line) (events : List VenueEvent) → MayAllHappen read a events → AllTakeNext read a events → Whole a
+      → All LineHolds (moments_of read a events)
+  all_hold a [] may next h = All-cons LineHolds a [] (line_holds a h.0 h.1) (All-nil LineHolds)
+  all_hold a (event ∷ events) may next h =
+      let b = after_event read a event in
+      let goes = event_leads read a event may.0 next.0 h in
+      All-cons LineHolds a (moments_of read b events) (line_holds a h.0 h.1)
+      (all_hold b events may.1 next.1 goes.0)
+
+  -- what is settled at an earlier moment
+  all_settled : (z a : Line) (events : List VenueEvent) → MayAllHappen read a events → AllTakeNext read a events
+      → Whole a → StaysSettled z a
+      → All (StaysSettled z) (moments_of read a events)
+  all_settled z a [] may next h stays = All-cons (StaysSettled z) a [] stays (All-nil (StaysSettled z))
+  all_settled z a (event ∷ events) may next h stays =
+      let b = after_event read a event in
+      let goes = event_leads read a event may.0 next.0 h in
+      All-cons (StaysSettled z) a (moments_of read b events) stays
+      (all_settled z b events may.1 next.1 goes.0 (settled-trans z a b stays goes.1))
+
+  pairs_settled : (a : Line) (events : List VenueEvent) → MayAllHappen read a events → AllTakeNext read a events
+      → Whole a → AllPairs StaysSettled (moments_of read a events)
+  pairs_settled a [] may next h =
+      AllPairs-cons StaysSettled a [] (All-nil (StaysSettled a)) (λ i j d low high. absurd (omega arith))
+  pairs_settled a (event ∷ events) may next h =
+      let b = after_event read a event in
+      let goes = event_leads read a event may.0 next.0 h in
+      AllPairs-cons StaysSettled a (moments_of read b events)
+      (all_settled a b events may.1 next.1 goes.0 goes.1) (pairs_settled b events may.1 next.1 goes.0)
+
+released_whole : (config : ConfigParts) (released : List Leg) → config.max_number ≤ 999999999
+    → Whole (released_line config released)
+released_whole config released small =
+    whole_step (new_line config) (released_line config released) (line.releases released refl) (whole_new config small)
+
+new_taken : (config : ConfigParts) (released : List Leg) → HasTaken (released_line config released) []
+new_taken config released = record { left = refl; first = (placed_from 1 released, refl) }
+
+took_is : (read : Readers) (config : ConfigParts) (events : List VenueEvent) (after : WorkerParts)
+    (worked : Worked read config events after) → after.took.taken ≡ taken_of (works_of events)
+took_is read config events after worked =
+    worked.goes.taken ∙ ap (λ l. l ++ taken_of (works_of events)) worked.empty
+
+pub the_worker_theorem : TheWorkerTheorem
+the_worker_theorem read config released events after small worked may next =
+    let a = released_line config released in
+    let whole = released_whole config released small in
+    let has : HasTaken (after_events read a events) (taken_of (works_of events)) =
+    taken_along read a [] events (new_taken config released) next in
+    let took = took_is read config events after worked in
+    record {
+      holds = all_hold read a events may next whole;
+      settled = pairs_settled read a events may next whole;
+      session = session_along read a events
+          ∙ (ap (λ s. after_calls read s (calls_of (works_of events))) (sym worked.new) ∙ sym worked.goes.session);
+      given = given_along read a events;
+      left = has.left ∙ ap length (sym took);
+      first = subst (λ l. IsPrefix l (placed_from 1 (after_events read a events).released)) (sym took) has.first;
+    }
+
+-- where the legs taken are the first of those released
+the_taken_theorem : (read : Readers) (config : ConfigParts) (legs : List Leg) (events : List VenueEvent)
+    (after : WorkerParts) → config.max_number ≤ 999999999 → Worked read config events after
+    → MayAllHappen read (released_line config legs) events → IsPrefix after.took.taken (placed_from 1 legs)
+    → IsSafeLine read (released_line config legs) events after
+the_taken_theorem read config legs events after small worked may first =
+    the_worker_theorem read config legs events after small worked may
+    (each_is_next read (released_line config legs) [] events refl
+    (subst (λ l. IsPrefix l (placed_from 1 legs)) (took_is read config events after worked) first))
+
+-- a run is what the worker did in its turns and when it ended
+run_goes : (w : Writers) (read : Readers) (before after : WorkerParts) (why : EndReason)
+    (runs : Runs w read before after why) → Goes read before (works_in runs) after
+run_goes w read before after why runs =
+    goes_on read before runs.at after runs.turns
+    (last_calls runs.at.session.phase ++ map (λ leg. Drops leg) runs.dropped) runs.goes runs.last
+
+ran_worked : (w : Writers) (read : Readers) (config : ConfigParts) (events : List VenueEvent) (after : WorkerParts)
+    → Ran w read config events after → Worked read config events after
+ran_worked w read config events after ran = record {
+  before = ran.before;
+  new = ran.new;
+  empty = ran.empty;
+  goes = subst (λ works. Goes read ran.before works after) (sym ran.works)
+      (run_goes w read ran.before after ran.why ran.runs);
+}
+
+pub the_run_theorem : (w : Writers) (read : Readers) → TheRunTheorem w read
+the_run_theorem w read config legs events after small ran may first =
+    the_taken_theorem read config legs events after small (ran_worked w read config events after ran) may first
+
+pub the_day_theorem : (w : Writers) (read : Readers) → TheDayTheorem w read
+the_day_theorem w read callers queues seats report day venue config events after there small ran may =
+    the_run_theorem w read config (released venue day.desk.desk.sweeps) events after small ran may
+    (day.audits.0 venue after.took (slice_get_within queues venue after.took there) there)
