@@ -9,12 +9,12 @@ made_of=$here/shipped/made_of
 crates_of_program() {
     tac "$here/crates.txt" | awk -F '[: ]+' -v top="$top" '
         BEGIN { wanted[top] }
-        $1 in wanted { print $1; for (i = 2; i <= NF; i++) wanted[$i] }' | tac
+        $1 != "" && $1 in wanted { print $1; for (i = 2; i <= NF; i++) wanted[$i] }' | tac
 }
 
 # The lines of crates.txt of these crates.
 lines_of() {
-    awk -F '[: ]' 'NR == FNR { wanted[$1]; next } $1 in wanted' <(printf '%s\n' "$@") "$here/crates.txt"
+    awk -F '[: ]' 'NR == FNR { wanted[$1]; next } $1 != "" && $1 in wanted' <(printf '%s\n' "$@") "$here/crates.txt"
 }
 
 # The sum of all that the program is made of: the lines of crates.txt of its crates, and what stands in their src, specs
