@@ -24,15 +24,16 @@ use Rattle.leg.specs.Leg.{IsLeg}
 use Rattle.dialect.specs.declared.fault.DialectFault.TheVariants.{NotMarked}
 use Rattle.dialect.specs.declared.report.Report.{Report}
 use Rattle.dialect.specs.Dialect.{FitsMessage}
-use Rattle.dialect.specs.Framed.{Writers, IsSessionBody, IsBody, envelope_of, IsFramed, IsReadAs}
+use Rattle.dialect.specs.Framed.{IsSessionBody, IsBody, envelope_of, IsFramed, IsReadAs}
 use Rattle.dialect.specs.FreeText.{IsFreeText}
 use Rattle.dialect.specs.declared.content.Content.{Content}
 use Rattle.dialect.specs.declared.content.Content.TheVariants.{Logon, Heartbeat, TestRequest, ResendRequest, Reject, GapFill, Reset, Logout, BusinessReject, Order, ExecutionReport, Other}
 use Rattle.dialect.specs.declared.message.Message.{Message}
-use Rattle.dialect.specs.Message.{Readers, content_of}
+use Rattle.dialect.specs.Message.{content_of}
 use Rattle.dialect.specs.OrderView.{OrderViewParts, IsOrderView}
 use Rattle.dialect.specs.declared.outgoing.Outgoing.{Outgoing}
 use Rattle.dialect.specs.Report.{IsReport}
+use Rattle.dialect.specs.Wording.{Encoding, Decoding, Wording, IsWording}
 use Rattle.dialect.specs.Writable.{IsReference, IsNext, IsTestId, IsWritableContent, IsWritable}
 
 -- ---- short fields of the session's messages
@@ -75,14 +76,14 @@ next_is n low high = grind (arith, nat_tests)
 
 -- ---- what is known of the body of a message that can be written
 
-record IsGood (read : Readers) (content : Content) (b : Body) : Type 0 where
+record IsGood (read : Decoding) (content : Content) (b : Body) : Type 0 where
   kind : kind_fault b ≡ None
   body : body_fault b ≡ None
   short_kind : length (kind_of b) ≤ 8
   short : length (fields_text (body_fields b)) ≤ 3000
   says : content_of read b ≡ content
 
-logon_good : (read : Readers) (heart : ℕ) (reset : Bool) (next : Option ℕ) → heart ≤ 999999 → IsNext next
+logon_good : (read : Decoding) (heart : ℕ) (reset : Bool) (next : Option ℕ) → heart ≤ 999999 → IsNext next
     → IsGood read (Logon heart reset next) (body.Logon heart reset next)
 logon_good read heart true None low range = record {
   kind = refl;
@@ -149,7 +150,7 @@ logon_good read heart false (Some next) low range = record {
   says = refl;
 }
 
-heartbeat_good : (read : Readers) (id : Option (List ℕ)) → IsTestId id → IsGood read (Heartbeat id) (body.Heartbeat id)
+heartbeat_good : (read : Decoding) (id : Option (List ℕ)) → IsTestId id → IsGood read (Heartbeat id) (body.Heartbeat id)
 heartbeat_good read None range = record { kind = refl; body = refl; short_kind = omega arith; short = omega arith; says = refl }
 heartbeat_good read (Some id) range = record {
   kind = refl;
@@ -159,7 +160,7 @@ heartbeat_good read (Some id) range = record {
   says = refl;
 }
 
-test_request_good : (read : Readers) (id : List ℕ) → IsFreeText 64 id
+test_request_good : (read : Decoding) (id : List ℕ) → IsFreeText 64 id
     → IsGood read (TestRequest id) (body.TestRequest id)
 test_request_good read id range = record {
   kind = refl;
@@ -169,7 +170,7 @@ test_request_good read id range = record {
   says = refl;
 }
 
-resend_request_good : (read : Readers) (begin last : ℕ) → IsReference begin → IsReference last
+resend_request_good : (read : Decoding) (begin last : ℕ) → IsReference begin → IsReference last
     → IsGood read (ResendRequest begin last) (body.ResendRequest begin last)
 resend_request_good read begin last first second = record {
   kind = refl;
@@ -188,7 +189,7 @@ resend_request_good read begin last first second = record {
   says = refl;
 }
 
-reject_good : (read : Readers) (number : ℕ) → IsReference number → IsGood read (Reject number) (body.Reject number)
+reject_good : (read : Decoding) (number : ℕ) → IsReference number → IsGood read (Reject number) (body.Reject number)
 reject_good read number range = record {
   kind = refl;
   body = rw (reference_is number range) refl;
@@ -197,7 +198,7 @@ reject_good read number range = record {
   says = refl;
 }
 
-gap_fill_good : (read : Readers) (number : ℕ) → IsReference number → IsGood read (GapFill number) (body.GapFill number)
+gap_fill_good : (read : Decoding) (number : ℕ) → IsReference number → IsGood read (GapFill number) (body.GapFill number)
 gap_fill_good read number range = record {
   kind = refl;
   body = rw (reference_is number range) refl;
@@ -218,7 +219,7 @@ gap_fill_good read number range = record {
   says = refl;
 }
 
-reset_good : (read : Readers) (number : ℕ) → IsReference number → IsGood read (Reset number) (body.Reset number)
+reset_good : (read : Decoding) (number : ℕ) → IsReference number → IsGood read (Reset number) (body.Reset number)
 reset_good read number range = record {
   kind = refl;
   body = rw (reference_is number range) refl;
@@ -239,10 +240,10 @@ reset_good read number range = record {
   says = refl;
 }
 
-logout_good : (read : Readers) → IsGood read Logout body.Logout
+logout_good : (read : Decoding) → IsGood read Logout body.Logout
 logout_good read = record { kind = refl; body = refl; short_kind = omega arith; short = omega arith; says = refl }
 
-business_reject_good : (read : Readers) (beside : Option OrderViewParts) (number : Option ℕ)
+business_reject_good : (read : Decoding) (beside : Option OrderViewParts) (number : Option ℕ)
     → IsWritableContent beside (BusinessReject number)
     → IsGood read (BusinessReject number) (body.BusinessReject number)
 business_reject_good read beside None range = record {
@@ -276,7 +277,7 @@ business_reject_good read beside (Some number) range = record {
 }
 
 -- an application message of one of the two kinds
-order_good : (read : Readers) (leg : Leg) (fields : List Tagged) → FitsMessage fields → read.order fields ≡ Ok leg
+order_good : (read : Decoding) (leg : Leg) (fields : List Tagged) → FitsMessage fields → read.order fields ≡ Ok leg
     → IsGood read (Order (Ok leg)) (body.App (codes "D") fields)
 order_good read leg fields fits is = record {
   kind = refl;
@@ -286,7 +287,7 @@ order_good read leg fields fits is = record {
   says = ap Order is;
 }
 
-report_good : (read : Readers) (report : Report) (fields : List Tagged) → FitsMessage fields
+report_good : (read : Decoding) (report : Report) (fields : List Tagged) → FitsMessage fields
     → read.report fields ≡ Ok report → IsGood read (ExecutionReport (Ok report)) (body.App (codes "8") fields)
 report_good read report fields fits is = record {
   kind = refl;
@@ -299,7 +300,7 @@ report_good read report fields fits is = record {
 -- ---- in a dialect's terms
 
 -- what is written is read back and fits a message
-pub record Agrees (w : Writers) (read : Readers) : Type 0 where
+pub record Agrees (w : Encoding) (read : Decoding) : Type 0 where
   pub order_back : (leg : Leg) (stamp : StampParts) (fields : List Tagged) → w.IsOrder leg stamp fields
       → read.order fields ≡ Ok leg
   pub order_fits : (leg : Leg) (stamp : StampParts) (fields : List Tagged) → w.IsOrder leg stamp fields
@@ -309,11 +310,19 @@ pub record Agrees (w : Writers) (read : Readers) : Type 0 where
   pub report_fits : (report : Report) (view : OrderViewParts) (fields : List Tagged) → w.IsReport report view fields
       → FitsMessage fields
 
-good_from : (read : Readers) (content : Content) (own b : Body) → b ≡ own → IsGood read content own
+pub agrees_of : (w : Wording) → IsWording w → Agrees w.encoding w.decoding
+agrees_of w laws = record {
+  order_back = laws.order_reads_back;
+  order_fits = laws.order_fits;
+  report_back = laws.report_reads_back;
+  report_fits = laws.report_fits;
+}
+
+good_from : (read : Decoding) (content : Content) (own b : Body) → b ≡ own → IsGood read content own
     → IsGood read content b
 good_from read content own b is good = subst (IsGood read content) (sym is) good
 
-good : (w : Writers) (read : Readers) (stamp : StampParts) (beside : Option OrderViewParts) (content : Content)
+good : (w : Encoding) (read : Decoding) (stamp : StampParts) (beside : Option OrderViewParts) (content : Content)
     (b : Body) → Agrees w read → IsWritableContent beside content → IsBody w stamp beside content b
     → IsGood read content b
 good w read stamp beside (Logon heart reset next) b agrees range is = good_from read _ _ b is
@@ -358,7 +367,7 @@ module _ (m : Message) (b : Body) (stamp : StampParts) (kind : kind_fault b ≡ 
   unrefused : envelope_refusal (envelope_of m b) stamp ≡ None
   unrefused = rw (faultless, not_long (length (fields_text (envelope_fields (envelope_of m b) stamp))) fits_frame) refl
 
-  read_again : (read : Readers) (stream : Stream) (rest : List ℕ) → content_of read b ≡ m.content
+  read_again : (read : Decoding) (stream : Stream) (rest : List ℕ) → content_of read b ≡ m.content
       → stream.rest ≡ frame_text (envelope_fields (envelope_of m b) stamp) ++ rest → IsReadAs read stream rest m
   read_again read stream rest seen begins =
       let fields : List Tagged = envelope_fields (envelope_of m b) stamp in
@@ -373,7 +382,7 @@ module _ (m : Message) (b : Body) (stamp : StampParts) (kind : kind_fault b ≡ 
       }
 
 -- a message that can be written is never refused
-pub never_refused : (w : Writers) (read : Readers) (stamp : StampParts) (out : Outgoing) (b : Body) → Agrees w read
+pub never_refused : (w : Encoding) (read : Decoding) (stamp : StampParts) (out : Outgoing) (b : Body) → Agrees w read
     → IsWritable out → IsBody w stamp out.beside out.message.content b
     → envelope_refusal (envelope_of out.message b) stamp ≡ None
 never_refused w read stamp out b agrees range is =
@@ -381,7 +390,7 @@ never_refused w read stamp out b agrees range is =
     unrefused out.message b stamp fine.kind fine.body fine.short_kind fine.short range.from range.to (number_is out.message.number range.number_from range.number_to)
 
 -- what may be written of the session may be written in any dialect
-pub session_body_is : (w : Writers) (stamp : StampParts) (beside : Option OrderViewParts) (content : Content) (b : Body)
+pub session_body_is : (w : Encoding) (stamp : StampParts) (beside : Option OrderViewParts) (content : Content) (b : Body)
     → IsSessionBody content b → IsBody w stamp beside content b
 session_body_is w stamp beside (Logon heart reset next) b is = is
 session_body_is w stamp beside (Heartbeat id) b is = is
@@ -397,10 +406,10 @@ session_body_is w stamp beside (ExecutionReport read) b is = absurd is
 session_body_is w stamp beside Other b is = absurd is
 
 -- a dialect of no orders and no reports
-abbrev no_writers : Writers
+abbrev no_writers : Encoding
 no_writers = record { IsOrder = λ leg stamp fields. ⊥; IsReport = λ report view fields. ⊥ }
 
-abbrev no_readers : Readers
+abbrev no_readers : Decoding
 no_readers = record { order = λ fields. Err NotMarked; report = λ fields. Err NotMarked }
 
 none_agree : Agrees no_writers no_readers
@@ -419,7 +428,7 @@ session_unrefused stamp out b range is =
     (session_body_is no_writers stamp out.beside out.message.content b is)
 
 -- its frame is read back
-pub frame_back : (w : Writers) (read : Readers) (stamp : StampParts) (out : Outgoing) (bytes rest : List ℕ)
+pub frame_back : (w : Encoding) (read : Decoding) (stamp : StampParts) (out : Outgoing) (bytes rest : List ℕ)
     (stream : Stream) → Agrees w read → IsWritable out → IsFramed w stamp out bytes → stream.rest ≡ bytes ++ rest
     → IsReadAs read stream rest out.message
 frame_back w read stamp out bytes rest stream agrees range is begins =
@@ -431,13 +440,16 @@ frame_back w read stamp out bytes rest stream agrees range is begins =
 -- ---- there is a frame
 
 -- there are fields for every order and report in range
-pub record Exists (w : Writers) : Type 0 where
+pub record Exists (w : Encoding) : Type 0 where
   pub order : (leg : Leg) (stamp : StampParts) → IsLeg leg → IsStamp stamp
       → (fields : List Tagged) × w.IsOrder leg stamp fields
   pub report : (report : Report) (view : OrderViewParts) → IsReport report → IsOrderView view
       → view.leg.id ≡ report.id → (fields : List Tagged) × w.IsReport report view fields
 
-body_exists : (w : Writers) (stamp : StampParts) (beside : Option OrderViewParts) (content : Content) → Exists w
+pub exists_of : (w : Wording) → IsWording w → Exists w.encoding
+exists_of w laws = record { order = laws.order_exists; report = laws.report_exists }
+
+body_exists : (w : Encoding) (stamp : StampParts) (beside : Option OrderViewParts) (content : Content) → Exists w
     → IsStamp stamp → IsWritableContent beside content → (b : Body) × IsBody w stamp beside content b
 body_exists w stamp beside (Logon heart reset next) exist at range = (body.Logon heart reset next, refl)
 body_exists w stamp beside (Heartbeat id) exist at range = (body.Heartbeat id, refl)
@@ -459,7 +471,7 @@ body_exists w stamp None (ExecutionReport (Ok report)) exist at range = absurd r
 body_exists w stamp beside (ExecutionReport (Err fault)) exist at range = absurd range
 body_exists w stamp beside Other exist at range = absurd range
 
-pub frame_exists : (w : Writers) (stamp : StampParts) (out : Outgoing) → Exists w → IsStamp stamp → IsWritable out
+pub frame_exists : (w : Encoding) (stamp : StampParts) (out : Outgoing) → Exists w → IsStamp stamp → IsWritable out
     → (bytes : List ℕ) × IsFramed w stamp out bytes
 frame_exists w stamp out exist at range =
     let written = body_exists w stamp out.beside out.message.content exist at range.content in (

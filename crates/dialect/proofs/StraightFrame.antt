@@ -24,7 +24,8 @@ use Rattle.fix_tags.proofs.Written.{length-stamp_text}
 use Rattle.dialect.proofs.FrameBack.{number_is, session_body_is}
 use Rattle.dialect.specs.declared.message.Message.{Message}
 use Rattle.dialect.specs.Dialect.{FitsMessage}
-use Rattle.dialect.specs.Framed.{Writers, IsSessionBody, IsBody, envelope_of, AppendsApp, AppendsSession, AppendsFrame}
+use Rattle.dialect.specs.Framed.{IsSessionBody, IsBody, envelope_of, AppendsApp, AppendsSession, AppendsFrame}
+use Rattle.dialect.specs.Wording.{Encoding}
 use Rattle.dialect.specs.Writable.{IsAddressed}
 
 -- the text of an application message's fields
@@ -64,7 +65,7 @@ straight_appended IsWritten m stamp kind fields after old new (Ok done) is writt
 straight_appended IsWritten m stamp kind fields after old new (Err fault) is written appended = tt
 
 -- the frame of an order, of a report and of a message of the session
-pub framed_order : (w : Writers) (stamp : StampParts) (out : Outgoing) (leg : Leg) (old new : List ℕ)
+pub framed_order : (w : Encoding) (stamp : StampParts) (out : Outgoing) (leg : Leg) (old new : List ℕ)
     (result : Result (Unit {0}) AllocError) → out.message.content ≡ Order (Ok leg)
     → OnOk result (AppendsApp (w.IsOrder leg stamp) out.message stamp (codes "D") old new)
     → OnOk result (AppendsFrame w stamp out old new)
@@ -82,7 +83,7 @@ framed_order w stamp out leg old new (Ok done) says appended =
     )
 framed_order w stamp out leg old new (Err fault) says appended = tt
 
-pub framed_report : (w : Writers) (stamp : StampParts) (out : Outgoing) (report : Report) (view : OrderViewParts)
+pub framed_report : (w : Encoding) (stamp : StampParts) (out : Outgoing) (report : Report) (view : OrderViewParts)
     (old new : List ℕ) (result : Result (Unit {0}) AllocError) → out.message.content ≡ ExecutionReport (Ok report)
     → out.beside ≡ Some view → OnOk result (AppendsApp (w.IsReport report view) out.message stamp (codes "8") old new)
     → OnOk result (AppendsFrame w stamp out old new)
@@ -102,7 +103,7 @@ framed_report w stamp out report view old new (Ok done) says beside appended =
     )
 framed_report w stamp out report view old new (Err fault) says beside appended = tt
 
-pub framed_session : (w : Writers) (stamp : StampParts) (out : Outgoing) (old new : List ℕ)
+pub framed_session : (w : Encoding) (stamp : StampParts) (out : Outgoing) (old new : List ℕ)
     (result : Result (Unit {0}) AllocError) → OnOk result (AppendsSession out.message stamp old new)
     → OnOk result (AppendsFrame w stamp out old new)
 framed_session w stamp out old new (Ok done) appended = (

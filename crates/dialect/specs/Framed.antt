@@ -15,14 +15,10 @@ use Rattle.dialect.specs.declared.report.Report.{Report}
 use Rattle.dialect.specs.declared.content.Content.{Content}
 use Rattle.dialect.specs.declared.content.Content.TheVariants.{Logon, Heartbeat, TestRequest, ResendRequest, Reject, GapFill, Reset, Logout, BusinessReject, Order, ExecutionReport, Other}
 use Rattle.dialect.specs.declared.message.Message.{Message}
-use Rattle.dialect.specs.Message.{Readers, seen}
+use Rattle.dialect.specs.Message.{seen}
+use Rattle.dialect.specs.Wording.{Encoding, Decoding}
 use Rattle.dialect.specs.OrderView.{OrderViewParts}
 use Rattle.dialect.specs.declared.outgoing.Outgoing.{Outgoing}
-
--- the fields that a dialect may write for an order at a moment, and for a report beside what its exchange knew
-pub record Writers : Type 1 where
-  pub IsOrder : Leg → StampParts → List Tagged → Type 0
-  pub IsReport : Report → OrderViewParts → List Tagged → Type 0
 
 -- an application message of this kind, with fields of which this holds
 pub record IsApp (IsWritten : List Tagged → Type 0) (kind : List ℕ) (b : Body) : Type 0 where
@@ -31,12 +27,12 @@ pub record IsApp (IsWritten : List Tagged → Type 0) (kind : List ℕ) (b : Bod
   pub body_is : b ≡ body.App kind fields
 
 -- the body of an order: of kind `D`, with the message's own stamp; what wasn't read isn't written
-abbrev pub IsOrderBody : Writers → StampParts → Result Leg DialectFault → Body → Type 0
+abbrev pub IsOrderBody : Encoding → StampParts → Result Leg DialectFault → Body → Type 0
 IsOrderBody w stamp (Ok leg) b = IsApp (w.IsOrder leg stamp) (codes "D") b
 IsOrderBody w stamp (Err fault) b = ⊥
 
 -- the body of a report: of kind `8`, beside what its exchange knew of the order
-abbrev pub IsReportBody : Writers → Result Report DialectFault → Option OrderViewParts → Body → Type 0
+abbrev pub IsReportBody : Encoding → Result Report DialectFault → Option OrderViewParts → Body → Type 0
 IsReportBody w (Ok report) (Some view) b = IsApp (w.IsReport report view) (codes "8") b
 IsReportBody w (Ok report) None b = ⊥
 IsReportBody w (Err fault) beside b = ⊥
@@ -62,7 +58,7 @@ IsSessionBody (BusinessReject number) b = b ≡ body.BusinessReject number
 IsSessionBody _ b = ⊥
 
 -- the bodies that may be written for a content
-abbrev pub IsBody : Writers → StampParts → Option OrderViewParts → Content → Body → Type 0
+abbrev pub IsBody : Encoding → StampParts → Option OrderViewParts → Content → Body → Type 0
 IsBody w stamp beside (Order read) b = IsOrderBody w stamp read b
 IsBody w stamp beside (ExecutionReport read) b = IsReportBody w read beside b
 IsBody w stamp beside content b = IsSessionBody content b
@@ -73,7 +69,7 @@ envelope_of m b =
     record { sender = m.from; target = m.to; number = m.number; poss_dup = m.poss_dup; poss_resend = false; body = b }
 
 -- the bytes are the one frame of this message at this moment, in a dialect's terms
-pub record IsFramed (w : Writers) (stamp : StampParts) (out : Outgoing) (bytes : List ℕ) : Type 0 where
+pub record IsFramed (w : Encoding) (stamp : StampParts) (out : Outgoing) (bytes : List ℕ) : Type 0 where
   pub says : Body
   pub is_body : IsBody w stamp out.beside out.message.content says
   pub written : bytes ≡ frame_text (envelope_fields (envelope_of out.message says) stamp)
@@ -90,18 +86,18 @@ AppendsSession m stamp old new =
     (b : Body) × IsSessionBody m.content b × (new ≡ old ++ frame_text (envelope_fields (envelope_of m b) stamp))
 
 -- new is old with the one frame of this message behind it
-abbrev pub AppendsFrame : Writers → StampParts → Outgoing → List ℕ → List ℕ → Type 0
+abbrev pub AppendsFrame : Encoding → StampParts → Outgoing → List ℕ → List ℕ → Type 0
 AppendsFrame w stamp out old new = (bytes : List ℕ) × IsFramed w stamp out bytes × (new ≡ old ++ bytes)
 
 -- the frames are those of these messages, one each and in order, each written at this moment
-abbrev pub AreFramed : Writers → StampParts → List Outgoing → List (List ℕ) → Type 0
+abbrev pub AreFramed : Encoding → StampParts → List Outgoing → List (List ℕ) → Type 0
 AreFramed w stamp [] [] = Unit {0}
 AreFramed w stamp [] (bytes ∷ frames) = ⊥
 AreFramed w stamp (out ∷ written) [] = ⊥
 AreFramed w stamp (out ∷ written) (bytes ∷ frames) = IsFramed w stamp out bytes × AreFramed w stamp written frames
 
 -- the next frame of a stream is read as this message, and then the rest follows
-pub record IsReadAs (read : Readers) (stream : Stream) (rest : List ℕ) (m : Message) : Type 0 where
+pub record IsReadAs (read : Decoding) (stream : Stream) (rest : List ℕ) (m : Message) : Type 0 where
   pub fields : List Tagged
   pub next : next_read stream ≡ record { frame = Some fields; stream = record stream { rest = rest } }
   pub envelope : Envelope

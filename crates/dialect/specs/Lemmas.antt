@@ -16,4 +16,5 @@ pub mod PlainIdLaws
 pub mod PlainLaws
 pub mod Split4Laws
 pub mod CodedLaws
+pub mod SpelledLaws
 pub mod AnyLaws

@@ -17,6 +17,8 @@ pub mod Spelling
 pub mod ReportFields
 pub mod ReportRead
 pub mod Order
+pub mod Wording
+pub mod Spelled
 pub mod Plain
 pub mod Split4
 pub mod Coded

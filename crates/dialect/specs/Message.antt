@@ -1,35 +1,28 @@
 -- A message as a session and an exchange understand it: an envelope whose application fields the dialect has read.
-use Rattle.std.specs.Prelude.{ℕ, Bool, true, false, List, [], ◌∷◌, Result, ◌==◌, if◌then◌else◌}
+use Rattle.std.specs.Prelude.{ℕ, Bool, true, false, List, [], ◌∷◌, ◌==◌, if◌then◌else◌}
 use Rattle.fix_text.specs.Tagged.{Tagged}
 use Rattle.fix_tags.specs.declared.body.Body.{Body}
 use Rattle.fix_tags.specs.declared.body.Body.TheVariants as body
 use Rattle.fix_tags.specs.declared.envelope.Envelope.{Envelope}
-use Rattle.leg.specs.declared.leg.Leg.{Leg}
-use Rattle.dialect.specs.declared.fault.DialectFault.{DialectFault}
-use Rattle.dialect.specs.declared.report.Report.{Report}
 use Rattle.dialect.specs.declared.content.Content.{Content}
 use Rattle.dialect.specs.declared.content.Content.TheVariants.{Logon, Heartbeat, TestRequest, ResendRequest, Reject, GapFill, Reset, Logout, BusinessReject, Order, ExecutionReport, Other}
 use Rattle.dialect.specs.declared.message.Message.{Message}
+use Rattle.dialect.specs.Wording.{Decoding}
 
 -- whether it is a Logon
 abbrev pub is_logon : Content → Bool
 is_logon (Logon heart reset next) = true
 is_logon _ = false
 
--- how a dialect reads orders and reports
-pub record Readers : Type 0 where
-  pub order : List Tagged → Result Leg DialectFault
-  pub report : List Tagged → Result Report DialectFault
-
 -- what an application message of one kind says
-abbrev pub application : Readers → List ℕ → List Tagged → Content
+abbrev pub application : Decoding → List ℕ → List Tagged → Content
 application read (c ∷ []) fields =
     if c == 68 then Order (read.order fields)
     else (if c == 56 then ExecutionReport (read.report fields) else Other)
 application read kind fields = Other
 
 -- what a body says
-abbrev pub content_of : Readers → Body → Content
+abbrev pub content_of : Decoding → Body → Content
 content_of read (body.Logon heart reset next) = Logon heart reset next
 content_of read (body.Heartbeat id) = Heartbeat id
 content_of read (body.TestRequest id) = TestRequest id
@@ -42,7 +35,7 @@ content_of read (body.BusinessReject number) = BusinessReject number
 content_of read (body.App kind fields) = application read kind fields
 
 -- an envelope as a message
-abbrev pub seen : Readers → Envelope → Message
+abbrev pub seen : Decoding → Envelope → Message
 seen read e = record {
   from = e.sender;
   to = e.target;

@@ -26,7 +26,8 @@ fn push_app_header(
     time: &[u8],
     body: &mut FrameBody,
 ) -> Result<(), AllocError>
-    ensures { Pushes TakesFields (header_fields (envelope_of message.now (App kind.now [])) time.now) body.old body.new result }
+    ensures { Pushes TakesFields (header_fields (envelope_of message.now (App kind.now [])) time.now)
+        body.old body.new result }
 {
     let header = Header {
         kind,
@@ -63,7 +64,8 @@ pub(crate) fn append_order<D: Dialect>(
     out: &mut Vec<u8>,
 ) -> Result<(), AllocError>
     requires { IsAddressed message.now }
-    ensures ok { OnOk result (AppendsApp (D.IsOrder dialect.now leg.now stamp.now) message.now stamp.now (codes "D") out.old.items out.new.items) }
+    ensures ok { OnOk result (AppendsApp ((D.wording dialect.now).encoding.IsOrder leg.now stamp.now)
+        message.now stamp.now (codes "D") out.old.items out.new.items) }
     ensures err { OnErr result (out.new.items ≡ out.old.items) }
 {
     let time = stamp_bytes(stamp);
@@ -85,7 +87,8 @@ pub(crate) fn append_report<D: Dialect>(
 ) -> Result<(), AllocError>
     requires addressed { IsAddressed message.now }
     requires own_leg { view.now.leg.id ≡ report.now.id }
-    ensures ok { OnOk result (AppendsApp (D.IsReport dialect.now report.now view.now) message.now stamp.now (codes "8") out.old.items out.new.items) }
+    ensures ok { OnOk result (AppendsApp ((D.wording dialect.now).encoding.IsReport report.now view.now)
+        message.now stamp.now (codes "8") out.old.items out.new.items) }
     ensures err { OnErr result (out.new.items ≡ out.old.items) }
 {
     let time = stamp_bytes(stamp);

@@ -8,8 +8,7 @@ ghost use Rattle.fix_tags.specs.Stamp.{StampParts, IsStamp};
 ghost use Rattle.fix_tags.specs.declared.body.Body.{Body};
 ghost use Rattle.leg.specs.declared.leg.Leg.{Leg};
 ghost use Rattle.dialect.specs.declared.report.Report.{Report};
-ghost use Rattle.dialect.specs.Framed.{Writers, IsBody, envelope_of, IsFramed, IsReadAs};
-ghost use Rattle.dialect.specs.Message.{Readers};
+ghost use Rattle.dialect.specs.Framed.{IsBody, envelope_of, IsFramed, IsReadAs};
 ghost use Rattle.dialect.specs.OrderView.{OrderViewParts};
 ghost use Rattle.dialect.specs.declared.outgoing.Outgoing.{Outgoing};
 ghost use Rattle.dialect.specs.Writable.{IsWritable};
@@ -19,34 +18,36 @@ use crate::dialect::Dialect;
 /// Two legs that differ have different fields, whatever their stamps.
 pub fn orders_tell_legs_apart<D: Dialect>(dialect: &D)
     ensures { (a b : Leg) (stamp_a stamp_b : StampParts) (fields : List Tagged) →
-        D.IsOrder dialect.now a stamp_a fields → D.IsOrder dialect.now b stamp_b fields → a ≡ b }
+        (D.wording dialect.now).encoding.IsOrder a stamp_a fields →
+        (D.wording dialect.now).encoding.IsOrder b stamp_b fields → a ≡ b }
 {}
 
 /// Two reports that differ have different fields, whatever their exchanges know beside them.
 pub fn reports_tell_apart<D: Dialect>(dialect: &D)
     ensures { (a b : Report) (beside_a beside_b : OrderViewParts) (fields : List Tagged) →
-        D.IsReport dialect.now a beside_a fields → D.IsReport dialect.now b beside_b fields → a ≡ b }
+        (D.wording dialect.now).encoding.IsReport a beside_a fields →
+        (D.wording dialect.now).encoding.IsReport b beside_b fields → a ≡ b }
 {}
 
 /// A message is read back from its frame, whatever follows the frame: any reader finds the frame next, and what the
 /// dialect reads of it is that very message.
 pub fn frames_read_back<D: Dialect>(dialect: &D)
     ensures { (stamp : StampParts) (out : Outgoing) (bytes rest : List ℕ) (stream : Stream) → IsWritable out →
-        IsFramed (record { IsOrder = D.IsOrder dialect.now; IsReport = D.IsReport dialect.now }) stamp out bytes →
+        IsFramed (D.wording dialect.now).encoding stamp out bytes →
         stream.rest ≡ bytes ++ rest →
-        IsReadAs (record { order = D.order_read dialect.now; report = D.report_read dialect.now }) stream rest out.message }
+        IsReadAs (D.wording dialect.now).decoding stream rest out.message }
 {}
 
 /// There is a frame of every message that can be written, at any moment.
 pub fn writable_messages_are_framed<D: Dialect>(dialect: &D)
     ensures { (stamp : StampParts) (out : Outgoing) → IsStamp stamp → IsWritable out → (bytes : List ℕ) ×
-        IsFramed (record { IsOrder = D.IsOrder dialect.now; IsReport = D.IsReport dialect.now }) stamp out bytes }
+        IsFramed (D.wording dialect.now).encoding stamp out bytes }
 {}
 
 /// A message that can be written is never refused, whichever of the dialect's fields it is written with: only memory
 /// can keep it from being written.
 pub fn writable_messages_fit<D: Dialect>(dialect: &D)
     ensures { (stamp : StampParts) (out : Outgoing) (says : Body) → IsWritable out →
-        IsBody (record { IsOrder = D.IsOrder dialect.now; IsReport = D.IsReport dialect.now }) stamp out.beside
+        IsBody (D.wording dialect.now).encoding stamp out.beside
         out.message.content says → envelope_refusal (envelope_of out.message says) stamp ≡ None }
 {}

@@ -13,7 +13,7 @@ mod fill;
 mod fixed_id;
 mod free_text;
 mod kind;
-mod laws;
+pub mod laws;
 mod limit;
 mod mark;
 mod message;
@@ -48,10 +48,6 @@ pub use fault::{DialectFault, SpellFault};
 pub use fill::Fill;
 pub use free_text::{ExecId, FreeText, LastPx, MAX_ID, MAX_LAST_PX, OrderId};
 pub use kind::{ORDER_KIND, REPORT_KIND};
-pub use laws::{
-    frames_read_back, orders_tell_legs_apart, reports_tell_apart, writable_messages_are_framed,
-    writable_messages_fit,
-};
 pub use message::Message;
 pub use message_read::see;
 pub use message_write::{append_message, write_message};

@@ -3,7 +3,8 @@ ghost use Rattle.std.specs.Prelude.{◌≡◌};
 ghost use Rattle.fix_tags.specs.Lent.{body_of};
 ghost use Rattle.fix_tags.specs.Readable.{HaveNoSoh, IsReadableBody};
 ghost use Rattle.dialect.specs.Read.{IsRead, IsReadContent};
-ghost use Rattle.dialect.specs.Message.{Readers, application, content_of, seen};
+ghost use Rattle.dialect.specs.Message.{application, content_of, seen};
+ghost use Rattle.dialect.specs.Wording.{Decoding};
 
 use crate::content::Content;
 use crate::dialect::Dialect;
@@ -14,7 +15,7 @@ use fix_tags::{AppFields, BodyRef, EnvelopeRef};
 /// What an application message of one kind says.
 fn application<D: Dialect>(dialect: &D, kind: &[u8], fields: &AppFields<'_>) -> Content<'static>
     ensures value { result ≡ application
-        (record { order = D.order_read dialect.now; report = D.report_read dialect.now }) kind.now fields.now }
+        (D.wording dialect.now).decoding kind.now fields.now }
     ensures in_range { IsReadContent result }
 {
     match kind {
@@ -30,7 +31,7 @@ fn content_of<'a, D: Dialect>(dialect: &D, body: &BodyRef<'a>) -> Content<'a>
     requires range { IsReadableBody (body_of body.now) }
     requires no_soh { HaveNoSoh (body_of body.now) }
     ensures value { result ≡ content_of
-        (record { order = D.order_read dialect.now; report = D.report_read dialect.now }) (body_of body.now) }
+        (D.wording dialect.now).decoding (body_of body.now) }
     ensures in_range { IsReadContent result }
 {
     match body {
@@ -67,7 +68,7 @@ fn content_of<'a, D: Dialect>(dialect: &D, body: &BodyRef<'a>) -> Content<'a>
 /// is a message all the same, with the dialect's fault in it.
 pub fn see<'a, D: Dialect>(dialect: &D, envelope: &EnvelopeRef<'a>) -> Message<'a>
     ensures value { result ≡ seen
-        (record { order = D.order_read dialect.now; report = D.report_read dialect.now }) envelope.now }
+        (D.wording dialect.now).decoding envelope.now }
     ensures in_range { IsRead result }
 {
     Message {

@@ -106,10 +106,10 @@ fn append_session(
     append_envelope(&envelope, stamp, out)
 }
 
-/// Appends the one frame of a message that is sent at this moment, in this dialect: the stamp is its SendingTime (52), and
-/// TransactTime (60) of an order. Where the message may have been sent before (43=Y) the stamp is OrigSendingTime (122)
-/// too. The only refusal is want of memory, and leaves `out` as it was: an order and a report take none where `out` has
-/// room for the frame.
+/// Appends the one frame of a message that is sent at this moment, in this dialect: the stamp is its SendingTime (52),
+/// and TransactTime (60) of an order. Where the message may have been sent before (43=Y) the stamp is OrigSendingTime
+/// (122) too. The only refusal is want of memory, and leaves `out` as it was: an order and a report take none where
+/// `out` has room for the frame.
 pub fn append_message<D: Dialect>(
     alloc: Global,
     dialect: &D,
@@ -119,7 +119,7 @@ pub fn append_message<D: Dialect>(
 ) -> Result<(), AllocError>
     requires { IsWritable outgoing.now }
     ensures ok { OnOk result (AppendsFrame
-        (record { IsOrder = D.IsOrder dialect.now; IsReport = D.IsReport dialect.now })
+        (D.wording dialect.now).encoding
         stamp.now outgoing.now out.old.items out.new.items) }
     ensures err { OnErr result (out.new.items ≡ out.old.items) }
 {
@@ -145,7 +145,7 @@ pub fn write_message<D: Dialect>(
 ) -> Result<Vec<u8>, AllocError>
     requires { IsWritable outgoing.now }
     ensures { IfOk result (λ bytes. IsFramed
-        (record { IsOrder = D.IsOrder dialect.now; IsReport = D.IsReport dialect.now })
+        (D.wording dialect.now).encoding
         stamp.now outgoing.now bytes.items) }
 {
     let mut frame = Vec::new(alloc);

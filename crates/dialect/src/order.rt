@@ -23,8 +23,8 @@ use std::alloc::{AllocError, Global};
 /// How many fields an order has at most.
 const MAX_ORDER_LEN: usize = 10;
 
-/// The leg that ClOrdID (11) names. Orders and reports share it, and it is on the way of each: so it is inlined, with the
-/// spelling's reading below it.
+/// The leg that ClOrdID (11) names. Orders and reports share it, and it is on the way of each: so it is inlined, with
+/// the spelling's reading below it.
 #[inline(always)]
 pub(crate) fn id_in<S: Spelling>(
     spelling: &S,

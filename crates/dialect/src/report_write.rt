@@ -132,7 +132,8 @@ pub(crate) fn push_report<S: Spelling, F: FieldSink>(
     view: &OrderView,
     fields: &mut F,
 ) -> Result<(), AllocError>
-    ensures { Pushes F.Takes (report_fields (S.spelling spelling.now) report.now view.now) fields.old fields.new result }
+    ensures { Pushes F.Takes (report_fields (S.spelling spelling.now) report.now view.now)
+        fields.old fields.new result }
 {
     push_event(spelling, alloc, report, view, fields)?;
     spelling.push_symbol(alloc, view.leg().terms.symbol(), fields)?;

@@ -14,27 +14,18 @@ use leg::Leg;
 use std::alloc::{AllocError, Global};
 
 impl<S: Spelling> Dialect for S {
-    ghost use Rattle.std.specs.Prelude.{◌≡◌, ◌+◌, ◌<◌, refl, IfOk, OnOk, OnErr, vec_len, vec_capacity};
+    ghost use Rattle.std.specs.Prelude.{◌≡◌, ◌+◌, ◌<◌, IfOk, OnOk, OnErr, vec_len, vec_capacity};
     ghost use Rattle.leg.specs.Leg.{IsLeg};
     ghost use Rattle.dialect.specs.Dialect.{Appends};
-    ghost use Rattle.dialect.specs.Lemmas.OrderLaws.{order_back, order_marked, order_timed, order_short};
-    ghost use Rattle.dialect.specs.Lemmas.ReportFits.{report_short};
-    ghost use Rattle.dialect.specs.Lemmas.ReportLaws.{report_back, report_said};
-    ghost use Rattle.dialect.specs.Order.{IsOrderOf, IsReadingOf, order_fields, order_read_of};
+    ghost use Rattle.dialect.specs.Lemmas.SpelledLaws.{is_spelled};
+    ghost use Rattle.dialect.specs.Order.{IsOrderOf, IsReadingOf, order_read_of};
     ghost use Rattle.dialect.specs.Report.{IsReport as IsInRange};
-    ghost use Rattle.dialect.specs.ReportFields.{IsReportOf, report_fields};
+    ghost use Rattle.dialect.specs.ReportFields.{IsReportOf};
     ghost use Rattle.dialect.specs.ReportRead.{report_read_of};
     ghost use Rattle.dialect.specs.ReportReading.{IsReportReadingOf};
+    ghost use Rattle.dialect.specs.Spelled.{spelled};
 
-    ghost IsOrder = { λ d leg stamp fields. IsOrderOf (S.spelling d) leg stamp fields };
-
-    ghost order_read = { λ d fields. order_read_of (S.spelling d) fields };
-
-    ghost mark = { λ d. (S.spelling d).mark };
-
-    ghost IsReport = { λ d report view fields. IsReportOf (S.spelling d) report view fields };
-
-    ghost report_read = { λ d fields. report_read_of (S.spelling d) fields };
+    ghost wording = { λ d. spelled (S.spelling d) };
 
     fn write_order(
         &self,
@@ -109,27 +100,5 @@ impl<S: Spelling> Dialect for S {
         read_report(self, fields)
     }
 
-    ghost order_exists = { λ d leg stamp leg_in_range stamp_in_range. (
-      order_fields (S.spelling d) leg stamp,
-      record { leg_in_range = leg_in_range; stamp_in_range = stamp_in_range; written = refl },
-    ) };
-
-    ghost order_reads_back = { λ d leg stamp fields is. order_back (S.spelling d) leg stamp fields (S.is_spelling d) is };
-
-    ghost order_is_marked = { λ d leg stamp fields is. order_marked (S.spelling d) leg stamp fields (S.is_spelling d) is };
-
-    ghost order_is_timed = { λ d leg stamp fields is. order_timed (S.spelling d) leg stamp fields (S.is_spelling d) is };
-
-    ghost order_fits = { λ d leg stamp fields is. order_short (S.spelling d) leg stamp fields (S.is_spelling d) is };
-
-    ghost report_exists = { λ d report view in_range view_in_range own_leg. (
-      report_fields (S.spelling d) report view,
-      record { in_range = in_range; view_in_range = view_in_range; own_leg = own_leg; written = refl },
-    ) };
-
-    ghost report_reads_back = { λ d report view fields is. report_back (S.spelling d) report view fields (S.is_spelling d) is };
-
-    ghost report_says_view = { λ d report view fields is. report_said (S.spelling d) report view fields (S.is_spelling d) is };
-
-    ghost report_fits = { λ d report view fields is. report_short (S.spelling d) report view fields (S.is_spelling d) is };
+    ghost is_wording = { λ d. is_spelled (S.spelling d) (S.is_spelling d) };
 }

@@ -3,7 +3,8 @@ use Rattle.std.proofs.Common.{◌≡◌, ℕ, zero, suc, ◌+◌, ◌-◌, ◌�
 use Rattle.std.specs.Prelude.{All, slice_get, slice_set, option_to_list}
 use Rattle.std.specs.Global.{Vec}
 use Rattle.fix_tags.specs.Stamp.{StampParts}
-use Rattle.dialect.specs.Framed.{Writers, AreFramed}
+use Rattle.dialect.specs.Framed.{AreFramed}
+use Rattle.dialect.specs.Wording.{Encoding}
 use Rattle.std.proofs.lemmas.Bool.Decides.{nat_tests}
 use Rattle.std.proofs.lemmas.Option.{slice_get_within, get_or_from_slice_get}
 use Rattle.leg.specs.declared.leg.Leg.{Leg}
@@ -175,7 +176,7 @@ within_view x place split step order kind made =
     subst (λ (v : OrderViewParts). v.cum + v.leaves ≤ v.leg.terms.shares) (view_stepped place split step order) made.beside.view_in_range.within
 
 -- the report of a plan was written and kept
-pub report_given : (w : Writers) (stamp : StampParts) (x : ExchangeParts) (place : ℕ) (plan : Plan) (order : OrderParts) (frame : Option (Vec ℕ)) (now : ExchangeParts) (report : Report) (view : OrderViewParts) → numbered place x.orders ≡ Some order → report ≡ report_on x order plan.kind → view ≡ view_at place order plan.split → AreFramed w stamp (while_live x.live (execution_report x.config (next_own_number x.own) false report view ∷ [])) (bytes_of (option_to_list frame)) → now ≡ after_step x place plan.split plan.step (Reported report view) → ActGives w stamp x (answered x (plan_answer x place plan)) (Ok frame) now
+pub report_given : (w : Encoding) (stamp : StampParts) (x : ExchangeParts) (place : ℕ) (plan : Plan) (order : OrderParts) (frame : Option (Vec ℕ)) (now : ExchangeParts) (report : Report) (view : OrderViewParts) → numbered place x.orders ≡ Some order → report ≡ report_on x order plan.kind → view ≡ view_at place order plan.split → AreFramed w stamp (while_live x.live (execution_report x.config (next_own_number x.own) false report view ∷ [])) (bytes_of (option_to_list frame)) → now ≡ after_step x place plan.split plan.step (Reported report view) → ActGives w stamp x (answered x (plan_answer x place plan)) (Ok frame) now
 report_given w stamp x place plan order frame now report view there report_is view_is framed now_is =
     let after : OrderParts = stepped plan.split plan.step order in
     let report_same : report ≡ next_report x after plan.kind = report_is ∙ sym (report_stepped x plan.split plan.step order plan.kind) in

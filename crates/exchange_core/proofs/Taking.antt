@@ -3,7 +3,8 @@ use Rattle.std.proofs.Common.{◌≡◌, ℕ, List, [], ◌++◌, Ok, sym, ap, �
 use Rattle.std.specs.List.{All}
 use Rattle.std.specs.Global.{Vec}
 use Rattle.fix_tags.specs.Stamp.{StampParts}
-use Rattle.dialect.specs.Framed.{Writers, AreFramed}
+use Rattle.dialect.specs.Framed.{AreFramed}
+use Rattle.dialect.specs.Wording.{Encoding}
 use Rattle.dialect.specs.Writable.{IsWritable}
 use Rattle.dialect.specs.declared.message.Message.{Message}
 use Rattle.exchange_core.specs.declared.turn.Decision.{Decision}
@@ -38,7 +39,7 @@ pub take_allowed : (x : ExchangeParts) (connection : ℕ) (m : Message) → IsSo
 take_allowed x connection m sound = take_answers x connection m sound.live
 
 -- the frames of both parts, and the exchange afterwards
-pub taken_gives : (w : Writers) (stamp : StampParts) (x : ExchangeParts) (connection : ℕ) (m said : Message) (d : Decision) (start between : List (Vec ℕ)) (frames : Vec (Vec ℕ)) (after : ExchangeParts) → m ≡ said → take x connection m ≡ decided x d → start ≡ [] → Writes w stamp (asked_answer x d.asked) start between → Writes w stamp (deed_answer x d.deed).0 between frames.items → after ≡ (deed_answer x d.deed).1 → TakeGives w stamp x (take x connection said) (Ok frames) after
+pub taken_gives : (w : Encoding) (stamp : StampParts) (x : ExchangeParts) (connection : ℕ) (m said : Message) (d : Decision) (start between : List (Vec ℕ)) (frames : Vec (Vec ℕ)) (after : ExchangeParts) → m ≡ said → take x connection m ≡ decided x d → start ≡ [] → Writes w stamp (asked_answer x d.asked) start between → Writes w stamp (deed_answer x d.deed).0 between frames.items → after ≡ (deed_answer x d.deed).1 → TakeGives w stamp x (take x connection said) (Ok frames) after
 taken_gives w stamp x connection m said d start between frames after same is empty first second now =
     let both = writes_both w stamp (asked_answer x d.asked) (deed_answer x d.deed).0 start between frames.items first second in
     subst (λ (n : Message). TakeGives w stamp x (take x connection n) (Ok frames) after) same

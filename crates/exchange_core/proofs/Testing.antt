@@ -3,7 +3,8 @@ use Rattle.std.proofs.Common.{◌≡◌, ℕ, ◌≤◌, true, List, Some, Ok, r
 use Rattle.fix_tags.specs.Stamp.{StampParts}
 use Rattle.dialect.specs.declared.content.Content.TheVariants.{TestRequest}
 use Rattle.dialect.specs.declared.outgoing.Outgoing.{Outgoing}
-use Rattle.dialect.specs.Framed.{Writers, IsFramed}
+use Rattle.dialect.specs.Framed.{IsFramed}
+use Rattle.dialect.specs.Wording.{Encoding}
 use Rattle.dialect.specs.Writable.{IsWritable}
 use Rattle.exchange_core.specs.Acts.{test_id, tested, test}
 use Rattle.exchange_core.specs.Own.{has_numbers, next_own_number}
@@ -28,7 +29,7 @@ test_writable x sound left =
     tested_said x sound left 0 out (omega arith)
 
 -- its frame is the same in every dialect
-pub framed_by_all : (v w : Writers) (stamp : StampParts) (x : ExchangeParts) (id bytes : List ℕ) → IsFramed v stamp (next_message x (TestRequest id)) bytes → IsFramed w stamp (next_message x (TestRequest id)) bytes
+pub framed_by_all : (v w : Encoding) (stamp : StampParts) (x : ExchangeParts) (id bytes : List ℕ) → IsFramed v stamp (next_message x (TestRequest id)) bytes → IsFramed w stamp (next_message x (TestRequest id)) bytes
 framed_by_all v w stamp x id bytes framed = record { says = framed.says; is_body = framed.is_body; written = framed.written }
 
 -- the rules allow it

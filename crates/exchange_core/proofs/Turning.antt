@@ -4,7 +4,7 @@ use Rattle.std.specs.Global.{Vec}
 use Rattle.fix_tags.specs.Config.{ConfigParts}
 use Rattle.fix_tags.specs.Stamp.{StampParts}
 use Rattle.dialect.specs.Addressed.{message_of}
-use Rattle.dialect.specs.Framed.{Writers}
+use Rattle.dialect.specs.Wording.{Encoding}
 use Rattle.dialect.specs.Outgoing.{alone}
 use Rattle.dialect.specs.declared.outgoing.Outgoing.{Outgoing}
 use Rattle.dialect.specs.declared.content.Content.{Content}
@@ -49,12 +49,12 @@ pub seen_turned : (x : ExchangeParts) (turn : Turn) (own : List Own) → own ≡
 seen_turned x turn own own_is = rw own_is refl
 
 -- a message, and then another, if there was memory for it
-written_behind : {X E : Type 0} (w : Writers) (stamp : StampParts) (first second : Outgoing) (a b c : List (Vec ℕ)) (result : Result X E) → Writes w stamp (first ∷ []) a b → OnOk result (Writes w stamp (second ∷ []) b c) → OnOk result (Writes w stamp (first ∷ second ∷ []) a c)
+written_behind : {X E : Type 0} (w : Encoding) (stamp : StampParts) (first second : Outgoing) (a b c : List (Vec ℕ)) (result : Result X E) → Writes w stamp (first ∷ []) a b → OnOk result (Writes w stamp (second ∷ []) b c) → OnOk result (Writes w stamp (first ∷ second ∷ []) a c)
 written_behind w stamp first second a b c (Ok x) one two = writes_both w stamp (first ∷ []) (second ∷ []) a b c one two
 written_behind w stamp first second a b c (Err e) one two = tt
 
 -- both messages of a turn that asks for what is missing
-pub says_two : {X E : Type 0} (w : Writers) (stamp : StampParts) (x : ExchangeParts) (expected : ℕ) (says : Says) (content : Content) (config : ConfigParts) (number later : ℕ) (first second : Outgoing) (a b c : List (Vec ℕ)) (result : Result X E) → says ≡ OneAndRequest content → config ≡ x.config → number ≡ suc (length x.own) → later ≡ suc (suc (length x.own)) → first ≡ alone (message_of config number false content) → second ≡ alone (message_of config later false (ResendRequest expected 0)) → Writes w stamp (first ∷ []) a b → OnOk result (Writes w stamp (second ∷ []) b c) → OnOk result (Writes w stamp (turn_written x expected says) a c)
+pub says_two : {X E : Type 0} (w : Encoding) (stamp : StampParts) (x : ExchangeParts) (expected : ℕ) (says : Says) (content : Content) (config : ConfigParts) (number later : ℕ) (first second : Outgoing) (a b c : List (Vec ℕ)) (result : Result X E) → says ≡ OneAndRequest content → config ≡ x.config → number ≡ suc (length x.own) → later ≡ suc (suc (length x.own)) → first ≡ alone (message_of config number false content) → second ≡ alone (message_of config later false (ResendRequest expected 0)) → Writes w stamp (first ∷ []) a b → OnOk result (Writes w stamp (second ∷ []) b c) → OnOk result (Writes w stamp (turn_written x expected says) a c)
 says_two w stamp x expected says content config number later first second a b c result says_is config_is number_is later_is first_is second_is one two =
     let first_is_next : first ≡ next_message x content = rw (first_is, config_is, number_is) refl in
     let second_is_next : second ≡ alone (message_of x.config (suc (next_own_number x.own)) false (ResendRequest expected 0)) =

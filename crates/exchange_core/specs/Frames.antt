@@ -2,7 +2,8 @@
 use Rattle.std.specs.Prelude.{◌≡◌, ℕ, List, ◌++◌, map, Option, option_to_list, Result, Ok, Err}
 use Rattle.std.specs.Global.{Vec}
 use Rattle.fix_tags.specs.Stamp.{StampParts}
-use Rattle.dialect.specs.Framed.{Writers, AreFramed}
+use Rattle.dialect.specs.Framed.{AreFramed}
+use Rattle.dialect.specs.Wording.{Encoding}
 use Rattle.dialect.specs.declared.outgoing.Outgoing.{Outgoing}
 use Rattle.exchange_core.specs.declared.exchange_fault.ExchangeFault.{ExchangeFault}
 use Rattle.exchange_core.specs.declared.exchange_fault.ExchangeFault.TheVariants.{OutOfMemory}
@@ -11,7 +12,7 @@ use Rattle.exchange_core.specs.Acts.{ActAnswer}
 
 -- the frames of a session's own messages are the same in every dialect: they are those in one that writes no orders
 -- and no reports
-abbrev pub no_dialect : Writers
+abbrev pub no_dialect : Encoding
 no_dialect = record { IsOrder = λ leg stamp fields. ⊥; IsReport = λ report view fields. ⊥ }
 
 -- the bytes of each frame
@@ -24,14 +25,14 @@ ActResult = Result (Option (Vec ℕ)) ExchangeFault
 
 -- what an act gives: its refusal; or the frame of what is written, if anything is; or want of memory, where it would
 -- not have been refused, and the exchange as it was
-abbrev pub ActGives : Writers → StampParts → ExchangeParts → ActAnswer → ActResult → ExchangeParts → Type 0
+abbrev pub ActGives : Encoding → StampParts → ExchangeParts → ActAnswer → ActResult → ExchangeParts → Type 0
 ActGives w stamp before (Err fault, after) answer now = (answer ≡ Err fault) × (now ≡ after)
 ActGives w stamp before (Ok written, after) (Ok frame) now =
     AreFramed w stamp written (bytes_of (option_to_list frame)) × (now ≡ after)
 ActGives w stamp before (Ok written, after) (Err fault) now = (fault ≡ OutOfMemory) × (now ≡ before)
 
 -- the frames of these messages were put behind the others
-pub record Writes (w : Writers) (stamp : StampParts) (written : List Outgoing) (old new : List (Vec ℕ)) : Type 0 where
+pub record Writes (w : Encoding) (stamp : StampParts) (written : List Outgoing) (old new : List (Vec ℕ)) : Type 0 where
   pub frames : List (Vec ℕ)
   pub added : new ≡ old ++ frames
   pub framed : AreFramed w stamp written (bytes_of frames)
@@ -41,7 +42,7 @@ abbrev pub TakeResult : Type 0
 TakeResult = Result (Vec (Vec ℕ)) ExchangeFault
 
 -- what is given for it: the frames of what is written; or want of memory, and the exchange as it was
-abbrev pub TakeGives : Writers → StampParts → ExchangeParts → Answer → TakeResult → ExchangeParts → Type 0
+abbrev pub TakeGives : Encoding → StampParts → ExchangeParts → Answer → TakeResult → ExchangeParts → Type 0
 TakeGives w stamp before (written, after) (Ok frames) now =
     AreFramed w stamp written (bytes_of frames.items) × (now ≡ after)
 TakeGives w stamp before (written, after) (Err fault) now = (fault ≡ OutOfMemory) × (now ≡ before)

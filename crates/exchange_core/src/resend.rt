@@ -26,7 +26,7 @@ pub(crate) fn resend<D: Dialect>(
 ) -> Result<(), AllocError>
     requires writable { All IsWritable (resent config.now None begin own.now) }
     requires small { begin + length own.now ≤ 1000000000 }
-    ensures { OnOk result (Writes (record { IsOrder = D.IsOrder dialect.now; IsReport = D.IsReport dialect.now })
+    ensures { OnOk result (Writes (D.wording dialect.now).encoding
         stamp.now (resent config.now None begin own.now) frames.old.items frames.new.items) }
 {
     let mut run = None;
@@ -52,7 +52,7 @@ fn resend_one<D: Dialect>(
 ) -> Result<Option<u64>, AllocError>
     requires { All IsWritable (resent_one config.now run number entry.now) }
     ensures written { OnOk result (Writes
-        (record { IsOrder = D.IsOrder dialect.now; IsReport = D.IsReport dialect.now }) stamp.now
+        (D.wording dialect.now).encoding stamp.now
         (resent_one config.now run number entry.now) frames.old.items frames.new.items) }
     ensures run { IfOk result (λ after. after ≡ run_after run number entry.now) }
 {
@@ -89,7 +89,7 @@ fn close_run<D: Dialect>(
     frames: &mut Vec<Vec<u8>>,
 ) -> Result<(), AllocError>
     requires { All IsWritable (closing_fill config.now run number) }
-    ensures { OnOk result (Writes (record { IsOrder = D.IsOrder dialect.now; IsReport = D.IsReport dialect.now })
+    ensures { OnOk result (Writes (D.wording dialect.now).encoding
         stamp.now (closing_fill config.now run number) frames.old.items frames.new.items) }
 {
     match run {

@@ -18,7 +18,7 @@ pub(crate) fn write<D: Dialect>(
     frames: &mut Vec<Vec<u8>>,
 ) -> Result<(), AllocError>
     requires { IsWritable outgoing.now }
-    ensures { OnOk result (Writes (record { IsOrder = D.IsOrder dialect.now; IsReport = D.IsReport dialect.now })
+    ensures { OnOk result (Writes (D.wording dialect.now).encoding
         stamp.now (outgoing.now ∷ []) frames.old.items frames.new.items) }
 {
     let frame = write_message(alloc, dialect, stamp, outgoing)?;

@@ -30,9 +30,16 @@ impl Model for Config {
 
     ghost Value = { ConfigParts };
 
-    ghost view = { λ c. record { me = c.me; peer = c.peer; heart = c.heart; max_number = c.max_number; has_next = c.has_next } };
+    ghost view = { λ c. record {
+      me = c.me;
+      peer = c.peer;
+      heart = c.heart;
+      max_number = c.max_number;
+      has_next = c.has_next;
+    } };
 
-    ghost invariant = { λ c. IsConfig (record { me = c.me; peer = c.peer; heart = c.heart; max_number = c.max_number; has_next = c.has_next }) };
+    ghost invariant = { λ c. IsConfig (record
+        { me = c.me; peer = c.peer; heart = c.heart; max_number = c.max_number; has_next = c.has_next }) };
 }
 
 impl Config {

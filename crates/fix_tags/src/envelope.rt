@@ -41,9 +41,23 @@ impl<'a> Model for EnvelopeRef<'a> {
     ghost use Rattle.fix_tags.specs.Lent.{body_of};
     ghost use Rattle.fix_tags.specs.Readable.{IsRead};
 
-    ghost view = { λ e. record { sender = e.sender.now; target = e.target.now; number = e.number; poss_dup = e.poss_dup; poss_resend = e.poss_resend; body = body_of e.body } };
+    ghost view = { λ e. record {
+      sender = e.sender.now;
+      target = e.target.now;
+      number = e.number;
+      poss_dup = e.poss_dup;
+      poss_resend = e.poss_resend;
+      body = body_of e.body;
+    } };
 
-    ghost invariant = { λ e. IsRead (record { sender = e.sender.now; target = e.target.now; number = e.number; poss_dup = e.poss_dup; poss_resend = e.poss_resend; body = body_of e.body }) };
+    ghost invariant = { λ e. IsRead (record {
+      sender = e.sender.now;
+      target = e.target.now;
+      number = e.number;
+      poss_dup = e.poss_dup;
+      poss_resend = e.poss_resend;
+      body = body_of e.body;
+    }) };
 }
 
 impl<'a> EnvelopeRef<'a> {
@@ -59,8 +73,22 @@ impl<'a> EnvelopeRef<'a> {
         poss_resend: bool,
         body: BodyRef<'a>,
     ) -> EnvelopeRef<'a>
-        requires { IsRead (record { sender = sender.now; target = target.now; number = number; poss_dup = poss_dup; poss_resend = poss_resend; body = body_of body }) }
-        ensures { result ≡ record { sender = sender.entry.now; target = target.entry.now; number = number; poss_dup = poss_dup; poss_resend = poss_resend; body = body_of body.entry } }
+        requires { IsRead (record {
+          sender = sender.now;
+          target = target.now;
+          number = number;
+          poss_dup = poss_dup;
+          poss_resend = poss_resend;
+          body = body_of body;
+        }) }
+        ensures { result ≡ record {
+          sender = sender.entry.now;
+          target = target.entry.now;
+          number = number;
+          poss_dup = poss_dup;
+          poss_resend = poss_resend;
+          body = body_of body.entry;
+        } }
     {
         EnvelopeRef {
             sender,

@@ -1,5 +1,5 @@
 //! The header of a message, as it is pushed to the body of a frame.
-ghost use Rattle.std.specs.Prelude.{◌∷◌};
+ghost use Rattle.std.specs.Prelude.{◌∷◌, ◌+◌, ◌<◌, ◌≤◌, OnErr, length};
 ghost use Rattle.fix_text.specs.Sink.{Pushes};
 ghost use Rattle.fix_tags.specs.Message.{field, number_field, flag_field, original_time, marks_and_time};
 
@@ -37,7 +37,9 @@ fn push_flag<F: FieldSink>(
     flag: bool,
     fields: &mut F,
 ) -> Result<(), AllocError>
-    ensures { Pushes F.Takes (flag_field tag flag) fields.old fields.new result }
+    ensures pushed { Pushes F.Takes (flag_field tag flag) fields.old fields.new result }
+    ensures left { F.room fields.old ≤ F.room fields.new + 1 }
+    ensures full { OnErr result (F.room fields.old < 1) }
 {
     if flag {
         fields.push_field(alloc, tag, b"Y")
@@ -53,7 +55,9 @@ fn push_original_time<F: FieldSink>(
     time: &[u8],
     fields: &mut F,
 ) -> Result<(), AllocError>
-    ensures { Pushes F.Takes (original_time poss_dup time.now) fields.old fields.new result }
+    ensures pushed { Pushes F.Takes (original_time poss_dup time.now) fields.old fields.new result }
+    ensures left { F.room fields.old ≤ F.room fields.new + 1 }
+    ensures full { length time.now ≤ 24 → OnErr result (F.room fields.old < 1) }
 {
     if poss_dup {
         fields.push_field(alloc, ORIG_SENDING_TIME, time)
@@ -72,7 +76,9 @@ fn push_marks_and_time<F: FieldSink>(
     time: &[u8],
     fields: &mut F,
 ) -> Result<(), AllocError>
-    ensures { Pushes F.Takes (marks_and_time poss_dup poss_resend time.now) fields.old fields.new result }
+    ensures pushed { Pushes F.Takes (marks_and_time poss_dup poss_resend time.now) fields.old fields.new result }
+    ensures left { F.room fields.old ≤ F.room fields.new + 4 }
+    ensures full { length time.now ≤ 24 → OnErr result (F.room fields.old < 4) }
 {
     push_flag(alloc, POSS_DUP_FLAG, poss_dup, fields)?;
     push_flag(alloc, POSS_RESEND, poss_resend, fields)?;
@@ -80,14 +86,22 @@ fn push_marks_and_time<F: FieldSink>(
     push_original_time(alloc, poss_dup, time, fields)
 }
 
-/// Pushes the fields of a header, in written order. A refused growth leaves some of them behind.
+/// Pushes the fields of a header, in written order. A refused growth leaves some of them behind; none comes where there
+/// is room for eight more fields and no text of the header is longer than 24 bytes.
 #[inline(always)]
 pub fn push_header<F: FieldSink>(
     alloc: Global,
     header: &Header<'_>,
     fields: &mut F,
 ) -> Result<(), AllocError>
-    ensures { Pushes F.Takes (field 35 header.now.kind.now ∷ field 49 header.now.sender.now ∷ field 56 header.now.target.now ∷ number_field 34 header.now.number ∷ marks_and_time header.now.poss_dup header.now.poss_resend header.now.time.now) fields.old fields.new result }
+    ensures pushed { Pushes F.Takes (field 35 header.now.kind.now ∷ field 49 header.now.sender.now
+        ∷ field 56 header.now.target.now ∷ number_field 34 header.now.number
+        ∷ marks_and_time header.now.poss_dup header.now.poss_resend header.now.time.now)
+        fields.old fields.new result }
+    ensures left { F.room fields.old ≤ F.room fields.new + 8 }
+    ensures full { length header.now.kind.now ≤ 24 → length header.now.sender.now ≤ 24
+        → length header.now.target.now ≤ 24 → length header.now.time.now ≤ 24
+        → OnErr result (F.room fields.old < 8) }
 {
     let mut digits = Buffer::new();
     fields.push_field(alloc, MSG_TYPE, header.kind)?;

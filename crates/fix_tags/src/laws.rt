@@ -85,5 +85,6 @@ pub fn written_messages_read_back()
 
 /// A message in range that the fields say is the one that is read from them, and no other is.
 pub fn what_fields_say_is_read()
-    ensures { (e : Envelope) (fields : List Tagged) → IsReadable e → IsReadingOf e fields → envelope_read fields ≡ Ok e }
+    ensures { (e : Envelope) (fields : List Tagged) → IsReadable e → IsReadingOf e fields →
+        envelope_read fields ≡ Ok e }
 {}

@@ -58,7 +58,8 @@ fn message<'a>(
 ) -> Result<EnvelopeRef<'a>, TagFault>
     requires header { IsHeader header.kind.now header.sender.now header.target.now header.number (fields_in frame.now) }
     requires found { IsFoundIn found.now (fields_in frame.now) }
-    ensures { Gives (λ e. e) result (message_read header.entry.kind.now header.entry.sender.now header.entry.target.now header.entry.number (fields_in frame.now)) }
+    ensures { Gives (λ e. e) result (message_read header.entry.kind.now header.entry.sender.now header.entry.target.now
+        header.entry.number (fields_in frame.now)) }
 {
     let poss_dup = flag_in(POSS_DUP_FLAG, found.poss_dup)?;
     let poss_resend = flag_in(POSS_RESEND, found.poss_resend)?;

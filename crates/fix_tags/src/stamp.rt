@@ -22,11 +22,35 @@ impl Model for Stamp {
 
     ghost Value = { StampParts };
 
-    ghost view = { λ s. record { year = s.year; month = s.month; day = s.day; hour = s.hour; minute = s.minute; second = s.second; milli = s.milli } };
+    ghost view = { λ s. record {
+      year = s.year;
+      month = s.month;
+      day = s.day;
+      hour = s.hour;
+      minute = s.minute;
+      second = s.second;
+      milli = s.milli;
+    } };
 
-    ghost invariant = { λ s. IsStamp (record { year = s.year; month = s.month; day = s.day; hour = s.hour; minute = s.minute; second = s.second; milli = s.milli }) };
+    ghost invariant = { λ s. IsStamp (record {
+      year = s.year;
+      month = s.month;
+      day = s.day;
+      hour = s.hour;
+      minute = s.minute;
+      second = s.second;
+      milli = s.milli;
+    }) };
 
-    ghost inverse = { λ s. record { year = s.year; month = s.month; day = s.day; hour = s.hour; minute = s.minute; second = s.second; milli = s.milli } };
+    ghost inverse = { λ s. record {
+      year = s.year;
+      month = s.month;
+      day = s.day;
+      hour = s.hour;
+      minute = s.minute;
+      second = s.second;
+      milli = s.milli;
+    } };
 }
 
 impl Stamp {

@@ -1,13 +1,17 @@
 //! A text of a field that is owned, as bytes.
-ghost use Rattle.std.specs.Prelude.{◌≡◌, IfOk};
+ghost use Rattle.std.specs.Prelude.{◌≡◌, ◌≤◌, IfOk, IsOk, length};
 
+use smallvec::SmallVec;
 use std::alloc::{AllocError, Global};
 use std::marker::Model;
 
-/// The bytes of a field's value. Contracts see the list of them.
+/// The most bytes of a text that lies in itself, as of a value that lies in its field.
+const INLINE_LEN: usize = 24;
+
+/// The bytes of a field's value, of which up to 24 lie in the text itself. Contracts see the list of them.
 #[derive(Debug, Drop)]
 pub struct Text {
-    bytes: Vec<u8>,
+    bytes: SmallVec<u8, INLINE_LEN>,
 }
 
 impl Model for Text {
@@ -23,14 +27,17 @@ impl Text {
     pub fn new(bytes: Vec<u8>) -> Text
         ensures { result ≡ bytes.items }
     {
-        Text { bytes }
+        Text {
+            bytes: SmallVec::from_vec(bytes),
+        }
     }
 
-    /// A copy of these bytes.
+    /// A copy of these bytes. It takes memory only for more than 24.
     pub fn from_slice(alloc: Global, bytes: &[u8]) -> Result<Text, AllocError>
-        ensures { IfOk result (λ text. text ≡ bytes.now) }
+        ensures ok { IfOk result (λ text. text ≡ bytes.now) }
+        ensures short { length bytes.now ≤ 24 → IsOk result }
     {
-        let bytes = Vec::from_slice(alloc, bytes)?;
+        let bytes = SmallVec::from_slice(alloc, bytes)?;
         Ok(Text { bytes })
     }
 
@@ -39,12 +46,5 @@ impl Text {
         ensures { result.now ≡ self.now }
     {
         self.bytes.as_slice()
-    }
-
-    /// The bytes. It takes no memory.
-    pub fn into_vec(self) -> Vec<u8>
-        ensures { result.items ≡ self }
-    {
-        self.bytes
     }
 }

@@ -33,7 +33,8 @@ pub(crate) fn text_of<'a>(
     value: Option<&'a [u8]>,
     most: usize,
 ) -> Result<&'a [u8], TagFault>
-    ensures { Gives (λ text. text.now) result (wanted tag (short_text most) (option_map (λ value. value.now) value.entry)) }
+    ensures { Gives (λ text. text.now) result
+        (wanted tag (short_text most) (option_map (λ value. value.now) value.entry)) }
 {
     match value {
         None => Err(TagFault::Missing(tag)),
@@ -101,7 +102,8 @@ fn number_in(tag: u32, value: &[u8], range: NumberRange) -> Result<u64, TagFault
 /// A number that must be there.
 #[inline]
 pub(crate) fn number_of(tag: u32, value: Option<&[u8]>, range: NumberRange) -> Result<u64, TagFault>
-    ensures { result ≡ wanted tag (number_if (is_between range.least range.greatest)) (option_map (λ value. value.now) value.entry) }
+    ensures { result ≡ wanted tag (number_if (is_between range.least range.greatest))
+        (option_map (λ value. value.now) value.entry) }
 {
     match value {
         None => Err(TagFault::Missing(tag)),

@@ -207,8 +207,11 @@ fn write_with_header<'a>(
     body: &Body,
     out: &mut Vec<u8>,
 ) -> Result<(), TextFault>
-    requires { AreWritable (field 35 texts.kind.now ∷ field 49 texts.sender.now ∷ field 56 texts.target.now ∷ field 34 texts.number.now ∷ marks_and_time poss_dup poss_resend texts.time.now ++ body_fields body.now) }
-    ensures { WritesFrame (field 35 texts.entry.kind.now ∷ field 49 texts.entry.sender.now ∷ field 56 texts.entry.target.now ∷ field 34 texts.entry.number.now ∷ marks_and_time poss_dup poss_resend texts.entry.time.now ++ body_fields body.now) out.old out.new result }
+    requires { AreWritable (field 35 texts.kind.now ∷ field 49 texts.sender.now ∷ field 56 texts.target.now
+        ∷ field 34 texts.number.now ∷ marks_and_time poss_dup poss_resend texts.time.now ++ body_fields body.now) }
+    ensures { WritesFrame (field 35 texts.entry.kind.now ∷ field 49 texts.entry.sender.now
+        ∷ field 56 texts.entry.target.now ∷ field 34 texts.entry.number.now
+        ∷ marks_and_time poss_dup poss_resend texts.entry.time.now ++ body_fields body.now) out.old out.new result }
 {
     let kind = FieldRef::new(MSG_TYPE, texts.kind);
     let sender = FieldRef::new(SENDER_COMP_ID, texts.sender);
@@ -239,10 +242,12 @@ fn write_with_header<'a>(
 /// The frame of a message whose fields have no fault: only its length can be refused.
 fn write_message(envelope: &Envelope, stamp: &Stamp, out: &mut Vec<u8>) -> Result<(), TextFault>
     requires { field_fault envelope.now ≡ None }
-    ensures refusal { MatchOption (if is_too_long envelope.now stamp.now then Some TextFault.TooLong else None) (IsOkUnless result TextFault.OutOfMemory) (λ fault. result ≡ Err fault) }
+    ensures refusal { MatchOption (if is_too_long envelope.now stamp.now then Some TextFault.TooLong else None)
+        (IsOkUnless result TextFault.OutOfMemory) (λ fault. result ≡ Err fault) }
     ensures ok { OnOk result (out.new.items ≡ out.old.items ++ frame_text (envelope_fields envelope.now stamp.now)) }
     ensures err { OnErr result (out.new.items ≡ out.old.items) }
-    ensures full { result ≡ Err TextFault.OutOfMemory → vec_capacity out.old < vec_len out.old + length (frame_text (envelope_fields envelope.now stamp.now)) }
+    ensures full { result ≡ Err TextFault.OutOfMemory →
+        vec_capacity out.old < vec_len out.old + length (frame_text (envelope_fields envelope.now stamp.now)) }
     ensures sender { IsCompId envelope.now.sender }
     ensures target { IsCompId envelope.now.target }
 {
@@ -266,10 +271,12 @@ fn write_message(envelope: &Envelope, stamp: &Stamp, out: &mut Vec<u8>) -> Resul
 /// The same, with the message's own faults.
 fn write_faultless(envelope: &Envelope, stamp: &Stamp, out: &mut Vec<u8>) -> Result<(), WriteFault>
     requires { field_fault envelope.now ≡ None }
-    ensures refusal { MatchOption (envelope_refusal envelope.now stamp.now) (IsOkUnless result WriteFault.OutOfMemory) (λ fault. result ≡ Err fault) }
+    ensures refusal { MatchOption (envelope_refusal envelope.now stamp.now) (IsOkUnless result WriteFault.OutOfMemory)
+        (λ fault. result ≡ Err fault) }
     ensures ok { OnOk result (out.new.items ≡ out.old.items ++ frame_text (envelope_fields envelope.now stamp.now)) }
     ensures err { OnErr result (out.new.items ≡ out.old.items) }
-    ensures full { result ≡ Err WriteFault.OutOfMemory → vec_capacity out.old < vec_len out.old + length (frame_text (envelope_fields envelope.now stamp.now)) }
+    ensures full { result ≡ Err WriteFault.OutOfMemory →
+        vec_capacity out.old < vec_len out.old + length (frame_text (envelope_fields envelope.now stamp.now)) }
     ensures reads_back { OnOk result (ReadsBackAs envelope.now (frame_text (envelope_fields envelope.now stamp.now))) }
 {
     match write_message(envelope, stamp, out) {
@@ -294,10 +301,12 @@ pub fn write_envelope(
     stamp: &Stamp,
     out: &mut Vec<u8>,
 ) -> Result<(), WriteFault>
-    ensures refusal { MatchOption (envelope_refusal envelope.now stamp.now) (IsOkUnless result WriteFault.OutOfMemory) (λ fault. result ≡ Err fault) }
+    ensures refusal { MatchOption (envelope_refusal envelope.now stamp.now) (IsOkUnless result WriteFault.OutOfMemory)
+        (λ fault. result ≡ Err fault) }
     ensures ok { OnOk result (out.new.items ≡ out.old.items ++ frame_text (envelope_fields envelope.now stamp.now)) }
     ensures err { OnErr result (out.new.items ≡ out.old.items) }
-    ensures full { result ≡ Err WriteFault.OutOfMemory → vec_capacity out.old < vec_len out.old + length (frame_text (envelope_fields envelope.now stamp.now)) }
+    ensures full { result ≡ Err WriteFault.OutOfMemory →
+        vec_capacity out.old < vec_len out.old + length (frame_text (envelope_fields envelope.now stamp.now)) }
     ensures reads_back { OnOk result (ReadsBackAs envelope.now (frame_text (envelope_fields envelope.now stamp.now))) }
 {
     match field_fault(envelope) {

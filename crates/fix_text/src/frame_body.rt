@@ -81,7 +81,8 @@ impl FieldSink for FrameBody {
 
     ghost Takes = { TakesFields };
 
-    ghost room = { λ _. 0 };
+    // A push wants no memory, so none is ever refused: the room is that of more fields than a message has.
+    ghost room = { λ _. 1152 };
 
     fn push_field(&mut self, _alloc: Global, tag: u32, value: &[u8]) -> Result<(), AllocError> {
         self.push_tag(tag);

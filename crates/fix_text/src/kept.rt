@@ -1,5 +1,5 @@
 //! What a reader keeps, of which it lends its frames.
-ghost use Rattle.std.specs.Prelude.{◌≡◌, ◌++◌, ◌≤◌, [], OnErr, OnOk, vec_capacity};
+ghost use Rattle.std.specs.Prelude.{◌≡◌, ◌+◌, ◌<◌, ◌++◌, ◌≤◌, [], OnErr, OnOk, length, vec_len, vec_capacity};
 ghost use Rattle.fix_text.specs.Placing.{fields_at};
 ghost use Rattle.fix_text.specs.Passing.{body_in, IsBody};
 
@@ -32,12 +32,15 @@ impl Kept {
         }
     }
 
-    /// Adds bytes, with room for the places of a frame's fields.
+    /// Adds bytes, with room for the places of a frame's fields. Once those have their room, it is refused only where
+    /// the buffer's is less than the bytes.
     pub fn feed(&mut self, bytes: &[u8]) -> Result<(), AllocError>
         ensures ok { OnOk result (self.new.buffer.items ≡ self.old.buffer.items ++ bytes.now) }
         ensures err { OnErr result (self.new.buffer.items ≡ self.old.buffer.items) }
         ensures room { OnOk result (64 ≤ vec_capacity self.new.places) }
         ensures no_less { vec_capacity self.old.places ≤ vec_capacity self.new.places }
+        ensures full { 64 ≤ vec_capacity self.old.places
+            → OnErr result (vec_capacity self.old.buffer < vec_len self.old.buffer + length bytes.now) }
     {
         if self.places.capacity() < FREE_FIELDS {
             self.places.reserve(FREE_FIELDS)?;

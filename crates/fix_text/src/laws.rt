@@ -53,15 +53,18 @@ pub fn next_is_determined()
 /// What was read of a stream stays read when more bytes come; of two readings one is the beginning of the other, and so
 /// are the frames that they give.
 pub fn reading_is_determined()
-    ensures stays { (passes : List Pass) (bytes rest more : List ℕ) → Passes passes bytes rest → Passes passes (bytes ++ more) (rest ++ more) }
+    ensures stays { (passes : List Pass) (bytes rest more : List ℕ) → Passes passes bytes rest →
+        Passes passes (bytes ++ more) (rest ++ more) }
     ensures one { (a b : List Pass) (bytes rest left : List ℕ) → Passes a bytes rest → Passes b bytes left
-        → ((more : List Pass) × (a ++ more ≡ b) × Passes more rest left) ⊎ ((more : List Pass) × (b ++ more ≡ a) × Passes more left rest) }
-    ensures frames { (bytes : List ℕ) (a b : List (List Tagged)) (stream other : Stream) → AreFirst bytes a stream → AreFirst bytes b other
+        → ((more : List Pass) × (a ++ more ≡ b) × Passes more rest left)
+        ⊎ ((more : List Pass) × (b ++ more ≡ a) × Passes more left rest) }
+    ensures frames { (bytes : List ℕ) (a b : List (List Tagged)) (stream other : Stream) → AreFirst bytes a stream →
+        AreFirst bytes b other
         → ((more : List (List Tagged)) × (a ++ more ≡ b)) ⊎ ((more : List (List Tagged)) × (b ++ more ≡ a)) }
 {}
 
-/// What calls of a new reader gave, however the bytes were cut: the frames are the first valid ones of all bytes that were
-/// fed, in order, with the counts of the others. A refused call changed nothing.
+/// What calls of a new reader gave, however the bytes were cut: the frames are the first valid ones of all bytes that
+/// were fed, in order, with the counts of the others. A refused call changed nothing.
 pub fn read_calls()
     ensures { (calls : List Called) (stream : Stream) → CallsLead calls new_stream stream
         → AreFirst (bytes_fed calls) (frames_given calls) stream }

@@ -33,7 +33,12 @@ impl<'a> Model for Whole<'a> {
 
     ghost Value = { WholeParts };
 
-    ghost view = { λ whole. record { before = whole.before.now; body = whole.body.now; check = whole.check; rest = whole.rest.now } };
+    ghost view = { λ whole. record {
+      before = whole.before.now;
+      body = whole.body.now;
+      check = whole.check;
+      rest = whole.rest.now;
+    } };
 }
 
 impl<'a> Whole<'a> {
@@ -150,7 +155,8 @@ fn length_by_digits(bytes: &[u8]) -> Result<(usize, &[u8]), Stop>
 #[tactic(auto, unfolding(crate::specs::Reading::body_at))]
 fn body_at(size: usize, bytes: &[u8]) -> Result<(&[u8], &[u8]), Stop>
     requires { 0 < size }
-    ensures found { result_map_both (λ found. (found.0.now, found.1.now)) (λ stop. stop) result ≡ body_at size bytes.now }
+    ensures found { result_map_both (λ found. (found.0.now, found.1.now)) (λ stop. stop) result
+        ≡ body_at size bytes.now }
     ensures within { IfOk result (λ found. length found.1.now ≤ length bytes.now) }
 {
     if bytes.len() < size {

@@ -56,7 +56,8 @@ impl Passed {
     /// Passes on to the end of the next valid frame, with the places of its fields, or to where more bytes are needed.
     pub fn pass(self, bytes: &[u8], places: &mut Vec<Place>) -> Result<Found, ReaderFault>
         requires { self.end ≤ length bytes.now }
-        ensures read { IfOk result (λ found. found_in bytes.now places.new.items found.body found.passed ≡ next_read (left_of bytes.now self)) }
+        ensures read { IfOk result (λ found. found_in bytes.now places.new.items found.body found.passed
+            ≡ next_read (left_of bytes.now self)) }
         ensures waits { IfOk result (λ found. let next = next_read (left_of bytes.now self) in
             found.passed.waits_for ≡ waits_after next.frame next.stream.rest) }
         ensures within { IfOk result (λ found. IfSome found.body (λ body. IsBody bytes.now body places.new.items)) }
@@ -131,7 +132,10 @@ impl Found {
         requires useful { count ≤ useful_from self.body self.passed.end }
         requires ordered { IfSome self.body (λ body. body.start ≤ body.end) }
         requires passed { IfSome self.body (λ body. body.end ≤ self.passed.end) }
-        ensures { result ≡ record { body = body_after count self.body; passed = record self.passed { end = self.passed.end - count } } }
+        ensures { result ≡ record {
+          body = body_after count self.body;
+          passed = record self.passed { end = self.passed.end - count };
+        } }
     {
         let body = match self.body {
             Some(body) => Some(Body {
@@ -147,11 +151,13 @@ impl Found {
         }
     }
 
-    /// Lets go of the bytes that are of no more use, where they are many, and no fewer than those behind them: so no more
-    /// bytes move than are let go.
+    /// Lets go of the bytes that are of no more use, where they are many, and no fewer than those behind them: so no
+    /// more bytes move than are let go.
     pub fn let_go(self, buffer: &mut Vec<u8>) -> Found
         requires { LiesWithin buffer.old.items self }
-        ensures same { (places : List Place) → found_in buffer.new.items places result.body result.passed ≡ found_in buffer.old.items places self.body self.passed }
+        ensures same { (places : List Place) →
+            found_in buffer.new.items places result.body result.passed
+            ≡ found_in buffer.old.items places self.body self.passed }
         ensures body { (places : List Place) → IfSome self.body (λ body. IsBody buffer.old.items body places)
             → IfSome result.body (λ body. IsBody buffer.new.items body places) }
         ensures waits { result.passed.waits_for ≡ self.passed.waits_for }

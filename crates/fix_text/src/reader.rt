@@ -15,8 +15,8 @@ use crate::reader_fault::ReaderFault;
 use std::alloc::Global;
 use std::marker::Model;
 
-/// Reads frames from bytes that come in any pieces. What is fed is kept until it is passed, and little longer; a frame's
-/// room is used again for the next.
+/// Reads frames from bytes that come in any pieces. What is fed is kept until it is passed, and little longer; a
+/// frame's room is used again for the next.
 #[derive(Drop)]
 pub struct FrameReader {
     kept: Kept,
@@ -96,10 +96,12 @@ impl FrameReader {
         ensures fields { IfOk result (λ frame. option_map fields_in frame ≡ (next_read self.old).frame) }
         // In the words of the grammar.
         ensures next { IfOk result (λ frame. IsNext self.old (next_frame frame (next_read self.old).stream)) }
-        ensures shorter { IfOk result (λ frame. IfSome frame (λ _. length (next_read self.old).stream.rest < length self.old.rest)) }
+        ensures shorter { IfOk result (λ frame.
+            IfSome frame (λ _. length (next_read self.old).stream.rest < length self.old.rest)) }
         // A written frame is the next one, whatever follows it.
         ensures written { (fields : List Tagged) (rest : List ℕ) → BeginsWritten self.old fields rest
-            → IfOk result (λ frame. next_frame frame (next_read self.old).stream ≡ record { frame = Some fields; stream = record self.old { rest = rest } }) }
+            → IfOk result (λ frame. next_frame frame (next_read self.old).stream
+            ≡ record { frame = Some fields; stream = record self.old { rest = rest } }) }
         ensures refusal { IsOkUnless result ReaderFault.OutOfMemory }
         // The frame would else have been given.
         ensures full { OnErr result (AreMore 64 (next_read self.old).frame) }

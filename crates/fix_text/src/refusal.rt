@@ -134,7 +134,8 @@ pub fn text_length(parts: &FrameParts<'_>) -> Result<usize, TextFault>
 /// Looks for a field that can't be written: each fault is tried over all fields before the next.
 pub fn check_fields(parts: &FrameParts<'_>) -> Result<(), TextFault>
     ensures { let fields = all_fields parts.now in
-        result ≡ (if not (has_writable_tags fields) then Err BadTag else (if not (has_writable_values fields) then Err BadValue else Ok tt)) }
+        result ≡ (if not (has_writable_tags fields) then Err BadTag
+        else (if not (has_writable_values fields) then Err BadValue else Ok tt)) }
 {
     if !can_write_tags(parts) {
         return Err(TextFault::BadTag);

@@ -1,8 +1,8 @@
 //! Tags as constant text.
 ghost use Rattle.std.specs.Prelude.{◌≡◌, ◌++◌, ◌∷◌, [], decimal, IfSome};
 
-/// The text of a tag with the `=` behind it, of the tags that stand in most orders and reports and their headers (FIX 4.4
-/// Volumes 2 and 4).
+/// The text of a tag with the `=` behind it, of the tags that stand in most orders and reports and their headers (FIX
+/// 4.4 Volumes 2 and 4).
 pub(crate) fn tag_text(tag: u32) -> Option<&'static [u8]>
     ensures { IfSome result (λ text. text.now ≡ decimal tag ++ 61 ∷ []) }
 {

@@ -127,11 +127,13 @@ pub fn write_writable_parts(
 ) -> Result<(), TextFault>
     requires tags { has_writable_tags (head.now ++ body.now ++ rest.now) ≡ true }
     requires values { has_writable_values (head.now ++ body.now ++ rest.now) ≡ true }
-    ensures refusal { MatchOption (frame_refusal (head.now ++ body.now ++ rest.now)) (IsOkUnless result TextFault.OutOfMemory) (λ fault. result ≡ Err fault) }
+    ensures refusal { MatchOption (frame_refusal (head.now ++ body.now ++ rest.now))
+        (IsOkUnless result TextFault.OutOfMemory) (λ fault. result ≡ Err fault) }
     ensures ok { OnOk result (out.new.items ≡ out.old.items ++ frame_text (head.now ++ body.now ++ rest.now)) }
     ensures err { OnErr result (out.new.items ≡ out.old.items) }
     ensures asked { OnErr result (vec_capacity out.new ≡ vec_capacity out.old) }
-    ensures full { result ≡ Err TextFault.OutOfMemory → vec_capacity out.old < vec_len out.old + length (frame_text (head.now ++ body.now ++ rest.now)) }
+    ensures full { result ≡ Err TextFault.OutOfMemory →
+        vec_capacity out.old < vec_len out.old + length (frame_text (head.now ++ body.now ++ rest.now)) }
 {
     let parts = FrameParts { head, body, rest };
     let length_of_text = text_length(&parts)?;
@@ -145,19 +147,21 @@ pub fn write_writable_parts(
 /// Appends the one written frame of the fields of `head`, `body` and `rest`, one behind the other,
 /// as `write_frame` does of one list. So what lies apart, or is lent, need not be copied.
 ///
-/// Memory is asked for before the first byte, and only where `out` has no room for the frame; a refusal leaves its room as
-/// it was.
+/// Memory is asked for before the first byte, and only where `out` has no room for the frame; a refusal leaves its room
+/// as it was.
 pub fn write_frame_parts(
     head: &[FieldRef<'_>],
     body: &[FieldRef<'_>],
     rest: &[Field],
     out: &mut Vec<u8>,
 ) -> Result<(), TextFault>
-    ensures refusal { MatchOption (frame_refusal (head.now ++ body.now ++ rest.now)) (IsOkUnless result TextFault.OutOfMemory) (λ fault. result ≡ Err fault) }
+    ensures refusal { MatchOption (frame_refusal (head.now ++ body.now ++ rest.now))
+        (IsOkUnless result TextFault.OutOfMemory) (λ fault. result ≡ Err fault) }
     ensures ok { OnOk result (out.new.items ≡ out.old.items ++ frame_text (head.now ++ body.now ++ rest.now)) }
     ensures err { OnErr result (out.new.items ≡ out.old.items) }
     ensures asked { OnErr result (vec_capacity out.new ≡ vec_capacity out.old) }
-    ensures full { result ≡ Err TextFault.OutOfMemory → vec_capacity out.old < vec_len out.old + length (frame_text (head.now ++ body.now ++ rest.now)) }
+    ensures full { result ≡ Err TextFault.OutOfMemory →
+        vec_capacity out.old < vec_len out.old + length (frame_text (head.now ++ body.now ++ rest.now)) }
 {
     check_fields(&FrameParts { head, body, rest })?;
     write_writable_parts(head, body, rest, out)
@@ -170,27 +174,31 @@ pub fn write_frame_parts(
 /// fields before the next; then `OutOfMemory`: `out` has no room for the frame, and no memory is
 /// left. A refusal leaves `out` as it was.
 pub fn write_frame(fields: &[Field], out: &mut Vec<u8>) -> Result<(), TextFault>
-    ensures refusal { MatchOption (frame_refusal fields.now) (IsOkUnless result TextFault.OutOfMemory) (λ fault. result ≡ Err fault) }
+    ensures refusal { MatchOption (frame_refusal fields.now) (IsOkUnless result TextFault.OutOfMemory)
+        (λ fault. result ≡ Err fault) }
     ensures ok { OnOk result (out.new.items ≡ out.old.items ++ frame_text fields.now) }
     ensures err { OnErr result (out.new.items ≡ out.old.items) }
     ensures asked { OnErr result (vec_capacity out.new ≡ vec_capacity out.old) }
-    ensures full { result ≡ Err TextFault.OutOfMemory → vec_capacity out.old < vec_len out.old + length (frame_text fields.now) }
+    ensures full { result ≡ Err TextFault.OutOfMemory →
+        vec_capacity out.old < vec_len out.old + length (frame_text fields.now) }
 {
     write_frame_parts(&[], &[], fields, out)
 }
 
-/// Appends the one written frame of a body: BeginString (8), BodyLength (9), the fields as they were pushed, and CheckSum
-/// (10).
+/// Appends the one written frame of a body: BeginString (8), BodyLength (9), the fields as they were pushed, and
+/// CheckSum (10).
 ///
-/// `TooLong`: the fields take more than 1,152 bytes. `OutOfMemory`: `out` has no room for the frame, and no memory is left. A
-/// refusal leaves `out` as it was. What the tags and values are is for the caller to know: the first must be MsgType (35), and
-/// each one that can be written.
+/// `TooLong`: the fields take more than 1,152 bytes. `OutOfMemory`: `out` has no room for the frame, and no memory is
+/// left. A refusal leaves `out` as it was. What the tags and values are is for the caller to know: the first must be
+/// MsgType (35), and each one that can be written.
 pub fn write_body(body: &FrameBody, out: &mut Vec<u8>) -> Result<(), TextFault>
-    ensures refusal { MatchOption body.now (result ≡ Err TextFault.TooLong) (λ text. IsOkUnless result TextFault.OutOfMemory) }
+    ensures refusal { MatchOption body.now (result ≡ Err TextFault.TooLong)
+        (λ text. IsOkUnless result TextFault.OutOfMemory) }
     ensures ok { OnOk result (IsSomeAnd body.now (λ text. out.new.items ≡ out.old.items ++ framed text)) }
     ensures err { OnErr result (out.new.items ≡ out.old.items) }
     ensures asked { OnErr result (vec_capacity out.new ≡ vec_capacity out.old) }
-    ensures full { result ≡ Err TextFault.OutOfMemory → IsSomeAnd body.now (λ text. vec_capacity out.old < vec_len out.old + length (framed text)) }
+    ensures full { result ≡ Err TextFault.OutOfMemory →
+        IsSomeAnd body.now (λ text. vec_capacity out.old < vec_len out.old + length (framed text)) }
 {
     let Some(text) = body.text() else {
         return Err(TextFault::TooLong);

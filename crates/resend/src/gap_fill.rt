@@ -2,8 +2,8 @@
 
 use std::marker::Model;
 
-/// A gap fill (FIX 4.4 Volume 2, "Sequence Reset"): it is sent under the first number that it stands for, and says which
-/// number comes after the last.
+/// A gap fill (FIX 4.4 Volume 2, "Sequence Reset"): it is sent under the first number that it stands for, and says
+/// which number comes after the last.
 #[derive(Clone, Copy, Debug, PartialEq, Eq)]
 pub struct GapFill {
     /// The first number that isn't sent again, from 1.

@@ -15,7 +15,8 @@ pub fn later_logs_follow_one_another()
 
 /// A number that is spent, and legs that are taken or withdrawn, lead to a later log.
 pub fn what_is_done_to_a_log_makes_it_later()
-    ensures spend { (max_number : ℕ) (entry : AnEntry) (log : List AnEntry) → IsLater log (spend max_number entry log).1 }
+    ensures spend { (max_number : ℕ) (entry : AnEntry) (log : List AnEntry) →
+        IsLater log (spend max_number entry log).1 }
     ensures added { (old new : List AnEntry) → Grew old new → IsLater old new }
     ensures take_below { (number : ℕ) (log : List AnEntry) → IsLater log (take_below number log) }
     ensures give_up_from { (number : ℕ) (log : List AnEntry) → IsLater log (give_up_from number log) }
@@ -30,18 +31,23 @@ pub fn what_is_taken_is_not_withdrawn()
 /// Where the legs in doubt below a number are taken and the others withdrawn, none is in doubt any more, and those that
 /// are now withdrawn are the ones that were in doubt from the number on.
 pub fn settling_leaves_no_doubt()
-    ensures none_in_doubt { (number : ℕ) (log : List AnEntry) → in_doubt (give_up_from number (take_below number log)) ≡ false }
-    ensures withdrawn { (number : ℕ) (log : List AnEntry) → withdrawn_since log (give_up_from number (take_below number log)) ≡ doubt_from number log }
+    ensures none_in_doubt { (number : ℕ) (log : List AnEntry) →
+        in_doubt (give_up_from number (take_below number log)) ≡ false }
+    ensures withdrawn { (number : ℕ) (log : List AnEntry) →
+        withdrawn_since log (give_up_from number (take_below number log)) ≡ doubt_from number log }
 {}
 
 /// A resend request is answered only for numbers that were sent, from the one that it begins at, and no further than
 /// it asks for and than the top that it is cut at.
 pub fn what_was_sent_is_filled_and_no_more()
-    ensures { (begin last top : ℕ) (log : List AnEntry) → IfSome (fill_for begin last top log) (IsFillFor begin last top log) }
+    ensures { (begin last top : ℕ) (log : List AnEntry) →
+        IfSome (fill_for begin last top log) (IsFillFor begin last top log) }
 {}
 
 /// A number is due exactly where it is the expected one, and ahead exactly where it is above.
 pub fn a_number_is_due_where_it_is_expected()
-    ensures due { (expected number : ℕ) (poss_dup : Bool) → judged expected number poss_dup ≡ judged_as.Due ↔ number ≡ expected }
-    ensures ahead { (expected number : ℕ) (poss_dup : Bool) → judged expected number poss_dup ≡ judged_as.Ahead ↔ expected < number }
+    ensures due { (expected number : ℕ) (poss_dup : Bool) →
+        judged expected number poss_dup ≡ judged_as.Due ↔ number ≡ expected }
+    ensures ahead { (expected number : ℕ) (poss_dup : Bool) →
+        judged expected number poss_dup ≡ judged_as.Ahead ↔ expected < number }
 {}

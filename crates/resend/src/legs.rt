@@ -1,6 +1,6 @@
 //! The kept legs: where a number or an ordinal stands among them, and the parts of the window.
 
-ghost use Rattle.std.specs.Prelude.{◌≡◌, ◌≤◌, length, nat_lt, take, drop, map, slice_get, IfOk};
+ghost use Rattle.std.specs.Prelude.{◌≡◌, ◌≤◌, ◌<◌, length, nat_lt, take, drop, map, slice_get, IfOk, OnErr};
 ghost use Rattle.std.specs.List.Sorted.{IsNonDecreasingBy};
 ghost use Rattle.resend.specs.declared.numbered_id.NumberedId.{NumberedId as Numbered};
 ghost use Rattle.resend.specs.declared.sent.Sent.{Sent as InDoubt};
@@ -64,10 +64,14 @@ pub(crate) fn after(window: &[Sent], place: usize) -> &[Sent]
     &window[place..]
 }
 
-/// Which legs these are.
+/// Which legs these are. It takes memory only where there is one.
 pub(crate) fn ids_of(alloc: Global, sents: &[Sent]) -> Result<Vec<LegId>, AllocError>
-    ensures { IfOk result (λ ids. ids.items ≡ map (λ (sent : InDoubt). sent.id) sents.now) }
+    ensures ok { IfOk result (λ ids. ids.items ≡ map (λ (sent : InDoubt). sent.id) sents.now) }
+    ensures some { OnErr result (0 < length sents.now) }
 {
+    if sents.is_empty() {
+        return Ok(Vec::new(alloc));
+    }
     sents.iter().map(|sent| sent.id).collect(alloc)
 }
 

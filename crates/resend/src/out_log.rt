@@ -1,6 +1,6 @@
 //! The numbers sent, and what each was spent on.
 
-ghost use Rattle.std.specs.Prelude.{◌≡◌, ◌<◌, ◌≤◌, ◌+◌, [], IfOk, IsOkUnless, length, IsTrue, ◌↔◌};
+ghost use Rattle.std.specs.Prelude.{◌≡◌, ◌<◌, ◌≤◌, ◌+◌, [], IfOk, OnErr, IsOkUnless, length, IsTrue, ◌↔◌};
 ghost use Rattle.std.specs.Option.{option_map};
 
 use crate::legs::{
@@ -12,11 +12,11 @@ use leg::{LegId, LegState};
 use std::alloc::Global;
 use std::marker::Model;
 
-/// What each number sent was spent on. Where a leg stands is said once: one in doubt is in the window, with its ordinal,
-/// and a settled one is in a run, which has the ordinals and the state of all its legs. Of every leg the id is kept with
-/// its number, since ids don't follow one another. All three are in the order of the numbers. A number up to the last
-/// one sent that has no id was spent on an administrative message. A leg takes memory as it is sent, also what its run
-/// will take, and nothing else does.
+/// What each number sent was spent on. Where a leg stands is said once: one in doubt is in the window, with its
+/// ordinal, and a settled one is in a run, which has the ordinals and the state of all its legs. Of every leg the id is
+/// kept with its number, since ids don't follow one another. All three are in the order of the numbers. A number up to
+/// the last one sent that has no id was spent on an administrative message. A leg takes memory as it is sent, also what
+/// its run will take, and nothing else does.
 #[derive(Drop)]
 pub struct OutLog {
     max_number: u64,
@@ -35,9 +35,15 @@ impl Model for OutLog {
 
     ghost Value = { OutLogParts };
 
-    ghost view = { λ log. record { max_number = log.max_number; entries = entries log.last (kept_legs log.ids.items log.window.items log.runs.items) } };
+    ghost view = { λ log. record {
+      max_number = log.max_number;
+      entries = entries log.last (kept_legs log.ids.items log.window.items log.runs.items);
+    } };
 
-    ghost invariant = { λ log. IsKept log.last log.last_ordinal (kept_legs log.ids.items log.window.items log.runs.items) log.window.items × HaveRuns (kept_legs log.ids.items log.window.items log.runs.items) log.window.items log.runs.items (vec_len log.runs) (vec_capacity log.runs) };
+    ghost invariant = { λ log. IsKept log.last log.last_ordinal
+        (kept_legs log.ids.items log.window.items log.runs.items) log.window.items
+        × HaveRuns (kept_legs log.ids.items log.window.items log.runs.items) log.window.items log.runs.items
+        (vec_len log.runs) (vec_capacity log.runs) };
 }
 
 impl OutLog {
@@ -83,7 +89,9 @@ impl OutLog {
     /// Spends a number on a leg, which is then in doubt, and gives it. N01 where none is left.
     pub fn push_leg(&mut self, ordinal: u64, id: LegId) -> Result<u64, LogFault>
         requires { last_ordinal self.old.entries < ordinal }
-        ensures { Answers LogFault.OutOfMemory self.old (push (SentEntry (record { ordinal = ordinal; id = id; state = LegState.Doubt })) self.old) result self.new }
+        ensures { Answers LogFault.OutOfMemory self.old
+            (push (SentEntry (record { ordinal = ordinal; id = id; state = LegState.Doubt })) self.old)
+            result self.new }
     {
         let number = self.last + 1;
         if number >= self.max_number {
@@ -159,10 +167,12 @@ impl OutLog {
         }
     }
 
-    /// The legs in doubt at or above a number, in the order of their numbers. The only refusal is want of memory.
+    /// The legs in doubt at or above a number, in the order of their numbers. The only refusal is want of memory, and
+    /// only where there is such a leg.
     pub fn legs_from(&self, number: u64) -> Result<Vec<LegId>, LogFault>
         ensures ok { IfOk result (λ ids. ids.items ≡ doubt_from number self.now.entries) }
         ensures refusal { IsOkUnless result LogFault.OutOfMemory }
+        ensures some { OnErr result (0 < length (doubt_from number self.now.entries)) }
     {
         let window = self.window.as_slice();
         let place = doubts_below(window, number);
@@ -174,7 +184,8 @@ impl OutLog {
     }
 
     /// What a resend request for the numbers from `begin` to `last`, or to the last one sent where `last` is 0, is
-    /// answered with: a gap fill that ends at `top`, or `None` where this is no range of numbers sent or begins above `top`.
+    /// answered with: a gap fill that ends at `top`, or `None` where this is no range of numbers sent or begins above
+    /// `top`.
     pub fn answer(&self, begin: u64, last: u64, top: u64) -> Option<GapFill>
         ensures { result ≡ fill_for begin last top self.now.entries }
     {

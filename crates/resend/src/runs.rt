@@ -86,7 +86,8 @@ pub(crate) fn add_all(runs: &mut Vec<Run>, sents: &[Sent], state: LegState)
     requires kept { AreRuns runs.old.items }
     requires ends { All (λ (sent : InDoubt). sent.number < 18446744073709551615) sents.now }
     requires room { vec_len runs.old + length sents.now ≤ vec_capacity runs.old }
-    ensures items { runs.new.items ≡ added_all (map (λ (sent : InDoubt). single sent.number sent.ordinal state) sents.now) runs.old.items }
+    ensures items { runs.new.items ≡ added_all
+        (map (λ (sent : InDoubt). single sent.number sent.ordinal state) sents.now) runs.old.items }
     ensures kept { AreRuns runs.new.items }
     ensures len { vec_len runs.new ≤ vec_len runs.old + length sents.now }
     ensures capacity { vec_capacity runs.new ≡ vec_capacity runs.old }

@@ -27,9 +27,10 @@ pub fn what_was_done_stands()
     ensures happen { (events : List AnEvent) (w : World) → IsWorldLater w (happen events w) }
 {}
 
-/// After every list of events, at each venue: the accepted orders are released legs in their order and none twice, those
-/// missing before the last one are exactly the withdrawn ones, nothing is accepted after the session's Logout, what is
-/// taken was accepted, and the notes handed to the book are the exchange's first reports, each once and in order.
+/// After every list of events, at each venue: the accepted orders are released legs in their order and none twice,
+/// those missing before the last one are exactly the withdrawn ones, nothing is accepted after the session's Logout,
+/// what is taken was accepted, and the notes handed to the book are the exchange's first reports, each once and in
+/// order.
 pub fn what_holds_of_each_venue()
     ensures { TheVenueTheorem }
 {}
@@ -46,8 +47,8 @@ pub fn the_sweep_theorem_holds()
     ensures { TheSweepTheorem }
 {}
 
-/// For good: over every further list of events a leg that is withdrawn stays so, and is never accepted, whichever old copy
-/// is delivered; a leg that was accepted is never withdrawn; and a leg that is taken stays so.
+/// For good: over every further list of events a leg that is withdrawn stays so, and is never accepted, whichever old
+/// copy is delivered; a leg that was accepted is never withdrawn; and a leg that is taken stays so.
 pub fn what_is_settled_stays_settled()
     ensures { WhatIsSettledStays }
 {}

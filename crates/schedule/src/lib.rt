@@ -4,16 +4,12 @@
 
 mod act;
 mod event;
-mod laws;
+pub mod laws;
 mod rows;
 mod script_fault;
 
 pub use act::Act;
 pub use event::{Event, FrameNumber};
-pub use laws::{
-    an_event_changes_one_venue, an_event_nowhere_changes_nothing, sums_hold_whatever_happens,
-    the_sweep_theorem_holds, what_holds_of_each_venue, what_was_done_stands,
-};
 pub use rows::{
     a_break_with_doubt, a_break_with_none_lost, a_bust, a_close, a_close_answered,
     a_fill_and_a_cancel, a_reject_after_a_new, a_resend_request_again, a_resend_request_in_doubt,

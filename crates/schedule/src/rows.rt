@@ -1,4 +1,5 @@
-//! The worked scripts, computed from the definitions of the world: each is the contract of a function that does nothing.
+//! The worked scripts, computed from the definitions of the world: each is the contract of a function that does
+//! nothing.
 
 ghost use Rattle.std.specs.Prelude.{◌≡◌, ◌∷◌, ◌++◌, [], codes, true, false};
 ghost use Rattle.std.specs.Prelude.{None, Some, Ok};
@@ -88,7 +89,8 @@ pub fn first_frames()
     ensures told { written_to 1 (after_told []) ≡ (1, Logon 30 false (Some 1)) ∷ (2, TestRequest (codes "F2")) ∷ [] }
 {}
 
-/// The frames after a break: the missing report is asked for, the fence, and once the exchange asks, the gap fill and a new fence.
+/// The frames after a break: the missing report is asked for, the fence, and once the exchange asks, the gap fill and a
+/// new fence.
 pub fn frames_after_a_break()
     ensures { written_to 5 (after broken) ≡ (5, Logon 30 false None) ∷ (6, ResendRequest 3 0) ∷ (7, TestRequest (codes "F7")) ∷ (4, GapFill 8) ∷ (8, TestRequest (codes "F8")) ∷ [] }
 {}
@@ -147,12 +149,14 @@ pub fn bad_lines_are_named()
     ensures trade_of_none { script_of (script (codes "venues 16 plain" ∷ codes "trade 0 1 0 10" ∷ [])) ≡ Err 2 }
 {}
 
-/// A break at the exchange's end alone, a report that it keeps, and a session that is given up: its leg stays in doubt, and its gate is shut.
+/// A break at the exchange's end alone, a report that it keeps, and a session that is given up: its leg stays in doubt,
+/// and its gate is shut.
 pub fn a_session_given_up()
     ensures { printed (after (one_leg ∷ take ∷ to 3 ∷ event.ExchangeBreak 0 ∷ trade 1 60 (codes "10.25") ∷ from 4 ∷ event.Abandon 0 ∷ one_leg ∷ [])) ≡ line (codes "venue 0 accepted [S1L1] withdrawn [] doubt [S1L1] phase closed closed no") ++ line (codes "sweep 1 legs 100 filled 0 busted 0 cancelled 0 withdrawn 0 open 100") }
 {}
 
-/// What isn't possible changes nothing: a gate that goes up or a leg that is taken while the session is down, a connection with the gate up, a frame that was never written, and one of an older connection.
+/// What isn't possible changes nothing: a gate that goes up or a leg that is taken while the session is down, a
+/// connection with the gate up, a frame that was never written, and one of an older connection.
 pub fn what_is_not_possible()
     ensures { printed (after (connect ∷ to 9 ∷ from 9 ∷ one_leg ∷ break ∷ take ∷ connect ∷ down ∷ up ∷ drop ∷ connect ∷ from 1 ∷ from 2 ∷ [])) ≡ line (codes "venue 0 accepted [] withdrawn [S1L1] doubt [] phase logon closed no") ++ line (codes "sweep 1 legs 100 filled 0 busted 0 cancelled 0 withdrawn 100 open 0") }
 {}

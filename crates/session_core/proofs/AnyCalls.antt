@@ -5,7 +5,8 @@ use Rattle.std.specs.Prelude.{Ok, Err, option_to_list}
 use Rattle.leg.specs.declared.leg.Leg.{Leg}
 use Rattle.dialect.specs.declared.content.Content.TheVariants.{Heartbeat}
 use Rattle.dialect.specs.declared.message.Message.{Message}
-use Rattle.dialect.specs.Message.{Readers, seen}
+use Rattle.dialect.specs.Message.{seen}
+use Rattle.dialect.specs.Wording.{Decoding}
 use Rattle.resend.specs.Log.{last_ordinal}
 use Rattle.resend.specs.Log.Entry.{Sent}
 use Rattle.session_core.specs.declared.phase.Phase.{Phase}
@@ -51,7 +52,7 @@ call_onward s answer is =
     step_state (IsOnward s) answer (unchanged_onward s (IsCall s) answer (λ step t does. does.keeps.onward) is)
 
 -- each call leads onward
-called_onward : (read : Readers) (s : SessionParts) (one : SessionCall) → IsOnward s (called read s one).1
+called_onward : (read : Decoding) (s : SessionParts) (one : SessionCall) → IsOnward s (called read s one).1
 called_onward read s call.Connect =
     message_state (IsOnward s) (connect s)
     (unchanged_onward s (IsConnection s) (connect s) (λ m t does. does.keeps.onward) (connect_keeps s))
@@ -68,7 +69,7 @@ called_onward read s call.Malformed = (malformed_keeps s).onward
 called_onward read s call.Broken = (broken_keeps s).onward
 called_onward read s call.Abandon = (abandon_keeps s).onward
 
-calls_onward : (read : Readers) (s : SessionParts) (calls : List SessionCall)
+calls_onward : (read : Decoding) (s : SessionParts) (calls : List SessionCall)
     → IsOnward s (after_calls read s calls)
 calls_onward read s [] = onward-refl s
 calls_onward read s (one ∷ calls) =
@@ -76,7 +77,7 @@ calls_onward read s (one ∷ calls) =
     (calls_onward read (called read s one).1 calls)
 
 -- and keeps the promises
-called_sound : (read : Readers) (s : SessionParts) (one : SessionCall) → IsSound s → IsReadCall read one
+called_sound : (read : Decoding) (s : SessionParts) (one : SessionCall) → IsSound s → IsReadCall read one
     → IsSound (called read s one).1
 called_sound read s call.Connect is read_so = message_state IsSound (connect s) (connect_sound s is)
 called_sound read s (call.SendLeg ordinal leg) is read_so =
@@ -90,7 +91,7 @@ called_sound read s call.Malformed is read_so = malformed_sound s is
 called_sound read s call.Broken is read_so = broken_sound s is
 called_sound read s call.Abandon is read_so = abandon_sound s is
 
-pub calls_sound : (read : Readers) (s : SessionParts) (calls : List SessionCall) → IsSound s → AreRead read calls
+pub calls_sound : (read : Decoding) (s : SessionParts) (calls : List SessionCall) → IsSound s → AreRead read calls
     → IsSound (after_calls read s calls)
 calls_sound read s [] is all = is
 calls_sound read s (one ∷ calls) is all =
@@ -104,7 +105,7 @@ record IsOver (a : Addition) : Type 0 where
 over_none : (s : SessionParts) → s.phase ≡ Closed → IsOver (None, s)
 over_none s closed = record { phase = closed; nothing = tt }
 
-called_over : (read : Readers) (s : SessionParts) (one : SessionCall) → s.phase ≡ Closed → IsOver (called read s one)
+called_over : (read : Decoding) (s : SessionParts) (one : SessionCall) → s.phase ≡ Closed → IsOver (called read s one)
 called_over read s call.Connect closed = rw (closed-connect s closed) (over_none s closed)
 called_over read s (call.SendLeg ordinal leg) closed = rw (closed-send_leg s closed ordinal leg) (over_none s closed)
 called_over read s (call.Receive envelope) closed =
@@ -122,7 +123,7 @@ nothing_more : (o : Option StepParts) (rest : List StepParts) → WritesNothing 
 nothing_more None rest nothing all = all
 nothing_more (Some step) rest nothing all = (nothing, all)
 
-calls_over : (read : Readers) (s : SessionParts) (calls : List SessionCall) → s.phase ≡ Closed
+calls_over : (read : Decoding) (s : SessionParts) (calls : List SessionCall) → s.phase ≡ Closed
     → WriteNothing (steps_of read s calls)
 calls_over read s [] closed = tt
 calls_over read s (one ∷ calls) closed =
@@ -246,7 +247,7 @@ sent_first s ordinal leg (Err why, t) rest is all =
     subst (λ (u : SessionParts). AreAbove (next_out u) (last_ordinal u.log) rest) is all
 
 -- a call that writes no order
-other_first : (read : Readers) (s : SessionParts) (one : SessionCall) (orders : List (ℕ × ℕ))
+other_first : (read : Decoding) (s : SessionParts) (one : SessionCall) (orders : List (ℕ × ℕ))
     → last_ordinal (called read s one).1.log ≡ last_ordinal s.log
     → AreAbove (next_out (called read s one).1) (last_ordinal (called read s one).1.log) orders
     → AreAbove (next_out s) (last_ordinal s.log) orders
@@ -255,7 +256,7 @@ other_first read s one orders same all =
     lower (next_out s) (next_out (called read s one).1) (last_ordinal s.log) orders (omega (arith, last))
     (subst (λ (ordinal : ℕ). AreAbove (next_out (called read s one).1) ordinal orders) same all))
 
-calls_above : (read : Readers) (s : SessionParts) (calls : List SessionCall)
+calls_above : (read : Decoding) (s : SessionParts) (calls : List SessionCall)
     → AreAbove (next_out s) (last_ordinal s.log) (orders_of read s calls)
 calls_above read s [] = tt
 calls_above read s (call.SendLeg ordinal leg ∷ calls) =
@@ -291,7 +292,7 @@ rising next last (first ∷ second ∷ orders) all =
     let above = later.0 in
     (omega (arith, above), later.1, rising (first.0 + 1) first.1 (second ∷ orders) later))
 
-pub calls_keep_rules : (read : Readers) (s : SessionParts) (calls : List SessionCall) → KeepsRules read s calls
+pub calls_keep_rules : (read : Decoding) (s : SessionParts) (calls : List SessionCall) → KeepsRules read s calls
 calls_keep_rules read s calls = record {
   onward = λ first later rest is.
       rw (after-append read s first later) (calls_onward read (after_calls read s first) later);

@@ -7,8 +7,8 @@ use Rattle.fix_tags.specs.Stamp.{StampParts}
 use Rattle.leg.specs.declared.leg.Leg.{Leg}
 use Rattle.dialect.specs.declared.message.Message.{Message}
 use Rattle.dialect.specs.declared.content.Content.TheVariants.{Heartbeat}
-use Rattle.dialect.specs.Framed.{Writers, IsFramed}
-use Rattle.dialect.specs.Message.{Readers}
+use Rattle.dialect.specs.Framed.{IsFramed}
+use Rattle.dialect.specs.Wording.{Decoding, Encoding}
 use Rattle.dialect.specs.Outgoing.{alone}
 use Rattle.resend.specs.Log.{last_ordinal}
 use Rattle.session_core.specs.declared.phase.Phase.{Phase}
@@ -26,12 +26,12 @@ use Rattle.session_core.specs.Trial.{Addition, added, added_message, called, aft
 use Rattle.session_core.proofs.Adding.{chosen}
 
 -- what comes after calls and then others
-pub after-append : (read : Readers) (s : SessionParts) (first then : List SessionCall)
+pub after-append : (read : Decoding) (s : SessionParts) (first then : List SessionCall)
     → after_calls read s (first ++ then) ≡ after_calls read (after_calls read s first) then
 after-append read s [] then = refl
 after-append read s (call ∷ first) then = after-append read (called read s call).1 first then
 
-steps-append : (read : Readers) (s : SessionParts) (first then : List SessionCall)
+steps-append : (read : Decoding) (s : SessionParts) (first then : List SessionCall)
     → steps_of read s (first ++ then) ≡ steps_of read s first ++ steps_of read (after_calls read s first) then
 steps-append read s [] then = refl
 steps-append read s (call ∷ first) then =
@@ -46,13 +46,13 @@ one_more : (calls : List SessionCall) (i : ℕ) (one : SessionCall) → i < leng
 one_more calls i one below is =
     take_more calls i one below ∙ ap (λ (call : SessionCall). take i calls ++ call ∷ []) (sym is)
 
-after-more : (read : Readers) (s : SessionParts) (calls : List SessionCall) (i : ℕ) (one : SessionCall)
+after-more : (read : Decoding) (s : SessionParts) (calls : List SessionCall) (i : ℕ) (one : SessionCall)
     → i < length calls → one ≡ get_or calls i one
     → after_calls read s (take (i + 1) calls) ≡ (called read (after_calls read s (take i calls)) one).1
 after-more read s calls i one below is =
     ap (after_calls read s) (one_more calls i one below is) ∙ after-append read s (take i calls) (one ∷ [])
 
-steps-more : (read : Readers) (s : SessionParts) (calls : List SessionCall) (i : ℕ) (one : SessionCall)
+steps-more : (read : Decoding) (s : SessionParts) (calls : List SessionCall) (i : ℕ) (one : SessionCall)
     → i < length calls → one ≡ get_or calls i one
     → steps_of read s (take (i + 1) calls)
     ≡ steps_of read s (take i calls) ++ option_to_list (called read (after_calls read s (take i calls)) one).0
@@ -126,7 +126,7 @@ refused fault.OrdinalNotGreater never = refl
 refused fault.NotConnected never = refl
 
 -- a call that answers with a step
-adds : (w : Writers) (stamp : StampParts) (before now : SessionParts) (answer : SessionAnswer StepParts)
+adds : (w : Encoding) (stamp : StampParts) (before now : SessionParts) (answer : SessionAnswer StepParts)
     (result : Result Step SessionFault) (given : Result (Option Step) SessionFault) → NeverWants answer
     → Gives (IsStep w stamp) before answer result now → given ≡ unless_refused result
     → Adds w stamp (added answer) given now
@@ -141,7 +141,7 @@ adds w stamp before now (Err why, after) result given never is so =
     rw none is.1)
 
 -- a call that answers with a frame
-adds_frame : (w : Writers) (stamp : StampParts) (before now : SessionParts) (answer : SessionAnswer Message)
+adds_frame : (w : Encoding) (stamp : StampParts) (before now : SessionParts) (answer : SessionAnswer Message)
     (result : Result (Vec ℕ) SessionFault) (given : Result (Option Step) SessionFault) → NeverWants answer
     → Gives (λ m bytes. IsFramed w stamp (alone m) bytes.items) before answer result now
     → StepAdded (unless_refused result) given → Adds w stamp (added_message answer) given now
@@ -159,7 +159,7 @@ adds_frame w stamp before now (Err why, after) result given never is so =
     rw none is.1)
 
 -- each call as the code makes it
-module _ (w : Writers) (stamp : StampParts) (s now : SessionParts) where
+module _ (w : Encoding) (stamp : StampParts) (s now : SessionParts) where
   pub connect-adds : (result : Result (Vec ℕ) SessionFault) (given : Result (Option Step) SessionFault)
       → Gives (λ m bytes. IsFramed w stamp (alone m) bytes.items) s (connect s) result now
       → StepAdded (unless_refused result) given → Adds w stamp (added_message (connect s)) given now
@@ -193,7 +193,7 @@ module _ (w : Writers) (stamp : StampParts) (s now : SessionParts) where
   close-adds result given = adds w stamp s now (close s) result given (close_in-never s s.phase)
 
 -- a step more, or none
-push : (w : Writers) (stamp : StampParts) (said : List StepParts) (steps : List Step) (one : StepParts) (step : Step)
+push : (w : Encoding) (stamp : StampParts) (said : List StepParts) (steps : List Step) (one : StepParts) (step : Step)
     → AreSteps w stamp said steps → IsStep w stamp one step
     → AreSteps w stamp (said ++ one ∷ []) (steps ++ step ∷ [])
 push w stamp [] [] one step all is = (is, tt)
@@ -201,21 +201,21 @@ push w stamp [] (x ∷ steps) one step all is = absurd all
 push w stamp (x ∷ said) [] one step all is = absurd all
 push w stamp (x ∷ said) (y ∷ steps) one step all is = (all.0, push w stamp said steps one step all.1 is)
 
-some_added : (w : Writers) (stamp : StampParts) (a : Addition) (step : Step) (now : SessionParts)
+some_added : (w : Encoding) (stamp : StampParts) (a : Addition) (step : Step) (now : SessionParts)
     (said : List StepParts) (steps : List Step) → Adds w stamp a (Ok (Some step)) now → AreSteps w stamp said steps
     → (now ≡ a.1) × AreSteps w stamp (said ++ option_to_list a.0) (steps ++ step ∷ [])
 some_added w stamp (None, after) step now said steps is all = absurd is
 some_added w stamp (Some one, after) step now said steps is all =
     (is.1, push w stamp said steps one step all is.0)
 
-none_added : (w : Writers) (stamp : StampParts) (a : Addition) (now : SessionParts) (said : List StepParts)
+none_added : (w : Encoding) (stamp : StampParts) (a : Addition) (now : SessionParts) (said : List StepParts)
     (steps : List Step) → Adds w stamp a (Ok None) now → AreSteps w stamp said steps
     → (now ≡ a.1) × AreSteps w stamp (said ++ option_to_list a.0) steps
 none_added w stamp (Some one, after) now said steps is all = absurd is
 none_added w stamp (None, after) now said steps is all = (is, rw (append-nil said) all)
 
 -- so far the session and the steps are those of the calls made
-module _ (w : Writers) (stamp : StampParts) (read : Readers) (start : SessionParts) (calls : List SessionCall) (i : ℕ)
+module _ (w : Encoding) (stamp : StampParts) (read : Decoding) (start : SessionParts) (calls : List SessionCall) (i : ℕ)
     (one : SessionCall) (below : i < length calls) (is_one : one ≡ get_or calls i one) where
   abbrev here : Addition
   here = called read (after_calls read start (take i calls)) one

@@ -10,7 +10,8 @@ use Rattle.leg.specs.Answering.{Answers}
 use Rattle.resend.specs.Window.{OutLogParts, push}
 use Rattle.fix_tags.specs.Stamp.{StampParts}
 use Rattle.dialect.specs.declared.message.Message.{Message}
-use Rattle.dialect.specs.Framed.{Writers, IsFramed, AreFramed}
+use Rattle.dialect.specs.Framed.{IsFramed, AreFramed}
+use Rattle.dialect.specs.Wording.{Encoding}
 use Rattle.dialect.specs.Outgoing.{alone}
 use Rattle.dialect.specs.Writable.{IsWritable}
 use Rattle.resend.specs.Log.{Entry, has_number, next_to_send}
@@ -21,7 +22,7 @@ use Rattle.session_core.specs.Draft.{logged, is_fence, with_fences}
 use Rattle.session_core.proofs.Drafted.{logged-push, with_fences-push, length-logged}
 
 -- one frame more
-pub framed-push : (w : Writers) (stamp : StampParts) (ms : List Message) (fs : List (List ℕ)) (m : Message) (b : List ℕ)
+pub framed-push : (w : Encoding) (stamp : StampParts) (ms : List Message) (fs : List (List ℕ)) (m : Message) (b : List ℕ)
     → AreFramed w stamp (map alone ms) fs → IsFramed w stamp (alone m) b
     → AreFramed w stamp (map alone (ms ++ m ∷ [])) (fs ++ b ∷ [])
 framed-push w stamp [] [] m b all one = (one, tt)
@@ -166,7 +167,7 @@ kept-old start now lines i d below no_fence so =
     else with_fences start (take i lines)) no_fence)
 
 -- one frame more
-pub framed-more : (w : Writers) (stamp : StampParts) (f : Line → Message) (lines : List Line) (i : ℕ) (d : Line)
+pub framed-more : (w : Encoding) (stamp : StampParts) (f : Line → Message) (lines : List Line) (i : ℕ) (d : Line)
     (frames now : List (Vec ℕ)) (frame : Vec ℕ) → i < length lines
     → AreFramed w stamp (map alone (map f (take i lines))) (map (λ (v : Vec ℕ). v.items) frames)
     → IsFramed w stamp (alone (f (get_or lines i d))) frame.items → now ≡ frames ++ frame ∷ []

@@ -1,7 +1,8 @@
 -- What a call of a session hands its caller: the frames that it wrote, and what it says beside them.
 use Rattle.std.specs.Prelude.{◌≡◌, map, Result, Ok, Err}
 use Rattle.fix_tags.specs.Stamp.{StampParts}
-use Rattle.dialect.specs.Framed.{Writers, AreFramed}
+use Rattle.dialect.specs.Framed.{AreFramed}
+use Rattle.dialect.specs.Wording.{Encoding}
 use Rattle.dialect.specs.Outgoing.{alone}
 use Rattle.session_core.specs.declared.session_fault.SessionFault.{SessionFault}
 use Rattle.session_core.specs.declared.session_fault.SessionFault.TheVariants.{OutOfMemory}
@@ -11,7 +12,7 @@ use Rattle.session_core.specs.Turn.{StepParts}
 use Rattle.session_core.specs.Calling.{SessionAnswer}
 
 -- the step that was said, with the frames of its messages
-pub record IsStep (w : Writers) (stamp : StampParts) (said : StepParts) (step : Step) : Type 0 where
+pub record IsStep (w : Encoding) (stamp : StampParts) (said : StepParts) (step : Step) : Type 0 where
   pub out : AreFramed w stamp (map alone said.written) step.out
   pub note : step.note ≡ said.note
   pub withdrawn : step.withdrawn ≡ said.withdrawn

@@ -4,8 +4,8 @@ use Rattle.std.specs.List.{AllByRecursion}
 use Rattle.std.specs.Global.{Vec}
 use Rattle.fix_tags.specs.Stamp.{StampParts}
 use Rattle.dialect.specs.declared.message.Message.{Message}
-use Rattle.dialect.specs.Framed.{Writers}
-use Rattle.dialect.specs.Message.{Readers, seen}
+use Rattle.dialect.specs.Wording.{Decoding, Encoding}
+use Rattle.dialect.specs.Message.{seen}
 use Rattle.session_core.specs.declared.phase.Phase.TheVariants.{Closed}
 use Rattle.session_core.specs.declared.session_call.SessionCall.{SessionCall}
 use Rattle.session_core.specs.declared.session_call.SessionCall.TheVariants as call
@@ -33,7 +33,7 @@ abbrev pub added_message : SessionAnswer Message → Addition
 added_message (Ok message, after) = (Some (record no_step { written = message ∷ [] }), after)
 added_message (Err fault, after) = (None, after)
 
-abbrev pub called : Readers → SessionParts → SessionCall → Addition
+abbrev pub called : Decoding → SessionParts → SessionCall → Addition
 called read s call.Connect = added_message (connect s)
 called read s (call.SendLeg ordinal leg) = added_message (send_leg s ordinal leg)
 called read s (call.Receive envelope) = added (answers (receive s (seen read envelope)))
@@ -46,24 +46,24 @@ called read s call.Broken = (None, broken s)
 called read s call.Abandon = (None, abandon s)
 
 -- the state after these calls, and the steps that they add
-abbrev pub after_calls : Readers → SessionParts → List SessionCall → SessionParts
+abbrev pub after_calls : Decoding → SessionParts → List SessionCall → SessionParts
 after_calls read s [] = s
 after_calls read s (call ∷ calls) = after_calls read (called read s call).1 calls
 
-abbrev pub steps_of : Readers → SessionParts → List SessionCall → List StepParts
+abbrev pub steps_of : Decoding → SessionParts → List SessionCall → List StepParts
 steps_of read s [] = []
 steps_of read s (call ∷ calls) = option_to_list (called read s call).0 ++ steps_of read (called read s call).1 calls
 
 -- what is received was read
-abbrev pub IsReadCall : Readers → SessionCall → Type 0
+abbrev pub IsReadCall : Decoding → SessionCall → Type 0
 IsReadCall read (call.Receive envelope) = IsRead (seen read envelope)
 IsReadCall read _ = Unit {0}
 
-abbrev pub AreRead : Readers → List SessionCall → Type 0
+abbrev pub AreRead : Decoding → List SessionCall → Type 0
 AreRead read calls = AllByRecursion (IsReadCall read) calls
 
 -- the steps that were said, with the frames of their messages
-abbrev pub AreSteps : Writers → StampParts → List StepParts → List Step → Type 0
+abbrev pub AreSteps : Encoding → StampParts → List StepParts → List Step → Type 0
 AreSteps w stamp [] [] = Unit {0}
 AreSteps w stamp [] (step ∷ steps) = ⊥
 AreSteps w stamp (said ∷ more) [] = ⊥
@@ -87,7 +87,7 @@ StepAdded (Ok None) given = given ≡ Ok None
 StepAdded (Err fault) given = given ≡ Err fault
 
 -- what a call gives: want of memory is answered only where it was to add a step
-abbrev pub Adds : Writers → StampParts → Addition → Result (Option Step) SessionFault → SessionParts → Type 0
+abbrev pub Adds : Encoding → StampParts → Addition → Result (Option Step) SessionFault → SessionParts → Type 0
 Adds w stamp (None, after) (Ok None) now = now ≡ after
 Adds w stamp (None, after) (Ok (Some step)) now = ⊥
 Adds w stamp (None, after) (Err fault) now = ⊥
@@ -96,7 +96,7 @@ Adds w stamp (Some said, after) (Ok (Some step)) now = IsStep w stamp said step 
 Adds w stamp (Some said, after) (Err fault) now = fault ≡ OutOfMemory
 
 -- what a trial gives: the steps, and the session after the calls; want of memory only where some call adds a step
-abbrev pub Tries : Writers → StampParts → List StepParts → SessionParts → Result (SessionParts × Vec Step) SessionFault
+abbrev pub Tries : Encoding → StampParts → List StepParts → SessionParts → Result (SessionParts × Vec Step) SessionFault
     → Type 0
 Tries w stamp said after (Ok given) = (given.0 ≡ after) × AreSteps w stamp said given.1.items
 Tries w stamp [] after (Err fault) = ⊥
@@ -107,7 +107,7 @@ abbrev pub order_of : SessionCall → Option StepParts → List (ℕ × ℕ)
 order_of (call.SendLeg ordinal leg) (Some step) = map (λ m. (m.number, ordinal)) step.written
 order_of _ _ = []
 
-abbrev pub orders_of : Readers → SessionParts → List SessionCall → List (ℕ × ℕ)
+abbrev pub orders_of : Decoding → SessionParts → List SessionCall → List (ℕ × ℕ)
 orders_of read s [] = []
 orders_of read s (call ∷ calls) = order_of call (called read s call).0 ++ orders_of read (called read s call).1 calls
 
@@ -127,7 +127,7 @@ WriteNothing steps = AllByRecursion (λ step. step.written ≡ []) steps
 -- whatever the exchange sends: the session goes onward from each point to each later one, so that a leg leaves doubt at
 -- most once and for good; each order has a higher number and a higher ordinal than the one before it; and once the
 -- session has ended for good it writes nothing
-pub record KeepsRules (read : Readers) (start : SessionParts) (calls : List SessionCall) : Type 0 where
+pub record KeepsRules (read : Decoding) (start : SessionParts) (calls : List SessionCall) : Type 0 where
   pub onward : (first later rest : List SessionCall) → calls ≡ first ++ later ++ rest
       → IsOnward (after_calls read start first) (after_calls read start (first ++ later))
   pub orders : AreRising (orders_of read start calls)

@@ -111,7 +111,7 @@ impl Session {
     /// Nothing was written for a while: a Heartbeat is, and before the exchange's Logon or after the session's own
     /// Logout nothing. S07, S03, S04.
     pub fn quiet<D: Dialect>(&mut self, dialect: &D, stamp: &Stamp) -> Result<Step, SessionFault>
-        ensures { Gives (IsStep (record { IsOrder = D.IsOrder dialect.now; IsReport = D.IsReport dialect.now }) stamp.now) self.old (quiet self.old) result self.new }
+        ensures { Gives (IsStep (D.wording dialect.now).encoding stamp.now) self.old (quiet self.old) result self.new }
     {
         let draft = self.on_quiet()?;
         self.carry_out(dialect, stamp, draft)
@@ -121,16 +121,16 @@ impl Session {
     /// Logout nothing. The second time in one connection, with nothing received between, the connection ends. S07, S03,
     /// S04.
     pub fn silent<D: Dialect>(&mut self, dialect: &D, stamp: &Stamp) -> Result<Step, SessionFault>
-        ensures { Gives (IsStep (record { IsOrder = D.IsOrder dialect.now; IsReport = D.IsReport dialect.now }) stamp.now) self.old (silent self.old) result self.new }
+        ensures { Gives (IsStep (D.wording dialect.now).encoding stamp.now) self.old (silent self.old) result self.new }
     {
         let draft = self.on_silence()?;
         self.carry_out(dialect, stamp, draft)
     }
 
-    /// The session is to be closed: a fence is written, and once it is answered the Logout. Before the session is up the
-    /// close is remembered. S07, S03, S04.
+    /// The session is to be closed: a fence is written, and once it is answered the Logout. Before the session is up
+    /// the close is remembered. S07, S03, S04.
     pub fn close<D: Dialect>(&mut self, dialect: &D, stamp: &Stamp) -> Result<Step, SessionFault>
-        ensures { Gives (IsStep (record { IsOrder = D.IsOrder dialect.now; IsReport = D.IsReport dialect.now }) stamp.now) self.old (close self.old) result self.new }
+        ensures { Gives (IsStep (D.wording dialect.now).encoding stamp.now) self.old (close self.old) result self.new }
     {
         let draft = self.on_close()?;
         self.carry_out(dialect, stamp, draft)
@@ -143,7 +143,8 @@ impl Session {
         envelope: &EnvelopeRef<'_>,
         stamp: &Stamp,
     ) -> Result<Step, SessionFault>
-        ensures { Gives (IsStep (record { IsOrder = D.IsOrder dialect.now; IsReport = D.IsReport dialect.now }) stamp.now) self.old (answers (receive self.old (seen (record { order = D.order_read dialect.now; report = D.report_read dialect.now }) envelope.now))) result self.new }
+        ensures { Gives (IsStep (D.wording dialect.now).encoding stamp.now) self.old
+            (answers (receive self.old (seen (D.wording dialect.now).decoding envelope.now))) result self.new }
     {
         let message = see(dialect, envelope);
         let draft = self.on_message(message);
@@ -156,7 +157,8 @@ impl Session {
         dialect: &D,
         stamp: &Stamp,
     ) -> Result<Vec<u8>, SessionFault>
-        ensures { Gives (λ m bytes. IsFramed (record { IsOrder = D.IsOrder dialect.now; IsReport = D.IsReport dialect.now }) stamp.now (alone m) bytes.items) self.old (connect self.old) result self.new }
+        ensures { Gives (λ m bytes. IsFramed (D.wording dialect.now).encoding stamp.now (alone m) bytes.items) self.old
+            (connect self.old) result self.new }
     {
         match self.phase() {
             Phase::Down => {}
@@ -177,7 +179,8 @@ impl Session {
         Ok(out)
     }
 
-    /// Sends a leg. S05 unless the session is up, S06 unless the ordinal is above that of every leg sent before, S03, S04.
+    /// Sends a leg. S05 unless the session is up, S06 unless the ordinal is above that of every leg sent before, S03,
+    /// S04.
     pub fn send_leg<D: Dialect>(
         &mut self,
         dialect: &D,
@@ -185,7 +188,8 @@ impl Session {
         leg: &Leg,
         stamp: &Stamp,
     ) -> Result<Vec<u8>, SessionFault>
-        ensures { Gives (λ m bytes. IsFramed (record { IsOrder = D.IsOrder dialect.now; IsReport = D.IsReport dialect.now }) stamp.now (alone m) bytes.items) self.old (send_leg self.old ordinal leg.now) result self.new }
+        ensures { Gives (λ m bytes. IsFramed (D.wording dialect.now).encoding stamp.now (alone m) bytes.items) self.old
+            (send_leg self.old ordinal leg.now) result self.new }
     {
         match self.phase() {
             Phase::Up => {}

@@ -47,7 +47,14 @@ pub(crate) struct Draft {
 impl Draft {
     /// Nothing is written or handed on yet.
     pub fn new(standing: Standing, settling: Settling) -> Draft
-        ensures { result ≡ record { answered = None; lines = record { items = [] }; note = None; ended = None; settling = settling; standing = standing } }
+        ensures { result ≡ record {
+          answered = None;
+          lines = record { items = [] };
+          note = None;
+          ended = None;
+          settling = settling;
+          standing = standing;
+        } }
     {
         Draft {
             answered: None,
@@ -61,7 +68,14 @@ impl Draft {
 
     /// The same, where a TestRequest of this id is received.
     pub fn for_test(standing: Standing, id: FreeText<MAX_ID>) -> Draft
-        ensures { result ≡ record { answered = Some id; lines = record { items = [] }; note = None; ended = None; settling = Settling.Nothing; standing = standing } }
+        ensures { result ≡ record {
+          answered = Some id;
+          lines = record { items = [] };
+          note = None;
+          ended = None;
+          settling = Settling.Nothing;
+          standing = standing;
+        } }
     {
         Draft {
             answered: Some(id),
@@ -92,7 +106,9 @@ impl Draft {
     pub fn put(&mut self, before: &Session, said: Said)
         requires room { length self.old.lines.items < MAX_LINES }
         requires no_fence { is_fence said ≡ false }
-        ensures turn { drafted before.now self.new ≡ puts (content_in self.old.answered (next_out (drafted before.now self.old).session) said) (drafted before.now self.old) }
+        ensures turn { drafted before.now self.new
+            ≡ puts (content_in self.old.answered (next_out (drafted before.now self.old).session) said)
+            (drafted before.now self.old) }
         ensures room { length self.new.lines.items ≤ length self.old.lines.items + 1 }
     {
         let number = self.next_number(before);
@@ -107,7 +123,9 @@ impl Draft {
     pub fn write(&mut self, before: &Session, said: Said)
         requires room { length self.old.lines.items < MAX_LINES }
         requires no_fence { is_fence said ≡ false }
-        ensures turn { drafted before.now self.new ≡ writes (content_in self.old.answered (next_out (drafted before.now self.old).session) said) (drafted before.now self.old) }
+        ensures turn { drafted before.now self.new
+            ≡ writes (content_in self.old.answered (next_out (drafted before.now self.old).session) said)
+            (drafted before.now self.old) }
         ensures room { length self.new.lines.items ≤ length self.old.lines.items + 1 }
     {
         if self.may_write(before) {
@@ -222,7 +240,8 @@ impl Draft {
 
     /// A note is given. Its message is counted once it is confirmed.
     pub fn give(&mut self, note: Note)
-        ensures { self.new ≡ record self.old { note = Some note; standing = record self.old.standing { pending = true } } }
+        ensures { self.new ≡ record self.old
+            { note = Some note; standing = record self.old.standing { pending = true } } }
     {
         self.note = Some(note);
         self.standing.pending = true;
@@ -241,7 +260,8 @@ impl Draft {
     /// The Logout is written, and from then on nothing but gap fills.
     pub fn log_out(&mut self, before: &Session)
         requires { length self.old.lines.items < MAX_LINES }
-        ensures turn { let turn = writes Logout (drafted before.now self.old) in drafted before.now self.new ≡ with_session (record turn.session { phase = Phase.LoggedOut }) turn }
+        ensures turn { let turn = writes Logout (drafted before.now self.old) in drafted before.now self.new
+            ≡ with_session (record turn.session { phase = Phase.LoggedOut }) turn }
         ensures room { length self.new.lines.items ≤ length self.old.lines.items + 1 }
     {
         self.write(before, Said::Logout);

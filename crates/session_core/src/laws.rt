@@ -18,7 +18,7 @@ ghost use Rattle.session_core.specs.Onward.{OrUnchanged, IsOnward, KeepsLegs, Is
 ghost use Rattle.session_core.specs.Sound.{IsSound, IsRead, AreWritable};
 ghost use Rattle.session_core.specs.declared.session_call.SessionCall.{SessionCall as ACall};
 ghost use Rattle.session_core.specs.Trial.{after_calls, AreRead, KeepsRules};
-ghost use Rattle.dialect.specs.Message.{Readers as SomeReaders};
+ghost use Rattle.dialect.specs.Wording.{Decoding};
 
 /// A session is onward from itself, and what is onward from a session that is onward is so too.
 pub fn going_onward_goes_on()
@@ -37,7 +37,8 @@ pub fn what_is_received_leads_onward()
 /// A message that is received is counted only where its number is the expected one: one that is ahead isn't, nor is one
 /// that comes again. A note is given of such a message alone, and not counted yet.
 pub fn what_is_due_is_counted()
-    ensures { (s : SessionParts) (m : AMessage) → is_connected s.phase ≡ true → Counted (hearing s) m.number m.content (receive s m) }
+    ensures { (s : SessionParts) (m : AMessage) → is_connected s.phase ≡ true →
+        Counted (hearing s) m.number m.content (receive s m) }
 {}
 
 /// Every other call leaves each leg that was sent as it was: numbers are only added, each for a message that was
@@ -45,7 +46,8 @@ pub fn what_is_due_is_counted()
 /// leaves the session as it was.
 pub fn other_calls_keep_the_legs()
     ensures connect { (s : SessionParts) → OrUnchanged s (IsConnection s) (connect s) }
-    ensures send_leg { (s : SessionParts) (ordinal : ℕ) (leg : ALeg) → OrUnchanged s (SendsLeg s ordinal leg) (send_leg s ordinal leg) }
+    ensures send_leg { (s : SessionParts) (ordinal : ℕ) (leg : ALeg) →
+        OrUnchanged s (SendsLeg s ordinal leg) (send_leg s ordinal leg) }
     ensures confirm { (s : SessionParts) → KeepsLegs s (confirm s) }
     ensures quiet { (s : SessionParts) → OrUnchanged s (IsCall s) (quiet s) }
     ensures silent { (s : SessionParts) → OrUnchanged s (IsCall s) (silent s) }
@@ -59,7 +61,8 @@ pub fn other_calls_keep_the_legs()
 pub fn a_closed_session_is_over()
     ensures receive { (s : SessionParts) (m : AMessage) → s.phase ≡ phase.Closed → receive s m ≡ quietly s }
     ensures connect { (s : SessionParts) → s.phase ≡ phase.Closed → connect s ≡ (Err fault.Closed, s) }
-    ensures send_leg { (s : SessionParts) (ordinal : ℕ) (leg : ALeg) → s.phase ≡ phase.Closed → send_leg s ordinal leg ≡ (Err fault.NotUp, s) }
+    ensures send_leg { (s : SessionParts) (ordinal : ℕ) (leg : ALeg) → s.phase ≡ phase.Closed →
+        send_leg s ordinal leg ≡ (Err fault.NotUp, s) }
     ensures quiet { (s : SessionParts) → s.phase ≡ phase.Closed → quiet s ≡ (Err fault.NotConnected, s) }
     ensures silent { (s : SessionParts) → s.phase ≡ phase.Closed → silent s ≡ (Err fault.NotConnected, s) }
     ensures close { (s : SessionParts) → s.phase ≡ phase.Closed → close s ≡ (Err fault.NotConnected, s) }
@@ -71,12 +74,13 @@ pub fn a_closed_session_is_over()
 
 /// Once its Logout was written, a session answers what it receives with a gap fill at most.
 pub fn a_logged_out_session_fills_alone()
-    ensures { (s : SessionParts) (m : AMessage) → s.phase ≡ phase.LoggedOut → WritesFillAlone s (receive s m).step.written }
+    ensures { (s : SessionParts) (m : AMessage) → s.phase ≡ phase.LoggedOut →
+        WritesFillAlone s (receive s m).step.written }
 {}
 
 /// A session keeps its own promises: its numbers stay in range, its fences above the settled number and, until it is up
-/// or while it closes, above every leg; no leg up to the settled number is in doubt, nor any once its Logout was written;
-/// and the ordinals of its legs rise.
+/// or while it closes, above every leg; no leg up to the settled number is in doubt, nor any once its Logout was
+/// written; and the ordinals of its legs rise.
 pub fn a_session_keeps_its_promises()
     ensures begins { (config : ConfigParts) → IsConfig config → IsSound (new_session config) }
     ensures connect { (s : SessionParts) → IsSound s → IsSound (connect s).1 }
@@ -93,14 +97,17 @@ pub fn a_session_keeps_its_promises()
 
 /// A gap fill stands for no leg in doubt, whatever it answers.
 pub fn gap_fills_spare_legs_in_doubt()
-    ensures { (s : SessionParts) (m : AMessage) → IsSound s → IsRead m → FillsSpareDoubt (receive s m).session.log (receive s m).step.written }
+    ensures { (s : SessionParts) (m : AMessage) → IsSound s → IsRead m →
+        FillsSpareDoubt (receive s m).session.log (receive s m).step.written }
 {}
 
 /// Whatever a session writes can be written.
 pub fn what_a_session_writes_can_be_written()
     ensures connect { (s : SessionParts) → IsSound s → IfOk (connect s).0 (λ m. IsWritable (alone m)) }
-    ensures send_leg { (s : SessionParts) (ordinal : ℕ) (leg : ALeg) → IsSound s → IsLeg leg → IfOk (send_leg s ordinal leg).0 (λ m. IsWritable (alone m)) }
-    ensures receive { (s : SessionParts) (m : AMessage) → IsSound s → IsRead m → AreWritable (receive s m).step.written }
+    ensures send_leg { (s : SessionParts) (ordinal : ℕ) (leg : ALeg) → IsSound s → IsLeg leg →
+        IfOk (send_leg s ordinal leg).0 (λ m. IsWritable (alone m)) }
+    ensures receive { (s : SessionParts) (m : AMessage) → IsSound s → IsRead m →
+        AreWritable (receive s m).step.written }
     ensures quiet { (s : SessionParts) → IsSound s → IfOk (quiet s).0 (λ step. AreWritable step.written) }
     ensures silent { (s : SessionParts) → IsSound s → IfOk (silent s).0 (λ step. AreWritable step.written) }
     ensures close { (s : SessionParts) → IsSound s → IfOk (close s).0 (λ step. AreWritable step.written) }
@@ -109,6 +116,7 @@ pub fn what_a_session_writes_can_be_written()
 /// Whatever list of calls is made, and whatever the exchange sends, the session keeps the rules; and where what is
 /// received was read in range, it keeps its promises.
 pub fn any_calls_keep_the_rules()
-    ensures rules { (read : SomeReaders) (s : SessionParts) (calls : List ACall) → KeepsRules read s calls }
-    ensures promises { (read : SomeReaders) (s : SessionParts) (calls : List ACall) → IsSound s → AreRead read calls → IsSound (after_calls read s calls) }
+    ensures rules { (read : Decoding) (s : SessionParts) (calls : List ACall) → KeepsRules read s calls }
+    ensures promises { (read : Decoding) (s : SessionParts) (calls : List ACall) → IsSound s → AreRead read calls →
+        IsSound (after_calls read s calls) }
 {}

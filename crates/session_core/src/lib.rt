@@ -6,7 +6,7 @@ mod commit;
 mod draft;
 mod ended;
 mod fence;
-mod laws;
+pub mod laws;
 mod line;
 mod phase;
 mod receive;
@@ -20,11 +20,6 @@ mod trial_run;
 mod write;
 
 pub use ended::Ended;
-pub use laws::{
-    a_closed_session_is_over, a_logged_out_session_fills_alone, a_session_keeps_its_promises,
-    any_calls_keep_the_rules, going_onward_goes_on, other_calls_keep_the_legs,
-    what_a_session_writes_can_be_written, what_is_received_leads_onward,
-};
 pub use phase::Phase;
 pub use rows::{
     asks_for_what_is_missing, counts_what_is_due, ends_when_up, fills_when_logged_out,

@@ -115,7 +115,8 @@ impl Session {
         draft
     }
 
-    /// A ResendRequest while legs of earlier connections aren't settled: every leg in doubt is, and the range is filled.
+    /// A ResendRequest while legs of earlier connections aren't settled: every leg in doubt is, and the range is
+    /// filled.
     fn resend_settling(&self, at: Standing, begin: u64, last: u64) -> Draft
         ensures turn { drafted self.now result ≡ resend_while_settling (standing_at self.now at) begin last }
         ensures standing { result.standing ≡ at }
@@ -307,7 +308,8 @@ impl Session {
     /// A Reject or a BusinessReject, of the message under a number.
     fn refused_if(&self, at: Standing, due: bool, number: Option<u64>) -> Draft
         requires { due ≡ true → at.expected ≤ MAX_MESSAGE_NUMBER }
-        ensures turn { drafted self.now result ≡ in_turn due (standing_at self.now at) (refused_row (standing_at self.now at) number) }
+        ensures turn { drafted self.now result
+            ≡ in_turn due (standing_at self.now at) (refused_row (standing_at self.now at) number) }
         ensures room { length result.lines.items ≤ 0 }
     {
         if due {
@@ -321,7 +323,9 @@ impl Session {
     fn by_number(&self, at: Standing, message: Message<'_>) -> Draft
         requires logon { at.logon_number ≤ 999999999 }
         requires read { IsRead message }
-        ensures { drafted self.now result ≡ by_number (standing_at self.now at) message.entry (judged at.expected message.entry.number message.entry.poss_dup) }
+        ensures { drafted self.now result
+            ≡ by_number (standing_at self.now at) message.entry
+            (judged at.expected message.entry.number message.entry.poss_dup) }
     {
         let number = message.number;
         match at.expected.judge(number, message.poss_dup) {
@@ -415,7 +419,8 @@ fn resets(content: &Content<'_>) -> bool
 /// A message of which nothing but its number counts.
 fn counted_if(at: Standing, due: bool) -> Draft
     requires { due ≡ true → at.expected ≤ MAX_MESSAGE_NUMBER }
-    ensures turn { (s : SessionParts) → drafted s result ≡ in_turn due (standing_at s at) (counts (quietly (standing_at s at))) }
+    ensures turn { (s : SessionParts) → drafted s result
+        ≡ in_turn due (standing_at s at) (counts (quietly (standing_at s at))) }
     ensures room { length result.lines.items ≤ 0 }
 {
     let mut draft = Draft::new(at, Settling::Nothing);
@@ -427,7 +432,8 @@ fn counted_if(at: Standing, due: bool) -> Draft
 
 /// A report, or why it can't be read.
 fn reported_if(at: Standing, due: bool, read: Result<Report, DialectFault>) -> Draft
-    ensures turn { (s : SessionParts) → drafted s result ≡ in_turn due (standing_at s at) (notes (report_note read) (standing_at s at)) }
+    ensures turn { (s : SessionParts) → drafted s result
+        ≡ in_turn due (standing_at s at) (notes (report_note read) (standing_at s at)) }
     ensures room { length result.lines.items ≤ 0 }
 {
     let mut draft = Draft::new(at, Settling::Nothing);

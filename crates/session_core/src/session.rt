@@ -36,7 +36,8 @@ impl Model for Session {
 
     ghost view = { λ s. seen s.config s.log.entries s.fences.items s.connection s.standing };
 
-    ghost invariant = { λ s. IsKept s.log.max_number (seen s.config s.log.entries s.fences.items s.connection s.standing) };
+    ghost invariant = { λ s. IsKept s.log.max_number
+        (seen s.config s.log.entries s.fences.items s.connection s.standing) };
 }
 
 impl Session {

@@ -61,8 +61,8 @@ impl Session {
         call: &SessionCall<'_>,
     ) -> Result<Option<Step>, SessionFault>
         ensures { Adds
-            (record { IsOrder = D.IsOrder dialect.now; IsReport = D.IsReport dialect.now }) stamp.now
-            (called (record { order = D.order_read dialect.now; report = D.report_read dialect.now }) self.old call.now)
+            (D.wording dialect.now).encoding stamp.now
+            (called (D.wording dialect.now).decoding self.old call.now)
             result self.new }
     {
         match call {
@@ -105,14 +105,14 @@ pub fn trial<D: Dialect>(
     calls: &[SessionCall<'_>],
 ) -> Result<(Session, Vec<Step>), SessionFault>
     ensures run { Tries
-        (record { IsOrder = D.IsOrder dialect.now; IsReport = D.IsReport dialect.now }) stamp.now
-        (steps_of (record { order = D.order_read dialect.now; report = D.report_read dialect.now })
+        (D.wording dialect.now).encoding stamp.now
+        (steps_of (D.wording dialect.now).decoding
         (new_session config) calls.now)
-        (after_calls (record { order = D.order_read dialect.now; report = D.report_read dialect.now })
+        (after_calls (D.wording dialect.now).decoding
         (new_session config) calls.now)
         result }
     ensures rules { KeepsRules
-        (record { order = D.order_read dialect.now; report = D.report_read dialect.now })
+        (D.wording dialect.now).decoding
         (new_session config) calls.now }
 {
     let mut session = Session::new(alloc, config);

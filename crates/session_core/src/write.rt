@@ -33,7 +33,8 @@ fn frame<'a, D: Dialect>(
     content: Content<'a>,
 ) -> Result<Vec<u8>, SessionFault>
     requires { IsWritable (alone (message_of config.now number poss_dup content)) }
-    ensures ok { IfOk result (λ bytes. IsFramed (record { IsOrder = D.IsOrder dialect.now; IsReport = D.IsReport dialect.now }) stamp.now (alone (message_of config.now number poss_dup content.entry)) bytes.items) }
+    ensures ok { IfOk result (λ bytes. IsFramed (D.wording dialect.now).encoding stamp.now
+        (alone (message_of config.now number poss_dup content.entry)) bytes.items) }
     ensures refusal { IsOkUnless result SessionFault.OutOfMemory }
 {
     let message = Message::to_peer(config, number, poss_dup, content);
@@ -51,7 +52,8 @@ pub(crate) fn logon_frame<D: Dialect>(
     next: Option<u64>,
 ) -> Result<Vec<u8>, SessionFault>
     requires { IsWritable (alone (message_of config.now number false (Logon config.now.heart false next))) }
-    ensures ok { IfOk result (λ bytes. IsFramed (record { IsOrder = D.IsOrder dialect.now; IsReport = D.IsReport dialect.now }) stamp.now (alone (message_of config.now number false (Logon config.now.heart false next))) bytes.items) }
+    ensures ok { IfOk result (λ bytes. IsFramed (D.wording dialect.now).encoding stamp.now
+        (alone (message_of config.now number false (Logon config.now.heart false next))) bytes.items) }
     ensures refusal { IsOkUnless result SessionFault.OutOfMemory }
 {
     let content = Content::Logon {
@@ -72,7 +74,8 @@ pub(crate) fn order_frame<D: Dialect>(
     leg: &Leg,
 ) -> Result<Vec<u8>, SessionFault>
     requires { IsWritable (alone (message_of config.now number false (Order (Ok leg.now)))) }
-    ensures ok { IfOk result (λ bytes. IsFramed (record { IsOrder = D.IsOrder dialect.now; IsReport = D.IsReport dialect.now }) stamp.now (alone (message_of config.now number false (Order (Ok leg.now)))) bytes.items) }
+    ensures ok { IfOk result (λ bytes. IsFramed (D.wording dialect.now).encoding stamp.now
+        (alone (message_of config.now number false (Order (Ok leg.now)))) bytes.items) }
     ensures refusal { IsOkUnless result SessionFault.OutOfMemory }
 {
     let content = Content::Order(Ok(leg.clone().unwrap()));
@@ -90,7 +93,8 @@ fn line_frame<D: Dialect>(
     line: Line,
 ) -> Result<Vec<u8>, SessionFault>
     requires { IsWritable (alone (message_in config.now answered.now line)) }
-    ensures ok { IfOk result (λ bytes. IsFramed (record { IsOrder = D.IsOrder dialect.now; IsReport = D.IsReport dialect.now }) stamp.now (alone (message_in config.now answered.now line)) bytes.items) }
+    ensures ok { IfOk result (λ bytes. IsFramed (D.wording dialect.now).encoding stamp.now
+        (alone (message_in config.now answered.now line)) bytes.items) }
     ensures refusal { IsOkUnless result SessionFault.OutOfMemory }
 {
     let number = line.number;
@@ -145,7 +149,8 @@ fn frames<D: Dialect>(
     lines: &[Line],
 ) -> Result<Vec<Vec<u8>>, SessionFault>
     requires { AreWritable (map (message_in config.now answered.now) lines.now) }
-    ensures ok { IfOk result (λ frames. AreFramed (record { IsOrder = D.IsOrder dialect.now; IsReport = D.IsReport dialect.now }) stamp.now (map alone (map (message_in config.now answered.now) lines.now)) (map (λ frame. frame.items) frames.items)) }
+    ensures ok { IfOk result (λ frames. AreFramed (D.wording dialect.now).encoding stamp.now
+        (map alone (map (message_in config.now answered.now) lines.now)) (map (λ frame. frame.items) frames.items)) }
     ensures refusal { IsOkUnless result SessionFault.OutOfMemory }
 {
     let mut frames = Vec::with_capacity(alloc, lines.len())?;
@@ -178,7 +183,8 @@ impl Session {
     ) -> Result<Step, SessionFault>
         requires sound { IsSound self.old → IsSound (drafted self.old draft).session }
         requires writable { IsSound self.old → AreWritable (drafted self.old draft).step.written }
-        ensures { Gives (IsStep (record { IsOrder = D.IsOrder dialect.now; IsReport = D.IsReport dialect.now }) stamp.now) self.old (answers (drafted self.old draft)) result self.new }
+        ensures { Gives (IsStep (D.wording dialect.now).encoding stamp.now) self.old (answers (drafted self.old draft))
+            result self.new }
     {
         let out = frames(
             self.alloc(),

@@ -73,7 +73,8 @@ impl Book {
 
     /// Applies a report.
     fn apply_report(&mut self, venue: VenueId, report: &Report) -> Result<Applied, BookFault>
-        ensures answer { Answers BookFault.OutOfMemory self.old (apply self.old venue (note.Report report.now)) result self.new }
+        ensures answer { Answers BookFault.OutOfMemory self.old (apply self.old venue (note.Report report.now))
+            result self.new }
         ensures wanting { OnErr result (answer_to self.old venue (note.Report report.now) ≡ Applied.Moved) }
     {
         let Some(was) = self.ledger.leg(report.id) else {
@@ -102,7 +103,8 @@ impl Book {
 
     /// Applies the refusal of a leg's order.
     fn apply_refusal(&mut self, venue: VenueId, id: LegId) -> Result<Applied, BookFault>
-        ensures answer { Answers BookFault.OutOfMemory self.old (apply self.old venue (note.Refused id)) result self.new }
+        ensures answer { Answers BookFault.OutOfMemory self.old (apply self.old venue (note.Refused id))
+            result self.new }
         ensures wanting { OnErr result (answer_to self.old venue (note.Refused id) ≡ Applied.Moved) }
     {
         let Some(was) = self.ledger.leg(id) else {

@@ -84,7 +84,8 @@ pub fn each_leg_goes_as_a_split()
     ensures opened { (venues : ℕ) (entries : List AnEntry) (id : LegIdParts) (shares : ℕ) →
         order_of id (replay (new_book venues) entries).entries ≡ None →
         leg_parts id shares (replay (new_book venues) entries) ≡ all_open shares }
-    ensures apply { (venues : ℕ) (entries : List AnEntry) (venue : ℕ) (note : ANote) (id : LegIdParts) (routed : Routed) →
+    ensures apply { (venues : ℕ) (entries : List AnEntry) (venue : ℕ) (note : ANote) (id : LegIdParts) (routed : Routed)
+        →
         leg_of_note note ≡ Some id →
         order_of id (replay (new_book venues) entries).entries ≡ Some routed →
         (apply (replay (new_book venues) entries) venue note).0 ≡ Ok Applied.Moved →
@@ -101,7 +102,8 @@ pub fn each_leg_goes_as_a_split()
 /// Whatever the calls were, the resolved shares of a venue rise by exactly those of a trade that moves, and by none at
 /// a bust or a first report.
 pub fn a_venue_gains_what_is_traded()
-    ensures trade { (venues : ℕ) (entries : List AnEntry) (venue : ℕ) (id : LegIdParts) (exec : List ℕ) (fill : FillParts) →
+    ensures trade { (venues : ℕ) (entries : List AnEntry) (venue : ℕ) (id : LegIdParts) (exec : List ℕ)
+        (fill : FillParts) →
         (apply (replay (new_book venues) entries) venue
         (Note.Report (record { id = id; exec = exec; kind = ReportKind.Trade fill }))).0 ≡ Ok Applied.Moved →
         venue_resolved (apply (replay (new_book venues) entries) venue

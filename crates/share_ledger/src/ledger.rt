@@ -50,7 +50,8 @@ impl Ledger {
     /// A leg that was opened.
     pub fn leg(&self, id: LegId) -> Option<BookedLeg>
         requires kept { IsKept self.now }
-        ensures value { result ≡ option_map (booked_leg (ledger_seen self.now) id) (order_of id self.now.history.items) }
+        ensures value { result ≡ option_map (booked_leg (ledger_seen self.now) id)
+            (order_of id self.now.history.items) }
         ensures in_range { IfSome result (λ leg. IsSplit leg.parts) }
     {
         let legs = self.sweeps.get(id.sweep() as usize - 1)?;
@@ -63,7 +64,8 @@ impl Ledger {
     pub fn open_sweep(&mut self, number: u64, sweep: &Sweep) -> Result<(), BookFault>
         requires kept { IsKept self.old }
         ensures kept { IsKept self.new }
-        ensures answer { Answers BookFault.OutOfMemory (ledger_seen self.old) (open_sweep (ledger_seen self.old) number sweep.now.legs) result (ledger_seen self.new) }
+        ensures answer { Answers BookFault.OutOfMemory (ledger_seen self.old)
+            (open_sweep (ledger_seen self.old) number sweep.now.legs) result (ledger_seen self.new) }
     {
         if number != self.next_sweep() {
             return Err(BookFault::NotNext);
@@ -136,7 +138,8 @@ impl Ledger {
     pub fn settle(&mut self, id: LegId, was: BookedLeg, now: BookedLeg, entry: BookEntry)
         requires kept { IsKept self.old }
         requires change { ChangesLeg id was now entry (ledger_seen self.old) }
-        requires room { vec_len self.old.history + self.old.due + 1 + legs_due now ≤ vec_capacity self.old.history + legs_due was }
+        requires room { vec_len self.old.history + self.old.due + 1 + legs_due now
+            ≤ vec_capacity self.old.history + legs_due was }
         ensures kept { IsKept self.new }
         ensures seen { ledger_seen self.new ≡ written entry (ledger_seen self.old) }
     {

@@ -107,7 +107,8 @@ impl Reports {
 
     /// Keeps no trade any longer under an id.
     fn bust(&mut self, exec: &ExecId)
-        ensures { (id : List ℕ) → report_at self.new id ≡ (if bytes_eq exec.now id then emptied (report_at self.old id) else report_at self.old id) }
+        ensures { (id : List ℕ) → report_at self.new id
+            ≡ (if bytes_eq exec.now id then emptied (report_at self.old id) else report_at self.old id) }
     {
         if let Some(trade) = self.by_id.get_mut(exec) {
             *trade = None;

@@ -7,6 +7,7 @@ pub mod Lasting
 pub mod AtVenue
 pub mod Placing
 pub mod PlaceAnswered
+pub mod PlaceWanting
 pub mod Changing
 pub mod Fresh
 pub mod Refusals

@@ -6,7 +6,7 @@ use Rattle.std.proofs.lemmas.List.{length-set, map-set, set-get_or, get_or_defau
 use Rattle.std.proofs.lemmas.List.Sums.{sum_by-set}
 use Rattle.sweep_release.specs.declared.venue.Venue.{Venue}
 use Rattle.sweep_release.specs.Gates.{gate_due}
-use Rattle.sweep_release.specs.Kept.{venue_seen, entries_due, IsSame, AreSame}
+use Rattle.sweep_release.specs.Kept.{venue_seen, entries_due, IsSame, AreSame, HaveSpare}
 
 pub same_all : (venues : List Venue) → AreSame venues venues
 same_all venues =
@@ -76,3 +76,15 @@ room_more after at room now there have this k other inside =
           subst (λ v. vec_len v.released + room ≤ vec_capacity v.released)
           (sym (get_or-set_other after at k now other differs)) (have k other (omega (arith, inside, differs)))
     ]
+
+-- a venue that lacks the room now lacked it before
+pub lacked : (before after : List Venue) (at room : ℕ) (was : Venue) → AreSame before after → at < length before
+    → was ≡ get_or after at was → vec_capacity was.released < vec_len was.released + room → ¬ HaveSpare room before
+lacked before after at room was same there was_is full have =
+    let first = get_or before at was in
+    let each = same.each in
+    let here : IsSame first was = subst (IsSame first) (sym was_is) (each at was there) in
+    let spare = here.spare in
+    let legs = ap length here.legs in
+    let had = have at was there in
+    omega (arith, spare, legs, had, full, first.released.ok.0, was.released.ok.0)

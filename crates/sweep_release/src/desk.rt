@@ -1,11 +1,16 @@
 //! The desk of released legs.
 
-ghost use Rattle.std.specs.Prelude.{◌≡◌, ◌+◌, ◌<◌, ◌≤◌, [], ◌∷◌, ◌++◌, length, not, nat_le, IfOk, IfNone, OnOk, OnErr, IsOk, IsOkUnless};
+ghost use Rattle.std.specs.Prelude.{◌≡◌, ◌+◌, ◌<◌, ◌≤◌, [], ◌∷◌, ◌++◌, length, not, nat_le, IfOk, IfNone, OnOk, OnErr};
+ghost use Rattle.std.specs.Prelude.{IsOk, IsOkUnless};
 ghost use Rattle.std.specs.List.{All};
 ghost use Rattle.share_ledger.specs.Entries.{sweep_shares};
 ghost use Rattle.leg.specs.Answering.{Answers};
-ghost use Rattle.sweep_release.specs.Desk.{new_desk, venue_at, is_up, refused_at, count_to, backlog_refusal, release_refusal, ready, release, gate_of, placed, placed_shares, next_leg, next_number, with_gate, gate_up, gate_down, shut, leave, take, drop_next};
-ghost use Rattle.sweep_release.specs.History.{without_room, with_entries, release_entries, gate_up_entries, gate_down_entries, shut_entries, left_entries, take_entries, drop_next_entries};
+ghost use Rattle.sweep_release.specs.Desk.{new_desk, venue_at, is_up, refused_at, count_to, backlog_refusal};
+ghost use Rattle.sweep_release.specs.Desk.{release_refusal, ready, release, gate_of, placed, placed_shares, next_leg};
+ghost use Rattle.sweep_release.specs.Desk.{next_number, with_gate, gate_up, gate_down, shut, leave, take, drop_next};
+ghost use Rattle.sweep_release.specs.History.{without_room, with_entries, release_entries, gate_up_entries};
+ghost use Rattle.sweep_release.specs.History.{gate_down_entries, shut_entries, left_entries, take_entries};
+ghost use Rattle.sweep_release.specs.History.{drop_next_entries};
 ghost use Rattle.sweep_release.specs.Gates.{gate_due};
 ghost use Rattle.sweep_release.specs.Released.{released};
 ghost use Rattle.sweep_release.specs.Kept.{released_sweeps, AreShort, HaveRoom, IsEnqueued};
@@ -147,8 +152,8 @@ impl Desk {
         self.shares
     }
 
-    /// The calls that changed the desk, in order. They lead to it again from a new one, and the sweeps among them are the
-    /// desk's, each of at most 32 legs.
+    /// The calls that changed the desk, in order. They lead to it again from a new one, and the sweeps among them are
+    /// the desk's, each of at most 32 legs.
     pub fn history(&self) -> &[DeskEntry]
         ensures value { result.now ≡ self.now.history }
         ensures sweeps { released_sweeps result.now ≡ self.now.desk.sweeps }
@@ -157,11 +162,15 @@ impl Desk {
         self.history.as_slice()
     }
 
-    /// Puts a gate up, so that legs are released to the venue and taken to it. An open gate stays so. G02 where it was
-    /// shut, G01 where legs are still placed.
+    /// Puts a gate up, so that legs are released to the venue and taken to it. An open gate stays so, whatever memory
+    /// there is. G02 where it was shut, G01 where legs are still placed, G03 only where it is put up.
     pub fn gate_up(&mut self, venue: VenueId) -> Result<(), GateFault>
         requires { venue < length self.old.desk.venues }
-        ensures answer { Answers GateFault.OutOfMemory (without_room self.old) (with_entries (without_room self.old) (gate_up_entries self.old.desk venue) (gate_up self.old.desk venue)) result (without_room self.new) }
+        ensures answer { Answers GateFault.OutOfMemory (without_room self.old)
+            (with_entries (without_room self.old) (gate_up_entries self.old.desk venue) (gate_up self.old.desk venue))
+            result (without_room self.new) }
+        ensures open { gate_of self.old.desk venue ≡ Gate.Up → result ≡ Ok tt }
+        ensures still { gate_of self.old.desk venue ≡ Gate.Up → self.new ≡ self.old }
         ensures room { OnErr result (self.new.room ≡ self.old.room) }
     {
         match self.gate(venue) {
@@ -272,9 +281,14 @@ impl Desk {
     }
 
     /// Whether a release of this sweep would be refused, and for what; where it wouldn't, the room for it is reserved,
-    /// so that its release, with no other call between, is never R07. It changes nothing else. R01 to R07.
+    /// so that its release, with no other call between, is never R07. It changes nothing else. R01 to R07, which comes
+    /// only where there is less room.
     pub fn ready(&mut self, sweep: &Sweep) -> Result<(), ReleaseFault>
-        ensures answer { Answers ReleaseFault.OutOfMemory (without_room self.old) (with_entries (without_room self.old) [] (ready self.old.desk sweep.now.legs)) result (without_room self.new) }
+        ensures answer { Answers ReleaseFault.OutOfMemory (without_room self.old)
+            (with_entries (without_room self.old) [] (ready self.old.desk sweep.now.legs))
+            result (without_room self.new) }
+        ensures there { 1 + length sweep.now.legs ≤ self.old.room → result ≡ (ready self.old.desk sweep.now.legs).0 }
+        ensures still { 1 + length sweep.now.legs ≤ self.old.room → self.new ≡ self.old }
         ensures reserved { IfOk result (λ _. 1 + length sweep.now.legs ≤ self.new.room) }
         ensures room { OnErr result (self.new.room ≡ self.old.room) }
     {
@@ -285,8 +299,8 @@ impl Desk {
         Ok(self.reserve(legs.len())?)
     }
 
-    /// Makes room for a release of so many legs: for them at each venue, for its entry, and for one of each leg that will
-    /// leave.
+    /// Makes room for a release of so many legs: for them at each venue, for its entry, and for one of each leg that
+    /// will leave. Where the room is there, it does nothing.
     fn reserve(&mut self, legs: usize) -> Result<(), AllocError>
         requires { legs ≤ 32 }
         ensures desk { self.new.desk ≡ self.old.desk }
@@ -294,6 +308,7 @@ impl Desk {
         ensures ok { OnOk result (1 + legs ≤ self.new.room) }
         ensures err { OnErr result (self.new.room ≡ self.old.room) }
         ensures there { 1 + legs ≤ self.old.room → IsOk result }
+        ensures same { 1 + legs ≤ self.old.room → self.new ≡ self.old }
     {
         let room = 1 + legs;
         if self.room < room {
@@ -306,7 +321,9 @@ impl Desk {
 
     /// Releases a sweep, whole or not at all. R01 to R07; a refused sweep is dropped.
     pub fn release(&mut self, sweep: Sweep) -> Result<Receipt, ReleaseFault>
-        ensures answer { Answers ReleaseFault.OutOfMemory (without_room self.old) (with_entries (without_room self.old) (release_entries sweep.legs (release self.old.desk sweep.legs).0) (release self.old.desk sweep.legs)) result (without_room self.new) }
+        ensures answer { Answers ReleaseFault.OutOfMemory (without_room self.old)
+            (with_entries (without_room self.old) (release_entries sweep.legs (release self.old.desk sweep.legs).0)
+            (release self.old.desk sweep.legs)) result (without_room self.new) }
         ensures reserved { 1 + length sweep.legs ≤ self.old.room → result ≡ (release self.old.desk sweep.legs).0 }
         ensures room { OnErr result (self.new.room ≡ self.old.room) }
     {

@@ -1,13 +1,16 @@
 //! What follows from the desk's rules: each law is the contract of a function that does nothing.
 
-ghost use Rattle.std.specs.Prelude.{◌≡◌, ◌≢◌, ◌+◌, ◌<◌, ℕ, List, [], ◌∷◌, ◌++◌, length, ◌↔◌, IfOk, IfSome, IfNone, OnOk, OnErr, IsOk};
+ghost use Rattle.std.specs.Prelude.{◌≡◌, ◌≢◌, ◌+◌, ◌<◌, ℕ, List, [], ◌∷◌, ◌++◌, length, ◌↔◌, IfOk, IfSome, IfNone};
+ghost use Rattle.std.specs.Prelude.{OnOk, OnErr, IsOk};
 ghost use Rattle.leg.specs.declared.sweep.Routed.{Routed};
 ghost use Rattle.share_ledger.specs.Entries.{sweep_shares};
 ghost use Rattle.share_ledger.specs.Book.{open_sweep};
 ghost use Rattle.sweep_release.specs.declared.desk_entry.DeskEntry.{DeskEntry as AnEntry};
 ghost use Rattle.sweep_release.specs.Released.{legs_to, released};
-ghost use Rattle.sweep_release.specs.Desk.{DeskParts, new_desk, gate_of, placed, placed_shares, next_number, with_sweep, release, ready, gate_up, gate_down, shut, take, drop_next};
-ghost use Rattle.sweep_release.specs.History.{replay, release_entries, gate_up_entries, gate_down_entries, shut_entries, take_entries, drop_next_entries, history};
+ghost use Rattle.sweep_release.specs.Desk.{DeskParts, new_desk, gate_of, placed, placed_shares, next_number};
+ghost use Rattle.sweep_release.specs.Desk.{with_sweep, release, ready, gate_up, gate_down, shut, take, drop_next};
+ghost use Rattle.sweep_release.specs.History.{replay, release_entries, gate_up_entries, gate_down_entries};
+ghost use Rattle.sweep_release.specs.History.{shut_entries, take_entries, drop_next_entries, history};
 ghost use Rattle.sweep_release.specs.Place.{DeskAndBook, place};
 ghost use Rattle.sweep_release.specs.Laws.{ChangesOnly, OnlyAppends, IsCounted, LeavesFirst, IsPlaced};
 
@@ -36,7 +39,8 @@ pub fn a_release_only_appends()
         IfOk (release desk legs).0 (λ receipt. receipt.shares ≡ sweep_shares legs) }
     ensures legs { (desk : DeskParts) (legs : List Routed) (venue : ℕ) →
         IfOk (release desk legs).0 (λ receipt.
-        released venue (release desk legs).1.sweeps ≡ released venue desk.sweeps ++ legs_to venue receipt.number 1 legs) }
+        released venue (release desk legs).1.sweeps
+        ≡ released venue desk.sweeps ++ legs_to venue receipt.number 1 legs) }
     ensures placed_shares { (desk : DeskParts) (legs : List Routed) →
         IfOk (release desk legs).0 (λ receipt.
         placed_shares (release desk legs).1 ≡ placed_shares desk + receipt.shares) }
@@ -109,7 +113,8 @@ pub fn a_sweep_is_placed_unless_one_refuses()
     ensures desk { (before : DeskAndBook) (legs : List Routed) (fault : ReleaseFault) →
         (release before.desk legs).0 ≡ Err fault → (place before legs).0 ≡ Err fault }
     ensures book { (before : DeskAndBook) (legs : List Routed) → IsOk (release before.desk legs).0 →
-        OnErr (open_sweep before.book (next_number before.desk) legs).0 ((place before legs).0 ≡ Err ReleaseFault.WrongBook) }
+        OnErr (open_sweep before.book (next_number before.desk) legs).0
+        ((place before legs).0 ≡ Err ReleaseFault.WrongBook) }
     ensures neither { (before : DeskAndBook) (legs : List Routed) → IsOk (release before.desk legs).0 →
         IsOk (open_sweep before.book (next_number before.desk) legs).0 → IsOk (place before legs).0 }
     ensures refused { (before : DeskAndBook) (legs : List Routed) →

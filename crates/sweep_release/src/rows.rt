@@ -4,7 +4,8 @@ ghost use Rattle.std.specs.Prelude.{◌≡◌, List, [], ◌∷◌};
 ghost use Rattle.share_ledger.specs.Rows.{order, leg};
 ghost use Rattle.sweep_release.specs.Desk.{release, placed, gate_up, gate_down, shut, take};
 ghost use Rattle.sweep_release.specs.Place.{place};
-ghost use Rattle.sweep_release.specs.Rows.{two_venues, orders, greatest, after_shares, full, after_drops, placed_numbers, with_wrong_book, with_own_book};
+ghost use Rattle.sweep_release.specs.Rows.{two_venues, orders, greatest, after_shares, full, after_drops};
+ghost use Rattle.sweep_release.specs.Rows.{placed_numbers, with_wrong_book, with_own_book};
 
 use crate::{GateFault, ReleaseFault};
 
@@ -55,7 +56,9 @@ pub fn a_sweep_is_placed_in_its_own_book()
 /// The greatest sweep is released where it makes 10^18 shares in all, and not where it would make one more; after it no
 /// share is.
 pub fn a_day_of_shares_is_spent()
-    ensures last { (release (after_shares 999999999968000000) greatest).0 ≡ Ok (record { number = 2; shares = 32000000 }) }
+    ensures last { (release (after_shares 999999999968000000) greatest).0
+        ≡ Ok (record { number = 2; shares = 32000000 }) }
     ensures one_more { (release (after_shares 999999999968000001) greatest).0 ≡ Err ReleaseFault.SweepsSpent }
-    ensures spent { (release (release (after_shares 999999999968000000) greatest).1 (order 0 1 ∷ [])).0 ≡ Err ReleaseFault.SweepsSpent }
+    ensures spent { (release (release (after_shares 999999999968000000) greatest).1 (order 0 1 ∷ [])).0
+        ≡ Err ReleaseFault.SweepsSpent }
 {}

@@ -38,7 +38,7 @@ impl Exchange {
         px: LastPx,
         stamp: &Stamp,
     ) -> Result<Option<Vec<u8>>, ExchangeFault>
-        ensures gives { ActGives (record { IsOrder = D.IsOrder dialect.now; IsReport = D.IsReport dialect.now }) stamp.now
+        ensures gives { ActGives (D.wording dialect.now).encoding stamp.now
             self.old (trade self.old place shares px) result self.new }
         ensures allowed { IsAct self.old (trade self.old place shares px) }
     {
@@ -55,7 +55,7 @@ impl Exchange {
         place: usize,
         stamp: &Stamp,
     ) -> Result<Option<Vec<u8>>, ExchangeFault>
-        ensures gives { ActGives (record { IsOrder = D.IsOrder dialect.now; IsReport = D.IsReport dialect.now }) stamp.now
+        ensures gives { ActGives (D.wording dialect.now).encoding stamp.now
             self.old (cancel_rest self.old place) result self.new }
         ensures allowed { IsAct self.old (cancel_rest self.old place) }
     {
@@ -72,7 +72,7 @@ impl Exchange {
         place: usize,
         stamp: &Stamp,
     ) -> Result<Option<Vec<u8>>, ExchangeFault>
-        ensures gives { ActGives (record { IsOrder = D.IsOrder dialect.now; IsReport = D.IsReport dialect.now }) stamp.now
+        ensures gives { ActGives (D.wording dialect.now).encoding stamp.now
             self.old (reject self.old place) result self.new }
         ensures allowed { IsAct self.old (reject self.old place) }
     {
@@ -91,7 +91,7 @@ impl Exchange {
         which: usize,
         stamp: &Stamp,
     ) -> Result<Option<Vec<u8>>, ExchangeFault>
-        ensures gives { ActGives (record { IsOrder = D.IsOrder dialect.now; IsReport = D.IsReport dialect.now }) stamp.now
+        ensures gives { ActGives (D.wording dialect.now).encoding stamp.now
             self.old (bust self.old place which) result self.new }
         ensures allowed { IsAct self.old (bust self.old place which) }
     {
@@ -136,7 +136,7 @@ impl Exchange {
     ) -> Result<Option<Vec<u8>>, ExchangeFault>
         requires there { IsFor self.old place plan.step }
         requires fit { IfOk (plan_answer self.old place plan) IsFit }
-        ensures { ActGives (record { IsOrder = D.IsOrder dialect.now; IsReport = D.IsReport dialect.now }) stamp.now
+        ensures { ActGives (D.wording dialect.now).encoding stamp.now
             self.old (answered self.old (plan_answer self.old place plan)) result self.new }
     {
         let Plan { split, step, kind } = plan;
@@ -165,7 +165,7 @@ impl Exchange {
         requires { All IsWritable (while_live self.now.live
             (execution_report self.now.config (next_own_number self.now.own) false report.now view.now ∷ [])) }
         ensures { IfOk result (λ frame. AreFramed
-            (record { IsOrder = D.IsOrder dialect.now; IsReport = D.IsReport dialect.now }) stamp.now
+            (D.wording dialect.now).encoding stamp.now
             (while_live self.now.live
             (execution_report self.now.config (next_own_number self.now.own) false report.now view.now ∷ []))
             (bytes_of (option_to_list frame))) }

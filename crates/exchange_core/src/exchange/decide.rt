@@ -48,7 +48,8 @@ impl Exchange {
         heart: u64,
         next: Option<u64>,
     ) -> Decision<'a>
-        ensures { (if nat_lt self.now.last connection && nat_le self.now.expected number then logon_taken self.now connection number heart next else ([], self.now)) ≡ decided self.now result }
+        ensures { (if nat_lt self.now.last connection && nat_le self.now.expected number
+            then logon_taken self.now connection number heart next else ([], self.now)) ≡ decided self.now result }
     {
         if connection <= self.last || number < self.expected {
             return ignored();
@@ -107,7 +108,13 @@ impl Exchange {
         asked: Option<u64>,
         says: Says<'a>,
     ) -> Turn<'a>
-        ensures { result ≡ record { expected = expected; live = Some (record { connection = connection; asked = asked }); last = connection; closed_at = self.now.closed_at; says = says.entry } }
+        ensures { result ≡ record {
+          expected = expected;
+          live = Some (record { connection = connection; asked = asked });
+          last = connection;
+          closed_at = self.now.closed_at;
+          says = says.entry;
+        } }
     {
         Turn {
             expected,
@@ -206,7 +213,13 @@ impl Exchange {
 
     /// Another number is expected, and the connection stays.
     fn expects<'a>(&self, expected: u64, says: Says<'a>) -> Deed<'a>
-        ensures { result ≡ Turned (record { expected = expected; live = self.now.live; last = self.now.last; closed_at = self.now.closed_at; says = says.entry }) }
+        ensures { result ≡ Turned (record {
+          expected = expected;
+          live = self.now.live;
+          last = self.now.last;
+          closed_at = self.now.closed_at;
+          says = says.entry;
+        }) }
     {
         Deed::Turn(Turn {
             expected,

@@ -37,8 +37,10 @@ impl Exchange {
         envelope: &EnvelopeRef<'_>,
         stamp: &Stamp,
     ) -> Result<Vec<Vec<u8>>, ExchangeFault>
-        ensures gives { TakeGives (record { IsOrder = D.IsOrder dialect.now; IsReport = D.IsReport dialect.now }) stamp.now self.old (take self.old connection (seen (record { order = D.order_read dialect.now; report = D.report_read dialect.now }) envelope.now)) result self.new }
-        ensures allowed { IsAnswer self.old connection (seen (record { order = D.order_read dialect.now; report = D.report_read dialect.now }) envelope.now) (take self.old connection (seen (record { order = D.order_read dialect.now; report = D.report_read dialect.now }) envelope.now)) }
+        ensures gives { TakeGives (D.wording dialect.now).encoding stamp.now self.old
+            (take self.old connection (seen (D.wording dialect.now).decoding envelope.now)) result self.new }
+        ensures allowed { IsAnswer self.old connection (seen (D.wording dialect.now).decoding envelope.now)
+            (take self.old connection (seen (D.wording dialect.now).decoding envelope.now)) }
     {
         let message = see(dialect, envelope);
         let decision = self.decide(connection, message);
@@ -59,7 +61,8 @@ impl Exchange {
         frames: &mut Vec<Vec<u8>>,
     ) -> Result<(), AllocError>
         requires { All IsWritable (asked_answer self.now asked) }
-        ensures { OnOk result (Writes (record { IsOrder = D.IsOrder dialect.now; IsReport = D.IsReport dialect.now }) stamp.now (asked_answer self.now asked) frames.old.items frames.new.items) }
+        ensures { OnOk result (Writes (D.wording dialect.now).encoding stamp.now (asked_answer self.now asked)
+            frames.old.items frames.new.items) }
     {
         let Some(asked) = asked else {
             return Ok(());
@@ -94,7 +97,8 @@ impl Exchange {
     ) -> Result<(), AllocError>
         requires writable { All IsWritable (deed_answer self.old deed).0 }
         requires sound { IsSound (deed_answer self.old deed).1 }
-        ensures written { OnOk result (Writes (record { IsOrder = D.IsOrder dialect.now; IsReport = D.IsReport dialect.now }) stamp.now (deed_answer self.old deed.entry).0 frames.old.items frames.new.items) }
+        ensures written { OnOk result (Writes (D.wording dialect.now).encoding stamp.now
+            (deed_answer self.old deed.entry).0 frames.old.items frames.new.items) }
         ensures ok { OnOk result (self.new ≡ (deed_answer self.old deed.entry).1) }
         ensures err { OnErr result (self.new ≡ self.old) }
     {
@@ -116,7 +120,8 @@ impl Exchange {
     ) -> Result<(), AllocError>
         requires writable { All IsWritable (order_taken self.old leg).0 }
         requires sound { IsSound (order_taken self.old leg).1 }
-        ensures written { OnOk result (Writes (record { IsOrder = D.IsOrder dialect.now; IsReport = D.IsReport dialect.now }) stamp.now (order_taken self.old leg).0 frames.old.items frames.new.items) }
+        ensures written { OnOk result (Writes (D.wording dialect.now).encoding stamp.now
+            (order_taken self.old leg).0 frames.old.items frames.new.items) }
         ensures ok { OnOk result (self.new ≡ (order_taken self.old leg).1) }
         ensures err { OnErr result (self.new ≡ self.old) }
     {
@@ -153,7 +158,8 @@ impl Exchange {
     ) -> Result<(), AllocError>
         requires writable { All IsWritable (turn_answer self.old turn).0 }
         requires sound { IsSound (turn_answer self.old turn).1 }
-        ensures written { OnOk result (Writes (record { IsOrder = D.IsOrder dialect.now; IsReport = D.IsReport dialect.now }) stamp.now (turn_answer self.old turn.entry).0 frames.old.items frames.new.items) }
+        ensures written { OnOk result (Writes (D.wording dialect.now).encoding stamp.now
+            (turn_answer self.old turn.entry).0 frames.old.items frames.new.items) }
         ensures ok { OnOk result (self.new ≡ (turn_answer self.old turn.entry).1) }
         ensures err { OnErr result (self.new ≡ self.old) }
     {
@@ -186,7 +192,8 @@ impl Exchange {
         frames: &mut Vec<Vec<u8>>,
     ) -> Result<(), AllocError>
         requires { All IsWritable (turn_written self.now expected says) }
-        ensures { OnOk result (Writes (record { IsOrder = D.IsOrder dialect.now; IsReport = D.IsReport dialect.now }) stamp.now (turn_written self.now expected says.entry) frames.old.items frames.new.items) }
+        ensures { OnOk result (Writes (D.wording dialect.now).encoding stamp.now
+            (turn_written self.now expected says.entry) frames.old.items frames.new.items) }
     {
         let number = self.own.len() as u64 + 1;
         match says {

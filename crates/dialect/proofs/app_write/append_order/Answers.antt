@@ -4,8 +4,8 @@ use Rattle.dialect.proofs.app_write.append_order.Goals as goal
 
 pub append_body-requires : goal.append_body-requires
 append_body-requires g c =
-    let pushed = c.in_ok-push_order.ensures in
-    let fits = g.met.D.Dialect.order_fits c.args.dialect.now c.args.leg.now c.args.stamp.now pushed.0 pushed.1 in
+    let pushed = c.in_ok-push_order.ensures.pushed in
+    let fits = (g.met.D.Dialect.is_wording c.args.dialect.now).order_fits c.args.leg.now c.args.stamp.now pushed.0 pushed.1 in
     let header = rw (c.new-body.ensures, c.stamp_bytes-time.ensures) at c.in_ok-push_app_header.ensures in
     let m = c.args.message.now in
     let stamp = c.args.stamp.now in
@@ -14,11 +14,11 @@ append_body-requires g c =
 
 pub returns-clause-ok : goal.returns-clause-ok
 returns-clause-ok g c =
-    let pushed = c.in_ok-push_order.ensures in
-    let fits = g.met.D.Dialect.order_fits c.args.dialect.now c.args.leg.now c.args.stamp.now pushed.0 pushed.1 in
+    let pushed = c.in_ok-push_order.ensures.pushed in
+    let fits = (g.met.D.Dialect.is_wording c.args.dialect.now).order_fits c.args.leg.now c.args.stamp.now pushed.0 pushed.1 in
     let header = rw (c.new-body.ensures, c.stamp_bytes-time.ensures) at c.in_ok-push_app_header.ensures in
     let m = c.args.message.now in
     let stamp = c.args.stamp.now in
     let body = straight_body m stamp (codes "D") pushed.0 _ _ c.requires (omega arith) fits header pushed.2 in
-    straight_appended (g.D.Dialect.IsOrder c.args.dialect.now c.args.leg.now c.args.stamp.now) m stamp (codes "D") pushed.0 _ c.args.out.now.items
+    straight_appended ((g.D.Dialect.wording c.args.dialect.now).encoding.IsOrder c.args.leg.now c.args.stamp.now) m stamp (codes "D") pushed.0 _ c.args.out.now.items
     c.append_body.new.out.items c.append_body.result body pushed.1 c.append_body.ensures.ok

@@ -5,7 +5,7 @@ use Rattle.dialect.proofs.app_write.append_report.Goals as goal
 pub append_body-requires : goal.append_body-requires
 append_body-requires g c =
     let pushed = c.in_ok-push_report.ensures in
-    let fits = g.met.D.Dialect.report_fits c.args.dialect.now c.args.report.now c.args.view.now pushed.0 pushed.1 in
+    let fits = (g.met.D.Dialect.is_wording c.args.dialect.now).report_fits c.args.report.now c.args.view.now pushed.0 pushed.1 in
     let header = rw (c.new-body.ensures, c.stamp_bytes-time.ensures) at c.in_ok-push_app_header.ensures in
     let m = c.args.message.now in
     let stamp = c.args.stamp.now in
@@ -15,10 +15,10 @@ append_body-requires g c =
 pub returns-clause-ok : goal.returns-clause-ok
 returns-clause-ok g c =
     let pushed = c.in_ok-push_report.ensures in
-    let fits = g.met.D.Dialect.report_fits c.args.dialect.now c.args.report.now c.args.view.now pushed.0 pushed.1 in
+    let fits = (g.met.D.Dialect.is_wording c.args.dialect.now).report_fits c.args.report.now c.args.view.now pushed.0 pushed.1 in
     let header = rw (c.new-body.ensures, c.stamp_bytes-time.ensures) at c.in_ok-push_app_header.ensures in
     let m = c.args.message.now in
     let stamp = c.args.stamp.now in
     let body = straight_body m stamp (codes "8") pushed.0 _ _ c.requires.addressed (omega arith) fits header pushed.2 in
-    straight_appended (g.D.Dialect.IsReport c.args.dialect.now c.args.report.now c.args.view.now) m stamp (codes "8") pushed.0 _ c.args.out.now.items
+    straight_appended ((g.D.Dialect.wording c.args.dialect.now).encoding.IsReport c.args.report.now c.args.view.now) m stamp (codes "8") pushed.0 _ c.args.out.now.items
     c.append_body.new.out.items c.append_body.result body pushed.1 c.append_body.ensures.ok

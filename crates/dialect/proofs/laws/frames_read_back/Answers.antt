@@ -1,18 +1,12 @@
-use Rattle.dialect.specs.Framed.{Writers}
-use Rattle.dialect.specs.Message.{Readers}
-use Rattle.dialect.proofs.FrameBack.{Agrees, frame_back}
+use Rattle.dialect.specs.Wording.{Decoding, Encoding}
+use Rattle.dialect.proofs.FrameBack.{agrees_of, frame_back}
 use Rattle.dialect.proofs.laws.frames_read_back.Goals as goal
 
 pub returns : goal.returns
 returns g c = λ stamp out bytes rest stream range is begins.
     let d = c.args.dialect.now in
     let laws = g.met.D.Dialect in
-    let w : Writers = record { IsOrder = g.D.Dialect.IsOrder d; IsReport = g.D.Dialect.IsReport d } in
-    let read : Readers = record { order = g.D.Dialect.order_read d; report = g.D.Dialect.report_read d } in
-    let agrees : Agrees w read = record {
-      order_back = laws.order_reads_back d;
-      order_fits = laws.order_fits d;
-      report_back = laws.report_reads_back d;
-      report_fits = laws.report_fits d;
-    } in
+    let w : Encoding = (g.D.Dialect.wording d).encoding in
+    let read : Decoding = (g.D.Dialect.wording d).decoding in
+    let agrees = agrees_of (g.D.Dialect.wording d) (laws.is_wording d) in
     frame_back w read stamp out bytes rest stream agrees range is begins

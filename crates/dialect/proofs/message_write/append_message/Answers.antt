@@ -1,13 +1,13 @@
 use Rattle.std.proofs.Common.{◌≡◌, rules, Ok}
 use Rattle.dialect.specs.declared.content.Content.TheVariants.{Order, ExecutionReport}
-use Rattle.dialect.specs.Framed.{Writers}
+use Rattle.dialect.specs.Wording.{Encoding}
 use Rattle.dialect.proofs.StraightFrame.{framed_order, framed_report}
 use Rattle.dialect.proofs.message_write.append_message.Goals as goal
 
 pub returns-in-Order-Ok-clause-ok : goal.returns-in-Order-Ok-clause-ok
 returns-in-Order-Ok-clause-ok g c =
     let d = c.args.dialect.now in
-    let w : Writers = record { IsOrder = g.D.Dialect.IsOrder d; IsReport = g.D.Dialect.IsReport d } in
+    let w : Encoding = (g.D.Dialect.wording d).encoding in
     let out = c.args.outgoing.now in
     let leg = c.in-Order-Ok.leg in
     let says : out.message.content ≡ Order (Ok leg) = search rules in
@@ -17,7 +17,7 @@ returns-in-Order-Ok-clause-ok g c =
 pub returns-in-Some-clause-ok : goal.returns-in-Some-clause-ok
 returns-in-Some-clause-ok g c =
     let d = c.args.dialect.now in
-    let w : Writers = record { IsOrder = g.D.Dialect.IsOrder d; IsReport = g.D.Dialect.IsReport d } in
+    let w : Encoding = (g.D.Dialect.wording d).encoding in
     let out = c.args.outgoing.now in
     let report = c.in-ExecutionReport-Ok.report in
     let says : out.message.content ≡ ExecutionReport (Ok report) = search rules in

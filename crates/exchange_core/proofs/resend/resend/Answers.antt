@@ -4,14 +4,14 @@ use Rattle.exchange_core.proofs.resend.resend.Goals as goal
 
 pub resend_one-requires : goal.resend_one-requires
 resend_one-requires g c =
-    one_writable (record { IsOrder = g.D.Dialect.IsOrder c.args.dialect.now; IsReport = g.D.Dialect.IsReport c.args.dialect.now })
+    one_writable (g.D.Dialect.wording c.args.dialect.now).encoding
     c.args.stamp.now c.args.config.now c.args.begin c.args.own.now c.loop-entry.entry-index c.loop-entry.run
     c.loop-entry.number c.args.frames.now.items c.loop-entry.frames.items
     c.entry-item.result c.loop-entry.invariant c.loop-entry-test.true c.entry-item.is c.requires.writable
 
 pub loop-entry-preserved : goal.loop-entry-preserved
 loop-entry-preserved g c =
-    one_resent (record { IsOrder = g.D.Dialect.IsOrder c.args.dialect.now; IsReport = g.D.Dialect.IsReport c.args.dialect.now })
+    one_resent (g.D.Dialect.wording c.args.dialect.now).encoding
     c.args.stamp.now c.args.config.now c.args.begin c.args.own.now c.loop-entry.entry-index c.loop-entry.run
     c.loop-entry.number c.args.frames.now.items c.loop-entry.frames.items
     c.entry-item.result (c.loop-entry.entry-index + 1) c.in_ok-run.run' (c.loop-entry.number + 1)
@@ -20,7 +20,7 @@ loop-entry-preserved g c =
 
 pub close_run-requires : goal.close_run-requires
 close_run-requires g c =
-    closing_writable (record { IsOrder = g.D.Dialect.IsOrder c.args.dialect.now; IsReport = g.D.Dialect.IsReport c.args.dialect.now })
+    closing_writable (g.D.Dialect.wording c.args.dialect.now).encoding
     c.args.stamp.now c.args.config.now c.args.begin c.args.own.now c.loop-entry.entry-index c.loop-entry.run
     c.loop-entry.number c.args.frames.now.items c.loop-entry.frames.items
     c.loop-entry.invariant (omega (arith, c.loop-entry-test.false, c.loop-entry.auto.entry-index-end))
@@ -28,7 +28,7 @@ close_run-requires g c =
 
 pub returns : goal.returns
 returns g c =
-    closed_all (record { IsOrder = g.D.Dialect.IsOrder c.args.dialect.now; IsReport = g.D.Dialect.IsReport c.args.dialect.now })
+    closed_all (g.D.Dialect.wording c.args.dialect.now).encoding
     c.args.stamp.now c.args.config.now c.args.begin c.args.own.now c.loop-entry.entry-index c.loop-entry.run
     c.loop-entry.number c.args.frames.now.items c.loop-entry.frames.items
     c.close_run.new.frames.items c.close_run.result c.loop-entry.invariant

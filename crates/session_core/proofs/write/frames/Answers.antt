@@ -11,11 +11,7 @@ line_frame-requires g c =
 
 pub loop-line-preserved : goal.loop-line-preserved
 loop-line-preserved g c =
-    framed-more (record {
-      IsOrder = g.D.Dialect.IsOrder c.args.dialect.now;
-      IsReport = g.D.Dialect.IsReport
-          c.args.dialect.now;
-    })
+    framed-more (g.D.Dialect.wording c.args.dialect.now).encoding
     c.args.stamp.now (message_in c.args.config.now c.args.answered.now) c.args.lines.now c.loop-line.line-index _
     c.loop-line.frames.items c.push.new.self.items c.in_ok-frame.frame (omega arith) c.loop-line.invariant
     c.in_ok-frame.ensures.ok c.in_ok-push.ensures.items

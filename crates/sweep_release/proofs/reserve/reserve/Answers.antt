@@ -1,5 +1,5 @@
 use Rattle.std.proofs.Common.{◌<◌, length, refl, arith}
-use Rattle.sweep_release.proofs.Reserved.{same_all, same_more, room_more}
+use Rattle.sweep_release.proofs.Reserved.{same_all, same_more, room_more, lacked}
 use Rattle.sweep_release.proofs.reserve.reserve.Goals as goal
 
 pub returns-in_err-reserve-clause-same : goal.returns-in_err-reserve-clause-same
@@ -23,3 +23,11 @@ loop-at-preserved c =
           (record { gate = refl; left = refl; legs = c.reserve.ensures.items; spare = c.reserve.ensures.capacity });
       room = room_more c.loop-at.venues.items c.loop-at.at c.args.legs _ there c.loop-at.invariant.room c.in_ok-reserve.ensures.ok;
     }
+
+pub returns-in_err-reserve-clause-there : goal.returns-in_err-reserve-clause-there
+returns-in_err-reserve-clause-there c = λ have.
+    let many = c.loop-at.invariant.same.many in
+    let there : c.loop-at.at < length c.args.venues.now.items =
+    omega (arith, c.loop-at-test.true, c.len-at-end.ensures, c.args.venues.now.ok.0, many) in
+    absurd (lacked c.args.venues.now.items c.loop-at.venues.items c.loop-at.at c.args.legs c.index_mut.result.now
+    c.loop-at.invariant.same there c.index_mut.ensures.value c.in_err-reserve.ensures.full have)

@@ -3,8 +3,8 @@ use Rattle.dialect.specs.Order.{IsOrderOf, order_fields}
 use Rattle.dialect.proofs.Pushed.{pushes_such}
 use Rattle.dialect.proofs.spelled.AnyDialect.push_order.Goals as goal
 
-pub returns : goal.returns
-returns g c =
+pub returns-clause-pushed : goal.returns-clause-pushed
+returns-clause-pushed g c =
     let spelling = g.S.Spelling.spelling c.args.self.now in
     let leg = c.args.leg.now in
     let stamp = c.args.stamp.now in

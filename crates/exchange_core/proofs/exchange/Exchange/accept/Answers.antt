@@ -30,7 +30,7 @@ returns-clause-written g c =
     let out = c.report_to_peer-outgoing.ensures
     ∙ accepted_out x leg (c.len-2.result + 1) (c.len.result + 1) _ c.new-order.result c.view-view.result number place report_is c.new-order.ensures c.view-view.ensures
     ∙ ap (λ (s : ExchangeParts). next_execution_report s (suc (length s.orders)) (new_order leg) New) c.self.view_is in
-    subst (λ (o : Outgoing). Writes (record { IsOrder = g.D.Dialect.IsOrder c.args.dialect.now; IsReport = g.D.Dialect.IsReport c.args.dialect.now }) c.args.stamp.now (o ∷ []) c.args.frames.now.items c.write.new.frames.items) out
+    subst (λ (o : Outgoing). Writes (g.D.Dialect.wording c.args.dialect.now).encoding c.args.stamp.now (o ∷ []) c.args.frames.now.items c.write.new.frames.items) out
     c.in_ok-write.ensures
 
 pub invariant_of-self-2 : goal.invariant_of-self-2

@@ -8,7 +8,7 @@ returns-in_ok-write-in-OneAndRequest g c =
     let number : c.len.result + 1 ≡ suc (length c.args.self.now.own) =
     omega (arith, c.len.ensures, x.own.ok.0, ap (λ s. length s.own) c.self.view_is) in
     let later : c.len.result + 1 + 1 ≡ suc (suc (length c.args.self.now.own)) = omega (arith, number) in
-    says_two (record { IsOrder = g.D.Dialect.IsOrder c.args.dialect.now; IsReport = g.D.Dialect.IsReport c.args.dialect.now })
+    says_two (g.D.Dialect.wording c.args.dialect.now).encoding
     c.args.stamp.now c.args.self.now c.args.expected c.args.says c.in-OneAndRequest.content x.config
     (c.len.result + 1) (c.len.result + 1 + 1) c.to_peer-outgoing-in-OneAndRequest.result
     c.to_peer-outgoing-in-OneAndRequest-2.result c.args.frames.now.items c.write-in-OneAndRequest.new.frames.items

@@ -27,7 +27,7 @@ returns-in_err-carry_out-clause-allowed g c =
 
 pub returns-clause-gives : goal.returns-clause-gives
 returns-clause-gives g c =
-    taken_gives (record { IsOrder = g.D.Dialect.IsOrder c.args.dialect.now; IsReport = g.D.Dialect.IsReport c.args.dialect.now })
+    taken_gives (g.D.Dialect.wording c.args.dialect.now).encoding
     c.args.stamp.now c.args.self.now c.args.connection c.see-message.result _ c.decide-decision.result
     c.new-frames.result.items c.send_again.new.frames.items c.carry_out.new.frames c.carry_out.new.self
     c.see-message.ensures.value c.decide-decision.ensures.answer c.new-frames.ensures.items c.in_ok-send_again.ensures
