@@ -11,8 +11,8 @@ use sweep_release::DeskEntry;
 use world_text::phase_name;
 
 /// What an event did, in words: what it wrote, sent, dropped, withdrew and booked, why it ended a connection, or
-/// `nothing`. It compares the world before the event with that after it; `told` is what the event told besides. The only
-/// refusal is want of memory.
+/// `nothing`. It compares the world before the event with that after it; `told` is what the event told besides. The
+/// only refusal is want of memory.
 pub fn print_deeds<D: Dialect + Drop>(
     alloc: Global,
     before: &Before,

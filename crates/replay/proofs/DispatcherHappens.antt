@@ -12,9 +12,9 @@ use Rattle.share_ledger.specs.Book.{BookParts}
 use Rattle.schedule.specs.declared.event.Event.TheVariants as event
 use Rattle.schedule.specs.World.{World, VenueParts, Frame, venue_in}
 use Rattle.schedule.specs.Happening.{with_venue, withdrawn_in, booked, session_turn, to_dispatcher, happens}
-use Rattle.replay.specs.declared.news.News.{News}
-use Rattle.replay.specs.Hearing.{turn_on, heard, news_of, confirmed}
-use Rattle.replay.proofs.WorldAfter.{at_there, is_there, with_same}
+use Rattle.venue_replay.specs.declared.news.News.{News}
+use Rattle.venue_replay.specs.Hearing.{turn_on, heard, news_of, confirmed}
+use Rattle.venue_replay.proofs.WorldAfter.{at_there, is_there, with_same}
 
 set_again : {A : Type 0} (xs : List A) (k : ℕ) (x y : A) → slice_set (slice_set xs k x) k y ≡ slice_set xs k y
 set_again [] k x y = refl

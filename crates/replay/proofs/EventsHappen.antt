@@ -12,9 +12,9 @@ use Rattle.schedule.specs.declared.event.Event.{Event}
 use Rattle.schedule.specs.declared.event.Event.TheVariants as event
 use Rattle.schedule.specs.World.{World, VenueParts, venue_in}
 use Rattle.schedule.specs.Happening.{with_venue, may_connect, connected_world, called_world, closed_world, connects, act_of, acted_world, happens}
-use Rattle.replay.specs.AtVenue.{sent, called, acted}
-use Rattle.replay.proofs.ExchangeActs.{act_in_live, acted_is}
-use Rattle.replay.proofs.WorldAfter.{at_there, is_there, with_same, connected_is, called_is}
+use Rattle.venue_replay.specs.AtVenue.{sent, called, acted}
+use Rattle.venue_replay.proofs.ExchangeActs.{act_in_live, acted_is}
+use Rattle.venue_replay.proofs.WorldAfter.{at_there, is_there, with_same, connected_is, called_is}
 
 -- what happens at a venue by its index, where that was not for want of memory
 pub at_index : {T E : Type 0} (w : World) (i v : ℕ) (before now : VenueParts) (Now : Type 0) (e : Event)

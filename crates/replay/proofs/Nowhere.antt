@@ -13,8 +13,9 @@ use Rattle.schedule.specs.Growing.{named}
 use Rattle.schedule.specs.declared.event.Event.TheVariants as event
 use Rattle.schedule.proofs.Happened.{absent_unchanged}
 use Rattle.replay.specs.declared.told.Told.{Told}
-use Rattle.replay.specs.Hearing.{turn_on}
-use Rattle.replay.specs.Telling.{nothing_told, told_by, ending_of, told}
+use Rattle.venue_replay.specs.Hearing.{turn_on}
+use Rattle.replay.specs.Telling.{nothing_told, told_by, told}
+use Rattle.venue_replay.specs.Ending.{ending_of}
 
 pub nowhere : (w : World) (e : Event) (v : ℕ) → named e ≡ Some v → nat_lt v (length w.venues) ≡ false → w ≡ happens w e
 nowhere w e v names gone =

@@ -18,10 +18,10 @@ use Rattle.sweep_release.specs.Desk as desk
 use Rattle.schedule.specs.declared.event.Event.TheVariants as event
 use Rattle.schedule.specs.World.{World, VenueParts, venue_in}
 use Rattle.schedule.specs.Happening.{with_venue, is_session_up, sent_world, taken_world, takes, happens}
-use Rattle.replay.specs.declared.sending.Sending.TheVariants.{Sent, NumbersSpent, Refused}
-use Rattle.replay.specs.AtVenue.{sent}
-use Rattle.replay.specs.Taking.{leg_to_send, outcome_of}
-use Rattle.replay.proofs.WorldAfter.{at_there, with_same}
+use Rattle.venue_replay.specs.declared.sending.Sending.TheVariants.{Sent, NumbersSpent, Refused}
+use Rattle.venue_replay.specs.AtVenue.{sent}
+use Rattle.venue_replay.specs.Taking.{leg_to_send, outcome_of}
+use Rattle.venue_replay.proofs.WorldAfter.{at_there, with_same}
 
 -- which leg can be sent at a venue that is there
 abbrev to_send : World → ℕ → VenueParts → Option PlacedLeg

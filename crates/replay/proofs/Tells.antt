@@ -8,9 +8,9 @@ use Rattle.share_ledger.specs.Book.{answer_to}
 use Rattle.schedule.specs.declared.event.Event.TheVariants as event
 use Rattle.schedule.specs.World.{World, VenueParts, venue_in}
 use Rattle.schedule.specs.Happening.{withdrawn_in}
-use Rattle.replay.specs.declared.news.News.{News}
+use Rattle.venue_replay.specs.declared.news.News.{News}
 use Rattle.replay.specs.declared.told.Told.{Told}
-use Rattle.replay.specs.Hearing.{turn_on, news_of}
+use Rattle.venue_replay.specs.Hearing.{turn_on, news_of}
 use Rattle.replay.specs.Telling.{nothing_told, told_by, told}
 
 -- at a venue that is there

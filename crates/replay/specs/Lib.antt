@@ -1,7 +1,1 @@
-pub mod Network
-pub mod AtVenue
-pub mod Taking
-pub mod Delivering
-pub mod Hearing
-pub mod Kept
 pub mod Telling

@@ -11,7 +11,8 @@ use Rattle.schedule.specs.declared.event.Event.TheVariants as event
 use Rattle.schedule.specs.World.{World, of_venue}
 use Rattle.schedule.specs.Happening.{withdrawn_in}
 use Rattle.replay.specs.declared.told.Told.{Told}
-use Rattle.replay.specs.Hearing.{turn_on}
+use Rattle.venue_replay.specs.Ending.{ending_of}
+use Rattle.venue_replay.specs.Hearing.{turn_on}
 
 abbrev pub nothing_told : Told
 nothing_told = record { answer = None; ended = None }
@@ -23,11 +24,6 @@ told_by w v (Some turn) = record {
   answer = option_map (answer_to (withdrawn_in w.book turn.step.withdrawn) v) turn.step.note;
   ended = turn.step.ended;
 }
-
--- of a call of the session that gives a step
-abbrev pub ending_of : SessionAnswer StepParts → Option Ended
-ending_of (Ok step, session) = step.ended
-ending_of (Err fault, session) = None
 
 -- every other event tells nothing
 abbrev pub told : World → Event → Told

@@ -2,20 +2,11 @@
 //! and the events that move them. What it does is defined in crate `schedule`.
 #![tactic(auto)]
 
-mod ends;
-mod frame;
-mod keep;
-mod moment;
-mod network;
-mod news;
 mod running;
-mod sending;
 mod telling;
 mod told;
-mod venue;
 mod world;
 
-pub use frame::Frame;
 pub use running::run;
 pub use told::Told;
 pub use world::{World, venue_of};

@@ -13,7 +13,8 @@ use std::alloc::{AllocError, Global};
 /// which number it expects next (789). `max_number`, which no message of a session has, is 16 to 999,999,999. It takes
 /// the events, since the desk keeps the sweeps. The only refusal is want of memory.
 ///
-/// The sweep theorem holds of the world: what an exchange accepted, what is missing before it, the close and the shares.
+/// The sweep theorem holds of the world: what an exchange accepted, what is missing before it, the close and the
+/// shares.
 #[tactic(auto, using(crate::proofs::Theorem::it_holds))]
 pub fn run<D: Dialect + Drop>(
     alloc: Global,

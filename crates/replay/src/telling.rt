@@ -20,7 +20,8 @@ pub fn tell(
     note: &Option<Note>,
 ) -> Result<Option<Applied>, AllocError>
     ensures book { OnOk result (book.new ≡ booked venue note.now (withdrawn_in book.old withdrawn)) }
-    ensures answer { IfOk result (λ answer. answer ≡ option_map (answer_to (withdrawn_in book.old withdrawn) venue) note.now) }
+    ensures answer { IfOk result (λ answer. answer
+        ≡ option_map (answer_to (withdrawn_in book.old withdrawn) venue) note.now) }
 {
     withdraw_all(book, withdrawn.into_vec());
     match note {

@@ -2,10 +2,10 @@
 
 ghost use Rattle.std.specs.Prelude.{◌≡◌, ◌<◌, ◌≤◌, [], length, Some, None};
 ghost use Rattle.std.specs.Option.{option_copied};
-ghost use Rattle.dialect.specs.Message.{Readers};
+ghost use Rattle.dialect.specs.Wording.{Decoding};
 ghost use Rattle.session_core.specs.Session.{leg_state};
 ghost use Rattle.schedule.specs.World.{accepted, closed_at, given, made, released_to, state_of, totals, of_venue, venue_in};
-ghost use Rattle.replay.specs.Network.{all_said};
+ghost use Rattle.venue_replay.specs.Network.{all_said};
 
 mod act_events;
 mod delivery_events;
@@ -16,8 +16,6 @@ mod opening;
 mod session_events;
 mod take_event;
 
-use crate::frame::Frame;
-use crate::venue::Venue;
 use dialect::{Dialect, Note, Report};
 pub use happening::venue_of;
 use leg::{Leg, LegState, Totals, VenueId};
@@ -25,6 +23,7 @@ use session_core::Phase;
 use share_ledger::Book;
 use std::marker::Model;
 use sweep_release::Desk;
+use venue_replay::{Frame, Venue};
 
 /// A desk, a book, and for each venue a session, an exchange and the network between them.
 #[derive(Drop)]
@@ -150,7 +149,7 @@ impl<D: Dialect + Drop> World<D> {
     /// The frames ever written to the exchange of a venue, in order, each read as the message that it was written of;
     /// none where there is no such venue.
     pub fn frames_to(&self, venue: VenueId) -> &[Frame]
-        ensures { (read : Readers) × (of_venue self.now venue [] (λ at. at.to_exchange) ≡ all_said read result.now) }
+        ensures { (read : Decoding) × (of_venue self.now venue [] (λ at. at.to_exchange) ≡ all_said read result.now) }
     {
         match self.venue(venue) {
             Some(venue) => venue.frames_to(),
@@ -161,7 +160,7 @@ impl<D: Dialect + Drop> World<D> {
     /// The frames ever written by the exchange of a venue, in order, each read as the message that it was written of;
     /// none where there is no such venue.
     pub fn frames_from(&self, venue: VenueId) -> &[Frame]
-        ensures { (read : Readers) × (of_venue self.now venue [] (λ at. at.from_exchange) ≡ all_said read result.now) }
+        ensures { (read : Decoding) × (of_venue self.now venue [] (λ at. at.from_exchange) ≡ all_said read result.now) }
     {
         match self.venue(venue) {
             Some(venue) => venue.frames_from(),

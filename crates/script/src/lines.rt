@@ -69,7 +69,8 @@ impl<'a> Lines<'a> {
     /// The next line, if there is one.
     pub(crate) fn next(&mut self) -> Option<Line<'a>>
         ensures lines { self.old.lines ≡ with_first (option_map (λ line. line.text.now) result) self.new.lines }
-        ensures numbers { IfSome result (λ line. (line.number ≡ self.old.number) × (self.new.number ≡ suc self.old.number)) }
+        ensures numbers { IfSome result (λ line. (line.number ≡ self.old.number)
+            × (self.new.number ≡ suc self.old.number)) }
         ensures ended { IfNone result (self.new ≡ self.old) }
     {
         if self.rest.is_empty() {

@@ -36,7 +36,8 @@ fn keep_line(
 ) -> Result<(), ScriptFault>
     requires low { 1 ≤ venues }
     requires high { venues ≤ 16 }
-    ensures { KeepsLine number (said_by venues line.now) result events.old.is_refused events.old.items.items events.new.is_refused events.new.items.items }
+    ensures { KeepsLine number (said_by venues line.now)
+        result events.old.is_refused events.old.items.items events.new.is_refused events.new.items.items }
 {
     if is_passed_over(line) {
         return Ok(());
@@ -53,7 +54,8 @@ fn keep_line(
 fn read_events(alloc: Global, venues: u8, lines: &mut Lines<'_>) -> Result<Vec<Event>, ScriptFault>
     requires low { 1 ≤ venues }
     requires high { venues ≤ 16 }
-    ensures { ReadsScript (events_of_lines venues lines.old.number lines.old.lines) (result_map_both (λ events. events.items) (λ fault. fault) result) }
+    ensures { ReadsScript (events_of_lines venues lines.old.number lines.old.lines)
+        (result_map_both (λ events. events.items) (λ fault. fault) result) }
 {
     let mut events = Kept::new(alloc);
     while let Some(line) = lines.next() {

@@ -9,7 +9,8 @@ use crate::word::{any_venue, number_within, shares_word, side_word};
 use dialect::read_symbol;
 use leg::{MAX_PRICE, Routed, Terms};
 
-/// The leg of a venue, 0 to 15, a symbol as Plain spells it, a side, shares, and a price in ten-thousandths of a dollar.
+/// The leg of a venue, 0 to 15, a symbol as Plain spells it, a side, shares, and a price in ten-thousandths of a
+/// dollar.
 fn leg_of_words(
     venue: &[u8],
     symbol: &[u8],

@@ -74,7 +74,8 @@ pub(crate) fn shares_word(word: &[u8]) -> Option<u64>
 
 /// Whether a word is 1 to 20 printable bytes, 0x21 to 0x7E.
 fn is_px(word: &[u8]) -> bool
-    ensures { result ≡ (nat_le 1 (length word.now) && nat_le (length word.now) 20 && list_all is_ascii_graphic word.now) }
+    ensures { result
+        ≡ (nat_le 1 (length word.now) && nat_le (length word.now) 20 && list_all is_ascii_graphic word.now) }
 {
     !word.is_empty() && word.len() <= MAX_LAST_PX && word.iter().all(|byte| byte.is_ascii_graphic())
 }

@@ -42,7 +42,8 @@ fn write_venues<D: Dialect + Drop>(
 
 /// Appends the lines of the sweeps, in the order of their numbers.
 fn write_sweeps<D: Dialect + Drop>(text: &mut String, world: &World<D>) -> Result<(), AllocError>
-    ensures { OnOk result (string_bytes text.new ≡ string_bytes text.old ++ sweep_lines world.now 1 world.now.desk.sweeps) }
+    ensures { OnOk result (string_bytes text.new
+        ≡ string_bytes text.old ++ sweep_lines world.now 1 world.now.desk.sweeps) }
 {
     let history = world.desk().history();
     let mut number = 0;

@@ -25,8 +25,8 @@ pub fn write_sweep<D: Dialect + Drop>(
 }
 
 /// Appends the line of a sweep of this number and so many shares, as `sweep 1 legs 10 filled 6 busted 0 cancelled 4
-/// withdrawn 0 open 0`; where the parts of the shares aren't known it ends behind their sum. The only refusal is want of
-/// memory.
+/// withdrawn 0 open 0`; where the parts of the shares aren't known it ends behind their sum. The only refusal is want
+/// of memory.
 pub fn write_sweep_line(
     text: &mut String,
     number: u64,

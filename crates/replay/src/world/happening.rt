@@ -43,8 +43,8 @@ impl<D: Dialect + Drop> World<D> {
         usize::from(venue.number()) < self.venues.len()
     }
 
-    /// An event happens: what it told, besides the world after it. At a venue that isn't there it does nothing. The only
-    /// refusal is want of memory, and the world is then of no use: a part of the event may have happened.
+    /// An event happens: what it told, besides the world after it. At a venue that isn't there it does nothing. The
+    /// only refusal is want of memory, and the world is then of no use: a part of the event may have happened.
     #[tactic(auto, using(crate::proofs::Nowhere::nowhere, crate::proofs::Nowhere::nothing_is_told))]
     pub fn happen(&mut self, event: Event) -> Result<Told, AllocError>
         ensures world { OnOk result (self.new ≡ happens self.old event) }

@@ -4,13 +4,14 @@ ghost use Rattle.std.specs.Prelude.{◌≡◌, ◌≤◌, length, map, IfOk};
 ghost use Rattle.schedule.specs.World.{new_venue, opening};
 
 use super::World;
-use crate::venue::Venue;
 use dialect::Dialect;
 use share_ledger::Book;
 use std::alloc::{AllocError, Global};
 use sweep_release::Desk;
+use venue_replay::Venue;
 
-/// The venues of these dialects, in order, each with whether its session's Logons say which number it expects next (789).
+/// The venues of these dialects, in order, each with whether its session's Logons say which number it expects next
+/// (789).
 fn new_venues<D: Dialect + Drop>(
     alloc: Global,
     dialects: Vec<D>,
@@ -32,8 +33,8 @@ fn new_venues<D: Dialect + Drop>(
 
 impl<D: Dialect + Drop> World<D> {
     /// A new world of a venue for each dialect, 1 to 16, and for each whether its session's Logons say which number it
-    /// expects next (789). `max_number`, which no message of a session has, is 16 to 999,999,999. The only refusal is want
-    /// of memory.
+    /// expects next (789). `max_number`, which no message of a session has, is 16 to 999,999,999. The only refusal is
+    /// want of memory.
     pub fn new(
         alloc: Global,
         dialects: Vec<D>,

@@ -3,18 +3,18 @@
 ghost use Rattle.std.specs.Prelude.{◌≡◌, ◌<◌, length, OnOk};
 ghost use Rattle.schedule.specs.declared.event.Event.TheVariants as event;
 ghost use Rattle.schedule.specs.Happening.{happens};
-ghost use Rattle.replay.specs.Taking.{leg_to_send};
+ghost use Rattle.venue_replay.specs.Taking.{leg_to_send};
 
 use super::World;
-use crate::sending::Sending;
 use dialect::Dialect;
 use leg::{PlacedLeg, VenueId};
 use std::alloc::AllocError;
 use sweep_release::Gate;
+use venue_replay::Sending;
 
 impl<D: Dialect + Drop> World<D> {
-    /// The next leg of a venue whose gate and session are up leaves the desk and is sent. Where the session has no number
-    /// left for it the leg is withdrawn in the book.
+    /// The next leg of a venue whose gate and session are up leaves the desk and is sent. Where the session has no
+    /// number left for it the leg is withdrawn in the book.
     pub(crate) fn take(&mut self, venue: VenueId) -> Result<(), AllocError>
         requires { venue < length self.old.venues }
         ensures { OnOk result (self.new ≡ happens self.old (event.Take venue)) }

@@ -3,7 +3,7 @@ use Rattle.std.specs.Prelude.{OnOk}
 use Rattle.schedule.specs.declared.event.Event.TheVariants as event
 use Rattle.schedule.specs.World.{World, VenueParts}
 use Rattle.schedule.specs.Happening.{with_venue, act_of, happens}
-use Rattle.replay.specs.AtVenue.{acted}
+use Rattle.venue_replay.specs.AtVenue.{acted}
 use Rattle.replay.proofs.EventsHappen.{at_index, act_happens}
 use Rattle.replay.proofs.world.World.act.Goals as goal
 

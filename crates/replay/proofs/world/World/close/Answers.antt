@@ -2,7 +2,7 @@ use Rattle.std.proofs.Common.{◌≡◌, ◌<◌, length, sym, subst, ◌∙◌}
 use Rattle.schedule.specs.declared.event.Event.TheVariants as event
 use Rattle.schedule.specs.World.{World, VenueParts}
 use Rattle.schedule.specs.Happening.{with_venue, happens}
-use Rattle.replay.proofs.WorldAfter.{is_there}
+use Rattle.venue_replay.proofs.WorldAfter.{is_there}
 use Rattle.replay.proofs.EventsHappen.{close_refused}
 use Rattle.replay.proofs.world.World.close.Goals as goal
 

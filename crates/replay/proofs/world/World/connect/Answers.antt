@@ -4,7 +4,7 @@ use Rattle.session_core.specs.Calling.{connect}
 use Rattle.schedule.specs.declared.event.Event.TheVariants as event
 use Rattle.schedule.specs.World.{World, VenueParts}
 use Rattle.schedule.specs.Happening.{with_venue, may_connect, happens}
-use Rattle.replay.specs.AtVenue.{sent}
+use Rattle.venue_replay.specs.AtVenue.{sent}
 use Rattle.replay.proofs.EventsHappen.{at_index, connect_happens}
 use Rattle.replay.proofs.world.World.connect.Goals as goal
 

@@ -2,7 +2,7 @@ use Rattle.std.proofs.Common.{◌≡◌, ◌<◌, length, sym, subst, ◌∙◌}
 use Rattle.schedule.specs.declared.event.Event.TheVariants as event
 use Rattle.schedule.specs.World.{World, VenueParts}
 use Rattle.schedule.specs.Happening.{with_venue, happens}
-use Rattle.replay.proofs.WorldAfter.{is_there}
+use Rattle.venue_replay.proofs.WorldAfter.{is_there}
 use Rattle.replay.specs.declared.told.Told.{Told}
 use Rattle.replay.specs.Telling.{nothing_told, told}
 use Rattle.replay.proofs.DispatcherHappens.{dispatcher_at, dispatcher_waits}

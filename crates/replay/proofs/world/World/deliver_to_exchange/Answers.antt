@@ -4,9 +4,9 @@ use Rattle.leg.specs.Numbered.{numbered}
 use Rattle.schedule.specs.declared.event.Event.TheVariants as event
 use Rattle.schedule.specs.World.{World, VenueParts}
 use Rattle.schedule.specs.Happening.{with_venue, happens}
-use Rattle.replay.specs.Delivering.{taken}
+use Rattle.venue_replay.specs.Delivering.{taken}
 use Rattle.replay.proofs.EventsHappen.{at_index}
-use Rattle.replay.proofs.ExchangeTakes.{to_exchange_happens}
+use Rattle.venue_replay.proofs.ExchangeTakes.{to_exchange_happens}
 use Rattle.replay.proofs.world.World.deliver_to_exchange.Goals as goal
 
 pub returns : goal.returns

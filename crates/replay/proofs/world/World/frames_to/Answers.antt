@@ -1,7 +1,7 @@
 use Rattle.std.proofs.Common.{◌≡◌, [], Option, Some, None, sym, ap, ◌∙◌}
 use Rattle.std.specs.Option.{option_map_or}
 use Rattle.schedule.specs.World.{VenueParts, venue_in}
-use Rattle.replay.proofs.NoFrames.{no_readers}
+use Rattle.venue_replay.proofs.NoFrames.{no_readers}
 use Rattle.replay.proofs.world.World.frames_to.Goals as goal
 
 pub returns-in-Some : goal.returns-in-Some

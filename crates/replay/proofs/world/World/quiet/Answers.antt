@@ -4,7 +4,7 @@ use Rattle.session_core.specs.Calling.{quiet}
 use Rattle.schedule.specs.declared.event.Event.TheVariants as event
 use Rattle.schedule.specs.World.{World, VenueParts}
 use Rattle.schedule.specs.Happening.{with_venue, happens}
-use Rattle.replay.specs.AtVenue.{called}
+use Rattle.venue_replay.specs.AtVenue.{called}
 use Rattle.replay.proofs.EventsHappen.{at_index, quiet_happens}
 use Rattle.replay.proofs.world.World.quiet.Goals as goal
 

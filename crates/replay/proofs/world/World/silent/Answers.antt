@@ -5,9 +5,10 @@ use Rattle.schedule.specs.declared.event.Event.TheVariants as event
 use Rattle.schedule.specs.World.{World, VenueParts, venue_in}
 use Rattle.schedule.specs.Happening.{with_venue, happens}
 use Rattle.replay.specs.declared.told.Told.{Told}
-use Rattle.replay.specs.Telling.{ending_of, told}
+use Rattle.replay.specs.Telling.{told}
+use Rattle.venue_replay.specs.Ending.{ending_of}
 use Rattle.replay.proofs.EventsHappen.{silent_happens}
-use Rattle.replay.proofs.WorldAfter.{is_there}
+use Rattle.venue_replay.proofs.WorldAfter.{is_there}
 use Rattle.replay.proofs.world.World.silent.Goals as goal
 
 pub returns-clause-world : goal.returns-clause-world

@@ -3,8 +3,8 @@ use Rattle.share_ledger.specs.Book.{BookAnswer}
 use Rattle.schedule.specs.declared.event.Event.TheVariants as event
 use Rattle.schedule.specs.World.{World, VenueParts}
 use Rattle.schedule.specs.Happening.{with_venue, happens}
-use Rattle.replay.specs.Taking.{leg_to_send}
-use Rattle.replay.proofs.WorldAfter.{is_there}
+use Rattle.venue_replay.specs.Taking.{leg_to_send}
+use Rattle.venue_replay.proofs.WorldAfter.{is_there}
 use Rattle.replay.proofs.TakesHappen.{taken_apart, take_sent, take_spent, take_refused}
 use Rattle.replay.proofs.world.World.take.Goals as goal
 

@@ -1,0 +1,11 @@
+pub mod Reports
+pub mod FramesRead
+pub mod SessionCalls
+pub mod WorldAfter
+pub mod ExchangeWrites
+pub mod ExchangeActs
+pub mod WhetherKept
+pub mod ExchangeTakes
+pub mod SessionHears
+pub mod NoFrames
+pub mod Endings

@@ -1,0 +1,38 @@
+-- What becomes of a venue by what its two ends do.
+use Rattle.std.specs.Prelude.{ℕ, List, [], ◌∷◌, map, Ok, Err}
+use Rattle.std.specs.Global.{Vec}
+use Rattle.dialect.specs.FreeText.{IsFreeText}
+use Rattle.dialect.specs.declared.message.Message.{Message}
+use Rattle.session_core.specs.Turn.{StepParts}
+use Rattle.session_core.specs.Calling.{SessionAnswer}
+use Rattle.exchange_core.specs.Acts.{ActAnswer}
+use Rattle.exchange_core.specs.Exchange.{live_connection}
+use Rattle.venue_replay.specs.declared.frame.Frame.{Frame}
+use Rattle.schedule.specs.declared.act.Act.{Act}
+use Rattle.schedule.specs.declared.act.Act.TheVariants as act
+use Rattle.schedule.specs.World.{VenueParts}
+use Rattle.schedule.specs.Happening.{session_wrote, exchange_did}
+
+-- the frames of what was written into a connection
+abbrev pub written_in : ℕ → List (Vec ℕ) → List Frame
+written_in connection written = map (λ bytes. record { connection = connection; bytes = bytes }) written
+
+-- a call of the session that writes one message
+abbrev pub sent : VenueParts → SessionAnswer Message → VenueParts
+sent venue (Ok message, session) = session_wrote session (message ∷ []) venue
+sent venue (Err fault, session) = record venue { session = session }
+
+-- a call of the session that gives a step
+abbrev pub called : VenueParts → SessionAnswer StepParts → VenueParts
+called venue (Ok step, session) = session_wrote session step.written venue
+called venue (Err fault, session) = record venue { session = session }
+
+-- what the exchange does by itself
+abbrev pub acted : VenueParts → ActAnswer → VenueParts
+acted venue (Ok written, exchange) = exchange_did (live_connection venue.exchange) written exchange venue
+acted venue (Err fault, exchange) = record venue { exchange = exchange }
+
+-- the price of a trade is one that a venue may pick
+abbrev pub IsActInRange : Act → Type 0
+IsActInRange (act.Trade order shares px) = IsFreeText 20 px
+IsActInRange a = Unit {0}

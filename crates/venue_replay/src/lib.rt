@@ -1,0 +1,17 @@
+//! A venue of the world: the dispatcher's session and the exchange, and every frame ever written between them, as
+//! bytes. What happens there is defined in crate `schedule`.
+#![tactic(auto)]
+
+mod ends;
+mod frame;
+mod keep;
+mod moment;
+mod network;
+mod news;
+mod sending;
+mod venue;
+
+pub use frame::Frame;
+pub use news::News;
+pub use sending::Sending;
+pub use venue::Venue;
