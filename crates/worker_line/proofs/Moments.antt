@@ -7,7 +7,7 @@ use Rattle.std.proofs.lemmas.Option.{slice_get_within}
 use mathlib.Core.List.{IsPrefix}
 use Rattle.fix_tags.specs.Config.{ConfigParts}
 use Rattle.leg.specs.declared.leg.Leg.{Leg}
-use Rattle.dialect.specs.Message.{Readers}
+use Rattle.dialect.specs.Wording.{Decoding, Encoding}
 use Rattle.session_core.specs.Trial.{after_calls}
 use Rattle.sweep_release.specs.Released.{released}
 use Rattle.release_lock.specs.Queues.{placed_from}
@@ -23,13 +23,12 @@ use Rattle.session_worker.specs.Events.{WorkerParts, calls_of, taken_of, Goes}
 use Rattle.session_worker.specs.Events.WorkerEvent.{Drops}
 use Rattle.session_worker.specs.Ends.{last_calls, Runs}
 use Rattle.session_worker.proofs.Doing.{goes_on}
-use Rattle.dialect.specs.Framed.{Writers}
 use Rattle.worker_line.specs.Happening.{VenueEvent, works_of, after_event, after_events, moments_of, MayAllHappen, AllTakeNext}
 use Rattle.worker_line.specs.WorkerTheorem.{released_line, IsSafeLine, Worked, TheWorkerTheorem, works_in, Ran, TheRunTheorem, TheDayTheorem}
 use Rattle.worker_line.proofs.OneEvent.{event_leads}
 use Rattle.worker_line.proofs.TakenAlong.{session_along, given_along, HasTaken, taken_along, each_is_next}
 
-module _ (read : Readers) where
+module _ (read : Decoding) where
   all_hold : (a : Line) (events : List VenueEvent) → MayAllHappen read a events → AllTakeNext read a events → Whole a
       → All LineHolds (moments_of read a events)
   all_hold a [] may next h = All-cons LineHolds a [] (line_holds a h.0 h.1) (All-nil LineHolds)
@@ -68,7 +67,7 @@ released_whole config released small =
 new_taken : (config : ConfigParts) (released : List Leg) → HasTaken (released_line config released) []
 new_taken config released = record { left = refl; first = (placed_from 1 released, refl) }
 
-took_is : (read : Readers) (config : ConfigParts) (events : List VenueEvent) (after : WorkerParts)
+took_is : (read : Decoding) (config : ConfigParts) (events : List VenueEvent) (after : WorkerParts)
     (worked : Worked read config events after) → after.took.taken ≡ taken_of (works_of events)
 took_is read config events after worked =
     worked.goes.taken ∙ ap (λ l. l ++ taken_of (works_of events)) worked.empty
@@ -91,7 +90,7 @@ the_worker_theorem read config released events after small worked may next =
     }
 
 -- where the legs taken are the first of those released
-the_taken_theorem : (read : Readers) (config : ConfigParts) (legs : List Leg) (events : List VenueEvent)
+the_taken_theorem : (read : Decoding) (config : ConfigParts) (legs : List Leg) (events : List VenueEvent)
     (after : WorkerParts) → config.max_number ≤ 999999999 → Worked read config events after
     → MayAllHappen read (released_line config legs) events → IsPrefix after.took.taken (placed_from 1 legs)
     → IsSafeLine read (released_line config legs) events after
@@ -101,13 +100,13 @@ the_taken_theorem read config legs events after small worked may first =
     (subst (λ l. IsPrefix l (placed_from 1 legs)) (took_is read config events after worked) first))
 
 -- a run is what the worker did in its turns and when it ended
-run_goes : (w : Writers) (read : Readers) (before after : WorkerParts) (why : EndReason)
+run_goes : (w : Encoding) (read : Decoding) (before after : WorkerParts) (why : EndReason)
     (runs : Runs w read before after why) → Goes read before (works_in runs) after
 run_goes w read before after why runs =
     goes_on read before runs.at after runs.turns
     (last_calls runs.at.session.phase ++ map (λ leg. Drops leg) runs.dropped) runs.goes runs.last
 
-ran_worked : (w : Writers) (read : Readers) (config : ConfigParts) (events : List VenueEvent) (after : WorkerParts)
+ran_worked : (w : Encoding) (read : Decoding) (config : ConfigParts) (events : List VenueEvent) (after : WorkerParts)
     → Ran w read config events after → Worked read config events after
 ran_worked w read config events after ran = record {
   before = ran.before;
@@ -117,11 +116,11 @@ ran_worked w read config events after ran = record {
       (run_goes w read ran.before after ran.why ran.runs);
 }
 
-pub the_run_theorem : (w : Writers) (read : Readers) → TheRunTheorem w read
+pub the_run_theorem : (w : Encoding) (read : Decoding) → TheRunTheorem w read
 the_run_theorem w read config legs events after small ran may first =
     the_taken_theorem read config legs events after small (ran_worked w read config events after ran) may first
 
-pub the_day_theorem : (w : Writers) (read : Readers) → TheDayTheorem w read
+pub the_day_theorem : (w : Encoding) (read : Decoding) → TheDayTheorem w read
 the_day_theorem w read callers queues seats report day venue config events after there small ran may =
     the_run_theorem w read config (released venue day.desk.desk.sweeps) events after small ran may
     (day.audits.0 venue after.took (slice_get_within queues venue after.took there) there)

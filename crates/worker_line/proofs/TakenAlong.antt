@@ -5,7 +5,7 @@ use Rattle.std.proofs.lemmas.List.{append-nil}
 use mathlib.Core.List.{IsPrefix}
 use Rattle.leg.specs.declared.leg.Leg.{Leg}
 use Rattle.leg.specs.declared.placed_leg.PlacedLeg.{PlacedLeg}
-use Rattle.dialect.specs.Message.{Readers}
+use Rattle.dialect.specs.Wording.{Decoding}
 use Rattle.session_core.specs.declared.session_call.SessionCall.{SessionCall}
 use Rattle.session_core.specs.declared.session_call.SessionCall.TheVariants as call
 use Rattle.session_core.specs.Trial.{called, after_calls}
@@ -19,7 +19,7 @@ use Rattle.worker_line.specs.Booked.{booked_by}
 use Rattle.worker_line.specs.Happening.VenueEvent.{Works, Exchanges, Releases}
 
 -- a call changes the session as it does, and nothing of the desk
-called_session : (read : Readers) (a : Line) (made : SessionCall)
+called_session : (read : Decoding) (a : Line) (made : SessionCall)
     → (after_called read a made).session ≡ (called read a.session made).1
 called_session read a (call.Receive envelope) = refl
 called_session read a call.Confirm = refl
@@ -32,7 +32,7 @@ called_session read a call.Malformed = refl
 called_session read a call.Broken = refl
 called_session read a call.Abandon = refl
 
-called_released : (read : Readers) (a : Line) (made : SessionCall) → (after_called read a made).released ≡ a.released
+called_released : (read : Decoding) (a : Line) (made : SessionCall) → (after_called read a made).released ≡ a.released
 called_released read a (call.Receive envelope) = refl
 called_released read a call.Confirm = refl
 called_released read a call.Connect = refl
@@ -44,12 +44,12 @@ called_released read a call.Malformed = refl
 called_released read a call.Broken = refl
 called_released read a call.Abandon = refl
 
-doing_released : (read : Readers) (a : Line) (event : WorkerEvent) → (after_doing read a event).released ≡ a.released
+doing_released : (read : Decoding) (a : Line) (event : WorkerEvent) → (after_doing read a event).released ≡ a.released
 doing_released read a (Calls made) = called_released read a made
 doing_released read a (Drops leg) = refl
 doing_released read a (Fails leg) = refl
 
-pub session_along : (read : Readers) (a : Line) (events : List VenueEvent)
+pub session_along : (read : Decoding) (a : Line) (events : List VenueEvent)
     → (after_events read a events).session ≡ after_calls read a.session (calls_of (works_of events))
 session_along read a [] = refl
 session_along read a (Works (Calls made) ∷ events) =
@@ -62,7 +62,7 @@ session_along read a (Exchanges coming t written ∷ events) =
 session_along read a (Releases legs ∷ events) = session_along read (after_event read a (Releases legs)) events
 
 -- and the notes that were booked
-pub given_along : (read : Readers) (a : Line) (events : List VenueEvent)
+pub given_along : (read : Decoding) (a : Line) (events : List VenueEvent)
     → (after_events read a events).given ≡ a.given ++ booked_by read a.session a.waiting (calls_of (works_of events))
 given_along read a [] = sym (append-nil a.given)
 given_along read a (Works (Calls (call.Receive envelope)) ∷ events) =
@@ -134,7 +134,7 @@ released_more a taken legs has =
     }
 
 -- some more were
-works_more : (read : Readers) (a : Line) (taken : List PlacedLeg) (event : WorkerEvent) → HasTaken a taken
+works_more : (read : Decoding) (a : Line) (taken : List PlacedLeg) (event : WorkerEvent) → HasTaken a taken
     → IsPrefix (taken_in event) (drop a.left (placed_from 1 a.released))
     → HasTaken (after_event read a (Works event)) (taken ++ taken_in event)
 works_more read a taken event has next = record {
@@ -147,7 +147,7 @@ works_more read a taken event has next = record {
       );
 }
 
-pub taken_along : (read : Readers) (a : Line) (taken : List PlacedLeg) (events : List VenueEvent) → HasTaken a taken
+pub taken_along : (read : Decoding) (a : Line) (taken : List PlacedLeg) (events : List VenueEvent) → HasTaken a taken
     → AllTakeNext read a events
     → HasTaken (after_events read a events) (taken ++ taken_of (works_of events))
 taken_along read a taken [] has next = subst (HasTaken a) (sym (append-nil taken)) has
@@ -163,7 +163,7 @@ taken_along read a taken (Releases legs ∷ events) has next =
     taken_along read (after_event read a (Releases legs)) taken events (released_more a taken legs has) next.1
 
 -- the other way round: where the legs that are taken are the first of those released, each is the next one
-pub each_is_next : (read : Readers) (a : Line) (taken : List PlacedLeg) (events : List VenueEvent)
+pub each_is_next : (read : Decoding) (a : Line) (taken : List PlacedLeg) (events : List VenueEvent)
     → a.left ≡ length taken → IsPrefix (taken ++ taken_of (works_of events)) (placed_from 1 a.released)
     → AllTakeNext read a events
 each_is_next read a taken [] left first = tt

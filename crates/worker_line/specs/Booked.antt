@@ -1,7 +1,8 @@
 -- Which notes a session's calls say were booked.
 use Rattle.std.specs.Prelude.{List, [], ◌∷◌, ◌++◌, Option, if◌then◌else◌}
 use Rattle.dialect.specs.declared.note.Note.{Note}
-use Rattle.dialect.specs.Message.{Readers, seen}
+use Rattle.dialect.specs.Message.{seen}
+use Rattle.dialect.specs.Wording.{Decoding}
 use Rattle.session_core.specs.declared.session_call.SessionCall.{SessionCall}
 use Rattle.session_core.specs.declared.session_call.SessionCall.TheVariants as call
 use Rattle.session_core.specs.Session.{SessionParts}
@@ -10,7 +11,7 @@ use Rattle.session_core.specs.Trial.{called}
 use Rattle.venue_line.specs.Line.{noted, latest}
 
 -- at each Confirm with a note pending, the note that was given last; one waits at first, if one does
-abbrev pub booked_by : Readers → SessionParts → Option Note → List SessionCall → List Note
+abbrev pub booked_by : Decoding → SessionParts → Option Note → List SessionCall → List Note
 booked_by read s waiting [] = []
 booked_by read s waiting (call.Receive envelope ∷ calls) =
     let turn = receive s (seen read envelope) in

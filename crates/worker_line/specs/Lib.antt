@@ -1,3 +1,4 @@
 pub mod Booked
 pub mod Happening
 pub mod WorkerTheorem
+pub mod Example

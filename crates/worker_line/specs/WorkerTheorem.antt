@@ -4,8 +4,7 @@ use Rattle.std.specs.List.{All, AllPairs}
 use mathlib.Core.List.{IsPrefix}
 use Rattle.fix_tags.specs.Config.{ConfigParts}
 use Rattle.leg.specs.declared.leg.Leg.{Leg}
-use Rattle.dialect.specs.Framed.{Writers}
-use Rattle.dialect.specs.Message.{Readers}
+use Rattle.dialect.specs.Wording.{Decoding, Encoding}
 use Rattle.session_core.specs.Session.{new_session}
 use Rattle.sweep_release.specs.Released.{released}
 use Rattle.release_lock.specs.Queues.{Took, placed_from}
@@ -27,7 +26,7 @@ abbrev pub released_line : ConfigParts → List Leg → Line
 released_line config legs = record (new_line config) { released = legs }
 
 -- a worker that began with a new session and no leg, and did just this, with the rest of the events between
-pub record Worked (read : Readers) (config : ConfigParts) (events : List VenueEvent) (after : WorkerParts)
+pub record Worked (read : Decoding) (config : ConfigParts) (events : List VenueEvent) (after : WorkerParts)
     : Type 0 where
   pub before : WorkerParts
   pub new : before.session ≡ new_session config
@@ -35,12 +34,12 @@ pub record Worked (read : Readers) (config : ConfigParts) (events : List VenueEv
   pub goes : Goes read before (works_of events) after
 
 -- what a worker did in its turns and when it ended
-abbrev pub works_in : {w : Writers} {read : Readers} {before after : WorkerParts} {why : EndReason}
+abbrev pub works_in : {w : Encoding} {read : Decoding} {before after : WorkerParts} {why : EndReason}
     → Runs w read before after why → List WorkerEvent
 works_in runs = runs.turns ++ (last_calls runs.at.session.phase ++ map (λ leg. Drops leg) runs.dropped)
 
 -- the same of one that ran to its end
-pub record Ran (w : Writers) (read : Readers) (config : ConfigParts) (events : List VenueEvent) (after : WorkerParts)
+pub record Ran (w : Encoding) (read : Decoding) (config : ConfigParts) (events : List VenueEvent) (after : WorkerParts)
     : Type 0 where
   pub before : WorkerParts
   pub new : before.session ≡ new_session config
@@ -52,7 +51,7 @@ pub record Ran (w : Writers) (read : Readers) (config : ConfigParts) (events : L
 -- at each moment what is safe on a line holds, and from each to every later one what is settled stays so; the line that
 -- is reached at the end has the worker's session and was given the notes that it says were booked; and the legs that
 -- left are those that the worker took, the first ones released
-pub record IsSafeLine (read : Readers) (start : Line) (events : List VenueEvent) (after : WorkerParts) : Type 0 where
+pub record IsSafeLine (read : Decoding) (start : Line) (events : List VenueEvent) (after : WorkerParts) : Type 0 where
   pub holds : All LineHolds (moments_of read start events)
   pub settled : AllPairs StaysSettled (moments_of read start events)
   pub session : (after_events read start events).session ≡ after.session
@@ -63,20 +62,20 @@ pub record IsSafeLine (read : Readers) (start : Line) (events : List VenueEvent)
 
 -- whatever the exchange does that keeps the rules, and whenever legs are released and taken
 abbrev pub TheWorkerTheorem : Type 0
-TheWorkerTheorem = (read : Readers) (config : ConfigParts) (legs : List Leg) (events : List VenueEvent)
+TheWorkerTheorem = (read : Decoding) (config : ConfigParts) (legs : List Leg) (events : List VenueEvent)
     (after : WorkerParts) → config.max_number ≤ 999999999 → Worked read config events after
     → MayAllHappen read (released_line config legs) events → AllTakeNext read (released_line config legs) events
     → IsSafeLine read (released_line config legs) events after
 
 -- of a worker that ran, where all that is known of its legs is that they are the first of those released
-abbrev pub TheRunTheorem : Writers → Readers → Type 0
+abbrev pub TheRunTheorem : Encoding → Decoding → Type 0
 TheRunTheorem w read = (config : ConfigParts) (legs : List Leg) (events : List VenueEvent) (after : WorkerParts)
     → config.max_number ≤ 999999999 → Ran w read config events after
     → MayAllHappen read (released_line config legs) events → IsPrefix after.took.taken (placed_from 1 legs)
     → IsSafeLine read (released_line config legs) events after
 
 -- and of each worker of a day that was audited, where nothing need be known of its legs
-abbrev pub TheDayTheorem : Writers → Readers → Type 0
+abbrev pub TheDayTheorem : Encoding → Decoding → Type 0
 TheDayTheorem w read = (callers : List Seat) (queues : List Took) (seats : List Seat) (report : DayReport)
     (day : AuditedDay callers queues seats (Ok report)) (venue : ℕ) (config : ConfigParts) (events : List VenueEvent)
     (after : WorkerParts) → slice_get queues venue ≡ Some after.took

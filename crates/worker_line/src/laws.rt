@@ -1,5 +1,7 @@
 //! What holds between a running worker and any exchange that keeps the rules.
 
+ghost use Rattle.dialect.specs.Wording.{Decoding};
+ghost use Rattle.worker_line.specs.Example.{IsFilledOver};
 ghost use Rattle.worker_line.specs.WorkerTheorem.{TheDayTheorem, TheRunTheorem, TheWorkerTheorem};
 
 use dialect::Dialect;
@@ -8,19 +10,25 @@ use dialect::Dialect;
 /// session is that of a line, so that at each moment what is safe on a line holds between it and its exchange, and what
 /// is settled stays settled. It asks that the exchange keeps the rules, and wrote what came in the present connection.
 pub fn every_worker_of_an_audited_day_is_a_line<D: Dialect>(dialect: &D)
-    ensures { TheDayTheorem (record { IsOrder = D.IsOrder dialect.now; IsReport = D.IsReport dialect.now })
-        (record { order = D.order_read dialect.now; report = D.report_read dialect.now }) }
+    ensures { TheDayTheorem (D.wording dialect.now).encoding
+        (D.wording dialect.now).decoding }
 {}
 
 /// The same of every run of a worker that began with a new session, where the legs that it took are the first of those
 /// released.
 pub fn a_running_worker_is_a_line<D: Dialect>(dialect: &D)
-    ensures { TheRunTheorem (record { IsOrder = D.IsOrder dialect.now; IsReport = D.IsReport dialect.now })
-        (record { order = D.order_read dialect.now; report = D.report_read dialect.now }) }
+    ensures { TheRunTheorem (D.wording dialect.now).encoding
+        (D.wording dialect.now).decoding }
 {}
 
 /// The same of whatever a worker has done till now, where legs are released meanwhile, and each is taken after it was
 /// released.
 pub fn a_worker_at_work_is_a_line()
     ensures { TheWorkerTheorem }
+{}
+
+/// A worked history: of two legs that were sent before a break the exchange has taken only the first. The premises of
+/// the laws above hold of it, and it ends with the first leg taken and the second withdrawn, its number filled over.
+pub fn a_lost_leg_is_withdrawn_and_filled_over()
+    ensures { (read : Decoding) → IsFilledOver read }
 {}

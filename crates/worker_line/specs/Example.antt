@@ -1,0 +1,133 @@
+-- A worked history: the connection breaks when two legs are on their way, and only the first one has come. In the next
+-- connection that is found out: the first leg is taken, the second one withdrawn, and its number filled over.
+use Rattle.std.specs.Prelude.{◌≡◌, ℕ, false, List, [], ◌∷◌, ◌++◌, codes, replicate, Some, None, Ok}
+use Rattle.fix_tags.specs.declared.body.Body.{Body}
+use Rattle.fix_tags.specs.declared.body.Body.TheVariants as body
+use Rattle.leg.specs.declared.leg.Leg.{Leg}
+use Rattle.leg.specs.declared.leg_state.LegState.TheVariants.{Taken, Withdrawn}
+use Rattle.dialect.specs.declared.content.Content.{Content}
+use Rattle.dialect.specs.declared.content.Content.TheVariants as say
+use Rattle.dialect.specs.Wording.{Decoding}
+use Rattle.session_core.specs.declared.phase.Phase.TheVariants.{Up}
+use Rattle.session_core.specs.declared.session_call.SessionCall.{SessionCall}
+use Rattle.session_core.specs.declared.session_call.SessionCall.TheVariants as call
+use Rattle.session_core.specs.Session.{new_session, leg_state}
+use Rattle.session_core.specs.Turn.{fence_id}
+use Rattle.session_core.specs.Example.{config, leg}
+use Rattle.exchange_core.specs.Acceptance.{Carried, RuleState}
+use Rattle.venue_line.specs.Line.{Line, new_line}
+use Rattle.session_worker.specs.Events.{AreAllowed}
+use Rattle.session_worker.specs.Events.WorkerEvent.{Calls}
+use Rattle.worker_line.specs.Happening.{VenueEvent, works_of, after_events, MayAllHappen, AllTakeNext}
+use Rattle.worker_line.specs.Happening.VenueEvent.{Works, Exchanges, Releases}
+
+-- the two legs of sweep 1
+abbrev pub first : Leg
+first = leg
+
+abbrev pub second : Leg
+second = record leg { id = record { sweep = 1; place = 2 } }
+
+-- the worker makes a call of its session; and it receives what B says
+abbrev pub calls : SessionCall → VenueEvent
+calls made = Works (Calls made)
+
+abbrev pub hears : ℕ → Body → VenueEvent
+hears number says = calls
+    (call.Receive
+    (record {
+      sender = codes "B";
+      target = codes "A";
+      number = number;
+      poss_dup = false;
+      poss_resend = false;
+      body = says;
+    }))
+
+-- messages in their connections: Logons, the session's fences and their answers, and orders
+abbrev pub at : ℕ → ℕ → Content → Carried
+at connection number content = record { connection = connection; number = number; content = content }
+
+abbrev pub logon : ℕ → ℕ → Carried
+logon connection number = at connection number (say.Logon 30 false None)
+
+abbrev pub fence : ℕ → ℕ → Carried
+fence connection number = at connection number (say.TestRequest (fence_id number))
+
+abbrev pub answer : ℕ → ℕ → ℕ → Carried
+answer connection number asked = at connection number (say.Heartbeat (Some (fence_id asked)))
+
+abbrev pub order : ℕ → ℕ → Leg → Carried
+order connection number leg = at connection number (say.Order (Ok leg))
+
+-- the exchange, where this connection is live, this number is expected, these legs are accepted, and so many own
+-- numbers are used, none of which carries a report
+abbrev pub standing : ℕ → ℕ → List Leg → ℕ → RuleState
+standing connection expected accepted own = record {
+  intake = record {
+    expected = expected;
+    live = Some connection;
+    last = connection;
+    accepted = accepted;
+    closed_at = None;
+  };
+  tests = [];
+  refusable = [];
+  others = [];
+  own = replicate own None;
+}
+
+-- a message comes to the exchange: so it stands then, and this it writes
+abbrev pub takes : Carried → RuleState → List Carried → VenueEvent
+takes m after written = Exchanges (Some m) after written
+
+-- the session logs on, and its fence is answered: it is up
+abbrev pub logging_on : List VenueEvent
+logging_on =
+    calls call.Connect
+    ∷ takes (logon 1 1) (standing 1 2 [] 1) (logon 1 1 ∷ [])
+    ∷ hears 1 (body.Logon 30 false None)
+    ∷ takes (fence 1 2) (standing 1 3 [] 2) (answer 1 2 2 ∷ [])
+    ∷ hears 2 (body.Heartbeat (Some (fence_id 2)))
+    ∷ []
+
+-- two legs are released, and sent under the numbers 3 and 4; the first comes to the exchange, and the connection breaks
+abbrev pub losing : List VenueEvent
+losing =
+    Releases (first ∷ second ∷ [])
+    ∷ calls (call.SendLeg 1 first)
+    ∷ calls (call.SendLeg 2 second)
+    ∷ takes (order 1 3 first) (standing 1 4 (first ∷ []) 2) []
+    ∷ calls call.Broken
+    ∷ []
+
+-- the next connection: the exchange takes its Logon, and asks for number 4, which it expects; the order of the second
+-- leg, which comes only now, it drops. So the session settles: that number is filled over, and the fence behind it is
+-- answered
+abbrev pub settling : List VenueEvent
+settling =
+    calls call.Connect
+    ∷ takes (logon 2 5) (standing 2 4 (first ∷ []) 4) (logon 2 3 ∷ at 2 4 (say.ResendRequest 4 0) ∷ [])
+    ∷ takes (order 1 4 second) (standing 2 4 (first ∷ []) 4) []
+    ∷ hears 3 (body.Logon 30 false None)
+    ∷ hears 4 (body.ResendRequest 4 0)
+    ∷ takes (at 2 4 (say.GapFill 7)) (standing 2 7 (first ∷ []) 4) []
+    ∷ takes (fence 2 7) (standing 2 8 (first ∷ []) 5) (answer 2 5 7 ∷ [])
+    ∷ hears 5 (body.Heartbeat (Some (fence_id 7)))
+    ∷ []
+
+abbrev pub history : List VenueEvent
+history = logging_on ++ losing ++ settling
+
+abbrev pub reached : Decoding → Line
+reached read = after_events read (new_line config) history
+
+-- all of it may happen, by the rules of the exchange and by those of the worker; and this it comes to
+pub record IsFilledOver (read : Decoding) : Type 0 where
+  pub happens : MayAllHappen read (new_line config) history
+  pub takes_next : AllTakeNext read (new_line config) history
+  pub allowed : AreAllowed read (new_session config) (works_of history)
+  pub accepted : (reached read).exchange.intake.accepted ≡ first ∷ []
+  pub taken : leg_state (reached read).session 1 ≡ Some Taken
+  pub withdrawn : leg_state (reached read).session 2 ≡ Some Withdrawn
+  pub up : (reached read).session.phase ≡ Up
