@@ -9,6 +9,3 @@ mod utc_clock;
 pub use clock::Clock;
 pub use instant::stamp_at;
 pub use utc_clock::UtcClock;
-
-#[cfg(test)]
-mod tests;

@@ -1,12 +1,12 @@
 -- What an exchange is after an act, and after a message whose order is dealt with.
-use Rattle.std.proofs.Common.{◌≡◌, ℕ, ◌+◌, min, true, false, nat_lt, List, length, get_or, Result, Ok, Err, Option, Some, None, slice_get, OnOk, refl, sym}
+use Rattle.std.proofs.Common.{◌≡◌, ℕ, ◌+◌, min, true, false, nat_lt, List, length, get_or, Result, Ok, Err, Some, None, slice_get, OnOk, refl, sym}
 use Rattle.std.proofs.lemmas.Bool.{ltb-true, ltb-false}
 use Rattle.std.proofs.lemmas.Option.{slice_get_read, slice_get_past}
 use Rattle.std.specs.Global.{Vec}
 use Rattle.fix_tags.specs.Price.{price_short}
 use Rattle.fix_tags.specs.Stamp.{StampParts}
 use Rattle.leg.specs.declared.leg.Leg.{Leg}
-use Rattle.dialect.specs.Framed.{Writers}
+use Rattle.dialect.specs.Wording.{Encoding}
 use Rattle.dialect.specs.declared.message.Message.{Message}
 use Rattle.exchange_core.specs.Exchange.{ExchangeParts, Answer, accepted_by, take}
 use Rattle.exchange_core.specs.Acts.{ActAnswer}
@@ -14,14 +14,14 @@ use Rattle.exchange_core.specs.Frames.{ActResult, ActGives, TakeGives}
 use Rattle.exchange_sim.specs.Dealing.{IsKnown, dealt, takes}
 
 -- an act for which no memory was wanted leads where its definition leads
-pub acted : (w : Writers) (s : StampParts) (x : ExchangeParts) (answer : ActAnswer) (given : ActResult) (y : ExchangeParts)
+pub acted : (w : Encoding) (s : StampParts) (x : ExchangeParts) (answer : ActAnswer) (given : ActResult) (y : ExchangeParts)
     → ActGives w s x answer given y → IsKnown given → y ≡ answer.1
 acted w s x (Err fault, after) given y gives known = gives.1
 acted w s x (Ok written, after) (Ok frame) y gives known = gives.1
 acted w s x (Ok written, after) (Err fault) y gives known = absurd (rw gives.0 at known)
 
 -- so does a message that was taken
-pub taken : (w : Writers) (s : StampParts) (x : ExchangeParts) (answer : Answer) (frames : Vec (Vec ℕ)) (y : ExchangeParts)
+pub taken : (w : Encoding) (s : StampParts) (x : ExchangeParts) (answer : Answer) (frames : Vec (Vec ℕ)) (y : ExchangeParts)
     → TakeGives w s x answer (Ok frames) y → y ≡ answer.1
 taken w s x (written, after) frames y gives = gives.1
 

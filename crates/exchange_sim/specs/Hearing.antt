@@ -3,7 +3,7 @@ use Rattle.std.specs.Prelude.{◌≡◌, ℕ, zero, suc, ◌+◌, min, Bool, tru
 use Rattle.fix_text.specs.Reading.{Stream, next_read}
 use Rattle.fix_text.specs.Tagged.{Tagged}
 use Rattle.fix_tags.specs.Reading.{envelope_read}
-use Rattle.dialect.specs.Message.{Readers}
+use Rattle.dialect.specs.Wording.{Decoding}
 use Rattle.exchange_core.specs.Exchange.{ExchangeParts, drop_connection}
 use Rattle.exchange_sim.specs.Dealing.{takes_frame}
 
@@ -15,7 +15,7 @@ pub record Hearing : Type 0 where
 
 -- how orders are read, how many shares of one are traded, which message is lost, and in which connection they come
 pub record Manner : Type 0 where
-  pub readers : Readers
+  pub readers : Decoding
   pub fill : ℕ
   pub lose : ℕ
   pub connection : ℕ

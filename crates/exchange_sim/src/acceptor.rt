@@ -92,7 +92,7 @@ impl<D: Dialect, C: Clock> Acceptor<D, C> {
     /// them it ends. Where there is no connection they are dropped. Want of memory may come when some of them were taken.
     pub fn receive(&mut self, bytes: &[u8]) -> Result<(), AllocError>
         ensures dropped { self.old.is_connected ≡ false → self.new ≡ self.old }
-        ensures hears { self.old.is_connected ≡ true → OnOk result (Hears (record { readers = record { order = D.order_read self.old.engine.dialect; report = D.report_read self.old.engine.dialect }; fill = self.old.engine.fill; lose = self.old.plan.lose; connection = self.old.connection }) self.old.plan.cut_after
+        ensures hears { self.old.is_connected ≡ true → OnOk result (Hears (record { readers = (D.wording self.old.engine.dialect).decoding; fill = self.old.engine.fill; lose = self.old.plan.lose; connection = self.old.connection }) self.old.plan.cut_after
             (record { stream = fed self.old.reader bytes.now; messages = self.old.messages; exchange = self.old.engine.exchange }) self.new.is_connected
             (record { stream = self.new.reader; messages = self.new.messages; exchange = self.new.engine.exchange })) }
     {
@@ -116,7 +116,7 @@ impl<D: Dialect, C: Clock> Acceptor<D, C> {
     /// over.
     fn take_next(&mut self) -> Result<Option<u64>, AllocError>
         ensures heard { OnOk result (record { stream = self.new.reader; messages = self.new.messages; exchange = self.new.engine.exchange }
-            ≡ next_heard (record { readers = record { order = D.order_read self.old.engine.dialect; report = D.report_read self.old.engine.dialect }; fill = self.old.engine.fill; lose = self.old.plan.lose; connection = self.old.connection })
+            ≡ next_heard (record { readers = (D.wording self.old.engine.dialect).decoding; fill = self.old.engine.fill; lose = self.old.plan.lose; connection = self.old.connection })
             (record { stream = self.old.reader; messages = self.old.messages; exchange = self.old.engine.exchange })) }
         ensures number { IfOk result (λ number. number ≡ option_map (λ _. self.new.messages) (next_read self.old.reader).frame) }
         ensures same { (self.new.engine.dialect ≡ self.old.engine.dialect) × (self.new.engine.fill ≡ self.old.engine.fill)

@@ -21,6 +21,3 @@ pub use memory_plan::MemoryPlan;
 pub use plan::Plan;
 pub use raw_server::serve_raw;
 pub use server::serve;
-
-#[cfg(test)]
-mod tests;

@@ -58,7 +58,7 @@ impl<D: Dialect, C: Clock> MatchingEngine<D, C> {
     /// memory may come when the message was taken in part.
     fn take_frame(&mut self, connection: u64, frame: &Frame<'_>) -> Result<(), AllocError>
         ensures exchange { OnOk result (self.new.exchange ≡ takes_frame
-            (record { order = D.order_read self.old.dialect; report = D.report_read self.old.dialect })
+            (D.wording self.old.dialect).decoding
             self.old.fill connection self.old.exchange (envelope_read (fields_in frame.now))) }
         ensures dialect { self.new.dialect ≡ self.old.dialect }
         ensures fill { self.new.fill ≡ self.old.fill }
@@ -77,7 +77,7 @@ impl<D: Dialect, C: Clock> MatchingEngine<D, C> {
         frame: &Frame<'_>,
     ) -> Result<(), AllocError>
         ensures exchange { OnOk result (self.new.exchange ≡ (if is_lost then self.old.exchange else takes_frame
-            (record { order = D.order_read self.old.dialect; report = D.report_read self.old.dialect })
+            (D.wording self.old.dialect).decoding
             self.old.fill connection self.old.exchange (envelope_read (fields_in frame.now)))) }
         ensures dialect { self.new.dialect ≡ self.old.dialect }
         ensures fill { self.new.fill ≡ self.old.fill }
@@ -92,9 +92,9 @@ impl<D: Dialect, C: Clock> MatchingEngine<D, C> {
     /// Takes a message, and deals with the order that it accepts, if it is one.
     fn take(&mut self, connection: u64, envelope: &EnvelopeRef<'_>) -> Result<(), AllocError>
         ensures exchange { OnOk result (self.new.exchange ≡ takes self.old.fill connection self.old.exchange
-            (seen (record { order = D.order_read self.old.dialect; report = D.report_read self.old.dialect }) envelope.now)) }
-        ensures answers { OnOk result (Answers (record { IsOrder = D.IsOrder self.old.dialect; IsReport = D.IsReport self.old.dialect }) self.old.fill connection self.old.exchange
-            (seen (record { order = D.order_read self.old.dialect; report = D.report_read self.old.dialect }) envelope.now) self.old.outbox self.new.outbox) }
+            (seen (D.wording self.old.dialect).decoding envelope.now)) }
+        ensures answers { OnOk result (Answers (D.wording self.old.dialect).encoding self.old.fill connection self.old.exchange
+            (seen (D.wording self.old.dialect).decoding envelope.now) self.old.outbox self.new.outbox) }
         ensures dialect { self.new.dialect ≡ self.old.dialect }
         ensures fill { self.new.fill ≡ self.old.fill }
     {
@@ -113,9 +113,9 @@ impl<D: Dialect, C: Clock> MatchingEngine<D, C> {
     /// Hands the exchange a message, and collects what it answers.
     fn hand_in(&mut self, connection: u64, envelope: &EnvelopeRef<'_>) -> Result<(), AllocError>
         ensures exchange { OnOk result (self.new.exchange ≡ (take self.old.exchange connection
-            (seen (record { order = D.order_read self.old.dialect; report = D.report_read self.old.dialect }) envelope.now)).1) }
-        ensures sends { OnOk result (Sends (record { IsOrder = D.IsOrder self.old.dialect; IsReport = D.IsReport self.old.dialect }) (C.last self.new.clock)
-            (take self.old.exchange connection (seen (record { order = D.order_read self.old.dialect; report = D.report_read self.old.dialect }) envelope.now)).0 self.old.outbox self.new.outbox) }
+            (seen (D.wording self.old.dialect).decoding envelope.now)).1) }
+        ensures sends { OnOk result (Sends (D.wording self.old.dialect).encoding (C.last self.new.clock)
+            (take self.old.exchange connection (seen (D.wording self.old.dialect).decoding envelope.now)).0 self.old.outbox self.new.outbox) }
         ensures dialect { self.new.dialect ≡ self.old.dialect }
         ensures fill { self.new.fill ≡ self.old.fill }
     {
@@ -133,7 +133,7 @@ impl<D: Dialect, C: Clock> MatchingEngine<D, C> {
     #[tactic(auto, unfolding(crate::specs::Dealing::dealt))]
     fn deal(&mut self, place: usize, shares: u64, px: LastPx) -> Result<(), AllocError>
         ensures exchange { OnOk result (self.new.exchange ≡ dealt place shares px self.old.exchange) }
-        ensures reports { OnOk result (Reports (record { IsOrder = D.IsOrder self.old.dialect; IsReport = D.IsReport self.old.dialect }) place shares px self.old.exchange self.old.outbox self.new.outbox) }
+        ensures reports { OnOk result (Reports (D.wording self.old.dialect).encoding place shares px self.old.exchange self.old.outbox self.new.outbox) }
         ensures dialect { self.new.dialect ≡ self.old.dialect }
         ensures fill { self.new.fill ≡ self.old.fill }
     {
@@ -144,7 +144,7 @@ impl<D: Dialect, C: Clock> MatchingEngine<D, C> {
     /// Trades so many shares of the order at a place; where the exchange refuses it nothing is done.
     fn trade(&mut self, place: usize, shares: u64, px: LastPx) -> Result<(), AllocError>
         ensures exchange { OnOk result (self.new.exchange ≡ (acts.trade self.old.exchange place shares px).1) }
-        ensures sends { OnOk result (Sends (record { IsOrder = D.IsOrder self.old.dialect; IsReport = D.IsReport self.old.dialect }) (C.last self.new.clock)
+        ensures sends { OnOk result (Sends (D.wording self.old.dialect).encoding (C.last self.new.clock)
             (messages_of (acts.trade self.old.exchange place shares px).0) self.old.outbox self.new.outbox) }
         ensures dialect { self.new.dialect ≡ self.old.dialect }
         ensures fill { self.new.fill ≡ self.old.fill }
@@ -159,7 +159,7 @@ impl<D: Dialect, C: Clock> MatchingEngine<D, C> {
     /// Cancels what is open of the order at a place; where the exchange refuses it nothing is done.
     fn cancel_rest(&mut self, place: usize) -> Result<(), AllocError>
         ensures exchange { OnOk result (self.new.exchange ≡ (acts.cancel_rest self.old.exchange place).1) }
-        ensures sends { OnOk result (Sends (record { IsOrder = D.IsOrder self.old.dialect; IsReport = D.IsReport self.old.dialect }) (C.last self.new.clock)
+        ensures sends { OnOk result (Sends (D.wording self.old.dialect).encoding (C.last self.new.clock)
             (messages_of (acts.cancel_rest self.old.exchange place).0) self.old.outbox self.new.outbox) }
         ensures dialect { self.new.dialect ≡ self.old.dialect }
         ensures fill { self.new.fill ≡ self.old.fill }

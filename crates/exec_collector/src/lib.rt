@@ -10,6 +10,3 @@ pub use collector::Collector;
 pub use counted_book::CountedBook;
 pub use counting::{Miscounted, check_count};
 pub use worker_seat::WorkerSeat;
-
-#[cfg(test)]
-mod tests;

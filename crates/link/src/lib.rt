@@ -12,6 +12,3 @@ pub use link::Link;
 pub use link_fault::LinkFault;
 pub use tcp_link::TcpLink;
 pub use whole::write_whole;
-
-#[cfg(test)]
-mod tests;

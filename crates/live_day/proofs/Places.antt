@@ -6,7 +6,7 @@ use Rattle.std.proofs.lemmas.List.Elements.{All-nil, All-replicate, All-push}
 use Rattle.std.proofs.lemmas.List.Sums.{sum_by-cons}
 use Rattle.exec_collector.specs.Seats.{Seat, new_seat, parts_of as seat_parts}
 use Rattle.release_lock.specs.Queues.{DrainParts, new_drains, Took, AreInOrder}
-use Rattle.dialect.specs.Framed.{Writers}
+use Rattle.dialect.specs.Wording.{Encoding}
 use Rattle.fix_tags.specs.Config.{ConfigParts}
 use Rattle.session_core.specs.Session.{new_session}
 use Rattle.session_worker.specs.Events.{WorkerParts, parts_of}
@@ -14,7 +14,7 @@ use Rattle.session_worker.specs.Ends.{WorkerStart, WorkerLeft, AllRan}
 use Rattle.live_day.specs.Day.{dispatcher, new_worker, new_workers, KeepsPlace, AllKeepPlace}
 
 -- each worker that ran keeps its place
-pub kept_places : {A B : Type 0} (writes : A → Writers) (f : A → WorkerStart) (g : B → WorkerLeft) (xs : List A) (ys : List B)
+pub kept_places : {A B : Type 0} (writes : A → Encoding) (f : A → WorkerStart) (g : B → WorkerLeft) (xs : List A) (ys : List B)
     → AllRan writes f xs (map g ys) → AllKeepPlace (map (λ x. (f x).parts) xs) (map (λ y. (g y).parts) ys)
 kept_places writes f g [] [] ran = tt
 kept_places writes f g [] (y ∷ ys) ran = absurd ran

@@ -23,6 +23,3 @@ pub use live_fault::LiveFault;
 pub use live_plan::LivePlan;
 pub use progress::{Progress, SoFar};
 pub use running::run_live;
-
-#[cfg(test)]
-mod tests;

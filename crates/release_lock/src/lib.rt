@@ -23,6 +23,3 @@ pub use run::Run;
 pub use venue_drain::VenueDrain;
 pub use venue_end::VenueEnd;
 pub use venue_rings::rings;
-
-#[cfg(test)]
-mod tests;

@@ -12,8 +12,8 @@ use Rattle.fix_tags.specs.Stamp.{StampParts}
 use Rattle.fix_tags.specs.declared.envelope.Envelope.{Envelope}
 use Rattle.fix_tags.specs.declared.tag_fault.TagFault.{TagFault}
 use Rattle.dialect.specs.declared.message.Message.{Message}
-use Rattle.dialect.specs.Framed.{Writers, IsFramed, AreFramed}
-use Rattle.dialect.specs.Message.{Readers}
+use Rattle.dialect.specs.Framed.{IsFramed, AreFramed}
+use Rattle.dialect.specs.Wording.{Decoding, Encoding}
 use Rattle.dialect.specs.Outgoing.{alone}
 use Rattle.link.specs.Traffic.{Tells, Dials, Takes, Stays}
 use Rattle.session_core.specs.declared.phase.Phase.{Phase}
@@ -51,14 +51,14 @@ legs-append (made ∷ first) more =
 
 -- ---- no call, and calls after others
 
-pub speaks_same : (w : Writers) (read : Readers) (x y : LinkedParts) → y.session ≡ x.session → Tells x.wire y.wire Stays
+pub speaks_same : (w : Encoding) (read : Decoding) (x y : LinkedParts) → y.session ≡ x.session → Tells x.wire y.wire Stays
     → y.stream ≡ x.stream → SpeaksOn w read x [] y
 speaks_same w read x y same stays stream = λ (said : Said) (hearing : IsHearing said x). (
   speak_none w read x.session said x.wire y.wire stays,
   hearing_same said x y (λ on. subst (λ (s : SessionParts). is_connected s.phase ≡ true) same on) stays stream hearing,
 )
 
-pub moves_same : (w : Writers) (read : Readers) (x y : LinkedParts) → y.session ≡ x.session → Tells x.wire y.wire Stays
+pub moves_same : (w : Encoding) (read : Decoding) (x y : LinkedParts) → y.session ≡ x.session → Tells x.wire y.wire Stays
     → y.stream ≡ x.stream → Moves w read x y
 moves_same w read x y same stays stream = record {
   calls = [];
@@ -67,14 +67,14 @@ moves_same w read x y same stays stream = record {
   speaks = speaks_same w read x y same stays stream;
 }
 
-pub moves_none : (w : Writers) (read : Readers) (x : LinkedParts) → Moves w read x x
+pub moves_none : (w : Encoding) (read : Decoding) (x : LinkedParts) → Moves w read x x
 moves_none w read x = moves_same w read x x refl (stays_here x.wire) refl
 
 said-append : (said : Said) (first more : List SessionCall) → said_after said (first ++ more) ≡ said_after (said_after said first) more
 said-append said [] more = refl
 said-append said (made ∷ first) more = said-append (said_with said made) first more
 
-pub speaks_then : (w : Writers) (read : Readers) (x y z : LinkedParts) (first more : List SessionCall)
+pub speaks_then : (w : Encoding) (read : Decoding) (x y z : LinkedParts) (first more : List SessionCall)
     → y.session ≡ after_calls read x.session first → SpeaksOn w read x first y → SpeaksOn w read y more z
     → SpeaksOn w read x (first ++ more) z
 speaks_then w read x y z first more session one next = λ (said : Said) (hearing : IsHearing said x).
@@ -85,7 +85,7 @@ speaks_then w read x y z first more session one next = λ (said : Said) (hearing
       subst (λ (l : Said). IsHearing l z) (sym (said-append said first more)) later.1,
     )
 
-pub moves_on : (w : Writers) (read : Readers) (x y z : LinkedParts) → Moves w read x y → Moves w read y z → Moves w read x z
+pub moves_on : (w : Encoding) (read : Decoding) (x y z : LinkedParts) → Moves w read x y → Moves w read y z → Moves w read x z
 moves_on w read x y z first next = record {
   calls = first.calls ++ next.calls;
   session = next.session ∙ (ap (λ s. after_calls read s next.calls) first.session
@@ -97,7 +97,7 @@ moves_on w read x y z first next = record {
 -- ---- one call
 
 -- it has no message, and isn't to send a leg
-moves_call : (w : Writers) (read : Readers) (x y : LinkedParts) (made : SessionCall) → leg_in made ≡ []
+moves_call : (w : Encoding) (read : Decoding) (x y : LinkedParts) (made : SessionCall) → leg_in made ≡ []
     → messages_in (called read x.session made).0 ≡ [] → ((said : Said) → IsHearing said x → Hears said made x.wire)
     → Begins x.session made x.wire y.wire → y.session ≡ (called read x.session made).1
     → ((said : Said) → IsHearing said x → IsHearing (said_with said made) y) → Moves w read x y
@@ -112,26 +112,26 @@ moves_call w read x y made no_leg none hears begins is next = record {
   );
 }
 
-pub moves_broken : (w : Writers) (read : Readers) (x y : LinkedParts) → y.session ≡ broken x.session
+pub moves_broken : (w : Encoding) (read : Decoding) (x y : LinkedParts) → y.session ≡ broken x.session
     → Tells x.wire y.wire Stays → Moves w read x y
 moves_broken w read x y is stays =
     moves_call w read x y call.Broken refl refl (λ said hearing. tt) (inl stays) is
     (λ said hearing. hearing_gone said y (gone x.session y.session is))
 
-pub moves_malformed : (w : Writers) (read : Readers) (x y : LinkedParts) → y.session ≡ (malformed x.session).1
+pub moves_malformed : (w : Encoding) (read : Decoding) (x y : LinkedParts) → y.session ≡ (malformed x.session).1
     → Tells x.wire y.wire Stays → ((said : Said) → IsHearing said x → Hears said call.Malformed x.wire) → Moves w read x y
 moves_malformed w read x y is stays hears =
     moves_call w read x y call.Malformed refl refl hears stays is
     (λ said hearing. hearing_gone said y (gone_malformed x.session y.session is))
 
-pub moves_abandon : (w : Writers) (read : Readers) (x y : LinkedParts) → y.session ≡ abandon x.session
+pub moves_abandon : (w : Encoding) (read : Decoding) (x y : LinkedParts) → y.session ≡ abandon x.session
     → Tells x.wire y.wire Stays → Moves w read x y
 moves_abandon w read x y is stays =
     moves_call w read x y call.Abandon refl refl (λ said hearing. tt) stays is
     (λ said hearing. hearing_gone said y (gone_abandoned x.session y.session is))
 
 -- bytes were read, and then the connection may have been given up
-pub moves_read : (w : Writers) (read : Readers) (x y : LinkedParts) → MayBreak x.session y.session → Reads x.wire y.wire
+pub moves_read : (w : Encoding) (read : Decoding) (x y : LinkedParts) → MayBreak x.session y.session → Reads x.wire y.wire
     → ((said : Said) → IsHearing said x → IsHearing said y) → Moves w read x y
 moves_read w read x y (inl same) reads hears = record {
   calls = [];
@@ -171,7 +171,7 @@ took_answer Is s now (Ok said, after) y gives = gives.1
 took_answer Is s now (Err refused, after) y gives = gives.1
 
 -- it gave one
-pub gave_step : (w : Writers) (read : Readers) (s now : SessionParts) (made : SessionCall) (answer : SessionAnswer StepParts)
+pub gave_step : (w : Encoding) (read : Decoding) (s now : SessionParts) (made : SessionCall) (answer : SessionAnswer StepParts)
     (stamp : StampParts) (step : Step) → IsPlain made → called read s made ≡ added answer
     → Gives (IsStep w stamp) s answer (Ok step) now → Gave w read made s step now
 gave_step w read s now made (Ok said, after) stamp step plain is gives = record {
@@ -184,7 +184,7 @@ gave_step w read s now made (Ok said, after) stamp step plain is gives = record 
 gave_step w read s now made (Err refused, after) stamp step plain is gives = absurd (let e = gives.0 in cc)
 
 -- it did by itself, with no message received
-pub asks_step : (w : Writers) (read : Readers) (s now : SessionParts) (made : SessionCall) (answer : SessionAnswer StepParts)
+pub asks_step : (w : Encoding) (read : Decoding) (s now : SessionParts) (made : SessionCall) (answer : SessionAnswer StepParts)
     (stamp : StampParts) (step : Step) (a : Wire) (x : Stream) → IsPlain made → called read s made ≡ added answer
     → ((said : Said) → Hears said made a) → ((said : Said) → said_with said made ≡ said)
     → (is_connected answer.1.phase ≡ true → is_connected s.phase ≡ true) → Gives (IsStep w stamp) s answer (Ok step) now
@@ -203,7 +203,7 @@ asks_step w read s now made answer stamp step a x plain is hears same back gives
 }
 
 -- it was refused, or wanted memory
-pub moves_refused : {Y : Type 0} (Is : StepParts → Y → Type 0) (w : Writers) (read : Readers) (x y : LinkedParts)
+pub moves_refused : {Y : Type 0} (Is : StepParts → Y → Type 0) (w : Encoding) (read : Decoding) (x y : LinkedParts)
     (made : SessionCall) (answer : SessionAnswer StepParts) (why : SessionFault) → IsPlain made
     → called read x.session made ≡ added answer → ((said : Said) → Hears said made x.wire)
     → ((said : Said) → said_with said made ≡ said) → (is_connected answer.1.phase ≡ true → is_connected x.session.phase ≡ true)
@@ -217,7 +217,7 @@ moves_refused Is w read x y made (Err refused, after) why plain is hears same ba
     (hearing_same said x y (λ on. back (subst (λ (t : SessionParts). is_connected t.phase ≡ true) gives.1 on)) stays stream hearing))
 
 -- its frames were written
-speak_gave : (w : Writers) (read : Readers) (s now : SessionParts) (made : SessionCall) (step : Step)
+speak_gave : (w : Encoding) (read : Decoding) (s now : SessionParts) (made : SessionCall) (step : Step)
     (gave : Gave w read made s step now) (said : Said) (later : List SessionCall) (a b c : Wire) → Hears said made a
     → Puts (concat step.out) later a b → Speak w read now (said_with said made) later b c
     → Speak w read s said (made ∷ later) a c
@@ -227,7 +227,7 @@ speak_gave w read s now made step gave said later a b c hears puts rest =
     (sym (ap (λ (a : Addition). a.0) gave.adds)) gave.is_step.out) puts
     (subst (λ (t : SessionParts). Speak w read t (said_with said made) later b c) (sym (ap (λ (a : Addition). a.1) gave.adds)) rest)
 
-pub moves_gave : (w : Writers) (read : Readers) (x m y : LinkedParts) (step : Step) (asks : Asks w read x step m)
+pub moves_gave : (w : Encoding) (read : Decoding) (x m y : LinkedParts) (step : Step) (asks : Asks w read x step m)
     (later : List SessionCall) (b : Wire) → y.session ≡ after_calls read m.session later → legs_in later ≡ []
     → Puts (concat step.out) later x.wire b
     → ((said : Said) → IsHearing said m → Speak w read m.session said later b y.wire × IsHearing (said_after said later) y)
@@ -244,7 +244,7 @@ moves_gave w read x m y step asks later b is no_leg puts rest = record {
       );
 }
 
-pub moves_written : (w : Writers) (read : Readers) (x m y : LinkedParts) (step : Step) → Asks w read x step m
+pub moves_written : (w : Encoding) (read : Decoding) (x m y : LinkedParts) (step : Step) → Asks w read x step m
     → Writes (concat step.out) m y → y.stream ≡ m.stream → Moves w read x y
 moves_written w read x m y step asks (inl all) stream =
     moves_gave w read x m y step asks [] y.wire all.0 refl
@@ -264,7 +264,7 @@ moves_written w read x m y step asks (inr part) stream =
 
 -- ---- what comes of the next message
 
-pub heard_nothing : (w : Writers) (read : Readers) (x y : LinkedParts) → y.session ≡ x.session → Tells x.wire y.wire Stays
+pub heard_nothing : (w : Encoding) (read : Decoding) (x y : LinkedParts) → y.session ≡ x.session → Tells x.wire y.wire Stays
     → (next_read x.stream).frame ≡ None → y.stream ≡ (next_read x.stream).stream → Moves w read x y
 heard_nothing w read x y same stays found is = record {
   calls = [];
@@ -278,7 +278,7 @@ heard_nothing w read x y same stays found is = record {
   );
 }
 
-pub heard_step : (w : Writers) (read : Readers) (s now : SessionParts) (a : Wire) (x y : Stream) (step : Step)
+pub heard_step : (w : Encoding) (read : Decoding) (s now : SessionParts) (a : Wire) (x y : Stream) (step : Step)
     → is_connected s.phase ≡ true → Receives w read s x step now → y ≡ (next_read x).stream
     → Asks w read (linked_of s a x) step (linked_of now a y)
 heard_step w read s now a x y step on receives is = record {
@@ -292,7 +292,7 @@ heard_step w read s now a x y step on receives is = record {
       (on_first (said ++ Ok receives.envelope ∷ []) a y at, (λ still. at));
 }
 
-pub heard_malformed : (w : Writers) (read : Readers) (x y : LinkedParts) (z : Stream) (fields : List Tagged) (fault : TagFault)
+pub heard_malformed : (w : Encoding) (read : Decoding) (x y : LinkedParts) (z : Stream) (fields : List Tagged) (fault : TagFault)
     → is_connected x.session.phase ≡ true → (next_read x.stream).frame ≡ Some fields → envelope_read fields ≡ Err fault
     → z ≡ (next_read x.stream).stream → y.session ≡ (malformed x.session).1 → Tells x.wire y.wire Stays → Moves w read x y
 heard_malformed w read x y z fields fault on next says is gone stays =
@@ -306,7 +306,7 @@ heard_malformed w read x y z fields fault on next says is gone stays =
 -- ---- a call that gives a message
 
 -- its frame was written, or the first bytes of it
-speak_message : (w : Writers) (read : Readers) (s now : SessionParts) (said : Said) (made : SessionCall)
+speak_message : (w : Encoding) (read : Decoding) (s now : SessionParts) (said : Said) (made : SessionCall)
     (answer : SessionAnswer Message) (stamp : StampParts) (frame : Vec ℕ) (later : List SessionCall) (a b c d : Wire)
     → called read s made ≡ added_message answer → Gives (λ (m : Message) (bytes : Vec ℕ). IsFramed w stamp (alone m) bytes.items) s answer (Ok frame) now → Hears said made a
     → Begins s made a b → Puts frame.items later b c → Speak w read now (said_with said made) later c d
@@ -325,7 +325,7 @@ after_message (Ok message, after) = refl
 after_message (Err why, after) = refl
 
 -- a session that logged on over a link that was dialled for it
-pub moves_connected : (w : Writers) (read : Readers) (s now : SessionParts) (stamp : StampParts) (frame : Vec ℕ) (a b : Wire)
+pub moves_connected : (w : Encoding) (read : Decoding) (s now : SessionParts) (stamp : StampParts) (frame : Vec ℕ) (a b : Wire)
     (x z : Stream) (y : LinkedParts) → Gives (λ (m : Message) (bytes : Vec ℕ). IsFramed w stamp (alone m) bytes.items) s (connect s) (Ok frame) now → Tells a b Dials
     → Writes frame.items (linked_of now b z) y → y.stream ≡ new_stream → Moves w read (linked_of s a x) y
 moves_connected w read s now stamp frame a b x z y gives dials (inl all) fresh = record {
@@ -351,7 +351,7 @@ moves_connected w read s now stamp frame a b x z y gives dials (inr part) fresh 
 }
 
 -- a connection that was dialled, where the session refused to log on
-pub moves_not_connected : {Y : Type 0} (Is : Message → Y → Type 0) (w : Writers) (read : Readers) (s now : SessionParts)
+pub moves_not_connected : {Y : Type 0} (Is : Message → Y → Type 0) (w : Encoding) (read : Decoding) (s now : SessionParts)
     (why : SessionFault) (a b : Wire) (x : Stream) (y : LinkedParts) → (why ≡ fault.OutOfMemory → ⊥)
     → Gives Is s (connect s) (Err why) now → Tells a b Dials → y.session ≡ now → Tells b y.wire Stays → y.stream ≡ new_stream
     → Moves w read (linked_of s a x) y
@@ -381,7 +381,7 @@ down_connects s Closing m after is = absurd (let e = ap (λ p. p.0) is in cc)
 down_connects s LoggedOut m after is = absurd (let e = ap (λ p. p.0) is in cc)
 
 -- or where it was given up
-pub moves_gone : {Y : Type 0} (Is : Message → Y → Type 0) (w : Writers) (read : Readers) (s now : SessionParts)
+pub moves_gone : {Y : Type 0} (Is : Message → Y → Type 0) (w : Encoding) (read : Decoding) (s now : SessionParts)
     (why : SessionFault) (a b : Wire) (x : Stream) (y : LinkedParts) → Gives Is s (connect s) (Err why) now → Tells a b Dials
     → y.session ≡ broken now → Tells b y.wire Stays → Moves w read (linked_of s a x) y
 moves_gone Is w read s now why a b x y gives dials over stays = gone_from (connect s) refl gives where
@@ -422,7 +422,7 @@ answered Is s now (Ok said, after) why other gives = absurd (other gives.0)
 answered Is s now (Err refused, after) why other gives = gives.1
 
 -- a leg that was sent
-pub hands_sent : (w : Writers) (read : Readers) (leg : PlacedLeg) (s now : SessionParts) (stamp : StampParts) (frame : Vec ℕ)
+pub hands_sent : (w : Encoding) (read : Decoding) (leg : PlacedLeg) (s now : SessionParts) (stamp : StampParts) (frame : Vec ℕ)
     (a : Wire) (x : Stream) (y : LinkedParts) → Gives (λ (m : Message) (bytes : Vec ℕ). IsFramed w stamp (alone m) bytes.items) s (send_leg s leg.ordinal leg.leg) (Ok frame) now
     → Writes frame.items (linked_of now a x) y → y.stream ≡ x → Hands w read leg (linked_of s a x) y
 hands_sent w read leg s now stamp frame a x y gives (inl all) stream =
@@ -455,7 +455,7 @@ hands_sent w read leg s now stamp frame a x y gives (inr part) stream = record {
 }
 
 -- one that the session refused
-pub hands_refused : {Y : Type 0} (Is : Message → Y → Type 0) (w : Writers) (read : Readers) (leg : PlacedLeg)
+pub hands_refused : {Y : Type 0} (Is : Message → Y → Type 0) (w : Encoding) (read : Decoding) (leg : PlacedLeg)
     (s now : SessionParts) (why : SessionFault) (a : Wire) (x : Stream) → (why ≡ fault.OutOfMemory → ⊥)
     → Gives Is s (send_leg s leg.ordinal leg.leg) (Err why) now → Hands w read leg (linked_of s a x) (linked_of now a x)
 hands_refused Is w read leg s now why a x other gives = was_refused (send_leg s leg.ordinal leg.leg) refl gives where
@@ -481,7 +481,7 @@ hands_refused Is w read leg s now why a x other gives = was_refused (send_leg s 
       }
 
 -- one for which it wanted memory
-pub hands_failed : {Y : Type 0} (Is : Message → Y → Type 0) (w : Writers) (read : Readers) (leg : PlacedLeg)
+pub hands_failed : {Y : Type 0} (Is : Message → Y → Type 0) (w : Encoding) (read : Decoding) (leg : PlacedLeg)
     (s now : SessionParts) (why : SessionFault) (a : Wire) (x : Stream) (y : LinkedParts)
     → Gives Is s (send_leg s leg.ordinal leg.leg) (Err why) now → y.session ≡ broken now → Tells a y.wire Stays → Hands w read leg (linked_of s a x) y
 hands_failed Is w read leg s now why a x y gives e stays = record {

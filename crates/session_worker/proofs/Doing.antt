@@ -4,8 +4,7 @@ use Rattle.std.specs.List.{concat}
 use Rattle.std.specs.Prelude.{Option, Some, None, MatchOption}
 use Rattle.std.proofs.lemmas.List.{append-nil}
 use Rattle.leg.specs.declared.placed_leg.PlacedLeg.{PlacedLeg}
-use Rattle.dialect.specs.Framed.{Writers}
-use Rattle.dialect.specs.Message.{Readers}
+use Rattle.dialect.specs.Wording.{Decoding, Encoding}
 use Rattle.link.specs.Traffic.{Tells, Takes, Stays}
 use Rattle.session_core.specs.declared.phase.Phase.{Phase}
 use Rattle.session_core.specs.declared.phase.Phase.TheVariants.{Down, LoggingOn, Settling, Up, Closing, LoggedOut, Closed}
@@ -43,7 +42,7 @@ taken-append (event ∷ first) more =
     ap (λ l. taken_in event ++ l) (taken-append first more)
     ∙ sym (append_assoc (taken_in event) (taken_of first) (taken_of more))
 
-allowed-append : (read : Readers) (s : SessionParts) (first more : List WorkerEvent) → AreAllowed read s first
+allowed-append : (read : Decoding) (s : SessionParts) (first more : List WorkerEvent) → AreAllowed read s first
     → AreAllowed read (after_calls read s (calls_of first)) more → AreAllowed read s (first ++ more)
 allowed-append read s [] more all rest = rest
 allowed-append read s (event ∷ first) more all rest = (
@@ -52,7 +51,7 @@ allowed-append read s (event ∷ first) more all rest = (
       (subst (λ (t : SessionParts). AreAllowed read t more) (after-append read s (calls_in event) (calls_of first)) rest),
 )
 
-pub speak_events : (w : Writers) (read : Readers) (s : SessionParts) (said : Said) (first more : List WorkerEvent) (a b c : Wire)
+pub speak_events : (w : Encoding) (read : Decoding) (s : SessionParts) (said : Said) (first more : List WorkerEvent) (a b c : Wire)
     → Speak w read s said (calls_of first) a b
     → Speak w read (after_calls read s (calls_of first)) (said_after said (calls_of first)) (calls_of more) b c
     → Speak w read s said (calls_of (first ++ more)) a c
@@ -60,7 +59,7 @@ speak_events w read s said first more a b c one next =
     subst (λ (calls : List SessionCall). Speak w read s said calls a c) (sym (calls-append first more))
     (speak_on w read s said (calls_of first) (calls_of more) a b c one next)
 
-pub goes_on : (read : Readers) (a b c : WorkerParts) (first more : List WorkerEvent) → Goes read a first b
+pub goes_on : (read : Decoding) (a b c : WorkerParts) (first more : List WorkerEvent) → Goes read a first b
     → Goes read b more c → Goes read a (first ++ more) c
 goes_on read a b c first more one next = record {
   session = next.session ∙ (ap (λ s. after_calls read s (calls_of more)) one.session
@@ -75,7 +74,7 @@ goes_on read a b c first more one next = record {
   seat = next.seat ∙ one.seat;
 }
 
-pub does_on : (w : Writers) (read : Readers) (a b c : PostParts) → Does w read a b → Does w read b c → Does w read a c
+pub does_on : (w : Encoding) (read : Decoding) (a b c : PostParts) → Does w read a b → Does w read b c → Does w read a c
 does_on w read a b c first next = record {
   events = first.events ++ next.events;
   goes = goes_on read (worker_in a) (worker_in b) (worker_in c) first.events next.events first.goes next.goes;
@@ -86,7 +85,7 @@ does_on w read a b c first next = record {
 }
 
 -- nothing
-pub goes_none : (read : Readers) (a b : WorkerParts) → b.session ≡ a.session → b.took ≡ a.took
+pub goes_none : (read : Decoding) (a b : WorkerParts) → b.session ≡ a.session → b.took ≡ a.took
     → b.seat_parts ≡ a.seat_parts → Goes read a [] b
 goes_none read a b session took seat = record {
   session = session;
@@ -124,14 +123,14 @@ allowed_call s call.Malformed e = tt
 allowed_call s call.Broken e = tt
 allowed_call s call.Abandon e = tt
 
-allowed_calls : (read : Readers) (s : SessionParts) (calls : List SessionCall) → legs_in calls ≡ []
+allowed_calls : (read : Decoding) (s : SessionParts) (calls : List SessionCall) → legs_in calls ≡ []
     → AreAllowed read s (calling calls)
 allowed_calls read s [] e = tt
 allowed_calls read s (made ∷ calls) e =
     let none = both_empty (leg_in made) (legs_in calls) e in
     (allowed_call s made none.0, allowed_calls read (called read s made).1 calls none.1)
 
-pub goes_calls : (read : Readers) (a b : WorkerParts) (calls : List SessionCall)
+pub goes_calls : (read : Decoding) (a b : WorkerParts) (calls : List SessionCall)
     → b.session ≡ after_calls read a.session calls → legs_in calls ≡ [] → b.took ≡ a.took → b.seat_parts ≡ a.seat_parts
     → Goes read a (calling calls) b
 goes_calls read a b calls session no_leg took seat = record {
@@ -143,7 +142,7 @@ goes_calls read a b calls session no_leg took seat = record {
   seat = seat;
 }
 
-pub does_moves : (w : Writers) (read : Readers) (a b : PostParts) → Moves w read (linked_in a) (linked_in b) → b.took ≡ a.took
+pub does_moves : (w : Encoding) (read : Decoding) (a b : PostParts) → Moves w read (linked_in a) (linked_in b) → b.took ≡ a.took
     → b.seat_parts ≡ a.seat_parts → Does w read a b
 does_moves w read a b moves took seat = record {
   events = calling moves.calls;
@@ -152,18 +151,18 @@ does_moves w read a b moves took seat = record {
       (sym (calling-calls moves.calls)) moves.speaks;
 }
 
-pub does_same : (w : Writers) (read : Readers) (a b : PostParts) → b.session ≡ a.session → b.took ≡ a.took
+pub does_same : (w : Encoding) (read : Decoding) (a b : PostParts) → b.session ≡ a.session → b.took ≡ a.took
     → b.seat_parts ≡ a.seat_parts → Tells a.wire b.wire Stays → b.stream ≡ a.stream → Does w read a b
 does_same w read a b session took seat stays stream =
     does_moves w read a b (moves_same w read (linked_in a) (linked_in b) session stays stream) took seat
 
-pub does_none : (w : Writers) (read : Readers) (a : PostParts) → Does w read a a
+pub does_none : (w : Encoding) (read : Decoding) (a : PostParts) → Does w read a a
 does_none w read a = does_same w read a a refl refl refl (stays_here a.wire) refl
 
 -- ---- what a step wanted
 
 -- a call that gave a step, and then what the step wanted
-moves_carried : (w : Writers) (read : Readers) (x m y : LinkedParts) (step : Step) (noted : SessionParts) → Asks w read x step m
+moves_carried : (w : Encoding) (read : Decoding) (x m y : LinkedParts) (step : Step) (noted : SessionParts) → Asks w read x step m
     → MayConfirm m.session noted
     → ((y.session ≡ noted) × Tells m.wire y.wire (Takes (concat step.out)))
     ⊎ ((y.session ≡ broken noted) × Tells m.wire y.wire (TakesFirst (concat step.out))) → y.stream ≡ m.stream
@@ -200,7 +199,7 @@ moves_carried w read x m y step noted asks (inr confirmed) (inr part) stream =
       hearing_gone said y (gone noted y.session part.0),
     ))
 
-pub does_asked : (w : Writers) (read : Readers) (a b d : PostParts) (step : Step) → Asks w read (linked_in a) step (linked_in b)
+pub does_asked : (w : Encoding) (read : Decoding) (a b d : PostParts) (step : Step) → Asks w read (linked_in a) step (linked_in b)
     → b.took ≡ a.took → b.seat_parts ≡ a.seat_parts → CarriesOut (concat step.out) b d → Does w read a d
 does_asked w read a b d step asks took seat carries =
     does_moves w read a d
@@ -219,11 +218,11 @@ dropping-taken : (legs : List PlacedLeg) → taken_of (dropping legs) ≡ legs
 dropping-taken [] = refl
 dropping-taken (leg ∷ legs) = ap (λ l. leg ∷ l) (dropping-taken legs)
 
-allowed_drops : (read : Readers) (s : SessionParts) (legs : List PlacedLeg) → IsIdle s → AreAllowed read s (dropping legs)
+allowed_drops : (read : Decoding) (s : SessionParts) (legs : List PlacedLeg) → IsIdle s → AreAllowed read s (dropping legs)
 allowed_drops read s [] idle = tt
 allowed_drops read s (leg ∷ legs) idle = (idle, allowed_drops read s legs idle)
 
-pub goes_drains : (read : Readers) (a b : PostParts) (drains : Drains a b) → IsIdle a.session
+pub goes_drains : (read : Decoding) (a b : PostParts) (drains : Drains a b) → IsIdle a.session
     → Goes read (worker_in a) (dropping drains.legs) (worker_in b)
 goes_drains read a b drains idle = record {
   session = drains.session ∙ ap (after_calls read a.session) (sym (dropping-calls drains.legs));
@@ -233,7 +232,7 @@ goes_drains read a b drains idle = record {
   seat = drains.seat;
 }
 
-pub does_drains : (w : Writers) (read : Readers) (a b : PostParts) → Drains a b → IsIdle a.session → Does w read a b
+pub does_drains : (w : Encoding) (read : Decoding) (a b : PostParts) → Drains a b → IsIdle a.session → Does w read a b
 does_drains w read a b drains idle = record {
   events = dropping drains.legs;
   goes = goes_drains read a b drains idle;
@@ -285,7 +284,7 @@ drains_next a b None took session seat wire stream = drains_none a b session too
 drains_next a b (Some leg) took session seat wire stream = drains_one a b leg session took seat wire stream
 
 -- a leg that was taken and handed to the session
-handed : (read : Readers) (s : SessionParts) (leg : PlacedLeg) (event : WorkerEvent)
+handed : (read : Decoding) (s : SessionParts) (leg : PlacedLeg) (event : WorkerEvent)
     → (event ≡ Calls (call.SendLeg leg.ordinal leg.leg)) ⊎ (event ≡ Fails leg) → s.phase ≡ Up
     → (taken_in event ≡ leg ∷ []) × IsAllowed s event
 handed read s leg event (inl e) up =
@@ -293,7 +292,7 @@ handed read s leg event (inl e) up =
 handed read s leg event (inr e) up =
     (ap taken_in e, subst (λ (one : WorkerEvent). IsAllowed s one) (sym e) up)
 
-pub does_hands : (w : Writers) (read : Readers) (a b : PostParts) (leg : PlacedLeg)
+pub does_hands : (w : Encoding) (read : Decoding) (a b : PostParts) (leg : PlacedLeg)
     → Hands w read leg (linked_in a) (linked_in b) → a.session.phase ≡ Up → b.took ≡ with_taken a.took leg
     → b.seat_parts ≡ a.seat_parts → Does w read a b
 does_hands w read a b leg hands up took seat =
@@ -322,7 +321,7 @@ does_hands w read a b leg hands up took seat =
     }
 
 -- a leg that was taken, if one was, and what the session did with it
-pub does_sent : (w : Writers) (read : Readers) (a b d : PostParts) (next : Option PlacedLeg) → a.session.phase ≡ Up
+pub does_sent : (w : Encoding) (read : Decoding) (a b d : PostParts) (next : Option PlacedLeg) → a.session.phase ≡ Up
     → MatchOption next (b.took ≡ a.took) (λ leg. b.took ≡ with_taken a.took leg) → b.seat_parts ≡ a.seat_parts
     → linked_in b ≡ linked_in a
     → MatchOption next (linked_in d ≡ linked_in b) (λ leg. Hands w read leg (linked_in b) (linked_in d)) → d.took ≡ b.took
@@ -363,14 +362,14 @@ one_call Up e = refl
 one_call Closing e = refl
 one_call LoggedOut e = refl
 
-pub finish_closed : (read : Readers) (a b : WorkerParts) → b.session ≡ a.session → b.took ≡ a.took
+pub finish_closed : (read : Decoding) (a b : WorkerParts) → b.session ≡ a.session → b.took ≡ a.took
     → b.seat_parts ≡ a.seat_parts → reason_of a.session.phase ≡ reason.Closed
     → Goes read a (last_calls a.session.phase) b
 finish_closed read a b session took seat e =
     subst (λ (events : List WorkerEvent). Goes read a events b) (sym (no_call a.session.phase e))
     (goes_none read a b session took seat)
 
-pub finish_abandoned : (read : Readers) (a b : WorkerParts) → b.session ≡ abandon a.session → b.took ≡ a.took
+pub finish_abandoned : (read : Decoding) (a b : WorkerParts) → b.session ≡ abandon a.session → b.took ≡ a.took
     → b.seat_parts ≡ a.seat_parts → reason_of a.session.phase ≡ reason.TurnLimit
     → Goes read a (last_calls a.session.phase) b
 finish_abandoned read a b session took seat e =
@@ -380,14 +379,14 @@ finish_abandoned read a b session took seat e =
 pub abandoned_closed : (s t : SessionParts) → t ≡ abandon s → t.phase ≡ Closed
 abandoned_closed s t e = ap (λ (u : SessionParts). u.phase) e
 
-speak_abandon : (w : Writers) (read : Readers) (s : SessionParts) (said : Said) (a b : Wire) → b ≡ a
+speak_abandon : (w : Encoding) (read : Decoding) (s : SessionParts) (said : Said) (a b : Wire) → b ≡ a
     → Speak w read s said (call.Abandon ∷ []) a b
 speak_abandon w read s said a b same =
     speak_silent w read s said call.Abandon [] a b b tt (stays_same a b same) refl
     (speak_none w read (abandon s) said b b (stays_here b))
 
 -- what is done last goes over no link
-pub speak_last : (w : Writers) (read : Readers) (s : SessionParts) (said : Said) (phase : Phase) (a b : Wire) → b ≡ a
+pub speak_last : (w : Encoding) (read : Decoding) (s : SessionParts) (said : Said) (phase : Phase) (a b : Wire) → b ≡ a
     → Speak w read s said (calls_of (last_calls phase)) a b
 speak_last w read s said Closed a b same = speak_none w read s said a b (stays_same a b same)
 speak_last w read s said Down a b same = speak_abandon w read s said a b same

@@ -5,10 +5,10 @@ use Rattle.std.specs.Prelude.{Option, Some, None, option_to_list, slice_index_or
 use Rattle.std.specs.PromisedHandle.{KeepsAt}
 use Rattle.std.specs.declared.thread.PromisedHandle.{PromisedHandle}
 use Rattle.std.specs.declared.thread.Promise as Promise
-use Rattle.dialect.specs.Framed.{Writers}
+use Rattle.dialect.specs.Wording.{Encoding}
 use Rattle.session_worker.specs.Ends.{WorkerStart, WorkerLeft, Runs, AllRan}
 
-module _ {A T P : Type 0} (g : Promise.Ghosts P T) (writes : A → Writers) (start : A → WorkerStart) (worker : P → A)
+module _ {A T P : Type 0} (g : Promise.Ghosts P T) (writes : A → Encoding) (start : A → WorkerStart) (worker : P → A)
     (left : T → WorkerLeft)
     (keeps : (p : P) (r : T) → g.kept_by p r
     → Runs (writes (worker p)) (start (worker p)).read (start (worker p)).parts (left r).parts (left r).reason) where

@@ -4,8 +4,8 @@ use Rattle.std.specs.List.{concat}
 use Rattle.std.proofs.lemmas.List.{append-nil}
 use Rattle.fix_tags.specs.Stamp.{StampParts}
 use Rattle.dialect.specs.declared.message.Message.{Message}
-use Rattle.dialect.specs.Framed.{Writers, AreFramed}
-use Rattle.dialect.specs.Message.{Readers}
+use Rattle.dialect.specs.Framed.{AreFramed}
+use Rattle.dialect.specs.Wording.{Decoding, Encoding}
 use Rattle.dialect.specs.Outgoing.{alone}
 use Rattle.link.specs.Traffic.{Traffic, Tells, Takes, TakesPart, GivesBytes, Stays}
 use Rattle.link.proofs.Taking.{tells_nothing}
@@ -102,7 +102,7 @@ puts_more : (bytes : List ℕ) (first more : List SessionCall) (a b : Wire) → 
 puts_more bytes first more a b (inl all) = inl all
 puts_more bytes first more a b (inr part) = inr (given_up_more first more part.0, part.1)
 
-speaks_more : (w : Writers) (read : Readers) (s : SessionParts) (said : Said) (made : SessionCall) (first more : List SessionCall)
+speaks_more : (w : Encoding) (read : Decoding) (s : SessionParts) (said : Said) (made : SessionCall) (first more : List SessionCall)
     (a b : Wire) → Speaks w read s said made first a b → Speaks w read s said made (first ++ more) a b
 speaks_more w read s said made first more a b one = record {
   heard = one.heard;
@@ -117,7 +117,7 @@ speaks_more w read s said made first more a b one = record {
 }
 
 -- bytes that were read before
-speaks_read : (w : Writers) (read : Readers) (s : SessionParts) (said : Said) (made : SessionCall) (later : List SessionCall)
+speaks_read : (w : Encoding) (read : Decoding) (s : SessionParts) (said : Said) (made : SessionCall) (later : List SessionCall)
     (a b c : Wire) → Reads a b → Speaks w read s said made later b c → Speaks w read s said made later a c
 speaks_read w read s said made later a b c reads one = record {
   heard = one.heard;
@@ -131,14 +131,14 @@ speaks_read w read s said made later a b c reads one = record {
   puts = one.puts;
 }
 
-pub speak_read : (w : Writers) (read : Readers) (s : SessionParts) (said : Said) (calls : List SessionCall) (a b c : Wire)
+pub speak_read : (w : Encoding) (read : Decoding) (s : SessionParts) (said : Said) (calls : List SessionCall) (a b c : Wire)
     → Reads a b → Speak w read s said calls b c → Speak w read s said calls a c
 speak_read w read s said [] a b c reads rest = reads_on a b c reads rest
 speak_read w read s said (made ∷ later) a b c reads rest =
     (rest.0, speaks_read w read s said made later a b rest.0 reads rest.1, rest.2)
 
 -- calls and then others
-pub speak_on : (w : Writers) (read : Readers) (s : SessionParts) (said : Said) (first more : List SessionCall) (a b c : Wire)
+pub speak_on : (w : Encoding) (read : Decoding) (s : SessionParts) (said : Said) (first more : List SessionCall) (a b c : Wire)
     → Speak w read s said first a b → Speak w read (after_calls read s first) (said_after said first) more b c
     → Speak w read s said (first ++ more) a c
 speak_on w read s said [] more a b c one next = speak_read w read s said more a b c one next
@@ -149,12 +149,12 @@ speak_on w read s said (made ∷ first) more a b c one next = (
 )
 
 -- no call
-pub speak_none : (w : Writers) (read : Readers) (s : SessionParts) (said : Said) (a b : Wire) → Tells a b Stays
+pub speak_none : (w : Encoding) (read : Decoding) (s : SessionParts) (said : Said) (a b : Wire) → Tells a b Stays
     → Speak w read s said [] a b
 speak_none w read s said a b stays = reads_none a b stays
 
 -- one call, whose messages were written with a stamp
-pub speak_made : (w : Writers) (read : Readers) (s : SessionParts) (said : Said) (made : SessionCall) (later : List SessionCall)
+pub speak_made : (w : Encoding) (read : Decoding) (s : SessionParts) (said : Said) (made : SessionCall) (later : List SessionCall)
     (stamp : StampParts) (frames : List (List ℕ)) (a b c d : Wire) → Hears said made a → Begins s made a b
     → AreFramed w stamp (map alone (messages_in (called read s made).0)) frames → Puts (concat frames) later b c
     → Speak w read (called read s made).1 (said_with said made) later c d → Speak w read s said (made ∷ later) a d
@@ -178,7 +178,7 @@ abbrev no_stamp : StampParts
 no_stamp = record { year = 0; month = 0; day = 0; hour = 0; minute = 0; second = 0; milli = 0 }
 
 -- one call, which has no message
-pub speak_silent : (w : Writers) (read : Readers) (s : SessionParts) (said : Said) (made : SessionCall) (later : List SessionCall)
+pub speak_silent : (w : Encoding) (read : Decoding) (s : SessionParts) (said : Said) (made : SessionCall) (later : List SessionCall)
     (a b c : Wire) → Hears said made a → Begins s made a b → messages_in (called read s made).0 ≡ []
     → Speak w read (called read s made).1 (said_with said made) later b c → Speak w read s said (made ∷ later) a c
 speak_silent w read s said made later a b c hears begins none rest =
@@ -203,7 +203,7 @@ pub concat_one : (frame : List ℕ) → concat (frame ∷ []) ≡ frame
 concat_one frame = append-nil frame
 
 -- the connection is given up
-pub speak_broken : (w : Writers) (read : Readers) (s : SessionParts) (said : Said) (a b : Wire) → Tells a b Stays
+pub speak_broken : (w : Encoding) (read : Decoding) (s : SessionParts) (said : Said) (a b : Wire) → Tells a b Stays
     → Speak w read s said (call.Broken ∷ []) a b
 speak_broken w read s said a b stays =
     speak_silent w read s said call.Broken [] a b b tt (inl stays) refl

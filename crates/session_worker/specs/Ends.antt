@@ -1,8 +1,7 @@
 -- How a worker ends.
 use Rattle.std.specs.Prelude.{◌≡◌, false, List, [], ◌∷◌, ◌++◌, map}
 use Rattle.leg.specs.declared.placed_leg.PlacedLeg.{PlacedLeg}
-use Rattle.dialect.specs.Framed.{Writers}
-use Rattle.dialect.specs.Message.{Readers}
+use Rattle.dialect.specs.Wording.{Decoding, Encoding}
 use Rattle.session_core.specs.declared.phase.Phase.{Phase}
 use Rattle.session_core.specs.declared.phase.Phase.TheVariants.{Closed}
 use Rattle.session_core.specs.Session.{is_connected}
@@ -26,7 +25,7 @@ last_calls _ = Calls call.Abandon ∷ []
 -- a worker before its turns and after them, and why it ended: after the last turn its session was as the reason says,
 -- and all that it took then was dropped. Over its link, where it began with no connection, went what the calls of all
 -- these events say
-pub record Runs (w : Writers) (read : Readers) (before after : WorkerParts) (why : EndReason) : Type 0 where
+pub record Runs (w : Encoding) (read : Decoding) (before after : WorkerParts) (why : EndReason) : Type 0 where
   pub turns : List WorkerEvent
   pub at : WorkerParts
   pub goes : Goes read before turns at
@@ -39,7 +38,7 @@ pub record Runs (w : Writers) (read : Readers) (before after : WorkerParts) (why
 
 -- a worker with the way in which its dialect is read
 pub record WorkerStart : Type 0 where
-  pub read : Readers
+  pub read : Decoding
   pub parts : WorkerParts
 
 -- what a worker leaves, and why
@@ -48,7 +47,7 @@ pub record WorkerLeft : Type 0 where
   pub reason : EndReason
 
 -- each worker ran, and left this, in order: each with the way in which its dialect is written, and as it was
-abbrev pub AllRan : {Worker : Type 0} → (Worker → Writers) → (Worker → WorkerStart) → List Worker → List WorkerLeft
+abbrev pub AllRan : {Worker : Type 0} → (Worker → Encoding) → (Worker → WorkerStart) → List Worker → List WorkerLeft
     → Type 0
 AllRan writes start [] [] = Unit {0}
 AllRan writes start [] (left ∷ ends) = ⊥

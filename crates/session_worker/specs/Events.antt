@@ -1,7 +1,7 @@
 -- What a venue's worker does: the calls of its session, and what becomes of the legs that it takes from its ring.
 use Rattle.std.specs.Prelude.{◌≡◌, ℕ, false, List, [], ◌∷◌, ◌++◌}
 use Rattle.leg.specs.declared.placed_leg.PlacedLeg.{PlacedLeg}
-use Rattle.dialect.specs.Message.{Readers}
+use Rattle.dialect.specs.Wording.{Decoding}
 use Rattle.session_core.specs.declared.phase.Phase.TheVariants.{Up}
 use Rattle.session_core.specs.declared.session_call.SessionCall.{SessionCall}
 use Rattle.session_core.specs.declared.session_call.SessionCall.TheVariants as call
@@ -61,7 +61,7 @@ IsAllowed s (Calls made) = IsAllowedCall s made
 IsAllowed s (Drops leg) = IsIdle s
 IsAllowed s (Fails leg) = s.phase ≡ Up
 
-abbrev pub AreAllowed : Readers → SessionParts → List WorkerEvent → Type 0
+abbrev pub AreAllowed : Decoding → SessionParts → List WorkerEvent → Type 0
 AreAllowed read s [] = Unit {0}
 AreAllowed read s (event ∷ events) =
     IsAllowed s event × AreAllowed read (after_calls read s (calls_in event)) events
@@ -78,7 +78,7 @@ abbrev pub parts_of : SessionParts → Took → Seat → Wire → WorkerParts
 parts_of session took seat wire = record { session = session; took = took; seat_parts = seat.parts; wire = wire }
 
 -- a worker before and after these events: the session is that after the calls, and the legs taken are the events'
-pub record Goes (read : Readers) (before : WorkerParts) (events : List WorkerEvent) (after : WorkerParts) : Type 0 where
+pub record Goes (read : Decoding) (before : WorkerParts) (events : List WorkerEvent) (after : WorkerParts) : Type 0 where
   pub session : after.session ≡ after_calls read before.session (calls_of events)
   pub taken : after.took.taken ≡ before.took.taken ++ taken_of events
   pub allowed : AreAllowed read before.session events

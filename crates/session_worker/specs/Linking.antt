@@ -7,8 +7,7 @@ use Rattle.fix_tags.specs.Stamp.{StampParts}
 use Rattle.fix_tags.specs.declared.envelope.Envelope.{Envelope}
 use Rattle.fix_tags.specs.declared.tag_fault.TagFault.{TagFault}
 use Rattle.leg.specs.declared.placed_leg.PlacedLeg.{PlacedLeg}
-use Rattle.dialect.specs.Framed.{Writers}
-use Rattle.dialect.specs.Message.{Readers}
+use Rattle.dialect.specs.Wording.{Decoding, Encoding}
 use Rattle.link.specs.Traffic.{Tells, Takes, TakesPart, Stays}
 use Rattle.session_core.specs.declared.session_call.SessionCall.{SessionCall}
 use Rattle.session_core.specs.declared.session_call.SessionCall.TheVariants as call
@@ -42,7 +41,7 @@ abbrev pub IsHearing : Said → LinkedParts → Type 0
 IsHearing said x = is_connected x.session.phase ≡ true → ReaderOn said x.wire x.stream
 
 -- the calls of the session say what went over the link
-abbrev pub SpeaksOn : Writers → Readers → LinkedParts → List SessionCall → LinkedParts → Type 0
+abbrev pub SpeaksOn : Encoding → Decoding → LinkedParts → List SessionCall → LinkedParts → Type 0
 SpeaksOn w read before calls after = (said : Said) → IsHearing said before
     → Speak w read before.session said calls before.wire after.wire × IsHearing (said_after said calls) after
 
@@ -67,14 +66,14 @@ Writes bytes before after =
     ⊎ ((after.session ≡ broken before.session) × Tells before.wire after.wire (TakesPart bytes))
 
 -- some calls, none of which is to send a leg
-pub record Moves (w : Writers) (read : Readers) (before after : LinkedParts) : Type 0 where
+pub record Moves (w : Encoding) (read : Decoding) (before after : LinkedParts) : Type 0 where
   pub calls : List SessionCall
   pub session : after.session ≡ after_calls read before.session calls
   pub no_leg : legs_in calls ≡ []
   pub speaks : SpeaksOn w read before calls after
 
 -- the session was to send a leg: that call and others, or the leg failed
-pub record Hands (w : Writers) (read : Readers) (leg : PlacedLeg) (before after : LinkedParts) : Type 0 where
+pub record Hands (w : Encoding) (read : Decoding) (leg : PlacedLeg) (before after : LinkedParts) : Type 0 where
   pub event : WorkerEvent
   pub of_leg : (event ≡ Calls (call.SendLeg leg.ordinal leg.leg)) ⊎ (event ≡ Fails leg)
   pub calls : List SessionCall
@@ -90,7 +89,7 @@ IsPlain (call.SendLeg ordinal leg) = ⊥
 IsPlain _ = Unit {0}
 
 -- such a call gave a step
-pub record Gave (w : Writers) (read : Readers) (made : SessionCall) (before : SessionParts) (step : Step)
+pub record Gave (w : Encoding) (read : Decoding) (made : SessionCall) (before : SessionParts) (step : Step)
     (after : SessionParts) : Type 0 where
   pub plain : IsPlain made
   pub said : StepParts
@@ -99,7 +98,7 @@ pub record Gave (w : Writers) (read : Readers) (made : SessionCall) (before : Se
   pub is_step : IsStep w stamp said step
 
 -- one did, and what the step wants isn't done yet
-pub record Asks (w : Writers) (read : Readers) (before : LinkedParts) (step : Step) (after : LinkedParts) : Type 0 where
+pub record Asks (w : Encoding) (read : Decoding) (before : LinkedParts) (step : Step) (after : LinkedParts) : Type 0 where
   pub made : SessionCall
   pub gave : Gave w read made before.session step after.session
   pub wire : Tells before.wire after.wire Stays
@@ -107,7 +106,7 @@ pub record Asks (w : Writers) (read : Readers) (before : LinkedParts) (step : St
       → Hears said made before.wire × IsHearing (said_with said made) after
 
 -- the next message was received, and this was what its frame said
-pub record Receives (w : Writers) (read : Readers) (before : SessionParts) (stream : Stream) (step : Step)
+pub record Receives (w : Encoding) (read : Decoding) (before : SessionParts) (stream : Stream) (step : Step)
     (after : SessionParts) : Type 0 where
   pub fields : List Tagged
   pub envelope : Envelope
@@ -116,7 +115,7 @@ pub record Receives (w : Writers) (read : Readers) (before : SessionParts) (stre
   pub gave : Gave w read (call.Receive envelope) before step after
 
 -- what came of the next message
-abbrev pub HeardGives : Writers → Readers → SessionParts → Stream → Heard → SessionParts → Type 0
+abbrev pub HeardGives : Encoding → Decoding → SessionParts → Stream → Heard → SessionParts → Type 0
 HeardGives w read before stream heard.Nothing after = (after ≡ before) × ((next_read stream).frame ≡ None)
 HeardGives w read before stream (heard.Step step) after = Receives w read before stream step after
 HeardGives w read before stream heard.Malformed after =
@@ -148,7 +147,7 @@ abbrev pub linked_in : PostParts → LinkedParts
 linked_in p = linked_of p.session p.wire p.stream
 
 -- a worker before and after some events, and what went over its link meanwhile
-pub record Does (w : Writers) (read : Readers) (before after : PostParts) : Type 0 where
+pub record Does (w : Encoding) (read : Decoding) (before after : PostParts) : Type 0 where
   pub events : List WorkerEvent
   pub goes : Goes read (worker_in before) events (worker_in after)
   pub speaks : SpeaksOn w read (linked_in before) (calls_of events) (linked_in after)

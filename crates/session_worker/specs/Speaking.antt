@@ -4,8 +4,8 @@ use Rattle.std.specs.List.{concat}
 use mathlib.Core.List.{IsPrefix}
 use Rattle.fix_tags.specs.Stamp.{StampParts}
 use Rattle.dialect.specs.declared.message.Message.{Message}
-use Rattle.dialect.specs.Framed.{Writers, AreFramed}
-use Rattle.dialect.specs.Message.{Readers}
+use Rattle.dialect.specs.Framed.{AreFramed}
+use Rattle.dialect.specs.Wording.{Decoding, Encoding}
 use Rattle.dialect.specs.Outgoing.{alone}
 use Rattle.link.specs.Traffic.{Traffic, Tells, Dials, Takes, GivesBytes, Stays}
 use Rattle.session_core.specs.declared.phase.Phase.TheVariants.{Down}
@@ -53,7 +53,7 @@ messages_in (Some step) = step.written
 
 -- one call, before others: bytes may be read until it is made; a message that is received is the next one of them; and
 -- then the call's frames are written, one behind the other, all with one stamp
-pub record Speaks (w : Writers) (read : Readers) (s : SessionParts) (said : Said) (made : SessionCall)
+pub record Speaks (w : Encoding) (read : Decoding) (s : SessionParts) (said : Said) (made : SessionCall)
     (later : List SessionCall) (wire after : Wire) : Type 0 where
   pub heard : Wire
   pub reads : Reads wire heard
@@ -66,7 +66,7 @@ pub record Speaks (w : Writers) (read : Readers) (s : SessionParts) (said : Said
   pub puts : Puts (concat frames) later ready after
 
 -- calls one after the other, where the frames of the present connection said this before them
-abbrev pub Speak : Writers → Readers → SessionParts → Said → List SessionCall → Wire → Wire → Type 0
+abbrev pub Speak : Encoding → Decoding → SessionParts → Said → List SessionCall → Wire → Wire → Type 0
 Speak w read s said [] wire after = Reads wire after
 Speak w read s said (made ∷ later) wire after =
     (between : Wire) × Speaks w read s said made later wire between

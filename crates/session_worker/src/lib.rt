@@ -28,6 +28,3 @@ pub use run_fault::RunFault;
 pub use running::run_all;
 pub use worker::Worker;
 pub use worker_end::WorkerEnd;
-
-#[cfg(test)]
-mod tests;

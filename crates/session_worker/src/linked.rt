@@ -157,7 +157,7 @@ impl<K: Link, C: Clock + Drop> Linked<K, C> {
     /// Dials, and logs on where that succeeds; a failed dial is no fault of the session. It says whether the session may
     /// go on: it may not where no number is left for the Logon.
     pub(crate) fn connect<D: Dialect>(&mut self, dialect: &D) -> bool
-        ensures moves { Moves (record { IsOrder = D.IsOrder dialect.now; IsReport = D.IsReport dialect.now }) (record { order = D.order_read dialect.now; report = D.report_read dialect.now }) (linked_of self.old.session (K.wire self.old.link) self.old.reader) (linked_of self.new.session (K.wire self.new.link) self.new.reader) }
+        ensures moves { Moves (D.wording dialect.now).encoding (D.wording dialect.now).decoding (linked_of self.old.session (K.wire self.old.link) self.old.reader) (linked_of self.new.session (K.wire self.new.link) self.new.reader) }
         ensures spent { result ≡ false → self.new.session ≡ self.old.session }
     {
         match self.link.dial() {
@@ -168,7 +168,7 @@ impl<K: Link, C: Clock + Drop> Linked<K, C> {
 
     /// Logs on over a link that was dialled, and says whether the session may go on.
     fn log_on<D: Dialect>(&mut self, dialect: &D) -> bool
-        ensures moves { (before : Wire) (reader : Stream) → Tells before (K.wire self.old.link) Dials → Moves (record { IsOrder = D.IsOrder dialect.now; IsReport = D.IsReport dialect.now }) (record { order = D.order_read dialect.now; report = D.report_read dialect.now }) (linked_of self.old.session before reader) (linked_of self.new.session (K.wire self.new.link) self.new.reader) }
+        ensures moves { (before : Wire) (reader : Stream) → Tells before (K.wire self.old.link) Dials → Moves (D.wording dialect.now).encoding (D.wording dialect.now).decoding (linked_of self.old.session before reader) (linked_of self.new.session (K.wire self.new.link) self.new.reader) }
         ensures spent { result ≡ false → self.new.session ≡ self.old.session }
     {
         self.reader = FrameReader::new(self.alloc);
@@ -194,7 +194,7 @@ impl<K: Link, C: Clock + Drop> Linked<K, C> {
     /// Sends a leg, and says whether the session took it. Where it wanted memory for that, or the order can't be written,
     /// the connection is given up.
     pub(crate) fn send<D: Dialect>(&mut self, dialect: &D, placed: &PlacedLeg) -> bool
-        ensures { Hands (record { IsOrder = D.IsOrder dialect.now; IsReport = D.IsReport dialect.now }) (record { order = D.order_read dialect.now; report = D.report_read dialect.now }) placed.now (linked_of self.old.session (K.wire self.old.link) self.old.reader) (linked_of self.new.session (K.wire self.new.link) self.new.reader) }
+        ensures { Hands (D.wording dialect.now).encoding (D.wording dialect.now).decoding placed.now (linked_of self.old.session (K.wire self.old.link) self.old.reader) (linked_of self.new.session (K.wire self.new.link) self.new.reader) }
     {
         let stamp = self.clock.now();
         match self
@@ -215,7 +215,7 @@ impl<K: Link, C: Clock + Drop> Linked<K, C> {
 
     /// The session is to close, and can send no leg from here on.
     pub(crate) fn close<D: Dialect>(&mut self, dialect: &D)
-        ensures moves { Moves (record { IsOrder = D.IsOrder dialect.now; IsReport = D.IsReport dialect.now }) (record { order = D.order_read dialect.now; report = D.report_read dialect.now }) (linked_of self.old.session (K.wire self.old.link) self.old.reader) (linked_of self.new.session (K.wire self.new.link) self.new.reader) }
+        ensures moves { Moves (D.wording dialect.now).encoding (D.wording dialect.now).decoding (linked_of self.old.session (K.wire self.old.link) self.old.reader) (linked_of self.new.session (K.wire self.new.link) self.new.reader) }
         ensures idle { IsIdle self.new.session }
     {
         let stamp = self.clock.now();
@@ -256,7 +256,7 @@ impl<K: Link, C: Clock + Drop> Linked<K, C> {
     /// The next message that was read is handed to the session, while there is a connection and a message. It gives what
     /// is to be done for it.
     pub(crate) fn hear<D: Dialect>(&mut self, dialect: &D) -> Option<Step>
-        ensures { MatchOption result (Moves (record { IsOrder = D.IsOrder dialect.now; IsReport = D.IsReport dialect.now }) (record { order = D.order_read dialect.now; report = D.report_read dialect.now }) (linked_of self.old.session (K.wire self.old.link) self.old.reader) (linked_of self.new.session (K.wire self.new.link) self.new.reader)) (λ step. Asks (record { IsOrder = D.IsOrder dialect.now; IsReport = D.IsReport dialect.now }) (record { order = D.order_read dialect.now; report = D.report_read dialect.now }) (linked_of self.old.session (K.wire self.old.link) self.old.reader) step (linked_of self.new.session (K.wire self.new.link) self.new.reader)) }
+        ensures { MatchOption result (Moves (D.wording dialect.now).encoding (D.wording dialect.now).decoding (linked_of self.old.session (K.wire self.old.link) self.old.reader) (linked_of self.new.session (K.wire self.new.link) self.new.reader)) (λ step. Asks (D.wording dialect.now).encoding (D.wording dialect.now).decoding (linked_of self.old.session (K.wire self.old.link) self.old.reader) step (linked_of self.new.session (K.wire self.new.link) self.new.reader)) }
     {
         if !self.session.phase().is_connected() {
             return None;
@@ -288,7 +288,7 @@ impl<K: Link, C: Clock + Drop> Linked<K, C> {
 
     /// After so many turns without a write the session is told, and gives what is to be written.
     pub(crate) fn on_quiet<D: Dialect>(&mut self, dialect: &D) -> Option<Step>
-        ensures { MatchOption result (Moves (record { IsOrder = D.IsOrder dialect.now; IsReport = D.IsReport dialect.now }) (record { order = D.order_read dialect.now; report = D.report_read dialect.now }) (linked_of self.old.session (K.wire self.old.link) self.old.reader) (linked_of self.new.session (K.wire self.new.link) self.new.reader)) (λ step. Asks (record { IsOrder = D.IsOrder dialect.now; IsReport = D.IsReport dialect.now }) (record { order = D.order_read dialect.now; report = D.report_read dialect.now }) (linked_of self.old.session (K.wire self.old.link) self.old.reader) step (linked_of self.new.session (K.wire self.new.link) self.new.reader)) }
+        ensures { MatchOption result (Moves (D.wording dialect.now).encoding (D.wording dialect.now).decoding (linked_of self.old.session (K.wire self.old.link) self.old.reader) (linked_of self.new.session (K.wire self.new.link) self.new.reader)) (λ step. Asks (D.wording dialect.now).encoding (D.wording dialect.now).decoding (linked_of self.old.session (K.wire self.old.link) self.old.reader) step (linked_of self.new.session (K.wire self.new.link) self.new.reader)) }
     {
         if self.unwritten < self.pace.quiet_turns {
             return None;
@@ -307,7 +307,7 @@ impl<K: Link, C: Clock + Drop> Linked<K, C> {
 
     /// After so many turns without a read the session is told, and gives what is to be done.
     pub(crate) fn on_silence<D: Dialect>(&mut self, dialect: &D) -> Option<Step>
-        ensures { MatchOption result (Moves (record { IsOrder = D.IsOrder dialect.now; IsReport = D.IsReport dialect.now }) (record { order = D.order_read dialect.now; report = D.report_read dialect.now }) (linked_of self.old.session (K.wire self.old.link) self.old.reader) (linked_of self.new.session (K.wire self.new.link) self.new.reader)) (λ step. Asks (record { IsOrder = D.IsOrder dialect.now; IsReport = D.IsReport dialect.now }) (record { order = D.order_read dialect.now; report = D.report_read dialect.now }) (linked_of self.old.session (K.wire self.old.link) self.old.reader) step (linked_of self.new.session (K.wire self.new.link) self.new.reader)) }
+        ensures { MatchOption result (Moves (D.wording dialect.now).encoding (D.wording dialect.now).decoding (linked_of self.old.session (K.wire self.old.link) self.old.reader) (linked_of self.new.session (K.wire self.new.link) self.new.reader)) (λ step. Asks (D.wording dialect.now).encoding (D.wording dialect.now).decoding (linked_of self.old.session (K.wire self.old.link) self.old.reader) step (linked_of self.new.session (K.wire self.new.link) self.new.reader)) }
     {
         if self.unread < self.pace.silent_turns {
             return None;

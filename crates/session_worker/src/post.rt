@@ -2,7 +2,7 @@
 
 ghost use Rattle.std.specs.Prelude.{◌≡◌, true, false, MatchOption, MatchResult};
 ghost use Rattle.std.specs.List.{concat};
-ghost use Rattle.dialect.specs.Message.{Readers};
+ghost use Rattle.dialect.specs.Wording.{Decoding};
 ghost use Rattle.link.specs.Traffic.{Tells, Stays};
 ghost use Rattle.session_core.specs.declared.phase.Phase.TheVariants as phase;
 ghost use Rattle.session_core.specs.Receiving.{confirm};
@@ -62,7 +62,7 @@ impl<K: Link, C: Clock + Drop, L: Run, M: Ledger> Post<K, C, L, M> {
         collector: &Collector<M>,
         turn_limit: u64,
     ) -> EndReason
-        ensures does { Does (record { IsOrder = D.IsOrder dialect.now; IsReport = D.IsReport dialect.now }) (record { order = D.order_read dialect.now; report = D.report_read dialect.now }) (post_of self.old.linked.session self.old.takings self.old.seat (K.wire self.old.linked.link) self.old.linked.reader) (post_of self.new.linked.session self.new.takings self.new.seat (K.wire self.new.linked.link) self.new.linked.reader) }
+        ensures does { Does (D.wording dialect.now).encoding (D.wording dialect.now).decoding (post_of self.old.linked.session self.old.takings self.old.seat (K.wire self.old.linked.link) self.old.linked.reader) (post_of self.new.linked.session self.new.takings self.new.seat (K.wire self.new.linked.link) self.new.linked.reader) }
         ensures reason { result ≡ reason_of self.new.linked.session.phase }
     {
         for _ in 0..turn_limit {
@@ -76,7 +76,7 @@ impl<K: Link, C: Clock + Drop, L: Run, M: Ledger> Post<K, C, L, M> {
 
     /// The session is over, also where no turn has left it so.
     pub(crate) fn finish(&mut self)
-        ensures goes { (read : Readers) → Goes read (parts_of self.old.linked.session self.old.takings self.old.seat (K.wire self.old.linked.link)) (last_calls self.old.linked.session.phase) (parts_of self.new.linked.session self.new.takings self.new.seat (K.wire self.new.linked.link)) }
+        ensures goes { (read : Decoding) → Goes read (parts_of self.old.linked.session self.old.takings self.old.seat (K.wire self.old.linked.link)) (last_calls self.old.linked.session.phase) (parts_of self.new.linked.session self.new.takings self.new.seat (K.wire self.new.linked.link)) }
         ensures wire { K.wire self.new.linked.link ≡ K.wire self.old.linked.link }
         ensures over { self.new.linked.session.phase ≡ phase.Closed }
     {
@@ -94,7 +94,7 @@ impl<K: Link, C: Clock + Drop, L: Run, M: Ledger> Post<K, C, L, M> {
         lock: &ReleaseLock<L>,
         collector: &Collector<M>,
     )
-        ensures { Does (record { IsOrder = D.IsOrder dialect.now; IsReport = D.IsReport dialect.now }) (record { order = D.order_read dialect.now; report = D.report_read dialect.now }) (post_of self.old.linked.session self.old.takings self.old.seat (K.wire self.old.linked.link) self.old.linked.reader) (post_of self.new.linked.session self.new.takings self.new.seat (K.wire self.new.linked.link) self.new.linked.reader) }
+        ensures { Does (D.wording dialect.now).encoding (D.wording dialect.now).decoding (post_of self.old.linked.session self.old.takings self.old.seat (K.wire self.old.linked.link) self.old.linked.reader) (post_of self.new.linked.session self.new.takings self.new.seat (K.wire self.new.linked.link) self.new.linked.reader) }
     {
         self.linked.count_turn();
         self.begin(rt, dialect, lock, collector);
@@ -112,7 +112,7 @@ impl<K: Link, C: Clock + Drop, L: Run, M: Ledger> Post<K, C, L, M> {
         lock: &ReleaseLock<L>,
         collector: &Collector<M>,
     )
-        ensures { Does (record { IsOrder = D.IsOrder dialect.now; IsReport = D.IsReport dialect.now }) (record { order = D.order_read dialect.now; report = D.report_read dialect.now }) (post_of self.old.linked.session self.old.takings self.old.seat (K.wire self.old.linked.link) self.old.linked.reader) (post_of self.new.linked.session self.new.takings self.new.seat (K.wire self.new.linked.link) self.new.linked.reader) }
+        ensures { Does (D.wording dialect.now).encoding (D.wording dialect.now).decoding (post_of self.old.linked.session self.old.takings self.old.seat (K.wire self.old.linked.link) self.old.linked.reader) (post_of self.new.linked.session self.new.takings self.new.seat (K.wire self.new.linked.link) self.new.linked.reader) }
     {
         match self.linked.phase() {
             Phase::Down => self.start(rt, dialect, lock, collector),
@@ -134,7 +134,7 @@ impl<K: Link, C: Clock + Drop, L: Run, M: Ledger> Post<K, C, L, M> {
         collector: &Collector<M>,
     )
         requires { self.old.linked.session.phase ≡ phase.Down }
-        ensures { Does (record { IsOrder = D.IsOrder dialect.now; IsReport = D.IsReport dialect.now }) (record { order = D.order_read dialect.now; report = D.report_read dialect.now }) (post_of self.old.linked.session self.old.takings self.old.seat (K.wire self.old.linked.link) self.old.linked.reader) (post_of self.new.linked.session self.new.takings self.new.seat (K.wire self.new.linked.link) self.new.linked.reader) }
+        ensures { Does (D.wording dialect.now).encoding (D.wording dialect.now).decoding (post_of self.old.linked.session self.old.takings self.old.seat (K.wire self.old.linked.link) self.old.linked.reader) (post_of self.new.linked.session self.new.takings self.new.seat (K.wire self.new.linked.link) self.new.linked.reader) }
     {
         lower(rt, lock, self.takings.venue());
         match self.drain(rt, lock, collector) {
@@ -154,7 +154,7 @@ impl<K: Link, C: Clock + Drop, L: Run, M: Ledger> Post<K, C, L, M> {
         collector: &Collector<M>,
     )
         requires { self.old.linked.session.phase ≡ phase.Down }
-        ensures { Does (record { IsOrder = D.IsOrder dialect.now; IsReport = D.IsReport dialect.now }) (record { order = D.order_read dialect.now; report = D.report_read dialect.now }) (post_of self.old.linked.session self.old.takings self.old.seat (K.wire self.old.linked.link) self.old.linked.reader) (post_of self.new.linked.session self.new.takings self.new.seat (K.wire self.new.linked.link) self.new.linked.reader) }
+        ensures { Does (D.wording dialect.now).encoding (D.wording dialect.now).decoding (post_of self.old.linked.session self.old.takings self.old.seat (K.wire self.old.linked.link) self.old.linked.reader) (post_of self.new.linked.session self.new.takings self.new.seat (K.wire self.new.linked.link) self.new.linked.reader) }
     {
         let venue = self.takings.venue();
         if is_closed(rt, lock, venue) && !self.linked.in_doubt() {
@@ -177,7 +177,7 @@ impl<K: Link, C: Clock + Drop, L: Run, M: Ledger> Post<K, C, L, M> {
         collector: &Collector<M>,
     )
         requires { self.old.linked.session.phase ≡ phase.Up }
-        ensures { Does (record { IsOrder = D.IsOrder dialect.now; IsReport = D.IsReport dialect.now }) (record { order = D.order_read dialect.now; report = D.report_read dialect.now }) (post_of self.old.linked.session self.old.takings self.old.seat (K.wire self.old.linked.link) self.old.linked.reader) (post_of self.new.linked.session self.new.takings self.new.seat (K.wire self.new.linked.link) self.new.linked.reader) }
+        ensures { Does (D.wording dialect.now).encoding (D.wording dialect.now).decoding (post_of self.old.linked.session self.old.takings self.old.seat (K.wire self.old.linked.link) self.old.linked.reader) (post_of self.new.linked.session self.new.takings self.new.seat (K.wire self.new.linked.link) self.new.linked.reader) }
     {
         if self.takings.raise(rt, lock).is_err() {
             return;
@@ -196,7 +196,7 @@ impl<K: Link, C: Clock + Drop, L: Run, M: Ledger> Post<K, C, L, M> {
         collector: &Collector<M>,
         next: Option<PlacedLeg>,
     )
-        ensures linked { MatchOption next ((linked_of self.new.linked.session (K.wire self.new.linked.link) self.new.linked.reader) ≡ (linked_of self.old.linked.session (K.wire self.old.linked.link) self.old.linked.reader)) (λ leg. Hands (record { IsOrder = D.IsOrder dialect.now; IsReport = D.IsReport dialect.now }) (record { order = D.order_read dialect.now; report = D.report_read dialect.now }) leg (linked_of self.old.linked.session (K.wire self.old.linked.link) self.old.linked.reader) (linked_of self.new.linked.session (K.wire self.new.linked.link) self.new.linked.reader)) }
+        ensures linked { MatchOption next ((linked_of self.new.linked.session (K.wire self.new.linked.link) self.new.linked.reader) ≡ (linked_of self.old.linked.session (K.wire self.old.linked.link) self.old.linked.reader)) (λ leg. Hands (D.wording dialect.now).encoding (D.wording dialect.now).decoding leg (linked_of self.old.linked.session (K.wire self.old.linked.link) self.old.linked.reader) (linked_of self.new.linked.session (K.wire self.new.linked.link) self.new.linked.reader)) }
         ensures takings { self.new.takings ≡ self.old.takings }
         ensures seat { self.new.seat.parts ≡ self.old.seat.parts }
     {
@@ -218,7 +218,7 @@ impl<K: Link, C: Clock + Drop, L: Run, M: Ledger> Post<K, C, L, M> {
         lock: &ReleaseLock<L>,
         collector: &Collector<M>,
     )
-        ensures { Does (record { IsOrder = D.IsOrder dialect.now; IsReport = D.IsReport dialect.now }) (record { order = D.order_read dialect.now; report = D.report_read dialect.now }) (post_of self.old.linked.session self.old.takings self.old.seat (K.wire self.old.linked.link) self.old.linked.reader) (post_of self.new.linked.session self.new.takings self.new.seat (K.wire self.new.linked.link) self.new.linked.reader) }
+        ensures { Does (D.wording dialect.now).encoding (D.wording dialect.now).decoding (post_of self.old.linked.session self.old.takings self.old.seat (K.wire self.old.linked.link) self.old.linked.reader) (post_of self.new.linked.session self.new.takings self.new.seat (K.wire self.new.linked.link) self.new.linked.reader) }
     {
         if !self.linked.is_connected() || !is_closed(rt, lock, self.takings.venue()) {
             return;
@@ -233,7 +233,7 @@ impl<K: Link, C: Clock + Drop, L: Run, M: Ledger> Post<K, C, L, M> {
 
     /// Reads once, while there is a connection, and does what the messages want.
     fn listen<D: Dialect>(&mut self, rt: &impl Wait, dialect: &D, collector: &Collector<M>)
-        ensures { Does (record { IsOrder = D.IsOrder dialect.now; IsReport = D.IsReport dialect.now }) (record { order = D.order_read dialect.now; report = D.report_read dialect.now }) (post_of self.old.linked.session self.old.takings self.old.seat (K.wire self.old.linked.link) self.old.linked.reader) (post_of self.new.linked.session self.new.takings self.new.seat (K.wire self.new.linked.link) self.new.linked.reader) }
+        ensures { Does (D.wording dialect.now).encoding (D.wording dialect.now).decoding (post_of self.old.linked.session self.old.takings self.old.seat (K.wire self.old.linked.link) self.old.linked.reader) (post_of self.new.linked.session self.new.takings self.new.seat (K.wire self.new.linked.link) self.new.linked.reader) }
     {
         if !self.linked.is_connected() {
             return;
@@ -249,7 +249,7 @@ impl<K: Link, C: Clock + Drop, L: Run, M: Ledger> Post<K, C, L, M> {
 
     /// After so many turns without a write the session writes a Heartbeat.
     fn write_if_quiet<D: Dialect>(&mut self, rt: &impl Wait, dialect: &D, collector: &Collector<M>)
-        ensures { Does (record { IsOrder = D.IsOrder dialect.now; IsReport = D.IsReport dialect.now }) (record { order = D.order_read dialect.now; report = D.report_read dialect.now }) (post_of self.old.linked.session self.old.takings self.old.seat (K.wire self.old.linked.link) self.old.linked.reader) (post_of self.new.linked.session self.new.takings self.new.seat (K.wire self.new.linked.link) self.new.linked.reader) }
+        ensures { Does (D.wording dialect.now).encoding (D.wording dialect.now).decoding (post_of self.old.linked.session self.old.takings self.old.seat (K.wire self.old.linked.link) self.old.linked.reader) (post_of self.new.linked.session self.new.takings self.new.seat (K.wire self.new.linked.link) self.new.linked.reader) }
     {
         match self.linked.on_quiet(dialect) {
             Some(step) => self.carry_out(rt, collector, step),
@@ -259,7 +259,7 @@ impl<K: Link, C: Clock + Drop, L: Run, M: Ledger> Post<K, C, L, M> {
 
     /// After so many turns without a read the session writes a fence, and the second time the connection ends.
     fn ask_if_silent<D: Dialect>(&mut self, rt: &impl Wait, dialect: &D, collector: &Collector<M>)
-        ensures { Does (record { IsOrder = D.IsOrder dialect.now; IsReport = D.IsReport dialect.now }) (record { order = D.order_read dialect.now; report = D.report_read dialect.now }) (post_of self.old.linked.session self.old.takings self.old.seat (K.wire self.old.linked.link) self.old.linked.reader) (post_of self.new.linked.session self.new.takings self.new.seat (K.wire self.new.linked.link) self.new.linked.reader) }
+        ensures { Does (D.wording dialect.now).encoding (D.wording dialect.now).decoding (post_of self.old.linked.session self.old.takings self.old.seat (K.wire self.old.linked.link) self.old.linked.reader) (post_of self.new.linked.session self.new.takings self.new.seat (K.wire self.new.linked.link) self.new.linked.reader) }
     {
         match self.linked.on_silence(dialect) {
             Some(step) => self.carry_out(rt, collector, step),

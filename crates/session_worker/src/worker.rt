@@ -63,7 +63,7 @@ impl<D: Dialect + Drop, K: Link, C: Clock + Drop, L: Run, M: Ledger> Worker<D, K
         collector: &Collector<M>,
         turn_limit: u64,
     ) -> WorkerEnd<K, L, M>
-        ensures { Runs (record { IsOrder = D.IsOrder self.dialect; IsReport = D.IsReport self.dialect }) (record { order = D.order_read self.dialect; report = D.report_read self.dialect }) (parts_of self.post.linked.session self.post.takings self.post.seat (K.wire self.post.linked.link)) (parts_of result.session result.took result.seat (K.wire result.link)) result.reason }
+        ensures { Runs (D.wording self.dialect).encoding (D.wording self.dialect).decoding (parts_of self.post.linked.session self.post.takings self.post.seat (K.wire self.post.linked.link)) (parts_of result.session result.took result.seat (K.wire result.link)) result.reason }
     {
         let Worker { dialect, post } = self;
         let mut post = post;

@@ -11,6 +11,3 @@ pub use drain::Drain;
 pub use feed::Feed;
 pub use meeting::{Met, agree, meet};
 pub use pairing::pair;
-
-#[cfg(test)]
-mod tests;

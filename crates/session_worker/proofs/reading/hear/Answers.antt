@@ -1,8 +1,8 @@
 use Rattle.std.proofs.Common.{◌≡◌, refl, sym, ap, ◌∙◌}
 use Rattle.std.specs.Prelude.{option_map}
 use Rattle.fix_text.specs.FrameFields.{fields_in}
-use Rattle.dialect.specs.Framed.{Writers}
-use Rattle.dialect.specs.Message.{Readers, seen}
+use Rattle.dialect.specs.Wording.{Decoding, Encoding}
+use Rattle.dialect.specs.Message.{seen}
 use Rattle.session_core.specs.declared.session_call.SessionCall.TheVariants as call
 use Rattle.session_core.specs.Calling.{answers}
 use Rattle.session_core.specs.Receiving.{receive}
@@ -11,8 +11,8 @@ use Rattle.session_worker.proofs.reading.hear.Goals as goal
 
 pub returns-in-Ok-receive-clause-heard : goal.returns-in-Ok-receive-clause-heard
 returns-in-Ok-receive-clause-heard g c =
-    let w : Writers = record { IsOrder = g.D.Dialect.IsOrder c.args.dialect.now; IsReport = g.D.Dialect.IsReport c.args.dialect.now } in
-    let read : Readers = record { order = g.D.Dialect.order_read c.args.dialect.now; report = g.D.Dialect.report_read c.args.dialect.now } in
+    let w : Encoding = (g.D.Dialect.wording c.args.dialect.now).encoding in
+    let read : Decoding = (g.D.Dialect.wording c.args.dialect.now).decoding in
     let s = c.args.session.now in
     record {
       fields = fields_in c.in-Ok-Some.frame;

@@ -8,7 +8,7 @@ pub returns-then-number-self-clause-hears : goal.returns-then-number-self-clause
 returns-then-number-self-clause-hears g c =
     let acceptor = c.args.self.now in
     let how : Manner = record {
-      readers = record { order = g.D.Dialect.order_read acceptor.engine.dialect; report = g.D.Dialect.report_read acceptor.engine.dialect };
+      readers = (g.D.Dialect.wording acceptor.engine.dialect).decoding;
       fill = acceptor.engine.fill;
       lose = acceptor.plan.lose;
       connection = acceptor.connection;
@@ -32,7 +32,7 @@ pub loop-number-preserved : goal.loop-number-preserved
 loop-number-preserved g c =
     let acceptor = c.args.self.now in
     let how : Manner = record {
-      readers = record { order = g.D.Dialect.order_read acceptor.engine.dialect; report = g.D.Dialect.report_read acceptor.engine.dialect };
+      readers = (g.D.Dialect.wording acceptor.engine.dialect).decoding;
       fill = acceptor.engine.fill;
       lose = acceptor.plan.lose;
       connection = acceptor.connection;

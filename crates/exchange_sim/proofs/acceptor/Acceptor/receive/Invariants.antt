@@ -8,7 +8,7 @@ invariant-loop-number g l =
     (count : ℕ)
     × (record { stream = l.self.reader; messages = l.self.messages; exchange = l.self.engine.exchange }
     ≡ heard_times (record {
-      readers = record { order = g.D.Dialect.order_read l.fn.self.engine.dialect; report = g.D.Dialect.report_read l.fn.self.engine.dialect };
+      readers = (g.D.Dialect.wording l.fn.self.engine.dialect).decoding;
       fill = l.fn.self.engine.fill;
       lose = l.fn.self.plan.lose;
       connection = l.fn.self.connection;

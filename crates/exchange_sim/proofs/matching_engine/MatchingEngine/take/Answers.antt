@@ -1,7 +1,7 @@
 use Rattle.std.proofs.Common.{◌≡◌, min, length, ap}
 use Rattle.std.proofs.lemmas.Result.{on_ok_weaker}
-use Rattle.dialect.specs.Framed.{Writers}
-use Rattle.dialect.specs.Message.{Readers, seen}
+use Rattle.dialect.specs.Wording.{Decoding, Encoding}
+use Rattle.dialect.specs.Message.{seen}
 use Rattle.exchange_core.specs.Exchange.{accepted_by}
 use Rattle.exchange_sim.proofs.Acting.{leg_there, no_leg_there, taken_and_dealt, taken_alone}
 use Rattle.exchange_sim.proofs.Written.{answers_and_reports, answers_alone}
@@ -9,7 +9,7 @@ use Rattle.exchange_sim.proofs.matching_engine.MatchingEngine.take.Goals as goal
 
 pub returns-in-Some-clause-exchange : goal.returns-in-Some-clause-exchange
 returns-in-Some-clause-exchange g c =
-    let readers : Readers = record { order = g.D.Dialect.order_read c.args.self.now.dialect; report = g.D.Dialect.report_read c.args.self.now.dialect } in
+    let readers : Decoding = (g.D.Dialect.wording c.args.self.now.dialect).decoding in
     let count = length c.accepted-count.result.now in
     let leg = c.in-Some.leg.now in
     let there = leg_there c.accepted.result.now (accepted_by c.hand_in.new.self.exchange) count leg c.accepted.ensures
@@ -24,8 +24,8 @@ returns-in-Some-clause-exchange g c =
 
 pub returns-in-Some-clause-answers : goal.returns-in-Some-clause-answers
 returns-in-Some-clause-answers g c =
-    let writers : Writers = record { IsOrder = g.D.Dialect.IsOrder c.args.self.now.dialect; IsReport = g.D.Dialect.IsReport c.args.self.now.dialect } in
-    let readers : Readers = record { order = g.D.Dialect.order_read c.args.self.now.dialect; report = g.D.Dialect.report_read c.args.self.now.dialect } in
+    let writers : Encoding = (g.D.Dialect.wording c.args.self.now.dialect).encoding in
+    let readers : Decoding = (g.D.Dialect.wording c.args.self.now.dialect).decoding in
     let count = length c.accepted-count.result.now in
     let leg = c.in-Some.leg.now in
     let there = leg_there c.accepted.result.now (accepted_by c.hand_in.new.self.exchange) count leg c.accepted.ensures
@@ -41,7 +41,7 @@ returns-in-Some-clause-answers g c =
 
 pub returns-in-None-clause-exchange : goal.returns-in-None-clause-exchange
 returns-in-None-clause-exchange g c =
-    let readers : Readers = record { order = g.D.Dialect.order_read c.args.self.now.dialect; report = g.D.Dialect.report_read c.args.self.now.dialect } in
+    let readers : Decoding = (g.D.Dialect.wording c.args.self.now.dialect).decoding in
     let count = length c.accepted-count.result.now in
     let there = no_leg_there c.accepted.result.now (accepted_by c.hand_in.new.self.exchange) count c.accepted.ensures
     c.in-None.ensures.lookup.0 in
@@ -50,8 +50,8 @@ returns-in-None-clause-exchange g c =
 
 pub returns-in-None-clause-answers : goal.returns-in-None-clause-answers
 returns-in-None-clause-answers g c =
-    let writers : Writers = record { IsOrder = g.D.Dialect.IsOrder c.args.self.now.dialect; IsReport = g.D.Dialect.IsReport c.args.self.now.dialect } in
-    let readers : Readers = record { order = g.D.Dialect.order_read c.args.self.now.dialect; report = g.D.Dialect.report_read c.args.self.now.dialect } in
+    let writers : Encoding = (g.D.Dialect.wording c.args.self.now.dialect).encoding in
+    let readers : Decoding = (g.D.Dialect.wording c.args.self.now.dialect).decoding in
     let count = length c.accepted-count.result.now in
     let there = no_leg_there c.accepted.result.now (accepted_by c.hand_in.new.self.exchange) count c.accepted.ensures
     c.in-None.ensures.lookup.0 in

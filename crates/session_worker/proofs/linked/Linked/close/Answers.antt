@@ -1,7 +1,6 @@
 use Rattle.std.proofs.Common.{rules, ◌≡◌, refl, sym, subst}
 use Rattle.std.specs.List.{concat}
-use Rattle.dialect.specs.Framed.{Writers}
-use Rattle.dialect.specs.Message.{Readers}
+use Rattle.dialect.specs.Wording.{Decoding, Encoding}
 use Rattle.session_core.specs.declared.session_call.SessionCall.TheVariants as call
 use Rattle.session_core.specs.declared.session_fault.SessionFault.{SessionFault}
 use Rattle.session_core.specs.Calling.{close}
@@ -15,8 +14,8 @@ use Rattle.session_worker.proofs.linked.Linked.close.Goals as goal
 
 pub returns-in-Ok-clause-moves : goal.returns-in-Ok-clause-moves
 returns-in-Ok-clause-moves g c =
-    let w : Writers = record { IsOrder = g.D.Dialect.IsOrder c.args.dialect.now; IsReport = g.D.Dialect.IsReport c.args.dialect.now } in
-    let read : Readers = record { order = g.D.Dialect.order_read c.args.dialect.now; report = g.D.Dialect.report_read c.args.dialect.now } in
+    let w : Encoding = (g.D.Dialect.wording c.args.dialect.now).encoding in
+    let read : Decoding = (g.D.Dialect.wording c.args.dialect.now).decoding in
     let now : LinkedParts = linked_of c.write_all.new.self.session (g.K.Link.wire c.write_all.new.self.link) c.write_all.new.self.reader in
     let old : LinkedParts = linked_of c.args.self.now.session (g.K.Link.wire c.args.self.now.link) c.args.self.now.reader in
     let between : LinkedParts = linked_of c.close.new.self old.wire old.stream in
@@ -27,7 +26,7 @@ returns-in-Ok-clause-moves g c =
 
 pub returns-in-Ok-clause-idle : goal.returns-in-Ok-clause-idle
 returns-in-Ok-clause-idle g c =
-    let w : Writers = record { IsOrder = g.D.Dialect.IsOrder c.args.dialect.now; IsReport = g.D.Dialect.IsReport c.args.dialect.now } in
+    let w : Encoding = (g.D.Dialect.wording c.args.dialect.now).encoding in
     let now : LinkedParts = linked_of c.write_all.new.self.session (g.K.Link.wire c.write_all.new.self.link) c.write_all.new.self.reader in
     let old : LinkedParts = linked_of c.args.self.now.session (g.K.Link.wire c.args.self.now.link) c.args.self.now.reader in
     let between : LinkedParts = linked_of c.close.new.self old.wire old.stream in
@@ -37,8 +36,8 @@ returns-in-Ok-clause-idle g c =
 
 pub returns-in-Err-OutOfMemory-clause-moves : goal.returns-in-Err-OutOfMemory-clause-moves
 returns-in-Err-OutOfMemory-clause-moves g c =
-    let w : Writers = record { IsOrder = g.D.Dialect.IsOrder c.args.dialect.now; IsReport = g.D.Dialect.IsReport c.args.dialect.now } in
-    let read : Readers = record { order = g.D.Dialect.order_read c.args.dialect.now; report = g.D.Dialect.report_read c.args.dialect.now } in
+    let w : Encoding = (g.D.Dialect.wording c.args.dialect.now).encoding in
+    let read : Decoding = (g.D.Dialect.wording c.args.dialect.now).decoding in
     let now : LinkedParts = linked_of c.break_off.new.self.session (g.K.Link.wire c.break_off.new.self.link) c.break_off.new.self.reader in
     let old : LinkedParts = linked_of c.args.self.now.session (g.K.Link.wire c.args.self.now.link) c.args.self.now.reader in
     let between : LinkedParts = linked_of c.close.new.self old.wire old.stream in
@@ -52,8 +51,8 @@ returns-in-Err-OutOfMemory-clause-idle g c = subst IsIdle (sym c.break_off.ensur
 
 pub returns-in-Err-clause-moves : goal.returns-in-Err-clause-moves
 returns-in-Err-clause-moves g c =
-    let w : Writers = record { IsOrder = g.D.Dialect.IsOrder c.args.dialect.now; IsReport = g.D.Dialect.IsReport c.args.dialect.now } in
-    let read : Readers = record { order = g.D.Dialect.order_read c.args.dialect.now; report = g.D.Dialect.report_read c.args.dialect.now } in
+    let w : Encoding = (g.D.Dialect.wording c.args.dialect.now).encoding in
+    let read : Decoding = (g.D.Dialect.wording c.args.dialect.now).decoding in
     let old : LinkedParts = linked_of c.args.self.now.session (g.K.Link.wire c.args.self.now.link) c.args.self.now.reader in
     let now : LinkedParts = linked_of c.close.new.self old.wire old.stream in
     moves_refused (IsStep w c.now-stamp.result) w read old now call.Close (close old.session) c.in-Err.field-0 tt refl
@@ -61,7 +60,7 @@ returns-in-Err-clause-moves g c =
 
 pub returns-in-Err-clause-idle : goal.returns-in-Err-clause-idle
 returns-in-Err-clause-idle g c =
-    let w : Writers = record { IsOrder = g.D.Dialect.IsOrder c.args.dialect.now; IsReport = g.D.Dialect.IsReport c.args.dialect.now } in
+    let w : Encoding = (g.D.Dialect.wording c.args.dialect.now).encoding in
     let s = c.args.self.now.session in
     let other : c.in-Err.field-0 ≡ SessionFault.OutOfMemory → ⊥ = search rules in
     idle_refused (IsStep w c.now-stamp.result) s c.close.new.self c.in-Err.field-0 other c.in-Err.ensures

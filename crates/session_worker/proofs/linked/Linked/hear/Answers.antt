@@ -1,6 +1,5 @@
 use Rattle.std.proofs.Common.{◌≡◌, true, sym, ap, ◌∙◌}
-use Rattle.dialect.specs.Framed.{Writers}
-use Rattle.dialect.specs.Message.{Readers}
+use Rattle.dialect.specs.Wording.{Decoding, Encoding}
 use Rattle.session_core.specs.Session.{is_connected}
 use Rattle.session_core.specs.Calling.{broken}
 use Rattle.session_worker.specs.Linking.{LinkedParts, linked_of}
@@ -13,16 +12,16 @@ returns-then-not-is_connected g c = moves_none _ _ _
 
 pub returns-in-Nothing : goal.returns-in-Nothing
 returns-in-Nothing g c =
-    let w : Writers = record { IsOrder = g.D.Dialect.IsOrder c.args.dialect.now; IsReport = g.D.Dialect.IsReport c.args.dialect.now } in
-    let read : Readers = record { order = g.D.Dialect.order_read c.args.dialect.now; report = g.D.Dialect.report_read c.args.dialect.now } in
+    let w : Encoding = (g.D.Dialect.wording c.args.dialect.now).encoding in
+    let read : Decoding = (g.D.Dialect.wording c.args.dialect.now).decoding in
     let old : LinkedParts = linked_of c.args.self.now.session (g.K.Link.wire c.args.self.now.link) c.args.self.now.reader in
     let now : LinkedParts = linked_of c.hear.new.session old.wire c.hear.new.reader in
     heard_nothing w read old now c.in-Nothing.ensures.heard.0 (stays_here old.wire) c.in-Nothing.ensures.heard.1 c.in-Nothing.ensures.reader
 
 pub returns-in-Step : goal.returns-in-Step
 returns-in-Step g c =
-    let w : Writers = record { IsOrder = g.D.Dialect.IsOrder c.args.dialect.now; IsReport = g.D.Dialect.IsReport c.args.dialect.now } in
-    let read : Readers = record { order = g.D.Dialect.order_read c.args.dialect.now; report = g.D.Dialect.report_read c.args.dialect.now } in
+    let w : Encoding = (g.D.Dialect.wording c.args.dialect.now).encoding in
+    let read : Decoding = (g.D.Dialect.wording c.args.dialect.now).decoding in
     let old : LinkedParts = linked_of c.args.self.now.session (g.K.Link.wire c.args.self.now.link) c.args.self.now.reader in
     let on : is_connected old.session.phase ≡ true =
     ap is_connected (sym c.phase.ensures) ∙ (sym c.is_connected.ensures ∙ c.if-not-is_connected.false) in
@@ -31,8 +30,8 @@ returns-in-Step g c =
 
 pub returns-in-Malformed : goal.returns-in-Malformed
 returns-in-Malformed g c =
-    let w : Writers = record { IsOrder = g.D.Dialect.IsOrder c.args.dialect.now; IsReport = g.D.Dialect.IsReport c.args.dialect.now } in
-    let read : Readers = record { order = g.D.Dialect.order_read c.args.dialect.now; report = g.D.Dialect.report_read c.args.dialect.now } in
+    let w : Encoding = (g.D.Dialect.wording c.args.dialect.now).encoding in
+    let read : Decoding = (g.D.Dialect.wording c.args.dialect.now).decoding in
     let old : LinkedParts = linked_of c.args.self.now.session (g.K.Link.wire c.args.self.now.link) c.args.self.now.reader in
     let now : LinkedParts = linked_of c.hang_up.new.self.session (g.K.Link.wire c.hang_up.new.self.link) c.hang_up.new.self.reader in
     let on : is_connected old.session.phase ≡ true =
@@ -43,8 +42,8 @@ returns-in-Malformed g c =
 
 pub returns-in-OutOfMemory : goal.returns-in-OutOfMemory
 returns-in-OutOfMemory g c =
-    let w : Writers = record { IsOrder = g.D.Dialect.IsOrder c.args.dialect.now; IsReport = g.D.Dialect.IsReport c.args.dialect.now } in
-    let read : Readers = record { order = g.D.Dialect.order_read c.args.dialect.now; report = g.D.Dialect.report_read c.args.dialect.now } in
+    let w : Encoding = (g.D.Dialect.wording c.args.dialect.now).encoding in
+    let read : Decoding = (g.D.Dialect.wording c.args.dialect.now).decoding in
     let old : LinkedParts = linked_of c.args.self.now.session (g.K.Link.wire c.args.self.now.link) c.args.self.now.reader in
     let now : LinkedParts = linked_of c.break_off.new.self.session (g.K.Link.wire c.break_off.new.self.link) c.break_off.new.self.reader in
     moves_broken w read old now (c.break_off.ensures.session ∙ ap broken c.in-OutOfMemory.ensures.heard) c.break_off.ensures.wire

@@ -1,8 +1,8 @@
 use Rattle.std.proofs.Common.{◌≡◌, ℕ, List, true≢false, sym, subst, ◌∙◌}
 use Rattle.std.specs.Global.{Vec}
 use Rattle.dialect.specs.declared.message.Message.{Message}
-use Rattle.dialect.specs.Framed.{Writers, IsFramed}
-use Rattle.dialect.specs.Message.{Readers}
+use Rattle.dialect.specs.Framed.{IsFramed}
+use Rattle.dialect.specs.Wording.{Decoding, Encoding}
 use Rattle.dialect.specs.Outgoing.{alone}
 use Rattle.fix_text.specs.Reading.{Stream}
 use Rattle.fix_text.specs.Calls.{new_stream}
@@ -15,8 +15,8 @@ use Rattle.session_worker.proofs.linked.Linked.log_on.Goals as goal
 
 pub returns-in-Ok-clause-moves : goal.returns-in-Ok-clause-moves
 returns-in-Ok-clause-moves g c =
-    let w : Writers = record { IsOrder = g.D.Dialect.IsOrder c.args.dialect.now; IsReport = g.D.Dialect.IsReport c.args.dialect.now } in
-    let read : Readers = record { order = g.D.Dialect.order_read c.args.dialect.now; report = g.D.Dialect.report_read c.args.dialect.now } in
+    let w : Encoding = (g.D.Dialect.wording c.args.dialect.now).encoding in
+    let read : Decoding = (g.D.Dialect.wording c.args.dialect.now).decoding in
     let now : LinkedParts = linked_of c.write.new.self.session (g.K.Link.wire c.write.new.self.link) c.write.new.self.reader in
     let s = c.args.self.now.session in
     let b : Wire = g.K.Link.wire c.args.self.now.link in
@@ -32,8 +32,8 @@ returns-in-Ok-clause-spent g c = λ e. absurd (true≢false e)
 
 pub returns-in-Err-NumbersSpent-clause-moves : goal.returns-in-Err-NumbersSpent-clause-moves
 returns-in-Err-NumbersSpent-clause-moves g c =
-    let w : Writers = record { IsOrder = g.D.Dialect.IsOrder c.args.dialect.now; IsReport = g.D.Dialect.IsReport c.args.dialect.now } in
-    let read : Readers = record { order = g.D.Dialect.order_read c.args.dialect.now; report = g.D.Dialect.report_read c.args.dialect.now } in
+    let w : Encoding = (g.D.Dialect.wording c.args.dialect.now).encoding in
+    let read : Decoding = (g.D.Dialect.wording c.args.dialect.now).decoding in
     let now : LinkedParts = linked_of c.hang_up.new.self.session (g.K.Link.wire c.hang_up.new.self.link) c.hang_up.new.self.reader in
     let s = c.args.self.now.session in
     let b : Wire = g.K.Link.wire c.args.self.now.link in
@@ -45,16 +45,16 @@ returns-in-Err-NumbersSpent-clause-moves g c =
 
 pub returns-in-Err-NumbersSpent-clause-spent : goal.returns-in-Err-NumbersSpent-clause-spent
 returns-in-Err-NumbersSpent-clause-spent g c =
-    let w : Writers = record { IsOrder = g.D.Dialect.IsOrder c.args.dialect.now; IsReport = g.D.Dialect.IsReport c.args.dialect.now } in
-    let read : Readers = record { order = g.D.Dialect.order_read c.args.dialect.now; report = g.D.Dialect.report_read c.args.dialect.now } in
+    let w : Encoding = (g.D.Dialect.wording c.args.dialect.now).encoding in
+    let read : Decoding = (g.D.Dialect.wording c.args.dialect.now).decoding in
     let s = c.args.self.now.session in
     λ e. c.hang_up.ensures.session
     ∙ refused_connect (λ (m : Message) (bytes : Vec ℕ). IsFramed w c.now-stamp.result (alone m) bytes.items) s c.connect.new.self _ c.in-Err-NumbersSpent.ensures
 
 pub returns-in-Err-clause-moves : goal.returns-in-Err-clause-moves
 returns-in-Err-clause-moves g c =
-    let w : Writers = record { IsOrder = g.D.Dialect.IsOrder c.args.dialect.now; IsReport = g.D.Dialect.IsReport c.args.dialect.now } in
-    let read : Readers = record { order = g.D.Dialect.order_read c.args.dialect.now; report = g.D.Dialect.report_read c.args.dialect.now } in
+    let w : Encoding = (g.D.Dialect.wording c.args.dialect.now).encoding in
+    let read : Decoding = (g.D.Dialect.wording c.args.dialect.now).decoding in
     let now : LinkedParts = linked_of c.break_off.new.self.session (g.K.Link.wire c.break_off.new.self.link) c.break_off.new.self.reader in
     let s = c.args.self.now.session in
     let b : Wire = g.K.Link.wire c.args.self.now.link in

@@ -1,6 +1,5 @@
 use Rattle.std.proofs.Common.{refl}
-use Rattle.dialect.specs.Framed.{Writers}
-use Rattle.dialect.specs.Message.{Readers}
+use Rattle.dialect.specs.Wording.{Decoding, Encoding}
 use Rattle.session_core.specs.declared.session_call.SessionCall.TheVariants as call
 use Rattle.session_core.specs.Calling.{quiet}
 use Rattle.session_core.specs.Given.{IsStep}
@@ -15,16 +14,16 @@ returns-then-self g c = moves_none _ _ _
 
 pub returns-in-Ok : goal.returns-in-Ok
 returns-in-Ok g c =
-    let w : Writers = record { IsOrder = g.D.Dialect.IsOrder c.args.dialect.now; IsReport = g.D.Dialect.IsReport c.args.dialect.now } in
-    let read : Readers = record { order = g.D.Dialect.order_read c.args.dialect.now; report = g.D.Dialect.report_read c.args.dialect.now } in
+    let w : Encoding = (g.D.Dialect.wording c.args.dialect.now).encoding in
+    let read : Decoding = (g.D.Dialect.wording c.args.dialect.now).decoding in
     let old : LinkedParts = linked_of c.args.self.now.session (g.K.Link.wire c.args.self.now.link) c.args.self.now.reader in
     asks_step w read old.session c.quiet.new.self call.Quiet (quiet old.session) c.now-stamp.result c.in-Ok.step old.wire old.stream tt refl
     (λ said. tt) (λ said. refl) (quiet_on old.session) c.in-Ok.ensures
 
 pub returns-in-Err-OutOfMemory : goal.returns-in-Err-OutOfMemory
 returns-in-Err-OutOfMemory g c =
-    let w : Writers = record { IsOrder = g.D.Dialect.IsOrder c.args.dialect.now; IsReport = g.D.Dialect.IsReport c.args.dialect.now } in
-    let read : Readers = record { order = g.D.Dialect.order_read c.args.dialect.now; report = g.D.Dialect.report_read c.args.dialect.now } in
+    let w : Encoding = (g.D.Dialect.wording c.args.dialect.now).encoding in
+    let read : Decoding = (g.D.Dialect.wording c.args.dialect.now).decoding in
     let now : LinkedParts = linked_of c.break_off.new.self.session (g.K.Link.wire c.break_off.new.self.link) c.break_off.new.self.reader in
     let old : LinkedParts = linked_of c.args.self.now.session (g.K.Link.wire c.args.self.now.link) c.args.self.now.reader in
     let between : LinkedParts = linked_of c.quiet.new.self old.wire old.stream in
@@ -35,8 +34,8 @@ returns-in-Err-OutOfMemory g c =
 
 pub returns-in-Err : goal.returns-in-Err
 returns-in-Err g c =
-    let w : Writers = record { IsOrder = g.D.Dialect.IsOrder c.args.dialect.now; IsReport = g.D.Dialect.IsReport c.args.dialect.now } in
-    let read : Readers = record { order = g.D.Dialect.order_read c.args.dialect.now; report = g.D.Dialect.report_read c.args.dialect.now } in
+    let w : Encoding = (g.D.Dialect.wording c.args.dialect.now).encoding in
+    let read : Decoding = (g.D.Dialect.wording c.args.dialect.now).decoding in
     let old : LinkedParts = linked_of c.args.self.now.session (g.K.Link.wire c.args.self.now.link) c.args.self.now.reader in
     let now : LinkedParts = linked_of c.quiet.new.self old.wire old.stream in
     moves_refused (IsStep w c.now-stamp.result) w read old now call.Quiet (quiet old.session) c.in-Err.field-0 tt refl

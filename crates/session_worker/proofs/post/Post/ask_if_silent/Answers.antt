@@ -1,14 +1,13 @@
 use Rattle.std.proofs.Common.{refl}
-use Rattle.dialect.specs.Framed.{Writers}
-use Rattle.dialect.specs.Message.{Readers}
+use Rattle.dialect.specs.Wording.{Decoding, Encoding}
 use Rattle.session_worker.specs.Linking.{PostParts, post_of}
 use Rattle.session_worker.proofs.Doing.{does_moves, does_asked}
 use Rattle.session_worker.proofs.post.Post.ask_if_silent.Goals as goal
 
 pub returns-in-Some : goal.returns-in-Some
 returns-in-Some g c =
-    let w : Writers = record { IsOrder = g.D.Dialect.IsOrder c.args.dialect.now; IsReport = g.D.Dialect.IsReport c.args.dialect.now } in
-    let read : Readers = record { order = g.D.Dialect.order_read c.args.dialect.now; report = g.D.Dialect.report_read c.args.dialect.now } in
+    let w : Encoding = (g.D.Dialect.wording c.args.dialect.now).encoding in
+    let read : Decoding = (g.D.Dialect.wording c.args.dialect.now).decoding in
     let a : PostParts = post_of c.args.self.now.linked.session c.args.self.now.takings c.args.self.now.seat (g.K.Link.wire c.args.self.now.linked.link) c.args.self.now.linked.reader in
     let b : PostParts = post_of c.on_silence.new.self.session c.args.self.now.takings c.args.self.now.seat (g.K.Link.wire c.on_silence.new.self.link) c.on_silence.new.self.reader in
     let d : PostParts = post_of c.carry_out.new.self.linked.session c.carry_out.new.self.takings c.carry_out.new.self.seat (g.K.Link.wire c.carry_out.new.self.linked.link) c.carry_out.new.self.linked.reader in

@@ -1,6 +1,5 @@
 use Rattle.std.proofs.Common.{refl, sym, subst}
-use Rattle.dialect.specs.Framed.{Writers}
-use Rattle.dialect.specs.Message.{Readers}
+use Rattle.dialect.specs.Wording.{Decoding, Encoding}
 use Rattle.session_worker.specs.Events.{IsIdle}
 use Rattle.session_worker.specs.Linking.{PostParts, post_of}
 use Rattle.session_core.specs.declared.phase.Phase.TheVariants.{Down}
@@ -18,8 +17,8 @@ returns-then-connect g c = does_moves _ _ _ _ c.connect.ensures.moves refl refl
 
 pub returns : goal.returns
 returns g c =
-    let w : Writers = record { IsOrder = g.D.Dialect.IsOrder c.args.dialect.now; IsReport = g.D.Dialect.IsReport c.args.dialect.now } in
-    let read : Readers = record { order = g.D.Dialect.order_read c.args.dialect.now; report = g.D.Dialect.report_read c.args.dialect.now } in
+    let w : Encoding = (g.D.Dialect.wording c.args.dialect.now).encoding in
+    let read : Decoding = (g.D.Dialect.wording c.args.dialect.now).decoding in
     let a : PostParts = post_of c.args.self.now.linked.session c.args.self.now.takings c.args.self.now.seat (g.K.Link.wire c.args.self.now.linked.link) c.args.self.now.linked.reader in
     let d : PostParts = post_of c.connect.new.self.session c.args.self.now.takings c.args.self.now.seat (g.K.Link.wire c.connect.new.self.link) c.connect.new.self.reader in
     let e : PostParts = post_of c.drain.new.self.linked.session c.drain.new.self.takings c.drain.new.self.seat (g.K.Link.wire c.drain.new.self.linked.link) c.drain.new.self.linked.reader in

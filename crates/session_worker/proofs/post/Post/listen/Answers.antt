@@ -1,6 +1,5 @@
 use Rattle.std.proofs.Common.{refl}
-use Rattle.dialect.specs.Framed.{Writers}
-use Rattle.dialect.specs.Message.{Readers}
+use Rattle.dialect.specs.Wording.{Decoding, Encoding}
 use Rattle.session_worker.specs.Linking.{PostParts, post_of}
 use Rattle.session_worker.proofs.Calling.{moves_read}
 use Rattle.session_worker.proofs.Doing.{does_none, does_on, does_moves, does_asked}
@@ -14,8 +13,8 @@ loop-init g c = does_moves _ _ _ _ (moves_read _ _ _ _ c.read.ensures.session c.
 
 pub loop-preserved : goal.loop-preserved
 loop-preserved g c =
-    let w : Writers = record { IsOrder = g.D.Dialect.IsOrder c.args.dialect.now; IsReport = g.D.Dialect.IsReport c.args.dialect.now } in
-    let read : Readers = record { order = g.D.Dialect.order_read c.args.dialect.now; report = g.D.Dialect.report_read c.args.dialect.now } in
+    let w : Encoding = (g.D.Dialect.wording c.args.dialect.now).encoding in
+    let read : Decoding = (g.D.Dialect.wording c.args.dialect.now).decoding in
     let a : PostParts = post_of c.args.self.now.linked.session c.args.self.now.takings c.args.self.now.seat (g.K.Link.wire c.args.self.now.linked.link) c.args.self.now.linked.reader in
     let b : PostParts = post_of c.loop.self.linked.session c.loop.self.takings c.loop.self.seat (g.K.Link.wire c.loop.self.linked.link) c.loop.self.linked.reader in
     let d : PostParts = post_of c.hear.new.self.session c.loop.self.takings c.loop.self.seat (g.K.Link.wire c.hear.new.self.link) c.hear.new.self.reader in
@@ -24,8 +23,8 @@ loop-preserved g c =
 
 pub returns-in-None : goal.returns-in-None
 returns-in-None g c =
-    let w : Writers = record { IsOrder = g.D.Dialect.IsOrder c.args.dialect.now; IsReport = g.D.Dialect.IsReport c.args.dialect.now } in
-    let read : Readers = record { order = g.D.Dialect.order_read c.args.dialect.now; report = g.D.Dialect.report_read c.args.dialect.now } in
+    let w : Encoding = (g.D.Dialect.wording c.args.dialect.now).encoding in
+    let read : Decoding = (g.D.Dialect.wording c.args.dialect.now).decoding in
     let a : PostParts = post_of c.args.self.now.linked.session c.args.self.now.takings c.args.self.now.seat (g.K.Link.wire c.args.self.now.linked.link) c.args.self.now.linked.reader in
     let b : PostParts = post_of c.loop.self.linked.session c.loop.self.takings c.loop.self.seat (g.K.Link.wire c.loop.self.linked.link) c.loop.self.linked.reader in
     let d : PostParts = post_of c.hear.new.self.session c.loop.self.takings c.loop.self.seat (g.K.Link.wire c.hear.new.self.link) c.hear.new.self.reader in

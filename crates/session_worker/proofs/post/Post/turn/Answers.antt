@@ -1,6 +1,5 @@
 use Rattle.std.proofs.Common.{refl}
-use Rattle.dialect.specs.Framed.{Writers}
-use Rattle.dialect.specs.Message.{Readers}
+use Rattle.dialect.specs.Wording.{Decoding, Encoding}
 use Rattle.session_worker.specs.Linking.{PostParts, post_of}
 use Rattle.session_worker.proofs.Speech.{stays_same}
 use Rattle.session_worker.proofs.Doing.{does_on, does_same}
@@ -8,8 +7,8 @@ use Rattle.session_worker.proofs.post.Post.turn.Goals as goal
 
 pub returns : goal.returns
 returns g c =
-    let w : Writers = record { IsOrder = g.D.Dialect.IsOrder c.args.dialect.now; IsReport = g.D.Dialect.IsReport c.args.dialect.now } in
-    let read : Readers = record { order = g.D.Dialect.order_read c.args.dialect.now; report = g.D.Dialect.report_read c.args.dialect.now } in
+    let w : Encoding = (g.D.Dialect.wording c.args.dialect.now).encoding in
+    let read : Decoding = (g.D.Dialect.wording c.args.dialect.now).decoding in
     let a : PostParts = post_of c.args.self.now.linked.session c.args.self.now.takings c.args.self.now.seat (g.K.Link.wire c.args.self.now.linked.link) c.args.self.now.linked.reader in
     let b : PostParts = post_of c.count_turn.new.self.session c.args.self.now.takings c.args.self.now.seat (g.K.Link.wire c.count_turn.new.self.link) c.count_turn.new.self.reader in
     let at_begin : PostParts = post_of c.begin.new.self.linked.session c.begin.new.self.takings c.begin.new.self.seat (g.K.Link.wire c.begin.new.self.linked.link) c.begin.new.self.linked.reader in

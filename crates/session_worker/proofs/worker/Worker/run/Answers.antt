@@ -1,6 +1,5 @@
 use Rattle.std.proofs.Common.{◌≡◌, true≢false, [], ◌++◌, sym, ap, subst, ◌∙◌}
-use Rattle.dialect.specs.Framed.{Writers}
-use Rattle.dialect.specs.Message.{Readers}
+use Rattle.dialect.specs.Wording.{Decoding, Encoding}
 use Rattle.session_core.specs.declared.phase.Phase.TheVariants.{Closed}
 use Rattle.session_core.specs.Session.{SessionParts}
 use Rattle.session_worker.specs.Hearing.{Said, said_after}
@@ -14,8 +13,8 @@ use Rattle.session_worker.proofs.worker.Worker.run.Goals as goal
 
 pub returns : goal.returns
 returns g c =
-    let w : Writers = record { IsOrder = g.D.Dialect.IsOrder c.args.self.dialect; IsReport = g.D.Dialect.IsReport c.args.self.dialect } in
-    let read : Readers = record { order = g.D.Dialect.order_read c.args.self.dialect; report = g.D.Dialect.report_read c.args.self.dialect } in
+    let w : Encoding = (g.D.Dialect.wording c.args.self.dialect).encoding in
+    let read : Decoding = (g.D.Dialect.wording c.args.self.dialect).decoding in
     let a : PostParts = post_of c.args.self.post.linked.session c.args.self.post.takings c.args.self.post.seat (g.K.Link.wire c.args.self.post.linked.link) c.args.self.post.linked.reader in
     let b : PostParts = post_of c.turns-reason.new.self.linked.session c.turns-reason.new.self.takings c.turns-reason.new.self.seat (g.K.Link.wire c.turns-reason.new.self.linked.link) c.turns-reason.new.self.linked.reader in
     let d : PostParts = post_of c.finish.new.self.linked.session c.finish.new.self.takings c.finish.new.self.seat (g.K.Link.wire c.finish.new.self.linked.link) c.finish.new.self.linked.reader in

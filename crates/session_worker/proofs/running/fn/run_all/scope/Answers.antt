@@ -13,9 +13,9 @@ returns-in-Ok-join_promised g c =
     let many : length c.in-Ok-join_promised.ends.items ≡ length c.loop-worker.handles.items =
     omega (arith, joined.len, c.in-Ok-join_promised.ends.ok.0, c.loop-worker.handles.ok.0) in
     subst (λ workers. AllRan
-    (λ w. record { IsOrder = g.D.Dialect.IsOrder w.dialect; IsReport = g.D.Dialect.IsReport w.dialect })
+    (λ w. (g.D.Dialect.wording w.dialect).encoding)
     (λ w. record {
-      read = record { order = g.D.Dialect.order_read w.dialect; report = g.D.Dialect.report_read w.dialect };
+      read = (g.D.Dialect.wording w.dialect).decoding;
       parts = parts_of w.post.linked.session w.post.takings w.post.seat (g.K.Link.wire w.post.linked.link);
     }) workers left)
     (all_started (λ h. h.promise.0.value) c.loop-worker.handles.items c.loop-worker.workers.items c.from-workers.result.items

@@ -1,0 +1,40 @@
+//! An input that fails where a file wouldn't.
+
+use replay_command::replay_run;
+use std::io::{self, Read};
+
+/// An input that gives a first line, and then fails.
+#[derive(Drop)]
+struct Broken {
+    is_read: bool,
+}
+
+impl Read for Broken {
+    fn read(&mut self, buf: &mut [u8]) -> io::Result<usize> {
+        if self.is_read {
+            return Err(io::Error::from(io::ErrorKind::BrokenPipe));
+        }
+        self.is_read = true;
+        let line = b"venues 1000 plain\n";
+        let count = line.len().min(buf.len());
+        buf[..count].copy_from_slice(&line[..count]);
+        Ok(count)
+    }
+}
+
+#[test]
+fn an_input_that_cannot_be_read_is_told(rt: HostRuntime) {
+    let alloc = rt.alloc();
+    let mut out = Vec::new(alloc);
+    let mut err = Vec::new(alloc);
+    let status = replay_run(
+        alloc,
+        &["replay"],
+        &mut Broken { is_read: false },
+        &mut out,
+        &mut err,
+    );
+    assert_eq!(rt; status, 4);
+    assert_eq!(rt; err.as_slice(), &b"dispatch: read failed\n"[..]);
+    assert!(rt; out.is_empty());
+}

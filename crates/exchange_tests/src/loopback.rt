@@ -1,0 +1,138 @@
+//! Servers over loopback, and a session over TCP.
+
+use crate::client::{Client, Told};
+use crate::support::{Stopped, TRADES_6, end, stopped_clock, worked_leg};
+use dialect::Plain;
+use exchange_sim::{Acceptor, Plan, serve, serve_raw};
+use link::{Got, Link, LinkFault, TcpLink};
+use std::alloc::{AllocError, Global};
+use std::net::{Net, SocketAddr, TcpListener, TcpStream};
+use std::sync::atomic::{AtomicBool, Ordering};
+use std::test::Fail;
+use std::thread;
+use std::thread::Threads;
+use std::time::Clock;
+
+/// An exchange of this plan.
+fn exchange_of(alloc: Global, plan: Plan) -> Result<Acceptor<Plain, Stopped>, Fail> {
+    Ok(Acceptor::new(alloc, Plain, stopped_clock()?, end(b"B", b"A")?, plan))
+}
+
+/// What a session over TCP is told of its leg. Then the day is over.
+fn told<N: Net>(
+    alloc: Global,
+    net: &N,
+    addr: SocketAddr,
+    is_over: &AtomicBool,
+) -> Result<Told, Fail> {
+    let told = played(alloc, net, addr);
+    is_over.store(true, Ordering::SeqCst);
+    told
+}
+
+fn played<N: Net>(alloc: Global, net: &N, addr: SocketAddr) -> Result<Told, Fail> {
+    let mut client = Client::new(alloc, TcpLink::new(net, addr))?;
+    client.log_on(1_000)?;
+    client.send(&worked_leg()?)?;
+    client.finish(1_000)?;
+    let _ = client.link.shut();
+    Ok(client.told)
+}
+
+/// What a session over TCP is told of its leg by an exchange in another thread, which cuts its connection behind this
+/// message.
+fn over_tcp<R: Net<Listener = TcpListener, Stream = TcpStream> + Clock + Threads + Sync>(
+    rt: &R,
+    alloc: Global,
+    cut_after: u64,
+) -> Result<Told, Fail> {
+    let listener = TcpListener::bind(rt, "127.0.0.1:0")?;
+    let addr = listener.local_addr()?;
+    let plan = Plan {
+        cut_after,
+        ..TRADES_6
+    };
+    let mut exchange = exchange_of(alloc, plan)?;
+    let is_over = AtomicBool::new(false);
+    let (served, told) = thread::join(
+        rt,
+        || serve(rt, &listener, &mut exchange, &is_over, u64::MAX),
+        || told(alloc, rt, addr, &is_over),
+    );
+    let told = told?;
+    served?;
+    Ok(told)
+}
+
+#[test]
+fn a_leg_over_tcp(rt: HostRuntime) -> Result<(), Fail> {
+    for cut_after in [0, 3] {
+        let Told {
+            accepted,
+            cancelled,
+            filled,
+            withdrawn: _,
+        } = over_tcp(&rt, rt.alloc(), cut_after)?;
+        assert_eq!(rt; (accepted, filled, cancelled), (1, 6, 1), "{cut_after}");
+    }
+    Ok(())
+}
+
+#[test]
+fn a_server_with_no_client(rt: HostRuntime) -> Result<(), Fail> {
+    let listener = TcpListener::bind(&rt, "127.0.0.1:0")?;
+    let mut exchange = exchange_of(rt.alloc(), TRADES_6)?;
+    for (is_over, turn_limit) in [(false, 5), (true, u64::MAX)] {
+        let is_over = AtomicBool::new(is_over);
+        let served = serve(&rt, &listener, &mut exchange, &is_over, turn_limit);
+        assert_eq!(rt; served, Ok(()));
+    }
+    assert!(rt; !serve_raw(&rt, &listener, &[], 5));
+    Ok(())
+}
+
+/// What a client is sent that writes one byte, and leaves once it has so many.
+fn sent<N: Net>(
+    alloc: Global,
+    net: &N,
+    addr: SocketAddr,
+    count: usize,
+) -> Result<Vec<u8>, AllocError> {
+    let mut link = TcpLink::new(net, addr);
+    let mut bytes = Vec::new(alloc);
+    let mut buf = [0; 3];
+    if link.dial().is_err() || link.write(b"x").is_err() {
+        return Ok(bytes);
+    }
+    for _turn in 0..1_000 {
+        if bytes.len() >= count {
+            break;
+        }
+        match link.read(&mut buf) {
+            Ok(Got::Bytes(count)) => bytes.extend_from_slice(&buf[..count])?,
+            Ok(Got::Nothing) => {}
+            Ok(Got::End) | Err(_) => break,
+        }
+    }
+    Ok(bytes)
+}
+
+#[test]
+fn a_server_that_keeps_no_rules(rt: HostRuntime) -> Result<(), Fail> {
+    let alloc = rt.alloc();
+    let listener = TcpListener::bind(&rt, "127.0.0.1:0")?;
+    let addr = listener.local_addr()?;
+    let frames = vec![in alloc;
+        Vec::from_slice(alloc, b"8=FIX")?,
+        Vec::new(alloc),
+        Vec::from_slice(alloc, b".4.4")?,
+    ]?;
+    let (served, sent) = thread::join(
+        &rt,
+        || serve_raw(&rt, &listener, &frames, 1_000),
+        || sent(alloc, &rt, addr, 9),
+    );
+    assert!(rt; served);
+    assert_eq!(rt; sent?.as_slice(), b"8=FIX.4.4".as_slice());
+    Ok(())
+}

@@ -1,0 +1,5 @@
+//! Tests of whole days over loopback.
+#![tactic(auto)]
+
+#[cfg(test)]
+mod days;

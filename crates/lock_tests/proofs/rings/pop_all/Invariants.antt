@@ -1,0 +1,5 @@
+use Rattle.std.proofs.Common.{◌≡◌}
+use Rattle.lock_tests.proofs.rings.pop_all.Given as goal
+
+abbrev pub invariant-loop-ordinal : goal.invariant-loop-ordinal
+invariant-loop-ordinal g l = l.drain.table ≡ l.fn.drain.table

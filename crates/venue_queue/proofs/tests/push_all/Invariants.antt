@@ -1,5 +1,0 @@
-use Rattle.std.proofs.Common.{◌≡◌}
-use Rattle.venue_queue.proofs.tests.push_all.Given as goal
-
-abbrev pub invariant-loop-ordinal : goal.invariant-loop-ordinal
-invariant-loop-ordinal g l = l.feed.table ≡ l.fn.feed.table
