@@ -2,21 +2,25 @@
 
 ghost use Rattle.std.specs.Prelude.{◌<◌, length, IfOk};
 
-use crate::day_fault::DayFault;
 use crate::frame::Frame;
 use crate::standing::Standing;
 use crate::turn::Turn;
+use dialect::Note;
 use exchange_core::Exchange;
-use fix_tags::{CompId, Config, Stamp};
-use leg::VenueId;
+use fix_tags::Stamp;
+use leg::{PlacedLeg, VenueId};
 use session_core::Session;
-use share_ledger::{Book, BookFault};
+use share_ledger::Book;
 use std::alloc::Global;
 use std::fmt::Write;
-use sweep_release::{Desk, ReleaseFault};
+use sweep_release::Desk;
+use trial::{TrialFault, far_end, near_end, stamp};
 
 /// The most frames of the day, each way.
 const MAX_FRAMES: usize = 64;
+
+/// The number that no message of the session has.
+const MAX_NUMBER: u64 = 1_000;
 
 /// A desk, a book, a session with one exchange, that exchange, and the frames between the two.
 #[derive(Drop)]
@@ -29,68 +33,49 @@ pub struct Day {
     pub exchange: Exchange,
     pub to_exchange: Vec<Frame>,
     pub from_exchange: Vec<Frame>,
-}
-
-/// One end of the session.
-fn end(me: &[u8], peer: &[u8]) -> Option<Config> {
-    Config::new(CompId::new(me)?, CompId::new(peer)?, 30, 1000)
-}
-
-/// A desk of one venue, had at the second try where the first is refused memory.
-fn new_desk(alloc: Global) -> Result<Desk, DayFault> {
-    match Desk::new(alloc, 1) {
-        Err(ReleaseFault::OutOfMemory) => Ok(Desk::new(alloc, 1)?),
-        answer => Ok(answer?),
-    }
-}
-
-/// A book of one venue, had at the second try where the first is refused memory.
-fn new_book(alloc: Global) -> Result<Book, DayFault> {
-    match Book::new(alloc, 1) {
-        Err(BookFault::OutOfMemory) => Ok(Book::new(alloc, 1)?),
-        answer => Ok(answer?),
-    }
-}
-
-/// Room for the frames one way, had at the second try where the first is refused.
-fn room_for_frames(alloc: Global) -> Result<Vec<Frame>, DayFault> {
-    match Vec::with_capacity(alloc, MAX_FRAMES) {
-        Err(_) => Ok(Vec::with_capacity(alloc, MAX_FRAMES)?),
-        Ok(frames) => Ok(frames),
-    }
+    /// The leg that was taken from the desk and is to be sent.
+    pub taken: Option<PlacedLeg>,
+    /// The note that came and is to be booked.
+    pub note: Option<Note>,
 }
 
 impl Day {
-    /// The day before its first turn.
-    pub fn begin(alloc: Global) -> Result<Day, DayFault> {
-        let near = end(b"A", b"B").ok_or(DayFault::Impossible)?;
-        let far = end(b"B", b"A").ok_or(DayFault::Impossible)?;
-        let stamp = Stamp::new(2024, 1, 2, 14, 30, 0, 0).ok_or(DayFault::Impossible)?;
+    fn begin_once(alloc: Global) -> Result<Day, TrialFault> {
         Ok(Day {
             alloc,
-            stamp,
-            desk: new_desk(alloc)?,
-            book: new_book(alloc)?,
-            session: Session::new(alloc, near),
-            exchange: Exchange::new(alloc, far),
-            to_exchange: room_for_frames(alloc)?,
-            from_exchange: room_for_frames(alloc)?,
+            stamp: stamp()?,
+            desk: Desk::new(alloc, 1)?,
+            book: Book::new(alloc, 1)?,
+            session: Session::new(alloc, near_end(MAX_NUMBER)?),
+            exchange: Exchange::new(alloc, far_end(MAX_NUMBER)?),
+            to_exchange: Vec::with_capacity(alloc, MAX_FRAMES)?,
+            from_exchange: Vec::with_capacity(alloc, MAX_FRAMES)?,
+            taken: None,
+            note: None,
         })
     }
 
+    /// The day before its first turn, had at the second try where the first is refused memory.
+    pub fn begin(alloc: Global) -> Result<Day, TrialFault> {
+        match Day::begin_once(alloc) {
+            Err(TrialFault::OutOfMemory) => Day::begin_once(alloc),
+            day => day,
+        }
+    }
+
     /// The one venue.
-    pub fn venue(&self) -> Result<VenueId, DayFault>
+    pub fn venue(&self) -> Result<VenueId, TrialFault>
         ensures { IfOk result (λ venue. venue < length self.now.desk.desk.venues) }
     {
         let venue = VenueId::new(0)?;
         if self.desk.venues() == 0 {
-            return Err(DayFault::Impossible);
+            return Err(TrialFault::Missing);
         }
         Ok(venue)
     }
 
     /// How all of it stands.
-    pub fn standing(&self) -> Result<Standing, DayFault> {
+    fn standing(&self) -> Result<Standing, TrialFault> {
         let venue = self.venue()?;
         Ok(Standing {
             phase: self.session.phase(),
@@ -116,16 +101,41 @@ impl Day {
         })
     }
 
-    /// Refuses a day that stands otherwise than before a call that was refused memory.
-    pub fn is_still(&self, before: &Standing) -> Result<(), DayFault> {
-        if self.standing()? != *before {
-            return Err(DayFault::Changed);
+    /// A call, which is made again where it is refused memory: by then it must have changed nothing.
+    fn call_twice(&mut self, turn: &Turn) -> Result<(), TrialFault> {
+        let before = self.standing()?;
+        match self.call(turn) {
+            Err(TrialFault::OutOfMemory) => {
+                if self.standing()? != before {
+                    return Err(TrialFault::Changed);
+                }
+                self.call(turn)
+            }
+            answer => answer,
+        }
+    }
+
+    /// A turn: its call, and then the sending of the leg that it took, or the booking of the note that it brought.
+    pub fn take_turn(&mut self, turn: &Turn) -> Result<(), TrialFault> {
+        self.call_twice(turn)?;
+        if self.taken.is_some() {
+            self.call_twice(&Turn::Send)?;
+        }
+        if self.note.is_some() {
+            self.call_twice(&Turn::Book)?;
         }
         Ok(())
     }
 
-    /// A turn, whose calls are made again where they are refused memory.
-    pub fn take_turn(&mut self, turn: &Turn) -> Result<(), DayFault> {
+    /// Adds the line of a turn.
+    pub fn tell(&self, turn: &Turn, text: &mut String) -> Result<(), TrialFault> {
+        let standing = self.standing()?;
+        writeln!(text, "{turn}: {standing}")?;
+        Ok(())
+    }
+
+    /// The call of a turn.
+    fn call(&mut self, turn: &Turn) -> Result<(), TrialFault> {
         match turn {
             Turn::Connect => self.connect(),
             Turn::ToExchange(frame) => self.to_exchange(*frame),
@@ -136,6 +146,8 @@ impl Day {
             Turn::Place(orders) => self.place(orders),
             Turn::Take => self.take(),
             Turn::Drop => self.drop_next(),
+            Turn::Send => self.send(),
+            Turn::Book => self.book(),
             Turn::Trade { order, shares } => self.trade(*order, *shares),
             Turn::CancelRest(order) => self.cancel_rest(*order),
             Turn::Reject(order) => self.reject(*order),
@@ -147,12 +159,5 @@ impl Day {
             Turn::ExchangeBreak => self.exchange_break(),
             Turn::Close => self.close(),
         }
-    }
-
-    /// Adds the line of a turn.
-    pub fn tell(&self, turn: &Turn, text: &mut String) -> Result<(), DayFault> {
-        let standing = self.standing()?;
-        writeln!(text, "{turn}: {standing}")?;
-        Ok(())
     }
 }

@@ -5,7 +5,6 @@
 #![tactic(auto)]
 
 mod day;
-mod day_fault;
 mod delivery;
 mod desk_calls;
 mod exchange_calls;
@@ -15,26 +14,18 @@ mod standing;
 mod turn;
 
 use crate::day::Day;
-use crate::day_fault::DayFault;
 use crate::turn::DAY;
 use std::alloc::Global;
 use std::io::Write;
 use std::process::ExitCode;
+use trial::{TrialFault, room_for_text, status_of};
 
 /// The most bytes that the day prints.
 const MAX_TEXT: usize = 65_536;
 
-/// Room for what is printed, had at the second try where the first is refused.
-fn room_for_text(alloc: Global) -> Result<String, DayFault> {
-    match String::with_capacity(alloc, MAX_TEXT) {
-        Err(_) => Ok(String::with_capacity(alloc, MAX_TEXT)?),
-        Ok(text) => Ok(text),
-    }
-}
-
 /// The day, turn by turn, as lines.
-fn told(alloc: Global) -> Result<String, DayFault> {
-    let mut text = room_for_text(alloc)?;
+fn told(alloc: Global) -> Result<String, TrialFault> {
+    let mut text = room_for_text(alloc, MAX_TEXT)?;
     let mut day = Day::begin(alloc)?;
     for turn in &DAY {
         day.take_turn(turn)?;
@@ -43,22 +34,13 @@ fn told(alloc: Global) -> Result<String, DayFault> {
     Ok(text)
 }
 
-/// Tells the day, or why it stopped.
-fn run<W: Write, E: Write>(alloc: Global, out: &mut W, err: &mut E) -> u8 {
-    match told(alloc) {
-        Ok(text) => match out.write_all(text.as_bytes()) {
-            Ok(()) => 0,
-            Err(_) => 4,
-        },
-        Err(fault) => {
-            let _ = writeln!(err, "refusals: {fault}");
-            1
-        }
-    }
+/// Tells the day.
+fn tell<W: Write>(alloc: Global, out: &mut W) -> Result<(), TrialFault> {
+    out.write_all(told(alloc)?.as_bytes())?;
+    Ok(())
 }
 
 fn main(rt: HostRuntime) -> ExitCode {
-    let mut out = rt.stdout();
-    let mut err = rt.stderr();
-    ExitCode::from(run(rt.alloc(), &mut out, &mut err))
+    let told = tell(rt.alloc(), &mut rt.stdout());
+    ExitCode::from(status_of("refusals", told, &mut rt.stderr()))
 }

@@ -4,6 +4,7 @@ use leg::Totals;
 use session_core::Phase;
 use std::fmt;
 use sweep_release::Gate;
+use trial::{Parts, gate_name};
 
 /// How the two ends, the desk and the book stand, as far as their questions tell.
 #[derive(Clone, Copy, Debug, PartialEq, Eq)]
@@ -43,15 +44,6 @@ fn phase_name(phase: Phase) -> &'static str {
     }
 }
 
-/// The name of a gate's position.
-fn gate_name(gate: Gate) -> &'static str {
-    match gate {
-        Gate::Up => "up",
-        Gate::Down => "down",
-        Gate::Shut => "shut",
-    }
-}
-
 impl fmt::Display for Standing {
     fn fmt<W: fmt::Write>(&self, f: &mut fmt::Formatter<W>) -> fmt::Result {
         let phase = phase_name(self.phase);
@@ -87,15 +79,8 @@ impl fmt::Display for Standing {
         )?;
         write!(f, "book resolved {resolved} entries {book_entries}")?;
         for totals in self.sweeps.iter().flatten() {
-            let filled = totals.filled;
-            let busted = totals.busted;
-            let cancelled = totals.cancelled;
-            let withdrawn = totals.withdrawn;
-            let still_open = totals.still_open;
-            write!(
-                f,
-                "; filled {filled} busted {busted} cancelled {cancelled} withdrawn {withdrawn} open {still_open}"
-            )?;
+            let parts = Parts(*totals);
+            write!(f, ";{parts}")?;
         }
         Ok(())
     }

@@ -1,16 +1,7 @@
 //! The turns of the day.
 
 use std::fmt;
-
-/// An order of a sweep.
-#[derive(Clone, Copy, Debug)]
-pub struct SweepOrder {
-    pub root: &'static [u8],
-    pub suffix: &'static [u8],
-    pub shares: u64,
-    /// In ten-thousandths of a dollar.
-    pub price: u64,
-}
+use trial::{Order, TEN};
 
 /// A turn of the day. Frames, orders and trades are counted from 1, in the order in which they were made.
 #[derive(Clone, Copy, Debug)]
@@ -18,15 +9,20 @@ pub enum Turn {
     Connect,
     /// The frame of this count comes to the exchange.
     ToExchange(usize),
-    /// The frame of this count comes to the session, and the book takes what it says.
+    /// The frame of this count comes to the session. Behind it the book takes what it says.
     ToSession(usize),
     /// The frame of this count comes to the session, the book doesn't take the note, and the connection breaks.
     Unconfirmed(usize),
     GateUp,
     GateDown,
-    Place(&'static [SweepOrder]),
+    Place(&'static [Order]),
+    /// The next leg is taken from the desk. Behind it the leg is sent.
     Take,
     Drop,
+    /// The leg that was taken is sent.
+    Send,
+    /// The note that came is booked.
+    Book,
     Trade { order: usize, shares: u64 },
     CancelRest(usize),
     Reject(usize),
@@ -51,6 +47,8 @@ impl fmt::Display for Turn {
             Turn::Place(_) => f.write_str("place"),
             Turn::Take => f.write_str("take"),
             Turn::Drop => f.write_str("drop"),
+            Turn::Send => f.write_str("send"),
+            Turn::Book => f.write_str("book"),
             Turn::Trade { order, shares } => write!(f, "trade {order} {shares}"),
             Turn::CancelRest(order) => write!(f, "cancel {order}"),
             Turn::Reject(order) => write!(f, "reject {order}"),
@@ -65,43 +63,32 @@ impl fmt::Display for Turn {
     }
 }
 
+/// An order of BRK.B at 10.25 dollars.
+const BRK_B: Order = Order {
+    root: b"BRK",
+    suffix: b"B",
+    price: 102_500,
+    ..TEN
+};
+
 /// The sweep of which two legs are taken and one is dropped.
-const FIRST: [SweepOrder; 3] = [
-    SweepOrder {
-        root: b"BRK",
-        suffix: b"B",
+const FIRST: [Order; 3] = [
+    Order {
         shares: 100,
-        price: 102_500,
+        ..BRK_B
     },
-    SweepOrder {
-        root: b"BRK",
-        suffix: b"B",
+    Order {
         shares: 200,
-        price: 102_500,
+        ..BRK_B
     },
-    SweepOrder {
-        root: b"IBM",
-        suffix: b"",
-        shares: 300,
-        price: 100_000,
-    },
+    Order { shares: 300, ..TEN },
 ];
 
 /// The sweep of the second connection.
-const SECOND: [SweepOrder; 1] = [SweepOrder {
-    root: b"IBM",
-    suffix: b"",
-    shares: 50,
-    price: 100_000,
-}];
+const SECOND: [Order; 1] = [Order { shares: 50, ..TEN }];
 
 /// The sweep before the close.
-const THIRD: [SweepOrder; 1] = [SweepOrder {
-    root: b"IBM",
-    suffix: b"",
-    shares: 10,
-    price: 100_000,
-}];
+const THIRD: [Order; 1] = [TEN];
 
 /// The day: two legs are in doubt when the connection breaks, of which one was accepted; the next connection settles
 /// both; a trade isn't booked before the connection breaks again, and is sent again; then trades, cancels, a bust, a

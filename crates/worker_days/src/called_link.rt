@@ -2,8 +2,8 @@
 
 ghost use Rattle.std.specs.Prelude.{◌≡◌};
 
-use crate::caller::Caller;
 use crate::course::{Course, Shuts};
+use day_trial::Caller;
 use leg::VenueId;
 use link::{Got, Link, LinkFault};
 use release_lock::Run;
@@ -68,6 +68,9 @@ impl<'a, 'c, R: Wait, K: Link, L: Run, M: Ledger> CalledLink<'a, 'c, R, K, L, M>
                 if self.caller.release(orders) {
                     self.placed += 1;
                     self.waits = self.course.pause;
+                    if self.placed == self.course.sweeps.len() {
+                        self.shut_if(Shuts::WithLastSweep);
+                    }
                 }
             }
             None => self.shut_if(Shuts::AfterSweeps),

@@ -1,7 +1,7 @@
 //! How the day of one worker goes.
 
-use crate::order::Order;
 use session_worker::Pace;
+use trial::Order;
 
 /// How the day of one worker goes.
 #[derive(Clone, Copy, Debug)]
@@ -22,6 +22,8 @@ pub struct Course<'c> {
 /// When the caller shuts the gate.
 #[derive(Clone, Copy, Debug, PartialEq, Eq)]
 pub enum Shuts {
+    /// Together with the release of the last sweep.
+    WithLastSweep,
     /// Behind the last sweep.
     AfterSweeps,
     /// When a connection is given up.

@@ -1,28 +1,24 @@
 //! The day of one worker.
 
-ghost use Rattle.std.specs.Prelude.{◌≡◌, length, map};
-ghost use Rattle.std.specs.List.{All};
-ghost use Rattle.release_lock.specs.Queues.{IsFresh};
-
 use crate::called_link::CalledLink;
-use crate::caller::{Caller, CallerEnd};
 use crate::course::Course;
-use crate::day_fault::DayFault;
-use crate::ending::outcome;
-use crate::opening::worker_of;
-use crate::order::Order;
-use crate::outcome::Outcome;
-use crate::shown::Shown;
+use day_trial::{Caller, CallerEnd, DayFault, Outcome, Shown, day_outcome, worker_of};
 use exec_collector::Collector;
+use leg::Totals;
 use link::Link;
-use release_lock::{CallerSeat, Opened, ReleaseLock, Run, VenueDrain, rings};
+use release_lock::{CallerSeat, ReleaseLock, Run};
 use session_worker::WorkerEnd;
 use std::alloc::Global;
-use std::collections::VecDeque;
-use std::marker::Brand;
 use std::sync::Wait;
-use std::sync::ledger::{Blank, Ledger};
-use venue_queue::{Drain, Feed};
+use std::sync::ledger::Ledger;
+use trial::{Floor, Order, Post, Trial, TrialFault, on_floor};
+
+/// What became of a day, and what had become of the sweep before the last when that was released.
+#[derive(Drop)]
+pub struct Played {
+    pub outcome: Outcome,
+    pub before_last: Option<Totals>,
+}
 
 /// A caller that has placed the early sweep of a course, if it has orders: the gate is up for that.
 fn early_caller<'a, R: Wait, L: Run, M: Ledger>(
@@ -31,14 +27,14 @@ fn early_caller<'a, R: Wait, L: Run, M: Ledger>(
     lock: &'a ReleaseLock<L>,
     collector: &'a Collector<M>,
     seat: CallerSeat<L>,
-    drain: &VenueDrain<L>,
+    post: &Post<L, M>,
     early: &[Order],
-) -> Result<Caller<'a, R, L, M>, DayFault> {
+) -> Result<Caller<'a, R, L, M>, TrialFault> {
     let mut caller = Caller::new(rt, alloc, lock, collector, seat);
     if !early.is_empty() {
-        lock.raise(rt, drain).ok().ok_or(DayFault::OutOfMemory)?;
+        lock.raise(rt, &post.drain)?;
         if !caller.release(early) {
-            return Err(DayFault::OutOfMemory);
+            return Err(TrialFault::OutOfMemory);
         }
     }
     Ok(caller)
@@ -66,70 +62,89 @@ fn parted<R: Wait, K: Link, L: Run, M: Ledger>(
     (end, caller.into_end())
 }
 
-/// The day at a lock and a collector over these rings.
-fn play_at<K: Shown, L: Run, M: Ledger>(
-    rt: &impl Wait,
-    alloc: Global,
-    callers: Blank,
-    workers: Blank,
-    rings: VecDeque<(Feed, Drain)>,
-    link: K,
-    course: Course<'_>,
-) -> Result<Outcome, DayFault>
-    requires callers { (callers.name ≡ L.name) × (callers.parts ≡ L.parts) × (L.parts ≡ 1024) }
-    requires workers { (workers.name ≡ M.name) × (workers.parts ≡ M.parts) × (M.parts ≡ 1) }
-    requires rings { (length rings.items ≡ 1) × All IsFresh rings.items }
-    requires queues { L.queues ≡ map (λ ends. ends.0.table) rings.items }
-{
-    let opened = ReleaseLock::<L>::new(alloc, 1, callers, rings);
-    let Opened { lock, seat, drains } = opened.ok().ok_or(DayFault::OutOfMemory)?;
-    let made = Collector::<M>::new(alloc, 1, workers);
-    let (collector, seats) = made.ok().ok_or(DayFault::OutOfMemory)?;
-    let (mut drains, mut seats) = (drains, seats);
-    let drain = drains.pop().ok_or(DayFault::Impossible)?;
-    let worker_seat = seats.pop().ok_or(DayFault::Impossible)?;
-    let caller = early_caller(rt, alloc, &lock, &collector, seat, &drain, course.early)?;
-    let link = CalledLink::new(link, caller, drain.venue(), course);
-    let worker = worker_of(
-        alloc,
-        link,
-        course.max_number,
-        course.pace,
-        worker_seat,
-        drain,
-    )?;
-    let (end, caller) = parted(worker.run(rt, &lock, &collector, course.turn_limit));
-    let CallerEnd { seat, receipts } = caller;
-    let mut callers = Vec::with_capacity(alloc, 1)?;
-    callers.push(seat)?;
-    let mut ends = Vec::with_capacity(alloc, 1)?;
-    ends.push(end)?;
-    outcome(
-        rt,
-        alloc,
-        lock,
-        collector,
-        callers,
-        receipts.as_slice(),
-        ends,
-    )
+/// A list of one thing.
+fn list_of<T: Drop>(alloc: Global, one: T) -> Result<Vec<T>, DayFault> {
+    let mut list = Vec::with_capacity(alloc, 1)?;
+    list.push(one)?;
+    Ok(list)
 }
 
-/// The day of one worker over a link, as the course goes, and what became of it.
+/// What becomes of the day of a worker and a caller that have ended.
+fn day_end<K: Shown, L: Run, M: Ledger>(
+    rt: &impl Wait,
+    alloc: Global,
+    lock: ReleaseLock<L>,
+    collector: Collector<M>,
+    caller: CallerEnd<L>,
+    end: WorkerEnd<K, L, M>,
+) -> Result<Played, DayFault> {
+    let CallerEnd {
+        seat,
+        receipts,
+        before_last,
+    } = caller;
+    let seats = list_of(alloc, seat)?;
+    let ends = list_of(alloc, end)?;
+    let outcome = day_outcome(rt, alloc, lock, collector, seats, receipts.as_slice(), ends)?;
+    Ok(Played {
+        outcome,
+        before_last,
+    })
+}
+
+/// A day that is to be played.
+#[derive(Drop)]
+struct Playing<'c, K: Shown> {
+    alloc: Global,
+    link: K,
+    course: Course<'c>,
+}
+
+impl<'c, R: Wait, K: Shown> Trial<R> for Playing<'c, K> {
+    type End = Result<Played, DayFault>;
+
+    fn run<L: Run, M: Ledger>(self, rt: &R, floor: Floor<L, M>) -> Result<Played, DayFault> {
+        let Playing {
+            alloc,
+            link,
+            course,
+        } = self;
+        let Floor {
+            lock,
+            collector,
+            seat,
+            mut posts,
+        } = floor;
+        let post = posts.pop().ok_or(TrialFault::Missing)?;
+        let caller = early_caller(rt, alloc, &lock, &collector, seat, &post, course.early)?;
+        let link = CalledLink::new(link, caller, post.drain.venue(), course);
+        let worker = worker_of(alloc, link, course.max_number, course.pace, post)?;
+        let (end, caller) = parted(worker.run(rt, &lock, &collector, course.turn_limit));
+        day_end(rt, alloc, lock, collector, caller, end)
+    }
+}
+
+/// The day of one worker over a link, as the course goes.
+pub fn play_noted<K: Shown>(
+    rt: &impl Wait,
+    alloc: Global,
+    link: K,
+    course: Course<'_>,
+) -> Result<Played, DayFault> {
+    let playing = Playing {
+        alloc,
+        link,
+        course,
+    };
+    on_floor(rt, alloc, 1, playing)?
+}
+
+/// What became of the day of one worker over a link, as the course goes.
 pub fn play<K: Shown>(
     rt: &impl Wait,
     alloc: Global,
     link: K,
     course: Course<'_>,
 ) -> Result<Outcome, DayFault> {
-    let rings = rings(alloc, 1)?;
-    play_at::<K, Brand, Brand>(
-        rt,
-        alloc,
-        Blank::new(1024),
-        Blank::new(1),
-        rings,
-        link,
-        course,
-    )
+    Ok(play_noted(rt, alloc, link, course)?.outcome)
 }

@@ -1,74 +1,94 @@
-//! The program `worker_days`: the day of a worker in memory, with a lost message and a connection that is cut.
+//! The program `worker_days`: days of one worker, each with something that fails, and the audits of a day of two.
 //!
-//! It prints that the shares of each sweep add up, how many legs the worker took and why it ended, and that the audit is
-//! well; else it stops with what is wrong. `checks/built/worker_days` runs it with its first growth of memory refused, then
-//! its second, and so on: a worker that is refused memory gives up its connection, and these lines stay the same.
+//! It prints what became of each day, whose parts it has compared: the shares of each sweep, the legs and trades of the
+//! venue, and the audit; else it stops with what is wrong. With the word `refused` it prints only what no fault may
+//! change on the worked day, with a lost message and a connection that is cut: `checks/built/worker_days` runs it so
+//! with its first growth of memory refused, then its second, and so on: a worker that is refused memory gives up its
+//! connection, and these lines stay the same.
 #![tactic(auto)]
 
+mod audits;
 mod called_link;
-mod caller;
 mod course;
 mod day;
-mod day_fault;
-mod ending;
-mod opening;
-mod order;
-mod outcome;
-mod shown;
-mod stopped_clock;
-mod sums;
-#[cfg(test)]
-mod tests;
-mod venue_checks;
+mod hostile;
+mod rows;
+mod scripted;
 mod worked;
 
+use crate::audits::tell_audits;
 use crate::day::play;
-use crate::day_fault::DayFault;
-use crate::opening::memory_link;
-use crate::worked::{COURSE, PLAN};
+use crate::hostile::tell_hostile;
+use crate::rows::{ROWS, tell_failed_calls};
+use crate::scripted::tell_scripted;
+use crate::worked::{COURSE, LOSES};
+use day_trial::{DayFault, memory_link};
 use exchange_sim::MemoryPlan;
 use std::alloc::Global;
-use std::fmt::Write as _;
 use std::io::Write;
+use std::net::{Net, TcpListener, TcpStream};
 use std::process::ExitCode;
 use std::sync::Wait;
+use std::thread::Threads;
+use std::time::Clock;
+use trial::{Asked, TrialFault, asked_for, status_of};
 
-/// The most bytes that the day prints.
+/// The most bytes that the worked day prints.
 const MAX_TEXT: usize = 4_096;
 
-/// The day as lines.
-fn told(rt: &impl Wait, alloc: Global) -> Result<String, DayFault> {
-    let link = memory_link(alloc, MemoryPlan::faultless(PLAN))?;
+/// What no fault may change on the worked day.
+fn told_once(rt: &impl Wait, alloc: Global) -> Result<String, DayFault> {
+    let link = memory_link(alloc, MemoryPlan::faultless(LOSES))?;
     let outcome = play(rt, alloc, link, COURSE)?;
     let mut text = String::with_capacity(alloc, MAX_TEXT)?;
-    write!(text, "{outcome}")?;
+    outcome.write_kept(&mut text)?;
     Ok(text)
 }
 
 /// The same. Where memory is refused to what stands round the worker, another day is told.
-fn told_at_last(rt: &impl Wait, alloc: Global) -> Result<String, DayFault> {
-    match told(rt, alloc) {
-        Err(DayFault::OutOfMemory) => told(rt, alloc),
+fn told(rt: &impl Wait, alloc: Global) -> Result<String, DayFault> {
+    match told_once(rt, alloc) {
+        Err(DayFault::Trial(TrialFault::OutOfMemory)) => told_once(rt, alloc),
         answer => answer,
     }
 }
 
-/// Tells the day, or what is wrong with it.
-fn run<W: Write, E: Write>(rt: &impl Wait, alloc: Global, out: &mut W, err: &mut E) -> u8 {
-    match told_at_last(rt, alloc) {
-        Ok(text) => match out.write_all(text.as_bytes()) {
-            Ok(()) => 0,
-            Err(_) => 4,
-        },
-        Err(fault) => {
-            let _ = writeln!(err, "worker_days: {fault}");
-            1
-        }
+/// Tells what no fault may change on the worked day.
+fn tell_refused<W: Write>(rt: &impl Wait, alloc: Global, out: &mut W) -> Result<(), DayFault> {
+    Ok(out.write_all(told(rt, alloc)?.as_bytes())?)
+}
+
+/// All other days.
+fn others_told<R: Net<Listener = TcpListener, Stream = TcpStream> + Threads + Wait + Clock + Sync>(
+    rt: &R,
+    alloc: Global,
+) -> Result<String, DayFault> {
+    let mut text = String::new(alloc);
+    for row in &ROWS {
+        row.tell(rt, alloc, &mut text)?;
     }
+    tell_failed_calls(rt, alloc, &mut text)?;
+    tell_scripted(rt, alloc, &mut text)?;
+    tell_audits(rt, alloc, &mut text)?;
+    tell_hostile(rt, alloc, &mut text)?;
+    Ok(text)
+}
+
+/// Tells all days.
+fn tell_all<
+    R: Net<Listener = TcpListener, Stream = TcpStream> + Threads + Wait + Clock + Sync,
+    W: Write,
+>(rt: &R, alloc: Global, out: &mut W) -> Result<(), DayFault> {
+    tell_refused(rt, alloc, out)?;
+    Ok(out.write_all(others_told(rt, alloc)?.as_bytes())?)
 }
 
 fn main(rt: HostRuntime) -> ExitCode {
     let mut out = rt.stdout();
-    let mut err = rt.stderr();
-    ExitCode::from(run(&rt, rt.alloc(), &mut out, &mut err))
+    let told = match asked_for(&rt) {
+        Ok(Asked::All) => tell_all(&rt, rt.alloc(), &mut out),
+        Ok(Asked::Refused) => tell_refused(&rt, rt.alloc(), &mut out),
+        Err(fault) => Err(DayFault::Trial(fault)),
+    };
+    ExitCode::from(status_of("worker_days", told, &mut rt.stderr()))
 }

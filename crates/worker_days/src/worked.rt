@@ -1,25 +1,17 @@
 //! The worked day.
 
 use crate::course::{Course, Shuts};
-use crate::order::Order;
 use exchange_sim::Plan;
 use session_worker::Pace;
+use trial::{MAX_NUMBER, Order, TEN};
 
-const TEN: Order = Order {
-    venue: 0,
-    shares: 10,
-};
-
-const FIVE: Order = Order {
-    venue: 0,
-    shares: 5,
-};
+const FIVE: Order = Order { shares: 5, ..TEN };
 
 /// The sweep that is placed before the worker's first turn, which drops it.
-pub const EARLY: &[Order] = &[TEN, FIVE];
+const EARLY: &[Order] = &[TEN, FIVE];
 
 /// The sweeps that are released while the worker takes its turns.
-pub const SWEEPS: &[&[Order]] = &[
+const SWEEPS: &[&[Order]] = &[
     &[TEN, FIVE, TEN],
     &[TEN; 4],
     &[FIVE],
@@ -33,7 +25,7 @@ pub const COURSE: Course<'static> = Course {
     sweeps: SWEEPS,
     pause: 6,
     shuts: Shuts::AfterSweeps,
-    max_number: 999_999_999,
+    max_number: MAX_NUMBER,
     pace: Pace {
         quiet_turns: 20,
         silent_turns: 80,
@@ -41,8 +33,12 @@ pub const COURSE: Course<'static> = Course {
     turn_limit: 20_000,
 };
 
-/// The exchange trades six shares of each order, loses the fourth message, and cuts the connection behind the thirteenth.
-pub const PLAN: Plan = Plan {
+/// How many legs its sweeps have.
+pub const LEGS: usize = 24;
+
+/// The exchange trades six shares of each order, loses the fourth message, and cuts the connection behind the
+/// thirteenth.
+pub const LOSES: Plan = Plan {
     fill: 6,
     cut_after: 13,
     lose: 4,

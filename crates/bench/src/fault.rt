@@ -1,0 +1,64 @@
+//! Why a run stopped.
+
+use std::io;
+use thiserror::Error;
+use trial::{EndFault, TrialFault};
+
+/// What the words of the command line were expected to be.
+#[derive(Clone, Copy, Debug, PartialEq, Eq, Error)]
+pub enum Expected {
+    #[error("codec COUNT PART, day PART BEFORE COUNT, replay PART EVENTS, threads PART CALLERS SWEEPS or turn TURNS")]
+    Request,
+    #[error("write, read, report, stream1, stream64, stream4096 or all")]
+    CodecPart,
+    #[error("a number of messages from 1 to 1000000")]
+    Messages,
+    #[error("place, apply, send or receive")]
+    DayPart,
+    #[error("1 to 1000000 sweeps or legs before")]
+    Before,
+    #[error("a count from 1 to 200")]
+    Count,
+    #[error("make, read or run")]
+    ReplayPart,
+    #[error("1 to 10000000 events")]
+    Events,
+    #[error("count or time")]
+    ThreadsPart,
+    #[error("1 to 64 callers")]
+    Callers,
+    #[error("1 to 1000000 sweeps of each")]
+    Sweeps,
+    #[error("1 to 1000000 turns")]
+    Turns,
+}
+
+/// Why a run stopped.
+#[derive(Clone, Copy, Debug, PartialEq, Eq, Error)]
+pub enum BenchFault {
+    #[error("expected {0}")]
+    Usage(Expected),
+    #[error("{0}")]
+    Trial(TrialFault),
+}
+
+impl From<TrialFault> for BenchFault {
+    fn from(fault: TrialFault) -> BenchFault {
+        BenchFault::Trial(fault)
+    }
+}
+
+impl From<io::Error> for BenchFault {
+    fn from(error: io::Error) -> BenchFault {
+        BenchFault::Trial(TrialFault::from(error))
+    }
+}
+
+impl EndFault for BenchFault {
+    fn status(&self) -> u8 {
+        match self {
+            BenchFault::Usage(_) => 2,
+            BenchFault::Trial(fault) => fault.status(),
+        }
+    }
+}

@@ -1,0 +1,27 @@
+//! The program `bench`: it does the work that the scripts of `bench/` count or time, as often as it is asked to, and
+//! prints what shows that it was done. Its first word says which part of it: `codec`, `day`, `replay`, `threads` or
+//! `turn`; with no word each of them does a little.
+#![tactic(auto)]
+
+mod codec_part;
+mod day_part;
+mod fault;
+mod number;
+mod replay_part;
+mod request;
+mod threads_part;
+mod turn_part;
+
+use crate::fault::BenchFault;
+use crate::request::run;
+use std::process::ExitCode;
+use trial::{status_of, words};
+
+fn main(rt: HostRuntime) -> ExitCode {
+    let mut out = rt.stdout();
+    let done = match words(&rt) {
+        Ok(words) => run(&rt, rt.alloc(), words.as_slice(), &mut out),
+        Err(error) => Err(BenchFault::from(error)),
+    };
+    ExitCode::from(status_of("bench", done, &mut rt.stderr()))
+}

@@ -1,0 +1,125 @@
+//! What a run is asked to do.
+
+use crate::codec_part::{CodecPart, run_codec};
+use crate::day_part::{DayPart, run_day};
+use crate::fault::{BenchFault, Expected};
+use crate::number::number_to;
+use crate::replay_part::{ReplayPart, run_replay};
+use crate::threads_part::{Load, ThreadsPart, run_threads};
+use crate::turn_part::run_turns;
+use std::alloc::Global;
+use std::io::Write;
+use std::sync::Wait;
+use std::thread::Threads;
+use std::time::Clock;
+use trial::TrialFault;
+
+/// The most messages that the codec works on, the most turns of a worker, and the most sweeps or legs that go before.
+const MILLION: u64 = 1_000_000;
+
+/// The most of a day's part: so many sweeps fit into the backlog of each venue.
+pub const MAX_DAY: u64 = 200;
+
+/// The most events of a script.
+const MAX_EVENTS: u64 = 10_000_000;
+
+/// The most callers.
+const MAX_CALLERS: u64 = 64;
+
+/// A number of the command line, up to this one.
+fn count_of(most: u64, text: &str, expected: Expected) -> Result<u64, BenchFault> {
+    number_to(most, text).ok_or(BenchFault::Usage(expected))
+}
+
+fn codec<W: Write>(alloc: Global, count: &str, part: &str, out: &mut W) -> Result<(), BenchFault> {
+    let count = count_of(MILLION, count, Expected::Messages)?;
+    let part = CodecPart::named(part).ok_or(BenchFault::Usage(Expected::CodecPart))?;
+    Ok(run_codec(alloc, count, part, out)?)
+}
+
+fn day<W: Write>(
+    alloc: Global,
+    part: &str,
+    before: &str,
+    count: &str,
+    out: &mut W,
+) -> Result<(), BenchFault> {
+    let part = DayPart::named(part).ok_or(BenchFault::Usage(Expected::DayPart))?;
+    let before = count_of(MILLION, before, Expected::Before)?;
+    let count = count_of(MAX_DAY, count, Expected::Count)?;
+    Ok(run_day(alloc, part, before, count, out)?)
+}
+
+fn replay<W: Write>(
+    alloc: Global,
+    part: &str,
+    events: &str,
+    out: &mut W,
+) -> Result<(), BenchFault> {
+    let part = ReplayPart::named(part).ok_or(BenchFault::Usage(Expected::ReplayPart))?;
+    let events = count_of(MAX_EVENTS, events, Expected::Events)?;
+    Ok(run_replay(alloc, part, events, out)?)
+}
+
+fn threads<R: Threads + Wait + Clock + Sync, W: Write>(
+    rt: &R,
+    alloc: Global,
+    words: (&str, &str, &str),
+    out: &mut W,
+) -> Result<(), BenchFault> {
+    let (part, callers, sweeps) = words;
+    let part = ThreadsPart::named(part).ok_or(BenchFault::Usage(Expected::ThreadsPart))?;
+    let callers = count_of(MAX_CALLERS, callers, Expected::Callers)?;
+    let sweeps = count_of(MILLION, sweeps, Expected::Sweeps)?;
+    let load = Load { callers, sweeps };
+    Ok(run_threads(rt, alloc, part, load, out)?)
+}
+
+fn turns<R: Wait + Clock, W: Write>(
+    rt: &R,
+    alloc: Global,
+    turns: &str,
+    out: &mut W,
+) -> Result<(), BenchFault> {
+    let turns = count_of(MILLION, turns, Expected::Turns)?;
+    Ok(run_turns(rt, alloc, turns, out)?)
+}
+
+/// A little of each part.
+fn run_each<R: Threads + Wait + Clock + Sync, W: Write>(
+    rt: &R,
+    alloc: Global,
+    out: &mut W,
+) -> Result<(), TrialFault> {
+    run_codec(alloc, 3, CodecPart::All, out)?;
+    run_day(alloc, DayPart::Place, 3, 2, out)?;
+    run_replay(alloc, ReplayPart::Run, 7_000, out)?;
+    let load = Load {
+        callers: 8,
+        sweeps: 30,
+    };
+    run_threads(rt, alloc, ThreadsPart::Count, load, out)?;
+    run_turns(rt, alloc, 100, out)
+}
+
+/// Does what the words of the command line ask for, of which the first is the program's own name.
+pub fn run<R: Threads + Wait + Clock + Sync, W: Write>(
+    rt: &R,
+    alloc: Global,
+    words: &[String],
+    out: &mut W,
+) -> Result<(), BenchFault> {
+    match words {
+        [_] => Ok(run_each(rt, alloc, out)?),
+        [_, name, a] if name.as_str() == "turn" => turns(rt, alloc, a.as_str(), out),
+        [_, name, a, b] if name.as_str() == "codec" => codec(alloc, a.as_str(), b.as_str(), out),
+        [_, name, a, b] if name.as_str() == "replay" => replay(alloc, a.as_str(), b.as_str(), out),
+        [_, name, a, b, c] if name.as_str() == "day" => {
+            day(alloc, a.as_str(), b.as_str(), c.as_str(), out)
+        }
+        [_, name, a, b, c] if name.as_str() == "threads" => {
+            threads(rt, alloc, (a.as_str(), b.as_str(), c.as_str()), out)
+        }
+        _ => Err(BenchFault::Usage(Expected::Request)),
+    }
+}

@@ -1,0 +1,11 @@
+use Rattle.std.proofs.Common.{map}
+use Rattle.lock_days.proofs.threads.run_crowd.Given as goal
+
+abbrev pub ghosts-crowd_at-L-Run : goal.ghosts-crowd_at-L-Run
+ghosts-crowd_at-L-Run g a = record { queues = map (λ ends. ends.0.table) a.site.rings.items }
+
+abbrev pub ghosts-crowd_at-L-Ledger : goal.ghosts-crowd_at-L-Ledger
+ghosts-crowd_at-L-Ledger g a = record { name = a.site.callers.name; parts = a.site.callers.parts }
+
+abbrev pub ghosts-crowd_at-M-Ledger : goal.ghosts-crowd_at-M-Ledger
+ghosts-crowd_at-M-Ledger g a = record { name = a.site.workers.name; parts = a.site.workers.parts }

@@ -1,0 +1,11 @@
+use Rattle.std.proofs.Common.{map}
+use Rattle.thread_days.proofs.at_once.play.Given as goal
+
+abbrev pub ghosts-day_at-L-Run : goal.ghosts-day_at-L-Run
+ghosts-day_at-L-Run g a = record { queues = map (λ ends. ends.0.table) a.site.rings.items }
+
+abbrev pub ghosts-day_at-L-Ledger : goal.ghosts-day_at-L-Ledger
+ghosts-day_at-L-Ledger g a = record { name = a.site.callers.name; parts = a.site.callers.parts }
+
+abbrev pub ghosts-day_at-M-Ledger : goal.ghosts-day_at-M-Ledger
+ghosts-day_at-M-Ledger g a = record { name = a.site.workers.name; parts = a.site.workers.parts }

@@ -1,0 +1,11 @@
+use Rattle.std.proofs.Common.{map}
+use Rattle.thread_days.proofs.meeting.meet.Given as goal
+
+abbrev pub ghosts-both_at-L-Run : goal.ghosts-both_at-L-Run
+ghosts-both_at-L-Run g a = record { queues = map (λ ends. ends.0.table) a.site.rings.items }
+
+abbrev pub ghosts-both_at-L-Ledger : goal.ghosts-both_at-L-Ledger
+ghosts-both_at-L-Ledger g a = record { name = a.site.callers.name; parts = a.site.callers.parts }
+
+abbrev pub ghosts-both_at-M-Ledger : goal.ghosts-both_at-M-Ledger
+ghosts-both_at-M-Ledger g a = record { name = a.site.workers.name; parts = a.site.workers.parts }

@@ -1,0 +1,11 @@
+use Rattle.std.proofs.Common.{map}
+use Rattle.trial.proofs.running.on_floor.Given as goal
+
+abbrev pub ghosts-run_at-L-Run : goal.ghosts-run_at-L-Run
+ghosts-run_at-L-Run g a = record { queues = map (λ ends. ends.0.table) a.site.rings.items }
+
+abbrev pub ghosts-run_at-L-Ledger : goal.ghosts-run_at-L-Ledger
+ghosts-run_at-L-Ledger g a = record { name = a.site.callers.name; parts = a.site.callers.parts }
+
+abbrev pub ghosts-run_at-M-Ledger : goal.ghosts-run_at-M-Ledger
+ghosts-run_at-M-Ledger g a = record { name = a.site.workers.name; parts = a.site.workers.parts }
