@@ -24,14 +24,11 @@ use std::thread::Threads;
 use std::time::Clock;
 pub use text::day_text;
 
-#[cfg(test)]
-mod tests;
-
 /// Runs `dispatch live` on its words, of which the first is the command's own name.
 ///
-/// It runs the day that the options ask for, and writes a line for each sweep, how many were given up, and that the audit
-/// found nothing wrong; faults go to `err`. While the day runs `progress` is told how far it is. The answer is the exit
-/// status: 0, or that of the fault.
+/// It runs the day that the options ask for, and writes a line for each sweep, how many were given up, and that the
+/// audit found nothing wrong; faults go to `err`. While the day runs `progress` is told how far it is. The answer is
+/// the exit status: 0, or that of the fault.
 pub fn live_run<S, R, P, W, E>(
     rt: &R,
     alloc: Global,

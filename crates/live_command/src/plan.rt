@@ -28,8 +28,8 @@ fn number_of(text: &str, option: LiveOption, least: u64, most: u64) -> Result<u6
     }
 }
 
-/// The day that these options ask for. A value that is no number or isn't within its limits is a bad value, and the first
-/// in the order of the options is named.
+/// The day that these options ask for. A value that is no number or isn't within its limits is a bad value, and the
+/// first in the order of the options is named.
 #[tactic(auto, unfolding(crate::specs::LivePlan::plan_of))]
 pub fn plan_of(options: &Options<'_>) -> Result<LivePlan, CommandFault>
     ensures value { result ≡ plan_of options.now }

@@ -16,10 +16,11 @@ use Rattle.fix_tags.specs.CompId.{IsCompId}
 use Rattle.leg.specs.Leg.{IsLeg}
 use Rattle.leg.specs.declared.leg.Leg.{Leg}
 use Rattle.dialect.specs.Dialect.{Appends}
-use Rattle.dialect.specs.Framed.{Writers, IsBody}
+use Rattle.dialect.specs.Framed.{IsBody}
+use Rattle.dialect.specs.Wording.{Decoding, Encoding}
 use Rattle.dialect.specs.declared.content.Content.TheVariants.{Order, ExecutionReport, Other}
 use Rattle.dialect.specs.declared.message.Message.{Message}
-use Rattle.dialect.specs.Message.{Readers, content_of}
+use Rattle.dialect.specs.Message.{content_of}
 use Rattle.dialect.specs.Writable.{IsWritable}
 use Rattle.dialect.specs.declared.fault.DialectFault.{DialectFault}
 use Rattle.dialect.proofs.FrameBack.{Agrees, frame_back, never_refused}
@@ -40,13 +41,13 @@ order_in_range leg header from to number content = record {
 }
 
 -- an order's fields are the body of its message
-pub order_body : (w : Writers) (leg : Leg) (header : HeaderParts) (order : List Tagged) → w.IsOrder leg header.at order
+pub order_body : (w : Encoding) (leg : Leg) (header : HeaderParts) (order : List Tagged) → w.IsOrder leg header.at order
     → IsBody w header.at (order_message leg header).beside (order_message leg header).message.content
     (body.App (codes "D") order)
 order_body w leg header order written = record { fields = order; written = written; body_is = refl }
 
 -- what is known of the message of an order once its fields are written
-pub record IsMade (w : Writers) (leg : Leg) (header : HeaderParts) (order : List Tagged) (e : Envelope)
+pub record IsMade (w : Encoding) (leg : Leg) (header : HeaderParts) (order : List Tagged) (e : Envelope)
     (at : StampParts) : Type 0 where
   pub in_range : IsWritable (order_message leg header)
   pub written : w.IsOrder leg header.at order
@@ -54,14 +55,14 @@ pub record IsMade (w : Writers) (leg : Leg) (header : HeaderParts) (order : List
   pub time : at ≡ header.at
 
 -- the fields that were appended to none are those of the order at the header's moment
-pub order_at_its_time : (w : Writers) (leg : Leg) (header : HeaderParts) (order : List Tagged) (at : StampParts)
+pub order_at_its_time : (w : Encoding) (leg : Leg) (header : HeaderParts) (order : List Tagged) (at : StampParts)
     → at ≡ header.at → Appends (w.IsOrder leg at) [] order → w.IsOrder leg header.at order
 order_at_its_time w leg header order at time appended =
     let so = subst (w.IsOrder leg at) (sym appended.2) appended.1 in
     subst (λ (s : StampParts). w.IsOrder leg s order) time so
 
 -- the message of an order has no fault
-pub unrefused : (w : Writers) (read : Readers) (leg : Leg) (header : HeaderParts) (order : List Tagged) (e : Envelope)
+pub unrefused : (w : Encoding) (read : Decoding) (leg : Leg) (header : HeaderParts) (order : List Tagged) (e : Envelope)
     (at : StampParts) → Agrees w read → IsMade w leg header order e at → envelope_refusal e at ≡ None
 unrefused w read leg header order e at agrees made =
     let says = order_body w leg header order made.written in
@@ -70,7 +71,7 @@ unrefused w read leg header order e at agrees made =
     (subst (λ (m : Envelope). envelope_refusal m header.at ≡ None) (sym made.message) none)
 
 -- an order's fields under its header are its frame
-pub order_framed : (w : Writers) (leg : Leg) (header : HeaderParts) (order : List Tagged) (e : Envelope)
+pub order_framed : (w : Encoding) (leg : Leg) (header : HeaderParts) (order : List Tagged) (e : Envelope)
     (at : StampParts) (bytes : List ℕ) → IsMade w leg header order e at → bytes ≡ frame_text (envelope_fields e at)
     → IsOrderFrame w leg header bytes
 order_framed w leg header order e at bytes made is = record {
@@ -98,7 +99,7 @@ written_with_room e at room len (Err fault) refusal full none empty fits =
     absurd (omega (arith, short, wants, empty, fits))
 
 -- the leg of a message whose content is an order that was read
-by_kind : (read : Readers) (fields : List Tagged) (leg : Leg) (is_order is_report : Bool)
+by_kind : (read : Decoding) (fields : List Tagged) (leg : Leg) (is_order is_report : Bool)
     → (if is_order then Order (read.order fields)
     else (if is_report then ExecutionReport (read.report fields) else Other)) ≡ Order (Ok leg)
     → (if is_order then as_order (read.order fields) else Err of.NoOrder) ≡ Ok leg
@@ -106,7 +107,7 @@ by_kind read fields leg true is_report is = let found : read.order fields ≡ Ok
 by_kind read fields leg false true is = cc
 by_kind read fields leg false false is = cc
 
-order_said : (read : Readers) (b : Body) (leg : Leg) → content_of read b ≡ Order (Ok leg) → order_in read.order b ≡ Ok leg
+order_said : (read : Decoding) (b : Body) (leg : Leg) → content_of read b ≡ Order (Ok leg) → order_in read.order b ≡ Ok leg
 order_said read (body.Logon heart reset next) leg is = cc
 order_said read (body.Heartbeat id) leg is = cc
 order_said read (body.TestRequest id) leg is = cc
@@ -121,7 +122,7 @@ order_said read (body.App (c ∷ []) fields) leg is = by_kind read fields leg (c
 order_said read (body.App (c ∷ d ∷ more) fields) leg is = cc
 
 -- the frame of an order is read back as its leg
-pub order_back : (w : Writers) (read : Readers) (leg : Leg) (header : HeaderParts) (bytes : List ℕ) → Agrees w read
+pub order_back : (w : Encoding) (read : Decoding) (leg : Leg) (header : HeaderParts) (bytes : List ℕ) → Agrees w read
     → IsOrderFrame w leg header bytes → order_read_from read.order (stream_of bytes) ≡ Ok leg
 order_back w read leg header bytes agrees frame =
     let whole = sym (append-nil bytes) in

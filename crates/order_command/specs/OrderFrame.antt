@@ -26,7 +26,8 @@ use Rattle.fix_tags.specs.declared.body.Body.TheVariants.{App}
 use Rattle.fix_tags.specs.declared.envelope.Envelope.{Envelope}
 use Rattle.fix_tags.specs.declared.tag_fault.TagFault.{TagFault}
 use Rattle.leg.specs.declared.leg.Leg.{Leg}
-use Rattle.dialect.specs.Framed.{Writers, IsFramed}
+use Rattle.dialect.specs.Framed.{IsFramed}
+use Rattle.dialect.specs.Wording.{Encoding}
 use Rattle.dialect.specs.declared.content.Content.TheVariants.{Order}
 use Rattle.dialect.specs.declared.outgoing.Outgoing.{Outgoing}
 use Rattle.dialect.specs.Outgoing.{alone}
@@ -60,7 +61,7 @@ order_envelope header order =
     }
 
 -- the leg and the header are in range, and the bytes are the frame of an order for this leg, under this header
-pub record IsOrderFrame (writers : Writers) (leg : Leg) (header : HeaderParts) (bytes : List ℕ) : Type 0 where
+pub record IsOrderFrame (writers : Encoding) (leg : Leg) (header : HeaderParts) (bytes : List ℕ) : Type 0 where
   pub in_range : IsWritable (order_message leg header)
   pub framed : IsFramed writers header.at (order_message leg header) bytes
 

@@ -26,7 +26,7 @@ pub fn write_order_frame<D: Dialect>(
     room: OrderRoom,
 ) -> Vec<u8>
     ensures { IsOrderFrame
-        (record { IsOrder = D.IsOrder dialect.now; IsReport = D.IsReport dialect.now }) leg.now header result.items }
+        (D.wording dialect.now).encoding leg.now header result.items }
 {
     leg.in_range();
     let at = header.at();
@@ -44,7 +44,7 @@ pub fn write_order_frame<D: Dialect>(
 
 /// The leg of a message, if it is an order.
 fn order_of_message<D: Dialect>(dialect: &D, message: &EnvelopeRef<'_>) -> Result<Leg, OrderFault>
-    ensures { result ≡ order_in (D.order_read dialect.now) message.now.body }
+    ensures { result ≡ order_in (D.wording dialect.now).decoding.order message.now.body }
 {
     match message.body() {
         BodyRef::App {
@@ -57,7 +57,7 @@ fn order_of_message<D: Dialect>(dialect: &D, message: &EnvelopeRef<'_>) -> Resul
 
 /// The leg of a frame's message.
 fn order_of_frame<D: Dialect>(dialect: &D, frame: &Frame<'_>) -> Result<Leg, OrderFault>
-    ensures { result ≡ order_of_message (D.order_read dialect.now) (envelope_read (fields_in frame.now)) }
+    ensures { result ≡ order_of_message (D.wording dialect.now).decoding.order (envelope_read (fields_in frame.now)) }
 {
     match read_envelope(frame) {
         Ok(message) => order_of_message(dialect, &message),
@@ -77,7 +77,7 @@ pub fn stream_of(alloc: Global, bytes: &[u8]) -> Result<FrameReader, AllocError>
 }
 
 fn first_order<D: Dialect>(dialect: &D, stream: &mut FrameReader) -> Result<Leg, OrderFault>
-    ensures { ReadsOrder (D.order_read dialect.now) (next_read stream.old).frame result }
+    ensures { ReadsOrder (D.wording dialect.now).decoding.order (next_read stream.old).frame result }
 {
     match stream.next() {
         Ok(Some(frame)) => order_of_frame(dialect, &frame),
@@ -91,14 +91,11 @@ fn first_order<D: Dialect>(dialect: &D, stream: &mut FrameReader) -> Result<Leg,
 /// `NoFrame`: there is no whole valid frame; `NoMessage`: its fields aren't a message; `NoOrder`: it
 /// is none of kind `D`; `BadOrder`: the dialect refuses its fields.
 pub fn read_order_frame<D: Dialect>(dialect: &D, mut stream: FrameReader) -> Result<Leg, OrderFault>
-    ensures read { ReadsOrder (D.order_read dialect.now) (next_read stream).frame result }
+    ensures read { ReadsOrder (D.wording dialect.now).decoding.order (next_read stream).frame result }
     // The frame of an order is read back as its leg.
     ensures order { (leg : Leg) (header : HeaderParts) (bytes : List ℕ) → stream ≡ stream_of bytes
-        → IsOrderFrame (record { IsOrder = D.IsOrder dialect.now; IsReport = D.IsReport dialect.now }) leg header bytes
+        → IsOrderFrame (D.wording dialect.now).encoding leg header bytes
         → GivesLeg leg result }
 {
     first_order(dialect, &mut stream)
 }
-
-#[cfg(test)]
-mod tests;

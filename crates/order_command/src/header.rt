@@ -49,7 +49,14 @@ impl Header {
 
     /// The message of this body, sent once.
     pub fn message(self, body: Body) -> Envelope
-        ensures { result ≡ record { sender = self.from; target = self.to; number = self.number; poss_dup = false; poss_resend = false; body = body } }
+        ensures { result ≡ record {
+          sender = self.from;
+          target = self.to;
+          number = self.number;
+          poss_dup = false;
+          poss_resend = false;
+          body = body;
+        } }
     {
         let Header {
             from,

@@ -3,8 +3,9 @@
 use command_line::shown;
 use dialect::AnyDialect;
 use leg::VenueId;
-use replay::{Frame, World};
+use replay::World;
 use std::alloc::{AllocError, Global};
+use venue_replay::Frame;
 
 /// A line for each frame that was written, venue by venue, those to the exchange and then those from it.
 pub fn frame_lines(alloc: Global, world: &World<AnyDialect>) -> Result<Vec<u8>, AllocError> {

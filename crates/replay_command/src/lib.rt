@@ -31,14 +31,11 @@ use std::convert::AsStr;
 use std::io::{Read, Write};
 use world_text::print_world;
 
-#[cfg(test)]
-mod tests;
-
 /// Runs `dispatch replay` on its words, of which the first is the command's own name.
 ///
-/// It reads a script from `input` to its end, runs it, and writes the lines of the world to `out`, behind what its options
-/// ask for; faults go to `err`. Without options nothing is written before the whole script was read and run. The answer is
-/// the exit status: 0, or that of the fault.
+/// It reads a script from `input` to its end, runs it, and writes the lines of the world to `out`, behind what its
+/// options ask for; faults go to `err`. Without options nothing is written before the whole script was read and run.
+/// The answer is the exit status: 0, or that of the fault.
 pub fn replay_run<S: AsStr, R: Read, W: Write, E: Write>(
     alloc: Global,
     words: &[S],

@@ -6,9 +6,8 @@ use Rattle.fix_tags.specs.Message.{envelope_fields}
 use Rattle.fix_tags.specs.Stamp.{StampParts}
 use Rattle.leg.specs.Leg.{IsLeg}
 use Rattle.dialect.specs.Dialect.{Appends}
-use Rattle.dialect.specs.Framed.{Writers}
-use Rattle.dialect.specs.Message.{Readers}
-use Rattle.dialect.proofs.FrameBack.{Agrees}
+use Rattle.dialect.specs.Wording.{Decoding, Encoding}
+use Rattle.dialect.proofs.FrameBack.{agrees_of}
 use Rattle.order_command.specs.Header.{IsHeader}
 use Rattle.order_command.specs.OrderFrame.{order_envelope}
 use Rattle.order_command.proofs.OrderBack.{IsMade, order_in_range, order_at_its_time, unrefused, order_framed, written_with_room}
@@ -20,7 +19,7 @@ unwrap-requires-2 g c =
     let d = c.args.dialect.now in
     let leg = c.args.leg.now in
     let header = c.args.header in
-    let w : Writers = record { IsOrder = g.D.Dialect.IsOrder d; IsReport = g.D.Dialect.IsReport d } in
+    let w : Encoding = (g.D.Dialect.wording d).encoding in
     let order : List Tagged = c.write_order.new.fields.items in
     let at : StampParts = c.at-at.result in
     let time : at ≡ header.at = search rules in
@@ -36,13 +35,8 @@ unwrap-requires-2 g c =
       message = message;
       time = time;
     } in
-    let read : Readers = record { order = g.D.Dialect.order_read d; report = g.D.Dialect.report_read d } in
-    let agrees : Agrees w read = record {
-      order_back = laws.order_reads_back d;
-      order_fits = laws.order_fits d;
-      report_back = laws.report_reads_back d;
-      report_fits = laws.report_fits d;
-    } in
+    let read : Decoding = (g.D.Dialect.wording d).decoding in
+    let agrees = agrees_of (g.D.Dialect.wording d) (laws.is_wording d) in
     let none = unrefused w read leg header order c.message-message.result at agrees made in
     let room = c.args.room in
     let empty = room.frame.ok.0 ∙ ap length room.no_byte in
@@ -54,7 +48,7 @@ returns g c =
     let d = c.args.dialect.now in
     let leg = c.args.leg.now in
     let header = c.args.header in
-    let w : Writers = record { IsOrder = g.D.Dialect.IsOrder d; IsReport = g.D.Dialect.IsReport d } in
+    let w : Encoding = (g.D.Dialect.wording d).encoding in
     let order : List Tagged = c.write_order.new.fields.items in
     let at : StampParts = c.at-at.result in
     let time : at ≡ header.at = search rules in
