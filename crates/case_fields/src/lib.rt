@@ -1,7 +1,7 @@
 //! Fields and written bytes as the case files of the codec show them.
 //!
-//! A list of fields is `tag=value|` for each, where SOH in a value is `\x01`. `x*200` stands for 200 times `x`, both ways;
-//! a run of less than 100 is written out.
+//! A list of fields is `tag=value|` for each, where SOH in a value is `\x01`. `x*200` stands for 200 times `x`, both
+//! ways; a run of less than 100 is written out.
 #![tactic(auto)]
 
 mod buffer;

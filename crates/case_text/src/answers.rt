@@ -31,7 +31,8 @@ impl Answers {
     }
 
     fn line(&mut self, mark: &str, text: &str) -> Result<(), AllocError>
-        ensures { OnOk result (string_bytes self.new.text ≡ string_bytes self.old.text ++ mark.now ++ text.now ++ 10 ∷ []) }
+        ensures { OnOk result (string_bytes self.new.text
+            ≡ string_bytes self.old.text ++ mark.now ++ text.now ++ 10 ∷ []) }
     {
         self.text.push_str(mark)?;
         self.text.push_str(text)?;
@@ -40,7 +41,8 @@ impl Answers {
 
     /// Anything that isn't a frame: `= text`.
     pub fn say(&mut self, text: &str) -> Result<(), PlayFault>
-        ensures { OnOk result (string_bytes self.new.text ≡ string_bytes self.old.text ++ codes "= " ++ text.now ++ 10 ∷ []) }
+        ensures { OnOk result (string_bytes self.new.text
+            ≡ string_bytes self.old.text ++ codes "= " ++ text.now ++ 10 ∷ []) }
     {
         self.line("= ", text)?;
         Ok(())
@@ -48,7 +50,8 @@ impl Answers {
 
     /// The fields of a frame that is sent: `> fields`.
     pub fn send_fields(&mut self, fields: &str) -> Result<(), PlayFault>
-        ensures { OnOk result (string_bytes self.new.text ≡ string_bytes self.old.text ++ codes "> " ++ fields.now ++ 10 ∷ []) }
+        ensures { OnOk result (string_bytes self.new.text
+            ≡ string_bytes self.old.text ++ codes "> " ++ fields.now ++ 10 ∷ []) }
     {
         self.line("> ", fields)?;
         Ok(())
@@ -62,7 +65,8 @@ impl Answers {
 
     /// That a command isn't understood, which no case file wants.
     pub fn refuse(&mut self) -> Result<(), AllocError>
-        ensures { OnOk result (string_bytes self.new.text ≡ string_bytes self.old.text ++ codes "! not understood" ++ 10 ∷ []) }
+        ensures { OnOk result (string_bytes self.new.text
+            ≡ string_bytes self.old.text ++ codes "! not understood" ++ 10 ∷ []) }
     {
         self.line("! ", "not understood")
     }

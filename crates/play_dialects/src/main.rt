@@ -16,9 +16,6 @@ use case_text::play;
 use std::io;
 use std::io::{BufReader, BufWriter, Write};
 
-#[cfg(test)]
-mod tests;
-
 fn main(rt: HostRuntime) -> io::Result<()> {
     let alloc = rt.alloc();
     let input = BufReader::new(alloc, rt.reader())?;

@@ -1,4 +1,5 @@
-//! The program `play_resend`: plays the case files of a session's numbers, from the standard input to the standard output.
+//! The program `play_resend`: plays the case files of a session's numbers, from the standard input to the standard
+//! output.
 //! `cases/resend/README.md` has the commands.
 #![tactic(auto)]
 

@@ -43,8 +43,8 @@ impl CallContext {
         }
     }
 
-    /// Hands the session the message of a frame that came. What is no frame, or a frame that is no message, isn't handed
-    /// to it.
+    /// Hands the session the message of a frame that came. What is no frame, or a frame that is no message, isn't
+    /// handed to it.
     fn hear(
         &self,
         session: &mut Session,
