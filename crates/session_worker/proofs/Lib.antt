@@ -2,6 +2,7 @@ pub mod Hearing
 pub mod Spoken
 pub mod Speech
 pub mod Connected
+pub mod Booking
 pub mod Calling
 pub mod Carrying
 pub mod Doing

@@ -1,14 +1,14 @@
 //! What a worker does in its turns.
 
-ghost use Rattle.std.specs.Prelude.{◌≡◌, true, false, MatchOption, MatchResult};
+ghost use Rattle.std.specs.Prelude.{◌≡◌, ◌++◌, ◌∷◌, [], true, false, MatchOption, MatchResult};
 ghost use Rattle.std.specs.List.{concat};
 ghost use Rattle.dialect.specs.Wording.{Decoding};
 ghost use Rattle.link.specs.Traffic.{Tells, Stays};
 ghost use Rattle.session_core.specs.declared.phase.Phase.TheVariants as phase;
 ghost use Rattle.session_core.specs.Receiving.{confirm};
 ghost use Rattle.session_core.specs.Calling.{broken};
-ghost use Rattle.session_worker.specs.Events.{Goes, parts_of};
-ghost use Rattle.session_worker.specs.Linking.{linked_of, post_of, MayConfirm, Hands, Does, Drains, CarriesOut};
+ghost use Rattle.session_worker.specs.Events.{Goes, parts_of, told_of};
+ghost use Rattle.session_worker.specs.Linking.{linked_of, post_of, MayBook, Hands, Does, Drains, CarriesOut};
 ghost use Rattle.session_worker.specs.Ends.{reason_of, last_calls};
 ghost use Rattle.session_worker.specs.Taking.{with_taken};
 
@@ -198,7 +198,7 @@ impl<K: Link, C: Clock + Drop, L: Run, M: Ledger> Post<K, C, L, M> {
     )
         ensures linked { MatchOption next ((linked_of self.new.linked.session (K.wire self.new.linked.link) self.new.linked.reader) ≡ (linked_of self.old.linked.session (K.wire self.old.linked.link) self.old.linked.reader)) (λ leg. Hands (D.wording dialect.now).encoding (D.wording dialect.now).decoding leg (linked_of self.old.linked.session (K.wire self.old.linked.link) self.old.linked.reader) (linked_of self.new.linked.session (K.wire self.new.linked.link) self.new.linked.reader)) }
         ensures takings { self.new.takings ≡ self.old.takings }
-        ensures seat { self.new.seat.parts ≡ self.old.seat.parts }
+        ensures seat { told_of self.new.seat ≡ told_of self.old.seat }
     {
         let Some(leg) = next else {
             return;
@@ -270,7 +270,7 @@ impl<K: Link, C: Clock + Drop, L: Run, M: Ledger> Post<K, C, L, M> {
     /// Does what a step of the session wants: the legs that it names are withdrawn in the book, its note is booked and
     /// then confirmed, and its frames are written. Where the book wants memory the connection is given up.
     fn carry_out(&mut self, rt: &impl Wait, collector: &Collector<M>, step: Step)
-        ensures { CarriesOut (concat step.out) (post_of self.old.linked.session self.old.takings self.old.seat (K.wire self.old.linked.link) self.old.linked.reader) (post_of self.new.linked.session self.new.takings self.new.seat (K.wire self.new.linked.link) self.new.linked.reader) }
+        ensures { CarriesOut step.note (concat step.out) (post_of self.old.linked.session self.old.takings self.old.seat (K.wire self.old.linked.link) self.old.linked.reader) (post_of self.new.linked.session self.new.takings self.new.seat (K.wire self.new.linked.link) self.new.linked.reader) }
     {
         let Step {
             out,
@@ -290,8 +290,10 @@ impl<K: Link, C: Clock + Drop, L: Run, M: Ledger> Post<K, C, L, M> {
 
     /// Books the note, if there is one, and says whether the session may go on.
     fn take_note(&mut self, rt: &impl Wait, collector: &Collector<M>, note: Option<Note>) -> bool
-        ensures confirmed { result ≡ true → MayConfirm self.old.linked.session self.new.linked.session }
-        ensures broken { result ≡ false → self.new.linked.session ≡ broken self.old.linked.session }
+        ensures booked { result ≡ true → MayBook note self.old.linked.session self.old.seat.booked
+            self.new.linked.session self.new.seat.booked }
+        ensures broken { result ≡ false → (self.new.linked.session ≡ broken self.old.linked.session)
+            × (self.new.seat.booked ≡ self.old.seat.booked) }
         ensures wire { Tells (K.wire self.old.linked.link) (K.wire self.new.linked.link) Stays }
         ensures reader { self.new.linked.reader ≡ self.old.linked.reader }
         ensures takings { self.new.takings ≡ self.old.takings }
@@ -305,8 +307,10 @@ impl<K: Link, C: Clock + Drop, L: Run, M: Ledger> Post<K, C, L, M> {
 
     /// Books a note, and says whether the book took it. Where it wants memory the connection is given up.
     fn book(&mut self, rt: &impl Wait, collector: &Collector<M>, note: &Note) -> bool
-        ensures confirmed { result ≡ true → self.new.linked.session ≡ confirm self.old.linked.session }
-        ensures broken { result ≡ false → self.new.linked.session ≡ broken self.old.linked.session }
+        ensures booked { result ≡ true → (self.new.linked.session ≡ confirm self.old.linked.session)
+            × (self.new.seat.booked ≡ self.old.seat.booked ++ note.now ∷ []) }
+        ensures broken { result ≡ false → (self.new.linked.session ≡ broken self.old.linked.session)
+            × (self.new.seat.booked ≡ self.old.seat.booked) }
         ensures wire { Tells (K.wire self.old.linked.link) (K.wire self.new.linked.link) Stays }
         ensures reader { self.new.linked.reader ≡ self.old.linked.reader }
         ensures takings { self.new.takings ≡ self.old.takings }
@@ -365,7 +369,7 @@ impl<K: Link, C: Clock + Drop, L: Run, M: Ledger> Post<K, C, L, M> {
         ensures wire { K.wire self.new.linked.link ≡ K.wire self.old.linked.link }
         ensures reader { self.new.linked.reader ≡ self.old.linked.reader }
         ensures takings { self.new.takings ≡ self.old.takings }
-        ensures seat { self.new.seat.parts ≡ self.old.seat.parts }
+        ensures seat { told_of self.new.seat ≡ told_of self.old.seat }
     {
         let ids = ids.into_vec();
         for id in &ids {
@@ -379,7 +383,7 @@ impl<K: Link, C: Clock + Drop, L: Run, M: Ledger> Post<K, C, L, M> {
         ensures wire { K.wire self.new.linked.link ≡ K.wire self.old.linked.link }
         ensures reader { self.new.linked.reader ≡ self.old.linked.reader }
         ensures takings { self.new.takings ≡ self.old.takings }
-        ensures seat { self.new.seat.parts ≡ self.old.seat.parts }
+        ensures seat { told_of self.new.seat ≡ told_of self.old.seat }
     {
         let _ = collector.withdraw(rt, id, &mut self.seat);
     }
