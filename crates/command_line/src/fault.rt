@@ -15,6 +15,10 @@ pub trait Fault: Display {
     fn status(&self) -> u8
         ensures { result ≡ status_of self.now };
 
+    /// What is wanted in the place of what is at fault, or why it is one: a line behind that of its text, if there is more to
+    /// say.
+    fn reason(&self) -> Option<&'static str>;
+
     /// Whether its text ends in a line's end already, as a text of the command line's parser does.
     fn ends_line(&self) -> bool;
 }

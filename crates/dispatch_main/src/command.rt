@@ -10,11 +10,30 @@ use replay_command::replay_command;
 use std::alloc::{AllocError, Global};
 use std::convert::AsStr;
 
+/// The program's version.
+const VERSION: &str = "1.0.0";
+
+/// What `--version` prints.
+pub const VERSION_LINE: &[u8] = b"dispatch 1.0.0\n";
+
+/// What stands behind the commands in the help.
+const EXAMPLES: &str = "\
+Examples:
+  dispatch order --dialect plain --sweep 12 --leg 3 --symbol BRK.B --side buy --shares 100 --price 102500 \\
+    --number 4 --from A --to B
+  dispatch replay < day.script
+  dispatch live --venues 2 --callers 2 --sweeps 5 --cut 3 --turns 10000
+
+The exit status is 0, or 2 for the command line, 3 for a bad value, line or frame, 4 for a failed read or write or where
+there is no socket or thread, 5 for memory, 6 for an audit that fails. Help has status 2.";
+
 /// The program with its commands, each with what it is for.
 fn program<'a>(alloc: Global) -> Result<Command<'a>, AllocError> {
     Command::new(alloc, "dispatch")
         .bin_name("dispatch")?
         .about("The dispatcher of a smart order router")
+        .version(VERSION)
+        .after_help(EXAMPLES)
         .subcommand_required(true)
         .subcommand(order_command(alloc)?)?
         .subcommand(replay_command(alloc)?)?

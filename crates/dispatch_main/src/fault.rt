@@ -1,6 +1,6 @@
 //! Why the program ran no command.
 ghost use Rattle.std.specs.Prelude.{◌≡◌};
-ghost use Rattle.dispatch_main.specs.declared.fault.ProgramFault.TheVariants.{OutOfMemory};
+ghost use Rattle.dispatch_main.specs.declared.fault.ProgramFault.TheVariants.{OutOfMemory, WriteFailed};
 ghost use Rattle.dispatch_main.specs.Fault.{fault_status};
 
 use command_line::Fault;
@@ -19,6 +19,12 @@ pub enum ProgramFault {
     /// The words of the command line can't be had.
     #[error("read failed")]
     ReadFailed,
+    /// A word of the command line isn't UTF-8.
+    #[error("read failed")]
+    NotText,
+    /// The version can't be written.
+    #[error("write failed")]
+    WriteFailed,
     #[error("out of memory")]
     OutOfMemory,
 }
@@ -29,8 +35,15 @@ impl Fault for ProgramFault {
     fn status(&self) -> u8 {
         match self {
             ProgramFault::NoCommand(_) | ProgramFault::CommandLine(_) => 2,
-            ProgramFault::ReadFailed => 4,
+            ProgramFault::ReadFailed | ProgramFault::NotText | ProgramFault::WriteFailed => 4,
             ProgramFault::OutOfMemory => 5,
+        }
+    }
+
+    fn reason(&self) -> Option<&'static str> {
+        match self {
+            ProgramFault::NotText => Some("a word of the command line isn't UTF-8"),
+            _ => None,
         }
     }
 
@@ -47,5 +60,13 @@ impl From<AllocError> for ProgramFault {
 
     fn from(_: AllocError) -> ProgramFault {
         ProgramFault::OutOfMemory
+    }
+}
+
+impl From<command_line::WriteFailed> for ProgramFault {
+    ghost from_gives = { λ _ fault. fault ≡ WriteFailed };
+
+    fn from(_: command_line::WriteFailed) -> ProgramFault {
+        ProgramFault::WriteFailed
     }
 }

@@ -4,11 +4,13 @@
 
 mod command;
 mod fault;
+mod streams;
 
-use crate::command::no_command;
+use crate::command::{VERSION_LINE, no_command};
 use crate::fault::ProgramFault;
+use crate::streams::hold_closed_streams;
 use clock::{Clock, UtcClock};
-use command_line::tell;
+use command_line::{finish, print, tell};
 use live_command::{ProgressLines, live_run};
 use live_day::Progress;
 use order_command::order_run;
@@ -27,8 +29,19 @@ fn words(rt: &HostRuntime) -> Result<Vec<String>, ProgramFault> {
     match env::args(rt) {
         Ok(words) => Ok(words.collect(rt.alloc())?),
         Err(error) if error.kind() == io::ErrorKind::OutOfMemory => Err(ProgramFault::OutOfMemory),
+        Err(error) if error.kind() == io::ErrorKind::InvalidData => Err(ProgramFault::NotText),
         Err(_) => Err(ProgramFault::ReadFailed),
     }
+}
+
+/// Whether a word asks for the program's version.
+fn is_version(word: &str) -> bool {
+    word == "--version" || word == "-V"
+}
+
+/// Prints the program's name and version.
+fn print_version<W: Write>(out: &mut W) -> Result<(), ProgramFault> {
+    Ok(print(VERSION_LINE, out)?)
 }
 
 /// Runs the command that the words ask for, and gives the exit status.
@@ -53,7 +66,7 @@ where
 {
     match words {
         [_, command, ..] if command.as_str() == "order" => {
-            order_run(alloc, &words[1..], clock, out, err)
+            order_run(alloc, &words[1..], clock, input, out, err)
         }
         [_, command, ..] if command.as_str() == "replay" => {
             replay_run(alloc, &words[1..], input, out, err)
@@ -61,11 +74,13 @@ where
         [_, command, ..] if command.as_str() == "live" => {
             live_run(rt, alloc, &words[1..], progress, out, err)
         }
+        [_, word, ..] if is_version(word.as_str()) => finish(print_version(out), err),
         _ => tell(&no_command(alloc, words), err),
     }
 }
 
 fn main(rt: HostRuntime) -> ExitCode {
+    let _held = hold_closed_streams(&rt, rt.alloc());
     let mut clock = UtcClock::new(&rt);
     let mut input = rt.stdin();
     let mut out = rt.stdout();

@@ -58,6 +58,13 @@ impl Fault for CommandFault {
         }
     }
 
+    fn reason(&self) -> Option<&'static str> {
+        match self {
+            CommandFault::BadNumber(option) => Some(option.wanted()),
+            _ => None,
+        }
+    }
+
     fn ends_line(&self) -> bool {
         matches!(self, CommandFault::CommandLine(_))
     }

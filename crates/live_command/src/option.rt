@@ -53,6 +53,16 @@ impl LiveOption {
             }
         }
     }
+
+    /// What its value has to be, as the line behind a bad one says.
+    pub fn wanted(self) -> &'static str {
+        match self {
+            LiveOption::Venues => "a whole number from 1 to 16 is wanted",
+            LiveOption::Callers => "a whole number from 1 to 64 is wanted",
+            LiveOption::Cut => "a whole number from 0 to 1000000 is wanted",
+            LiveOption::Sweeps | LiveOption::Turns => "a whole number from 1 to 1000000 is wanted",
+        }
+    }
 }
 
 impl fmt::Display for LiveOption {

@@ -80,4 +80,5 @@ request_of told options = do
       terms = record { symbol = symbol; side = side; shares = shares; price = price };
     };
     header = record { from = from; to = to; number = number; at = at };
+    form = options.form;
   })

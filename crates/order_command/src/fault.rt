@@ -1,11 +1,12 @@
 //! Why `dispatch order` failed.
 ghost use Rattle.std.specs.Prelude.{◌≡◌};
 ghost use Rattle.order_command.specs.declared.fault.CommandFault.TheVariants.{OutOfMemory, WriteFailed};
-ghost use Rattle.order_command.specs.Fault.{IsOfCommandLine, fault_status};
+ghost use Rattle.order_command.specs.Fault.{IsOfCommandLine, fault_status, frame_fault, input_fault};
 
 use crate::option::OrderOption;
+use crate::order_fault::OrderFault;
 use clap::error::ErrorKind;
-use command_line::Fault;
+use command_line::{Fault, InputFault};
 use std::alloc::AllocError;
 use thiserror::Error;
 
@@ -21,6 +22,11 @@ pub enum CommandFault {
     /// The value of this option isn't of its form or within its limits.
     #[error("bad value --{0}")]
     BadValue(OrderOption),
+    /// The input has no frame of an order in front.
+    #[error("{0}")]
+    BadFrame(OrderFault),
+    #[error("read failed")]
+    ReadFailed,
     #[error("write failed")]
     WriteFailed,
     #[error("out of memory")]
@@ -33,9 +39,17 @@ impl Fault for CommandFault {
     fn status(&self) -> u8 {
         match self {
             CommandFault::CommandLine(_) | CommandFault::NoValue(_) => 2,
-            CommandFault::BadValue(_) => 3,
-            CommandFault::WriteFailed => 4,
+            CommandFault::BadValue(_) | CommandFault::BadFrame(_) => 3,
+            CommandFault::ReadFailed | CommandFault::WriteFailed => 4,
             CommandFault::OutOfMemory => 5,
+        }
+    }
+
+    fn reason(&self) -> Option<&'static str> {
+        match self {
+            CommandFault::BadValue(option) => Some(option.wanted()),
+            CommandFault::BadFrame(fault) => Some(fault.reason()),
+            _ => None,
         }
     }
 
@@ -57,6 +71,28 @@ impl From<command_line::WriteFailed> for CommandFault {
 
     fn from(_: command_line::WriteFailed) -> CommandFault {
         CommandFault::WriteFailed
+    }
+}
+
+impl From<OrderFault> for CommandFault {
+    ghost from_gives = { λ fault given. given ≡ frame_fault fault };
+
+    fn from(fault: OrderFault) -> CommandFault {
+        match fault {
+            OrderFault::OutOfMemory => CommandFault::OutOfMemory,
+            _ => CommandFault::BadFrame(fault),
+        }
+    }
+}
+
+impl From<InputFault> for CommandFault {
+    ghost from_gives = { λ fault given. given ≡ input_fault fault };
+
+    fn from(fault: InputFault) -> CommandFault {
+        match fault {
+            InputFault::ReadFailed => CommandFault::ReadFailed,
+            InputFault::OutOfMemory => CommandFault::OutOfMemory,
+        }
     }
 }
 

@@ -1,11 +1,15 @@
-//! `dispatch order`: a leg becomes an order frame, and the frame is read back.
+//! `dispatch order`: a leg becomes an order frame, and a frame is read back.
 #![tactic(auto)]
 
 ghost use Rattle.std.specs.Prelude.{IfOk};
-ghost use Rattle.order_command.specs.OrderLines.{IsOrderText, PrintsText, EndsOrder};
+ghost use Rattle.command_line.specs.FrameText.{bytes_of};
+ghost use Rattle.order_command.specs.OrderFrame.{order_read_from, stream_of};
+ghost use Rattle.order_command.specs.OrderLines.{IsOrderText, PrintsText, EndsOrder, EndsReading};
 ghost use Rattle.order_command.specs.Request.{request_of};
 
+mod asked;
 mod fault;
+mod form;
 mod frame;
 mod header;
 mod lines;
@@ -15,49 +19,62 @@ mod order_fault;
 mod request;
 mod room;
 
-use crate::lines::order_lines;
+use crate::lines::{leg_line, order_output};
+pub use asked::Asked;
 use clock::Clock;
-use command_line::{finish, print};
+use command_line::{bytes_of, finish, print, read_up_to};
 use dialect::Dialect;
 pub use fault::CommandFault;
+pub use form::OrderForm;
 pub use frame::{read_order_frame, stream_of, write_order_frame};
 pub use header::Header;
 pub use option::OrderOption;
-pub use options::{Options, order_command, read_options};
+pub use options::{Options, order_command, read_words};
 pub use order_fault::OrderFault;
 pub use request::Request;
 pub use room::OrderRoom;
 use std::alloc::{AllocError, Global};
 use std::convert::AsStr;
-use std::io::Write;
+use std::io::{Read, Write};
 
 #[cfg(test)]
 mod fake_clock;
 #[cfg(test)]
 mod tests;
 
+/// How many bytes of an input are looked at for a frame.
+const MAX_INPUT: u64 = 65_536;
+
 /// Runs `dispatch order` on its words, of which the first is the command's own name.
 ///
-/// It writes the frame with `|` for SOH, and then the leg that was read back from it; faults go to
-/// `err`. Without `--at` the order is sent at the clock's moment. The answer is the exit status: 0, or that of the fault.
-pub fn order_run<S: AsStr, C: Clock, W: Write, E: Write>(
+/// It writes the frame with `|` for SOH, and then the leg that was read back from it, or with `--raw` the bytes of the
+/// frame; and with `--read` the leg of the first frame of `input`. Faults go to `err`. Without `--at` the order is sent at
+/// the clock's moment. The answer is the exit status: 0, or that of the fault.
+pub fn order_run<S: AsStr, C: Clock, R: Read, W: Write, E: Write>(
     alloc: Global,
     words: &[S],
     clock: &mut C,
+    input: &mut R,
     out: &mut W,
     err: &mut E,
 ) -> u8 {
-    finish(order(alloc, words, clock, out), err)
+    finish(order(alloc, words, clock, input, out), err)
 }
 
-fn order<S: AsStr, C: Clock, W: Write>(
+fn order<S: AsStr, C: Clock, R: Read, W: Write>(
     alloc: Global,
     words: &[S],
     clock: &mut C,
+    input: &mut R,
     out: &mut W,
 ) -> Result<(), CommandFault> {
-    let options = read_options(alloc, words)?;
-    print_order(alloc, &options.dialect, &options, clock, out)
+    match read_words(alloc, words)? {
+        Asked::Write(options) => print_order(alloc, &options.dialect, &options, clock, out),
+        Asked::Read(dialect) => {
+            let text = read_up_to(alloc, MAX_INPUT, input)?;
+            print_leg(alloc, &dialect, &text, out)
+        }
+    }
 }
 
 /// Prints the order that the options ask for, in this dialect, at the clock's moment where they name none.
@@ -87,12 +104,27 @@ fn order_text<D: Dialect>(
     ensures { IfOk result (λ text. IsOrderText
         (record { IsOrder = D.IsOrder dialect.now; IsReport = D.IsReport dialect.now }) (D.order_read dialect.now) request text.items) }
 {
-    let Request { leg, header } = request;
+    let Request { leg, header, form } = request;
     let frame = write_order_frame(alloc, dialect, &leg, header, OrderRoom::new(alloc)?);
     let read = match read_order_frame(dialect, stream_of(alloc, &frame)?) {
         Ok(read) => read,
         // What was written is read back, unless memory runs out.
         Err(_) => return Err(AllocError),
     };
-    order_lines(alloc, &frame, &read)
+    order_output(alloc, form, frame, &read)
+}
+
+/// Prints the leg of the first frame of a text, which has SOH, or shows it, or says why there is none.
+fn print_leg<D: Dialect, W: Write>(
+    alloc: Global,
+    dialect: &D,
+    text: &[u8],
+    out: &mut W,
+) -> Result<(), CommandFault>
+    ensures { EndsReading (W.contents out.old) (W.contents out.new) result
+        (order_read_from (D.order_read dialect.now) (stream_of (bytes_of text.now))) }
+{
+    let bytes = bytes_of(alloc, text)?;
+    let leg = read_order_frame(dialect, stream_of(alloc, &bytes)?)?;
+    Ok(print(&leg_line(alloc, &leg)?, out)?)
 }

@@ -71,18 +71,44 @@ impl OrderOption {
     pub fn help<'a>(self) -> &'a str {
         match self {
             OrderOption::Dialect => "how the order is spelled",
-            OrderOption::Sweep => "the sweep's number, from 1",
+            OrderOption::Sweep => "the sweep's number, 1 to 999999999999",
             OrderOption::Leg => "the leg's place in the sweep, 1 to 32",
-            OrderOption::Symbol => "a root, and with a suffix a point and the suffix, as BRK.B",
+            OrderOption::Symbol => {
+                "1 to 6 letters, and with a suffix a point and 1 to 3 letters, as BRK.B"
+            },
             OrderOption::Side => "buy or sell",
             OrderOption::Shares => "1 to 1000000",
-            OrderOption::Price => "in ten-thousandths of a dollar",
-            OrderOption::Number => "the message's number, from 1",
-            OrderOption::From => "the sender's comp id",
-            OrderOption::To => "the target's comp id",
+            OrderOption::Price => {
+                "in ten-thousandths of a dollar, 1 to 9999999999: 102500 is $10.25"
+            },
+            OrderOption::Number => "the message's number, 1 to 999999998",
+            OrderOption::From => "the sender's comp id, 1 to 16 printable bytes and no space",
+            OrderOption::To => "the target's comp id, 1 to 16 printable bytes and no space",
             OrderOption::At => {
                 "the sending time, as 20240102-14:30:00.000; else the clock's, in UTC"
             }
+        }
+    }
+
+    /// What its value has to be, as the line behind a bad one says.
+    pub fn wanted(self) -> &'static str {
+        match self {
+            OrderOption::Dialect => "plain, split or coded is wanted",
+            OrderOption::Sweep => "a whole number from 1 to 999999999999 is wanted",
+            OrderOption::Leg => "a whole number from 1 to 32 is wanted",
+            OrderOption::Symbol => {
+                "1 to 6 letters A to Z are wanted, and with a suffix a point and 1 to 3 letters, as BRK.B"
+            }
+            OrderOption::Side => "buy or sell is wanted",
+            OrderOption::Shares => "a whole number from 1 to 1000000 is wanted",
+            OrderOption::Price => {
+                "a whole number of ten-thousandths of a dollar from 1 to 9999999999 is wanted, as 102500 for $10.25"
+            }
+            OrderOption::Number => "a whole number from 1 to 999999998 is wanted",
+            OrderOption::From | OrderOption::To => {
+                "1 to 16 printable bytes and no space are wanted"
+            }
+            OrderOption::At => "a moment with its milliseconds is wanted, as 20240102-14:30:00.000",
         }
     }
 }

@@ -1,16 +1,35 @@
 //! The options of `dispatch order`, as text.
-ghost use Rattle.std.specs.Prelude.{◌≡◌, Some, IfOk, IfErr};
-ghost use Rattle.order_command.specs.Options.{matched, AreOptions};
+ghost use Rattle.std.specs.Prelude.{◌≡◌, Some, IfOk, IfErr, codes, option_and_then};
+ghost use Rattle.dialect.specs.DialectName.{dialect_named};
+ghost use Rattle.order_command.specs.Options.{matched, flagged, AreOptions, IsAsked};
 
+use crate::asked::Asked;
 use crate::fault::CommandFault;
+use crate::form::OrderForm;
 use crate::option::{ORDER_OPTIONS, OrderOption};
-use clap::{Arg, ArgMatches, Command};
+use clap::{Arg, ArgAction, ArgMatches, Command};
 use dialect::AnyDialect;
 use std::alloc::{AllocError, Global};
 use std::convert::AsStr;
 
 /// The dialects that `--dialect` takes.
 static DIALECTS: [&str; 3] = ["plain", "split", "coded"];
+
+/// The flag that asks for a frame to be read.
+const READ: &str = "read";
+
+/// The flag that asks for the bytes of the frame alone.
+const RAW: &str = "raw";
+
+/// What stands behind the options in the help.
+const EXAMPLES: &str = "\
+Prints the frame with | for SOH (a | and a \\ of its own as \\| and \\\\), and the leg in a line behind it. --read takes a frame
+as it is, or as it is printed, and looks at the first 65536 bytes. A number is a whole number; zeros may stand before it.
+
+Examples:
+  dispatch order --dialect plain --sweep 12 --leg 3 --symbol BRK.B --side buy --shares 100 --price 102500 \\
+    --number 4 --from A --to B
+  dispatch order --dialect plain --read < order.fix";
 
 /// The values of the options, each as it was written. All but `at` are required.
 #[derive(Drop)]
@@ -26,19 +45,28 @@ pub struct Options<'a> {
     pub from: &'a str,
     pub to: &'a str,
     pub at: Option<&'a str>,
+    pub form: OrderForm,
 }
 
-/// An option as the command line takes it. All but the moment are required.
-fn arg<'a>(alloc: Global, option: OrderOption) -> Arg<'a> {
+/// An option as the command line takes it. The dialect is required, the moment isn't, and the others are where no frame is
+/// read.
+fn arg<'a>(alloc: Global, option: OrderOption) -> Result<Arg<'a>, AllocError> {
     let arg = Arg::new(alloc, option.name())
         .long(option.name())
         .value_name(option.value_name())
-        .help(option.help())
-        .required(option != OrderOption::At);
+        .help(option.help());
     match option {
-        OrderOption::Dialect => arg.value_parser(DIALECTS.as_slice()),
-        _ => arg,
+        OrderOption::Dialect => Ok(arg.required(true).value_parser(DIALECTS.as_slice())),
+        OrderOption::At => arg.conflicts_with(READ),
+        _ => arg.conflicts_with(READ)?.required_unless_present(READ),
     }
+}
+
+fn flag<'a>(alloc: Global, name: &'a str, help: &'a str) -> Arg<'a> {
+    Arg::new(alloc, name)
+        .long(name)
+        .help(help)
+        .action(ArgAction::SetTrue)
 }
 
 /// The command `order`, with its options.
@@ -47,9 +75,14 @@ pub fn order_command<'a>(alloc: Global) -> Result<Command<'a>, AllocError> {
         "Writes a leg as an order frame, with | for SOH, and the leg that is read back from it",
     );
     for option in &ORDER_OPTIONS {
-        command = command.arg(arg(alloc, *option))?;
+        command = command.arg(arg(alloc, *option)?)?;
     }
-    Ok(command)
+    let raw = flag(alloc, RAW, "prints the bytes of the frame alone").conflicts_with(READ)?;
+    command.after_help(EXAMPLES).arg(raw)?.arg(flag(
+        alloc,
+        READ,
+        "reads a frame on standard input, in that dialect, and prints its leg",
+    ))
 }
 
 fn value<'a>(matches: &ArgMatches<'a>, option: OrderOption) -> Result<&'a str, CommandFault>
@@ -62,14 +95,32 @@ fn value<'a>(matches: &ArgMatches<'a>, option: OrderOption) -> Result<&'a str, C
     }
 }
 
+/// The dialect that the command line named.
+fn dialect_of(matches: &ArgMatches<'_>) -> Result<AnyDialect, CommandFault>
+    ensures { IfOk result (λ dialect. option_and_then dialect_named (matched matches.now OrderOption.Dialect) ≡ Some dialect) }
+{
+    let name = value(matches, OrderOption::Dialect)?;
+    AnyDialect::named(name).ok_or(CommandFault::BadValue(OrderOption::Dialect))
+}
+
+/// The form that the command line asks for.
+fn form_of(matches: &ArgMatches<'_>) -> OrderForm
+    ensures raw { flagged matches.now (codes "raw") ≡ Some (codes "true") → result ≡ OrderForm.Raw }
+    ensures shown { flagged matches.now (codes "raw") ≡ Some (codes "false") → result ≡ OrderForm.Shown }
+{
+    if matches.get_flag(RAW) {
+        OrderForm::Raw
+    } else {
+        OrderForm::Shown
+    }
+}
+
 /// The options that the command line matched, each under its name.
 fn options_of<'a>(matches: &ArgMatches<'a>) -> Result<Options<'a>, CommandFault>
     ensures { IfOk result (AreOptions matches.now) }
 {
-    let name = value(matches, OrderOption::Dialect)?;
-    let bad_dialect = CommandFault::BadValue(OrderOption::Dialect);
     Ok(Options {
-        dialect: AnyDialect::named(name).ok_or(bad_dialect)?,
+        dialect: dialect_of(matches)?,
         sweep: value(matches, OrderOption::Sweep)?,
         leg: value(matches, OrderOption::Leg)?,
         symbol: value(matches, OrderOption::Symbol)?,
@@ -80,16 +131,24 @@ fn options_of<'a>(matches: &ArgMatches<'a>) -> Result<Options<'a>, CommandFault>
         from: value(matches, OrderOption::From)?,
         to: value(matches, OrderOption::To)?,
         at: matches.get_str(OrderOption::At.name()),
+        form: form_of(matches),
     })
 }
 
-/// The options in these words. A missing, unknown or repeated option and a dialect that isn't there are
-/// faults of the command line.
-pub fn read_options<'a, S: AsStr>(
-    alloc: Global,
-    words: &'a [S],
-) -> Result<Options<'a>, CommandFault> {
+/// What the command line asks for.
+fn asked_of<'a>(matches: &ArgMatches<'a>) -> Result<Asked<'a>, CommandFault>
+    ensures { IfOk result (IsAsked matches.now) }
+{
+    if matches.get_flag(READ) {
+        return Ok(Asked::Read(dialect_of(matches)?));
+    }
+    Ok(Asked::Write(options_of(matches)?))
+}
+
+/// What these words ask for. A missing, unknown or repeated option, one that stands beside `--read`, and a dialect that
+/// isn't there are faults of the command line.
+pub fn read_words<'a, S: AsStr>(alloc: Global, words: &'a [S]) -> Result<Asked<'a>, CommandFault> {
     let command = order_command(alloc)?.bin_name("dispatch order")?;
     let matches = command.try_get_matches_from(words)?;
-    options_of(&matches)
+    asked_of(&matches)
 }

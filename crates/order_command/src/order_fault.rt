@@ -18,3 +18,17 @@ pub enum OrderFault {
     #[error("out of memory")]
     OutOfMemory,
 }
+
+impl OrderFault {
+    /// What it says of an input's frame.
+    pub fn reason(&self) -> &'static str {
+        match self {
+            OrderFault::NoFrame =>
+                "no frame in the first 65536 bytes is whole and has the right sum",
+            OrderFault::NoMessage(_) => "the frame has no header of a message",
+            OrderFault::NoOrder => "the frame isn't of kind D",
+            OrderFault::BadOrder(_) => "the frame is no order in this dialect",
+            OrderFault::OutOfMemory => "no memory is left",
+        }
+    }
+}

@@ -5,6 +5,7 @@ ghost use Rattle.dialect.specs.JoinedSymbol.{joined_symbol_of};
 ghost use Rattle.order_command.specs.Request.{given, number_up_to, side_named, full_stamp, moment_of, request_of};
 
 use crate::fault::CommandFault;
+use crate::form::OrderForm;
 use crate::header::Header;
 use crate::option::OrderOption;
 use crate::options::Options;
@@ -16,11 +17,12 @@ use leg::{Leg, LegId, MAX_PLACE, MAX_PRICE, MAX_SHARES, MAX_SWEEP, Side, Symbol,
 /// The length of a written time stamp.
 const STAMP_LEN: usize = 21;
 
-/// A leg, and the header of its order.
+/// A leg, the header of its order, and how the order is printed.
 #[derive(Debug, Drop)]
 pub struct Request {
     pub leg: Leg,
     pub header: Header,
+    pub form: OrderForm,
 }
 
 fn number_of(text: &str, option: OrderOption, most: u64) -> Result<u64, CommandFault>
@@ -96,6 +98,7 @@ impl Request {
         Ok(Request {
             leg: Leg { id, terms },
             header: Header::new(from, to, number, at),
+            form: options.form,
         })
     }
 }

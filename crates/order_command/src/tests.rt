@@ -15,7 +15,8 @@ fn without_at_the_clock_tells_the_moment(rt: HostRuntime) -> Result<(), Fail> {
     let mut out = Vec::new(alloc);
     let mut err = Vec::new(alloc);
     let mut clock = FakeClock::new().ok_or("a clock")?;
-    let status = order_run(alloc, &words, &mut clock, &mut out, &mut err);
+    let mut input: &[u8] = b"";
+    let status = order_run(alloc, &words, &mut clock, &mut input, &mut out, &mut err);
     assert_eq!(rt; status, 0);
     assert_eq!(rt;
         out.as_slice(),

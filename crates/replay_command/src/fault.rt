@@ -39,6 +39,10 @@ impl Fault for CommandFault {
         }
     }
 
+    fn reason(&self) -> Option<&'static str> {
+        None
+    }
+
     fn ends_line(&self) -> bool {
         matches!(self, CommandFault::CommandLine(_))
     }
