@@ -11,16 +11,6 @@ use Rattle.replay_command.specs.declared.fault.CommandFault.TheVariants.{BadLine
 abbrev pub replayed : ScriptParts → List ℕ
 replayed script = printed (run script.next script.max_number script.events)
 
--- how a run on a script's text ends, by the bytes that the output held before and holds after: the world is printed, or
--- the first bad line is named. Only memory and the output can fail, and nothing is printed but where the output fails
-abbrev pub EndsReplay : Option (List ℕ) → Option (List ℕ) → Result ScriptParts ℕ → {A : Type 0} → Result A CommandFault
-    → Type 0
-EndsReplay before after (Ok script) (Ok done) = Appends before after (replayed script)
-EndsReplay before after (Ok script) (Err OutOfMemory) = Keeps before after
-EndsReplay before after (Ok script) (Err WriteFailed) = Unit {0}
-EndsReplay before after (Ok script) (Err other) = ⊥
-EndsReplay before after (Err line) done = (done ≡ Err (BadLine line)) × Keeps before after
-
 -- memory or the output failed
 abbrev pub IsOfOutput : CommandFault → Type 0
 IsOfOutput OutOfMemory = Unit {0}

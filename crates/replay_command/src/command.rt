@@ -1,5 +1,6 @@
 //! The words of `dispatch replay`.
 
+use crate::asked::Asked;
 use crate::fault::CommandFault;
 use crate::shown::Shown;
 use clap::{Arg, ArgAction, Command};
@@ -9,6 +10,10 @@ use std::convert::AsStr;
 const STEPS: &str = "steps";
 
 const FRAMES: &str = "frames";
+
+const CHECK: &str = "check";
+
+const FILE: &str = "FILE";
 
 /// The lines of a script, as its help has them.
 const SCRIPT: &str = "\
@@ -28,12 +33,16 @@ Lines of the script:
   test V                              it asks for a sign of life
   quiet V, silent V                   the session wrote, or heard, nothing for a while
   close V, abandon V                  the session logs out, or is given up
-V counts from 0, K, I and J from 1. Blank lines and lines that begin with # are passed over.";
+V counts from 0, K, I and J from 1. Blank lines and lines that begin with # are passed over.
+
+Examples:
+  dispatch replay --steps day.script
+  dispatch replay --check < day.script";
 
 /// The command `replay`, with its options.
 pub fn replay_command<'a>(alloc: Global) -> Result<Command<'a>, AllocError> {
     Command::new(alloc, "replay")
-        .about("Reads a day as a script from standard input, and prints what became of each leg")
+        .about("Reads a day as a script, and prints what became of each leg")
         .after_help(SCRIPT)
         .arg(flag(
             alloc,
@@ -44,7 +53,13 @@ pub fn replay_command<'a>(alloc: Global) -> Result<Command<'a>, AllocError> {
             alloc,
             FRAMES,
             "prints each frame that was written, with | for SOH, before the world",
-        ))
+        ))?
+        .arg(
+            flag(alloc, CHECK, "reads the script to its end and runs nothing")
+                .conflicts_with(STEPS)?
+                .conflicts_with(FRAMES)?,
+        )?
+        .arg(Arg::new(alloc, FILE).help("the file that has the script; else it is standard input"))
 }
 
 fn flag<'a>(alloc: Global, name: &'a str, help: &'a str) -> Arg<'a> {
@@ -55,11 +70,15 @@ fn flag<'a>(alloc: Global, name: &'a str, help: &'a str) -> Arg<'a> {
 }
 
 /// What the words behind the command's name ask for.
-pub fn read_words<S: AsStr>(alloc: Global, words: &[S]) -> Result<Shown, CommandFault> {
+pub fn read_words<'a, S: AsStr>(alloc: Global, words: &'a [S]) -> Result<Asked<'a>, CommandFault> {
     let command = replay_command(alloc)?.bin_name("dispatch replay")?;
     let matches = command.try_get_matches_from(words)?;
-    Ok(Shown {
-        steps: matches.get_flag(STEPS),
-        frames: matches.get_flag(FRAMES),
+    Ok(Asked {
+        check: matches.get_flag(CHECK),
+        shown: Shown {
+            steps: matches.get_flag(STEPS),
+            frames: matches.get_flag(FRAMES),
+        },
+        file: matches.get_str(FILE),
     })
 }
