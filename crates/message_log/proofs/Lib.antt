@@ -1,1 +1,1 @@
-pub mod LoggedBytes
+pub mod OneLine

@@ -53,8 +53,8 @@ fn append_logged(line: &mut Vec<u8>, message: &[u8]) -> Result<(), AllocError>
     Ok(())
 }
 
-/// The line of a message, with its end: `20261124-14:30:00.123 > 8=FIX.4.4|9=..|`. Every message is one line, since no
-/// byte of it is written that isn't printable.
+/// The line of a message, with its end: `20261124-14:30:00.123 > 8=FIX.4.4|9=..|`. Every message is one line
+/// (`messages_are_lines`).
 pub fn log_line(
     alloc: Global,
     stamp: &Stamp,
