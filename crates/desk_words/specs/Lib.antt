@@ -1,0 +1,2 @@
+pub mod VenueName
+pub mod Printable
