@@ -1,0 +1,4 @@
+pub mod Views
+pub mod VenuesRead
+pub mod TextRead
+pub mod Apart

@@ -1,0 +1,7 @@
+use Rattle.std.proofs.Common.{append_assoc}
+use Rattle.desk_config.proofs.fault.FaultDisplay.fmt.Goals as goal
+
+pub returns-in-Bad-clause-writes : goal.returns-in-Bad-clause-writes
+returns-in-Bad-clause-writes g c =
+    λ plain written.
+    rw c.in-Bad.is (rw (← c.wants-wants.ensures) (simp append_assoc (c.write-in-Bad.ensures.writes plain written)))

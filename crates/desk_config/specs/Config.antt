@@ -1,0 +1,68 @@
+-- The configuration that a file spells.
+use Rattle.std.specs.Prelude.{◌≡◌, ℕ, List, Option, Some, None, IsSome, option_map, Result, Ok, Err}
+use Rattle.toml.specs.Data.{Data, table}
+use Rattle.toml.specs.Errors.{IsMemory, IsBlank}
+use Rattle.toml.specs.Parse.{parse_document}
+use Rattle.desk_config.specs.declared.address.Address.{Address}
+use Rattle.desk_config.specs.declared.config.DeskConfig.{DeskConfig}
+use Rattle.desk_config.specs.declared.desk_keys.DeskTable.{DeskTable}
+use Rattle.desk_config.specs.declared.fault.ConfigFault.{ConfigFault}
+use Rattle.desk_config.specs.declared.fault.ConfigFault.TheVariants as fault
+use Rattle.desk_config.specs.declared.fault.KeyFault.{KeyFault}
+use Rattle.desk_config.specs.declared.keys.Keys.TheVariants as keys
+use Rattle.desk_config.specs.declared.place.Place.TheVariants as place
+use Rattle.desk_config.specs.declared.venue.Venue.{Venue}
+use Rattle.desk_config.specs.Desk.{desk_in}
+use Rattle.desk_config.specs.Reading.{and_then, checked, in_place}
+use Rattle.desk_config.specs.Venues.{venues_of}
+
+-- what a configuration says
+pub record ConfigParts : Type 0 where
+  pub callers : ℕ
+  pub log : Option (List ℕ)
+  pub page : Option Address
+  pub token : Option (List ℕ)
+  pub venues : List Venue
+
+abbrev pub parts_of_config : DeskConfig → ConfigParts
+parts_of_config config =
+    record {
+      callers = config.callers;
+      log = config.log;
+      page = config.page;
+      token = config.token;
+      venues = config.venues.items;
+    }
+
+-- what `[desk]` and the venues say together
+abbrev pub config_of : DeskTable → List Venue → ConfigParts
+config_of desk venues =
+    record { callers = desk.callers; log = desk.log; page = desk.page; token = desk.token; venues = venues }
+
+-- the configuration that a file's table has, or its first fault
+unfoldable pub config_in : Data → Result ConfigParts KeyFault
+config_in file =
+    and_then (in_place place.File (checked keys.File file)) (λ _.
+    and_then (desk_in file) (λ desk.
+    and_then (venues_of desk.sender file) (λ venues.
+    Ok (config_of desk venues))))
+
+-- the answer is what is said, or its fault; or memory ran out
+abbrev pub Answers : Result ConfigParts KeyFault → Result DeskConfig ConfigFault → Type 0
+Answers said (Ok config) = said ≡ Ok (parts_of_config config)
+Answers said (Err (fault.Key key_fault)) = said ≡ Err key_fault
+Answers said (Err fault.OutOfMemory) = Unit {0}
+Answers said (Err (fault.Toml error)) = ⊥
+
+-- the configuration that a text spells, or the first fault of its keys; none where it is no TOML
+abbrev pub text_says : List ℕ → Option (Result ConfigParts KeyFault)
+text_says text = option_map (λ file. config_in (table file)) (parse_document text)
+
+-- a text is answered with what it says; with TOML's fault only where it is no TOML, or memory ran out for one that has
+-- something; and memory for the list of venues runs out only where it is TOML
+abbrev pub AnswersText : List ℕ → Result DeskConfig ConfigFault → Type 0
+AnswersText text (Ok config) = text_says text ≡ Some (Ok (parts_of_config config))
+AnswersText text (Err (fault.Key key_fault)) = text_says text ≡ Some (Err key_fault)
+AnswersText text (Err (fault.Toml error)) =
+    (¬ IsMemory error → parse_document text ≡ None) × (IsMemory error → ¬ IsBlank text)
+AnswersText text (Err fault.OutOfMemory) = IsSome (parse_document text)

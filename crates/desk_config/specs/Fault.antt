@@ -1,0 +1,44 @@
+-- The texts of faults.
+use Rattle.std.specs.Prelude.{ℕ, List, [], ◌++◌, codes, decimal, Option, Some, None}
+use Rattle.desk_config.specs.declared.fault.Fault.{Fault}
+use Rattle.desk_config.specs.declared.fault.Fault.TheVariants.{NoTable, Unknown, Missing, Bad, NeedsToken, OnlySimulated, SameName, SameSession}
+use Rattle.desk_config.specs.declared.fault.KeyFault.{KeyFault}
+use Rattle.desk_config.specs.declared.fault.ConfigFault.{ConfigFault}
+use Rattle.desk_config.specs.declared.fault.ConfigFault.TheVariants.{Toml, Key, OutOfMemory}
+use Rattle.desk_config.specs.declared.place.Place.{Place}
+use Rattle.desk_config.specs.declared.place.Place.TheVariants.{File, Desk, Venue}
+use Rattle.desk_config.specs.Key.{key_name, key_wants}
+use Rattle.desk_config.specs.Found.{found_text}
+
+-- what is wrong in a table, as `heartbeat is 99999, and has to be 1 to 3600`
+abbrev pub fault_text : Fault → List ℕ
+fault_text (NoTable found) = codes "it is " ++ found_text found ++ codes ", and has to be a table"
+fault_text (Unknown key) = codes "unknown key " ++ key
+fault_text (Missing key) = key_name key ++ codes " is missing"
+fault_text (Bad key found) =
+    key_name key ++ codes " is " ++ found_text found ++ codes ", and has to be " ++ key_wants key
+fault_text NeedsToken = codes "page is not at 127.0.0.1, and there is no token"
+fault_text OnlySimulated = codes "fill is there, and the venue isn't simulated"
+fault_text (SameName place) = codes "name is that of venue " ++ decimal place
+fault_text (SameSession place) = codes "address and comp ids are those of venue " ++ decimal place
+
+-- the name of a venue in brackets, where it has one
+abbrev pub name_text : Option (List ℕ) → List ℕ
+name_text None = []
+name_text (Some name) = codes " (" ++ name ++ codes ")"
+
+-- the table that a fault stands in, as `venue 2 (ARCA): `
+abbrev pub place_text : Place → List ℕ
+place_text File = []
+place_text Desk = codes "desk: "
+place_text (Venue number name) = codes "venue " ++ decimal number ++ name_text name ++ codes ": "
+
+-- a fault behind its place, as `venue 2 (ARCA): heartbeat is 99999, and has to be 1 to 3600`
+abbrev pub key_fault_text : KeyFault → List ℕ
+key_fault_text fault = place_text fault.place ++ fault_text fault.fault
+
+-- what is said of a file that gives no configuration; of a text that is no TOML its reader tells
+abbrev pub config_fault_text : ConfigFault → Option (List ℕ)
+config_fault_text (Toml _) = None
+config_fault_text (Key fault) = Some (key_fault_text fault)
+config_fault_text OutOfMemory = Some (codes "out of memory")

@@ -1,0 +1,38 @@
+-- The keys of the desk's file.
+use Rattle.std.specs.Prelude.{ℕ, List, codes}
+use Rattle.desk_config.specs.declared.key.Key.{Key}
+use Rattle.desk_config.specs.declared.key.Key.TheVariants.{Venue, Sender, Callers, Log, Page, Token, Name, Address, Target, Dialect, Heartbeat, NextExpected, MaxNumber, Fill}
+
+-- a key as the file spells it
+abbrev pub key_name : Key → List ℕ
+key_name Venue = codes "venue"
+key_name Sender = codes "sender"
+key_name Callers = codes "callers"
+key_name Log = codes "log"
+key_name Page = codes "page"
+key_name Token = codes "token"
+key_name Name = codes "name"
+key_name Address = codes "address"
+key_name Target = codes "target"
+key_name Dialect = codes "dialect"
+key_name Heartbeat = codes "heartbeat"
+key_name NextExpected = codes "next_expected"
+key_name MaxNumber = codes "max_number"
+key_name Fill = codes "fill"
+
+-- what a key's value has to be, as a fault says it
+abbrev pub key_wants : Key → List ℕ
+key_wants Venue = codes "1 to 16 tables"
+key_wants Sender = codes "1 to 16 printable characters without spaces"
+key_wants Callers = codes "1 to 64"
+key_wants Log = codes "the name of a folder, 1 to 200 printable characters"
+key_wants Page = codes "HOST:PORT"
+key_wants Token = codes "1 to 128 printable characters"
+key_wants Name = codes "1 to 16 of A-Z a-z 0-9 _ -"
+key_wants Address = codes "HOST:PORT or simulated"
+key_wants Target = codes "1 to 16 printable characters without spaces"
+key_wants Dialect = codes "plain, split or coded"
+key_wants Heartbeat = codes "1 to 3600"
+key_wants NextExpected = codes "true or false"
+key_wants MaxNumber = codes "16 to 999999999"
+key_wants Fill = codes "0 to 1000000"

@@ -1,0 +1,13 @@
+pub mod Key
+pub mod Keys
+pub mod Found
+pub mod Fault
+pub mod Address
+pub mod Endpoint
+pub mod Number
+pub mod Reading
+pub mod Desk
+pub mod Venue
+pub mod Venues
+pub mod Apart
+pub mod Config

@@ -1,0 +1,38 @@
+//! The configuration of a desk.
+
+ghost use Rattle.std.specs.Prelude.{◌≡◌};
+
+use crate::address::Address;
+use crate::venue::Venue;
+use crate::within::Within;
+use desk_words::Printable;
+
+/// The most bytes of the name of the logs' folder.
+pub const MAX_FOLDER: usize = 200;
+
+/// The most bytes of a token.
+pub const MAX_TOKEN: usize = 128;
+
+/// The name of a folder.
+pub type FolderText = Printable<MAX_FOLDER>;
+
+/// What is asked of whoever hands in sweeps or closes the day.
+pub type TokenText = Printable<MAX_TOKEN>;
+
+/// How many sweeps may be handed in at once.
+pub type Callers = Within<1, 64>;
+
+/// What a file says of a desk's day.
+#[derive(Debug, Drop)]
+pub struct DeskConfig {
+    /// How many sweeps may be handed in at once.
+    pub callers: Callers,
+    /// The folder of the message logs, as the file names it; none are kept without it.
+    pub log: Option<FolderText>,
+    /// Where the page and its API are served; nowhere without it.
+    pub page: Option<Address>,
+    /// The token, which is there where the page isn't on 127.0.0.1.
+    pub token: Option<TokenText>,
+    /// The venues, 1 to 16, in the order of the file.
+    pub venues: Vec<Venue>,
+}

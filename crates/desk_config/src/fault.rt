@@ -1,0 +1,106 @@
+//! What is wrong with the file.
+
+ghost use Rattle.std.specs.Prelude.{◌≡◌, Some};
+ghost use Rattle.desk_config.specs.Fault.{config_fault_text, fault_text, key_fault_text};
+ghost use Rattle.desk_config.specs.declared.fault.ConfigFault.TheVariants.{OutOfMemory};
+
+use crate::found::{Found, FoundText};
+use crate::key::Key;
+use crate::place::Place;
+use std::alloc::AllocFailed;
+use std::error::Error;
+use std::fmt;
+
+/// What is wrong in a table.
+#[derive(Debug, PartialEq, Eq, Drop)]
+pub enum Fault {
+    /// What has to be a table is another value.
+    NoTable(Found),
+    /// A key that the table may not have.
+    Unknown(FoundText),
+    /// A key that it has to have isn't there.
+    Missing(Key),
+    /// The key's value is of another type, or out of its range.
+    Bad { key: Key, found: Found },
+    /// The page's host isn't 127.0.0.1, and there is no token.
+    NeedsToken,
+    /// A venue that has an address says how a simulated one fills.
+    OnlySimulated,
+    /// An earlier venue, counted from 1, has the same name.
+    SameName(usize),
+    /// An earlier venue, counted from 1, has the same address and the same comp ids.
+    SameSession(usize),
+}
+
+impl fmt::Display for Fault {
+    ghost output = { λ fault. Some (fault_text fault) };
+
+    fn fmt<W: fmt::Write>(&self, f: &mut fmt::Formatter<W>) -> fmt::Result {
+        match self {
+            Fault::NoTable(found) => write!(f, "it is {found}, and has to be a table"),
+            Fault::Unknown(key) => write!(f, "unknown key {key}"),
+            Fault::Missing(key) => write!(f, "{key} is missing"),
+            Fault::Bad { key, found } => {
+                let wants = key.wants();
+                write!(f, "{key} is {found}, and has to be {wants}")
+            }
+            Fault::NeedsToken => write!(f, "page is not at 127.0.0.1, and there is no token"),
+            Fault::OnlySimulated => write!(f, "fill is there, and the venue isn't simulated"),
+            Fault::SameName(place) => write!(f, "name is that of venue {place}"),
+            Fault::SameSession(place) => {
+                write!(f, "address and comp ids are those of venue {place}")
+            }
+        }
+    }
+}
+
+/// What is wrong, and in which table.
+#[derive(Debug, PartialEq, Eq, Drop)]
+pub struct KeyFault {
+    pub place: Place,
+    pub fault: Fault,
+}
+
+impl fmt::Display for KeyFault {
+    ghost output = { λ fault. Some (key_fault_text fault) };
+
+    fn fmt<W: fmt::Write>(&self, f: &mut fmt::Formatter<W>) -> fmt::Result {
+        let place = &self.place;
+        let fault = &self.fault;
+        write!(f, "{place}{fault}")
+    }
+}
+
+/// Why a file gives no configuration. Its text names the place and the key; the file's name is the caller's to say.
+#[derive(Debug, Drop)]
+pub enum ConfigFault {
+    /// The text is no TOML, as where a key stands twice; or memory ran out while it was read.
+    Toml(toml::de::Error),
+    /// The first fault of its keys and values.
+    Key(KeyFault),
+    /// No memory is left for the list of venues.
+    OutOfMemory,
+}
+
+/// What TOML's reader says of its own faults isn't promised.
+impl fmt::Display for ConfigFault {
+    ghost output = { config_fault_text };
+
+    fn fmt<W: fmt::Write>(&self, f: &mut fmt::Formatter<W>) -> fmt::Result {
+        match self {
+            ConfigFault::Toml(fault) => write!(f, "{fault}"),
+            ConfigFault::Key(fault) => write!(f, "{fault}"),
+            ConfigFault::OutOfMemory => write!(f, "out of memory"),
+        }
+    }
+}
+
+impl Error for ConfigFault {}
+
+impl<T: Drop> From<AllocFailed<T>> for ConfigFault {
+    ghost from_gives = { λ _ fault. fault ≡ OutOfMemory };
+
+    fn from(_: AllocFailed<T>) -> ConfigFault {
+        ConfigFault::OutOfMemory
+    }
+}

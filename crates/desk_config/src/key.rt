@@ -1,0 +1,79 @@
+//! The keys of the file.
+
+ghost use Rattle.std.specs.Prelude.{◌≡◌, Some};
+ghost use Rattle.desk_config.specs.Key.{key_name, key_wants};
+
+use std::fmt;
+
+/// A key of the file, of its `[desk]` or of a `[[venue]]`.
+#[derive(Clone, Copy, Debug, PartialEq, Eq)]
+pub enum Key {
+    Venue,
+    Sender,
+    Callers,
+    Log,
+    Page,
+    Token,
+    Name,
+    Address,
+    Target,
+    Dialect,
+    Heartbeat,
+    NextExpected,
+    MaxNumber,
+    Fill,
+}
+
+impl Key {
+    /// The key as the file spells it.
+    pub fn name(self) -> &'static str
+        ensures { result.now ≡ key_name self }
+    {
+        match self {
+            Key::Venue => "venue",
+            Key::Sender => "sender",
+            Key::Callers => "callers",
+            Key::Log => "log",
+            Key::Page => "page",
+            Key::Token => "token",
+            Key::Name => "name",
+            Key::Address => "address",
+            Key::Target => "target",
+            Key::Dialect => "dialect",
+            Key::Heartbeat => "heartbeat",
+            Key::NextExpected => "next_expected",
+            Key::MaxNumber => "max_number",
+            Key::Fill => "fill",
+        }
+    }
+
+    /// What the key's value has to be.
+    pub fn wants(self) -> &'static str
+        ensures { result.now ≡ key_wants self }
+    {
+        match self {
+            Key::Venue => "1 to 16 tables",
+            Key::Sender | Key::Target => "1 to 16 printable characters without spaces",
+            Key::Callers => "1 to 64",
+            Key::Log => "the name of a folder, 1 to 200 printable characters",
+            Key::Page => "HOST:PORT",
+            Key::Token => "1 to 128 printable characters",
+            Key::Name => "1 to 16 of A-Z a-z 0-9 _ -",
+            Key::Address => "HOST:PORT or simulated",
+            Key::Dialect => "plain, split or coded",
+            Key::Heartbeat => "1 to 3600",
+            Key::NextExpected => "true or false",
+            Key::MaxNumber => "16 to 999999999",
+            Key::Fill => "0 to 1000000",
+        }
+    }
+}
+
+impl fmt::Display for Key {
+    ghost output = { λ key. Some (key_name key) };
+
+    fn fmt<W: fmt::Write>(&self, f: &mut fmt::Formatter<W>) -> fmt::Result {
+        let name = self.name();
+        write!(f, "{name}")
+    }
+}

@@ -1,0 +1,69 @@
+//! Which keys a table may have.
+
+ghost use Rattle.std.specs.Prelude.{◌≡◌, option_map};
+ghost use Rattle.desk_config.specs.Keys.{has_key, first_unknown};
+ghost use Rattle.toml.specs.View.{table_view};
+
+use toml::Table;
+
+/// The keys of one kind of table.
+#[derive(Clone, Copy, Debug, PartialEq, Eq)]
+pub(crate) enum Keys {
+    File,
+    Desk,
+    Venue,
+}
+
+impl Keys {
+    fn has(self, key: &str) -> bool
+        ensures { result ≡ has_key self key.now }
+    {
+        match self {
+            Keys::File => is_file_key(key),
+            Keys::Desk => is_desk_key(key),
+            Keys::Venue => is_venue_key(key),
+        }
+    }
+
+    /// The first key of a table, in the order of their bytes, that it may not have.
+    #[tactic(auto, unfolding(crate::specs::Keys::first_unknown))]
+    pub(crate) fn first_unknown<'a>(self, table: &'a Table) -> Option<&'a str>
+        ensures { option_map (λ key. key.now) result ≡ first_unknown self (table_view table.now) }
+    {
+        for (key, _) in table.iter() {
+            if !self.has(key.as_str()) {
+                return Some(key.as_str());
+            }
+        }
+        None
+    }
+}
+
+fn is_file_key(key: &str) -> bool
+    ensures { result ≡ has_key Keys.File key.now }
+{
+    matches!(key, "desk" | "venue")
+}
+
+fn is_desk_key(key: &str) -> bool
+    ensures { result ≡ has_key Keys.Desk key.now }
+{
+    matches!(key, "sender" | "callers" | "log" | "page" | "token")
+}
+
+fn is_venue_key(key: &str) -> bool
+    ensures { result ≡ has_key Keys.Venue key.now }
+{
+    matches!(
+        key,
+        "name"
+            | "address"
+            | "target"
+            | "sender"
+            | "dialect"
+            | "heartbeat"
+            | "next_expected"
+            | "max_number"
+            | "fill"
+    )
+}

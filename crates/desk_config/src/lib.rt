@@ -1,0 +1,32 @@
+//! The file of a desk: its TOML is read into the desk's configuration, or its first fault is named.
+#![tactic(auto)]
+
+mod address;
+mod config;
+mod desk_keys;
+mod endpoint;
+mod fault;
+mod found;
+mod from_value;
+mod key;
+mod keys;
+mod place;
+mod read;
+mod session_terms;
+mod value_at;
+mod venue;
+mod venue_keys;
+mod venues;
+mod within;
+
+pub use address::{Address, MAX_HOST, Port};
+pub use config::{Callers, DeskConfig, FolderText, MAX_FOLDER, MAX_TOKEN, TokenText};
+pub use endpoint::{Endpoint, FillShares};
+pub use fault::{ConfigFault, Fault, KeyFault};
+pub use found::{Found, FoundText, Kind};
+pub use key::Key;
+pub use place::Place;
+pub use read::read_config;
+pub use session_terms::{Heartbeat, NumberLimit, SessionTerms};
+pub use venue::Venue;
+pub use within::Within;

@@ -1,0 +1,58 @@
+//! A file's text, read.
+
+ghost use Rattle.std.specs.Prelude.{IfOk};
+ghost use Rattle.desk_config.specs.Apart.{AreVenues};
+ghost use Rattle.desk_config.specs.Config.{Answers, AnswersText, config_in};
+ghost use Rattle.toml.specs.View.{view};
+
+use crate::config::DeskConfig;
+use crate::desk_keys::read_desk;
+use crate::fault::{ConfigFault, KeyFault};
+use crate::keys::Keys;
+use crate::place::Place;
+use crate::value_at::checked;
+use crate::venues::read_venues;
+use std::alloc::Global;
+use toml::Value;
+
+/// The configuration that a file's table has.
+#[tactic(auto, unfolding(crate::specs::Config::config_in))]
+fn read_table(alloc: Global, file: &Value) -> Result<DeskConfig, ConfigFault>
+    ensures says { Answers (config_in (view file.now)) result }
+    ensures apart { IfOk result (λ config. AreVenues config.venues.items) }
+{
+    if let Err(fault) = checked(file, Keys::File) {
+        return Err(ConfigFault::Key(KeyFault {
+            place: Place::File,
+            fault,
+        }));
+    }
+    let desk = match read_desk(file) {
+        Ok(desk) => desk,
+        Err(fault) => return Err(ConfigFault::Key(fault)),
+    };
+    let venues = read_venues(alloc, &desk.sender, file)?;
+    Ok(DeskConfig {
+        callers: desk.callers,
+        log: desk.log,
+        page: desk.page,
+        token: desk.token,
+        venues,
+    })
+}
+
+/// The configuration that a file's text spells, or its first fault: first the TOML, then the keys of the file, those
+/// of `[desk]`, and those of each `[[venue]]` in turn, by `sender`, `callers`, `log`, `page`, `token`, and by `name`,
+/// `address`, `fill`, `target`, `sender`, `dialect`, `heartbeat`, `next_expected`, `max_number`. In each table a key
+/// that it may not have comes first, and behind a venue's own keys that it has the name or the session of an earlier
+/// one.
+#[tactic(auto, using(crate::proofs::TextRead::answers_text))]
+pub fn read_config(alloc: Global, text: &str) -> Result<DeskConfig, ConfigFault>
+    ensures says { AnswersText text.now result }
+    ensures apart { IfOk result (λ config. AreVenues config.venues.items) }
+{
+    match toml::table_from_str(alloc, text) {
+        Ok(table) => read_table(alloc, &Value::from(table)),
+        Err(fault) => Err(ConfigFault::Toml(fault)),
+    }
+}

@@ -1,0 +1,18 @@
+//! A venue of the file.
+
+use crate::endpoint::Endpoint;
+use crate::session_terms::SessionTerms;
+use desk_words::VenueName;
+use fix_tags::CompId;
+
+/// A venue, and the session with its exchange.
+#[derive(Debug, Drop)]
+pub struct Venue {
+    pub name: VenueName,
+    pub endpoint: Endpoint,
+    /// The exchange's comp id.
+    pub target: CompId,
+    /// The desk's comp id at this venue.
+    pub sender: CompId,
+    pub session: SessionTerms,
+}

@@ -1,0 +1,7 @@
+pub mod Words
+pub mod Fault
+pub mod Legs
+pub mod Line
+pub mod Written
+pub mod Answer
+pub mod News

@@ -1,0 +1,73 @@
+//! What a line is answered.
+
+ghost use Rattle.std.specs.Prelude.{Some};
+ghost use Rattle.sweep_text.specs.Answer.{answer_text};
+
+use crate::line_fault::LineFault;
+use desk_words::VenueName;
+use std::fmt;
+
+/// Why a sweep isn't placed. Where a venue is to blame it is named.
+#[derive(Debug, PartialEq, Eq, Drop)]
+pub enum Refusal {
+    /// R01.
+    NoLegs,
+    /// R02: more than 32.
+    TooManyLegs,
+    /// R03: a leg names no venue of the desk.
+    UnknownVenue,
+    /// R04.
+    GateDown(VenueName),
+    /// R05.
+    BacklogFull(VenueName),
+    /// R06.
+    SweepsSpent,
+    /// R07.
+    OutOfMemory,
+    /// R08: desk and book don't belong together.
+    WrongBook,
+}
+
+/// The answer to a line, in one line.
+#[derive(Debug, PartialEq, Eq, Drop)]
+pub enum Answer {
+    /// The number of the sweep, and the shares of all its legs.
+    Placed { sweep: u64, shares: u64 },
+    Refused(Refusal),
+    /// Refused, since the day is closing.
+    Closing,
+    /// Which line it was, counted from 1 over all lines.
+    BadLine { number: u64, fault: LineFault },
+}
+
+impl fmt::Display for Refusal {
+    ghost use Rattle.sweep_text.specs.Answer.{refusal_text};
+
+    ghost output = { λ refusal. Some (refusal_text refusal) };
+
+    fn fmt<W: fmt::Write>(&self, f: &mut fmt::Formatter<W>) -> fmt::Result {
+        match self {
+            Refusal::NoLegs => write!(f, "R01: it has no legs"),
+            Refusal::TooManyLegs => write!(f, "R02: it has more than 32 legs"),
+            Refusal::UnknownVenue => write!(f, "R03: a leg is for no venue of the desk"),
+            Refusal::GateDown(venue) => write!(f, "R04 {venue}: its gate is down"),
+            Refusal::BacklogFull(venue) => write!(f, "R05 {venue}: its backlog is full"),
+            Refusal::SweepsSpent => write!(f, "R06: the numbers of sweeps are spent"),
+            Refusal::OutOfMemory => write!(f, "R07: out of memory"),
+            Refusal::WrongBook => write!(f, "R08: the book isn't the desk's"),
+        }
+    }
+}
+
+impl fmt::Display for Answer {
+    ghost output = { λ answer. Some (answer_text answer) };
+
+    fn fmt<W: fmt::Write>(&self, f: &mut fmt::Formatter<W>) -> fmt::Result {
+        match self {
+            Answer::Placed { sweep, shares } => write!(f, "placed {sweep} shares {shares}"),
+            Answer::Refused(refusal) => write!(f, "refused {refusal}"),
+            Answer::Closing => write!(f, "refused: the day is closing"),
+            Answer::BadLine { number, fault } => write!(f, "bad line {number}: {fault}"),
+        }
+    }
+}

@@ -1,0 +1,11 @@
+//! What is written is read back: the law is the contract of a function that does nothing.
+
+ghost use Rattle.std.specs.Prelude.{ℕ, List};
+ghost use Rattle.leg.specs.declared.sweep.Routed.{Routed};
+ghost use Rattle.sweep_text.specs.Written.{ReadsBack};
+
+/// The line that is written of up to a thousand legs, each for a venue that has a name of its own, is read as the sweep
+/// of those very legs.
+pub fn written_sweeps_read_back()
+    ensures { (names : List (List ℕ)) (legs : List Routed) → ReadsBack names legs }
+{}
