@@ -30,8 +30,8 @@ same_lines() {
 }
 
 # A program (its name and its words behind the least number of growths), which makes each call again that is refused
-# memory, must print the same whichever growth is refused, and be refused at least so many. What it prints is the
-# beginning of what is stored beside its crate.
+# memory, must print the same whichever growth is refused, and be refused at least so many. What it prints stands in what
+# is stored beside its crate.
 must_print_the_same() {
     local least=$1 name=$2
     local program=crates/$name/out/$name
@@ -43,8 +43,7 @@ must_print_the_same() {
         return 1
     fi
     "$program" "$@" > "$place/wanted" < /dev/null
-    if [ ! -s "$place/wanted" ] ||
-        ! head -c "$(wc -c < "$place/wanted")" "crates/$name/stdout" | cmp -s - "$place/wanted"; then
+    if [ ! -s "$place/wanted" ] || [[ $(cat "crates/$name/stdout") != *"$(cat "$place/wanted")"* ]]; then
         echo "$line: not what is stored"
         return 1
     fi

@@ -3,14 +3,9 @@
 //! `turn`; with no word each of them does a little.
 #![tactic(auto)]
 
-mod codec_part;
-mod day_part;
 mod fault;
 mod number;
-mod replay_part;
 mod request;
-mod threads_part;
-mod turn_part;
 
 use crate::fault::BenchFault;
 use crate::request::run;

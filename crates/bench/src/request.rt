@@ -1,12 +1,9 @@
 //! What a run is asked to do.
 
-use crate::codec_part::{CodecPart, run_codec};
-use crate::day_part::{DayPart, run_day};
 use crate::fault::{BenchFault, Expected};
 use crate::number::number_to;
-use crate::replay_part::{ReplayPart, run_replay};
-use crate::threads_part::{Load, ThreadsPart, run_threads};
-use crate::turn_part::run_turns;
+use bench_core::{CodecPart, DayPart, MAX_DAY, ReplayPart, run_codec, run_day, run_replay};
+use bench_threads::{Load, ThreadsPart, run_threads, run_turns};
 use std::alloc::Global;
 use std::io::Write;
 use std::sync::Wait;
@@ -16,9 +13,6 @@ use trial::TrialFault;
 
 /// The most messages that the codec works on, the most turns of a worker, and the most sweeps or legs that go before.
 const MILLION: u64 = 1_000_000;
-
-/// The most of a day's part: so many sweeps fit into the backlog of each venue.
-pub const MAX_DAY: u64 = 200;
 
 /// The most events of a script.
 const MAX_EVENTS: u64 = 10_000_000;

@@ -7,7 +7,8 @@ use crate::message::Header;
 use crate::report::exec_and_kind;
 use case_fields::{flag_of, number_of, text_of};
 use case_text::{Answers, PlayFault};
-use dialect::{Content, ExecId, OrderView, Report, TextRef};
+use dialect::{Content, ExecId, OrderView, Report};
+use fix_tags::{SessionBody, TextRef};
 use std::alloc::Global;
 
 /// The greatest number that a message may name.
@@ -65,26 +66,24 @@ fn write_numbers(header: &Header, words: &[&str], answers: &mut Answers) -> Resu
     match words {
         ["resend_request", begin, last] => {
             let (begin, last) = (reference(begin, "begin")?, reference(last, "last")?);
-            header.write(Content::ResendRequest { begin, last }, None, answers)
+            header.say(SessionBody::ResendRequest { begin, last }, answers)
         }
         ["gap_fill", new] => {
             let new_number = reference(new, "new")?;
-            header.write(Content::GapFill { new_number }, None, answers)
+            header.say(SessionBody::GapFill { new_number }, answers)
         }
         ["reset", new] => {
             let new_number = reference(new, "new")?;
-            header.write(Content::Reset { new_number }, None, answers)
+            header.say(SessionBody::Reset { new_number }, answers)
         }
         ["reject", number] => {
             let number = reference(number, "number")?;
-            header.write(Content::Reject { number }, None, answers)
+            header.say(SessionBody::Reject { number }, answers)
         }
-        ["business_reject"] => {
-            header.write(Content::BusinessReject { number: None }, None, answers)
-        }
+        ["business_reject"] => { header.say(SessionBody::BusinessReject { number: None }, answers) }
         ["business_reject", number] => {
             let number = Some(reference(number, "number")?);
-            header.write(Content::BusinessReject { number }, None, answers)
+            header.say(SessionBody::BusinessReject { number }, answers)
         }
         _ => Err(PlayFault::NotUnderstood),
     }
@@ -117,20 +116,20 @@ pub fn write_content(
         ["logon", heart_word, reset, next @ ..] => {
             let (heart, reset) = (heart(heart_word)?, flag_of(reset, "reset")?);
             let next = next_in(next)?;
-            header.write(Content::Logon { heart, reset, next }, None, answers)
+            header.say(SessionBody::Logon { heart, reset, next }, answers)
         }
-        ["heartbeat"] => header.write(Content::Heartbeat { id: None }, None, answers),
+        ["heartbeat"] => header.say(SessionBody::Heartbeat { id: None }, answers),
         ["heartbeat", id] => {
             let id = test_id(header.alloc, id)?;
             let id = Some(TextRef::new(id.as_bytes()));
-            header.write(Content::Heartbeat { id }, None, answers)
+            header.say(SessionBody::Heartbeat { id }, answers)
         }
         ["test_request", id] => {
             let id = test_id(header.alloc, id)?;
             let id = TextRef::new(id.as_bytes());
-            header.write(Content::TestRequest { id }, None, answers)
+            header.say(SessionBody::TestRequest { id }, answers)
         }
-        ["logout"] => header.write(Content::Logout, None, answers),
+        ["logout"] => header.say(SessionBody::Logout, answers),
         ["order", leg @ ..] => {
             let leg = leg_in(leg)?;
             leg.in_range();

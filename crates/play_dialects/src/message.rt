@@ -1,12 +1,12 @@
 //! Messages in a dialect, as whole frames.
 ghost use Rattle.std.specs.Prelude.{◌≤◌};
-ghost use Rattle.dialect.specs.Writable.{IsWritableContent};
+ghost use Rattle.dialect.specs.Writable.{IsInRange, IsWritableContent};
 
 use crate::content_in::write_content;
 use crate::content_text::content_text;
 use case_text::{Answers, PlayFault, bytes_of, number, shown};
-use dialect::{AnyDialect, Content, Message, OrderView, Outgoing, TextRef, see, write_message};
-use fix_tags::{CompId, MAX_MESSAGE_NUMBER, Stamp, read_envelope};
+use dialect::{AnyDialect, Content, Message, OrderView, Outgoing, see, write_message};
+use fix_tags::{CompId, MAX_MESSAGE_NUMBER, SessionBody, Stamp, TextRef, read_envelope};
 use fix_text::{Frame, Place};
 use std::alloc::Global;
 
@@ -28,6 +28,13 @@ pub struct Header {
 }
 
 impl Header {
+    /// Writes a message of the session, as its frame.
+    pub fn say(&self, says: SessionBody<'_>, answers: &mut Answers) -> Result<(), PlayFault>
+        requires { IsInRange says }
+    {
+        self.write(Content::Session(says), None, answers)
+    }
+
     /// Writes a message that says this, as its frame.
     pub fn write(
         &self,

@@ -2,69 +2,92 @@
 
 use case_fields::{fields_in, flag_of, number_of, text_of};
 use case_text::PlayFault;
-use fix_tags::{Body, Text};
+use fix_tags::{Body, SessionBody, TextRef};
 use fix_text::Fields;
 use std::alloc::Global;
 
-/// The body of a message about numbers.
-fn number_body(words: &[&str]) -> Result<Body, PlayFault> {
+/// A message of the session about numbers.
+fn number_body<'a>(words: &[&str]) -> Result<SessionBody<'a>, PlayFault> {
     match words {
-        ["resend_request", begin, last] => Ok(Body::ResendRequest {
+        ["resend_request", begin, last] => Ok(SessionBody::ResendRequest {
             begin: number_of(begin, "begin")?,
             last: number_of(last, "last")?,
         }),
-        ["gap_fill", new] => Ok(Body::GapFill {
+        ["gap_fill", new] => Ok(SessionBody::GapFill {
             new_number: number_of(new, "new")?,
         }),
-        ["reset", new] => Ok(Body::Reset {
+        ["reset", new] => Ok(SessionBody::Reset {
             new_number: number_of(new, "new")?,
         }),
-        ["reject", number] => Ok(Body::Reject {
+        ["reject", number] => Ok(SessionBody::Reject {
             number: number_of(number, "number")?,
         }),
-        ["business_reject"] => Ok(Body::BusinessReject { number: None }),
-        ["business_reject", number] => Ok(Body::BusinessReject {
+        ["business_reject"] => Ok(SessionBody::BusinessReject { number: None }),
+        ["business_reject", number] => Ok(SessionBody::BusinessReject {
             number: Some(number_of(number, "number")?),
         }),
         _ => Err(PlayFault::NotUnderstood),
     }
 }
 
-/// The id of a test request.
-fn test_id(alloc: Global, word: &str) -> Result<Text, PlayFault> {
-    Ok(Text::new(text_of(alloc, word, "id")?))
-}
-
-/// The body of an application message.
-fn app_body(alloc: Global, kind: &str, fields: &str) -> Result<Body, PlayFault> {
-    let kind = Text::new(text_of(alloc, kind, "kind")?);
-    let fields = Fields::new(fields_in(alloc, fields)?);
-    Ok(Body::App { kind, fields })
-}
-
-/// The body that the words say.
-pub fn body_in(alloc: Global, words: &[&str]) -> Result<Body, PlayFault> {
+/// A message of the session. Its text is put into `room`, which lends it.
+fn session_body<'a>(
+    alloc: Global,
+    words: &[&str],
+    room: &'a mut Vec<u8>,
+) -> Result<SessionBody<'a>, PlayFault> {
     match words {
-        ["logon", heart, reset] => Ok(Body::Logon {
+        ["logon", heart, reset] => Ok(SessionBody::Logon {
             heart: number_of(heart, "heart")?,
             reset: flag_of(reset, "reset")?,
             next: None,
         }),
-        ["logon", heart, reset, next] => Ok(Body::Logon {
+        ["logon", heart, reset, next] => Ok(SessionBody::Logon {
             heart: number_of(heart, "heart")?,
             reset: flag_of(reset, "reset")?,
             next: Some(number_of(next, "next")?),
         }),
-        ["heartbeat"] => Ok(Body::Heartbeat { id: None }),
-        ["heartbeat", id] => Ok(Body::Heartbeat {
-            id: Some(test_id(alloc, id)?),
-        }),
-        ["test_request", id] => Ok(Body::TestRequest {
-            id: test_id(alloc, id)?,
-        }),
-        ["logout"] => Ok(Body::Logout),
-        ["app", kind] => app_body(alloc, kind, ""),
-        ["app", kind, fields] => app_body(alloc, kind, fields),
+        ["heartbeat"] => Ok(SessionBody::Heartbeat { id: None }),
+        ["heartbeat", id] => {
+            *room = text_of(alloc, id, "id")?;
+            Ok(SessionBody::Heartbeat {
+                id: Some(TextRef::new(room.as_slice())),
+            })
+        }
+        ["test_request", id] => {
+            *room = text_of(alloc, id, "id")?;
+            Ok(SessionBody::TestRequest {
+                id: TextRef::new(room.as_slice()),
+            })
+        }
+        ["logout"] => Ok(SessionBody::Logout),
         _ => number_body(words),
+    }
+}
+
+/// An application message. Its kind is put into `room`, which lends it.
+fn app_body<'a>(
+    alloc: Global,
+    kind: &str,
+    fields: &str,
+    room: &'a mut Vec<u8>,
+) -> Result<Body<'a, Fields>, PlayFault> {
+    *room = text_of(alloc, kind, "kind")?;
+    Ok(Body::App {
+        kind: TextRef::new(room.as_slice()),
+        fields: Fields::new(fields_in(alloc, fields)?),
+    })
+}
+
+/// The body that the words say. Its text is put into `room`, which lends it.
+pub fn body_in<'a>(
+    alloc: Global,
+    words: &[&str],
+    room: &'a mut Vec<u8>,
+) -> Result<Body<'a, Fields>, PlayFault> {
+    match words {
+        ["app", kind] => app_body(alloc, kind, "", room),
+        ["app", kind, fields] => app_body(alloc, kind, fields, room),
+        _ => Ok(Body::Session(session_body(alloc, words, room)?)),
     }
 }

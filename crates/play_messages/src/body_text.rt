@@ -2,7 +2,7 @@
 
 use case_fields::flag_text;
 use case_text::{PlayFault, shown};
-use fix_tags::{AppFields, BodyRef};
+use fix_tags::{AppFields, Body, BodyRef, SessionBody};
 use fix_text::Frame;
 use std::alloc::{AllocError, Global};
 
@@ -29,19 +29,41 @@ fn app_text(
 }
 
 /// The words of a message about numbers, or of one that says no more than its kind.
-fn number_text(alloc: Global, body: &BodyRef<'_>) -> Result<String, AllocError> {
-    match body {
-        BodyRef::ResendRequest { begin, last } => {
+fn number_text(alloc: Global, says: &SessionBody<'_>) -> Result<String, AllocError> {
+    match says {
+        SessionBody::ResendRequest { begin, last } => {
             format!(in alloc; "resend_request begin={begin} last={last}")
         }
-        BodyRef::GapFill { new_number } => format!(in alloc; "gap_fill new={new_number}"),
-        BodyRef::Reset { new_number } => format!(in alloc; "reset new={new_number}"),
-        BodyRef::Reject { number } => format!(in alloc; "reject number={number}"),
-        BodyRef::BusinessReject { number: None } => format!(in alloc; "business_reject"),
-        BodyRef::BusinessReject {
+        SessionBody::GapFill { new_number } => format!(in alloc; "gap_fill new={new_number}"),
+        SessionBody::Reset { new_number } => format!(in alloc; "reset new={new_number}"),
+        SessionBody::Reject { number } => format!(in alloc; "reject number={number}"),
+        SessionBody::BusinessReject { number: None } => format!(in alloc; "business_reject"),
+        SessionBody::BusinessReject {
             number: Some(number),
         } => format!(in alloc; "business_reject number={number}"),
         _ => format!(in alloc; "logout"),
+    }
+}
+
+/// The words of a message of the session.
+fn session_text(alloc: Global, says: &SessionBody<'_>) -> Result<String, AllocError> {
+    match says {
+        SessionBody::Logon { heart, reset, next } => {
+            let reset = flag_text(*reset);
+            let mut text = format!(in alloc; "logon heart={heart} reset={reset}")?;
+            if let Some(next) = next {
+                write!(text, " next={next}")?;
+            }
+            Ok(text)
+        }
+        SessionBody::Heartbeat { id: None } => format!(in alloc; "heartbeat"),
+        SessionBody::Heartbeat { id: Some(id) } => {
+            format!(in alloc; "heartbeat id={}", shown(alloc, id.as_bytes())?)
+        }
+        SessionBody::TestRequest { id } => {
+            format!(in alloc; "test_request id={}", shown(alloc, id.as_bytes())?)
+        }
+        _ => number_text(alloc, says),
     }
 }
 
@@ -52,21 +74,8 @@ pub fn body_text(
     body: &BodyRef<'_>,
 ) -> Result<String, PlayFault> {
     let text = match body {
-        BodyRef::Logon { heart, reset, next } => {
-            let reset = flag_text(*reset);
-            let mut text = format!(in alloc; "logon heart={heart} reset={reset}")?;
-            if let Some(next) = next {
-                write!(text, " next={next}")?;
-            }
-            text
-        }
-        BodyRef::Heartbeat { id: None } => format!(in alloc; "heartbeat")?,
-        BodyRef::Heartbeat { id: Some(id) } => {
-            format!(in alloc; "heartbeat id={}", shown(alloc, id)?)?
-        }
-        BodyRef::TestRequest { id } => format!(in alloc; "test_request id={}", shown(alloc, id)?)?,
-        BodyRef::App { kind, fields } => app_text(alloc, frame, kind, fields)?,
-        _ => number_text(alloc, body)?,
+        Body::Session(says) => session_text(alloc, says)?,
+        Body::App { kind, fields } => app_text(alloc, frame, kind.as_bytes(), fields)?,
     };
     Ok(text)
 }

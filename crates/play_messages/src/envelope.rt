@@ -23,8 +23,13 @@ fn mark<'a, 'b>(words: &'a [&'b str], mark: &str) -> (bool, &'a [&'b str]) {
     }
 }
 
-/// The message that the words say: sender, target, number, `dup`, `resend` and the body.
-pub fn envelope_in(alloc: Global, words: &[&str]) -> Result<Envelope, PlayFault> {
+/// The message that the words say: sender, target, number, `dup`, `resend` and the body. The body's text is put into
+/// `room`, which lends it.
+pub fn envelope_in<'a>(
+    alloc: Global,
+    words: &[&str],
+    room: &'a mut Vec<u8>,
+) -> Result<Envelope<'a>, PlayFault> {
     let [sender, target, number_word, rest @ ..] = words else {
         return Err(PlayFault::NotUnderstood);
     };
@@ -36,6 +41,6 @@ pub fn envelope_in(alloc: Global, words: &[&str]) -> Result<Envelope, PlayFault>
         number: number(number_word)?,
         poss_dup,
         poss_resend,
-        body: body_in(alloc, rest)?,
+        body: body_in(alloc, rest, room)?,
     })
 }

@@ -29,7 +29,8 @@ impl MessagesPlayer {
     fn write(&mut self, text: &str, answers: &mut Answers) -> Result<(), PlayFault> {
         let text = expanded(self.alloc, text)?;
         let words = words(self.alloc, &text)?;
-        let envelope = envelope_in(self.alloc, &words)?;
+        let mut room = Vec::new(self.alloc);
+        let envelope = envelope_in(self.alloc, &words, &mut room)?;
         let stamp = moment()?;
         self.buffer.mark()?;
         let written = write_envelope(&envelope, &stamp, &mut self.buffer.out);

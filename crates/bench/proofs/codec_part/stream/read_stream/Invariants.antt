@@ -1,4 +1,0 @@
-use Rattle.bench.proofs.codec_part.stream.read_stream.Given as goal
-
-abbrev pub decreases-loop-left : goal.decreases-loop-left
-decreases-loop-left l = l.left
