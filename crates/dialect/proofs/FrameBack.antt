@@ -14,7 +14,7 @@ use Rattle.fix_tags.specs.CompId.{IsCompId}
 use Rattle.fix_tags.specs.Message.{is_reference, is_message_number, is_heart, is_next_number, is_test_id, kind_of, body_fields, kind_fault, body_fault, field_fault, envelope_fields, envelope_refusal}
 use Rattle.fix_tags.specs.Stamp.{StampParts, IsStamp, stamp_text}
 use Rattle.fix_tags.proofs.Written.{length-stamp_text}
-use Rattle.fix_tags.specs.declared.body.Body.{Body}
+use Rattle.fix_tags.specs.Body.{Body}
 use Rattle.fix_tags.specs.declared.body.Body.TheVariants as body
 use Rattle.fix_tags.proofs.AppFits.{header_length, no_app_fault}
 use Rattle.fix_tags.proofs.MessageBack.{envelope_read-written}
@@ -24,17 +24,19 @@ use Rattle.leg.specs.Leg.{IsLeg}
 use Rattle.dialect.specs.declared.fault.DialectFault.TheVariants.{NotMarked}
 use Rattle.dialect.specs.declared.report.Report.{Report}
 use Rattle.dialect.specs.Dialect.{FitsMessage}
-use Rattle.dialect.specs.Framed.{IsSessionBody, IsBody, envelope_of, IsFramed, IsReadAs}
+use Rattle.dialect.specs.Framed.{IsBody, envelope_of, IsFramed, IsReadAs}
 use Rattle.dialect.specs.FreeText.{IsFreeText}
 use Rattle.dialect.specs.declared.content.Content.{Content}
-use Rattle.dialect.specs.declared.content.Content.TheVariants.{Logon, Heartbeat, TestRequest, ResendRequest, Reject, GapFill, Reset, Logout, BusinessReject, Order, ExecutionReport, Other}
+use Rattle.dialect.specs.declared.content.Content.TheVariants.{Session, Order, ExecutionReport, Other}
+use Rattle.fix_tags.specs.declared.session_body.SessionBody.{SessionBody}
+use Rattle.fix_tags.specs.declared.session_body.SessionBody.TheVariants.{Logon, Heartbeat, TestRequest, ResendRequest, Reject, GapFill, Reset, Logout, BusinessReject}
 use Rattle.dialect.specs.declared.message.Message.{Message}
 use Rattle.dialect.specs.Message.{content_of}
 use Rattle.dialect.specs.OrderView.{OrderViewParts, IsOrderView}
 use Rattle.dialect.specs.declared.outgoing.Outgoing.{Outgoing}
 use Rattle.dialect.specs.Report.{IsReport}
 use Rattle.dialect.specs.Wording.{Encoding, Decoding, Wording, IsWording}
-use Rattle.dialect.specs.Writable.{IsReference, IsNext, IsTestId, IsWritableContent, IsWritable}
+use Rattle.dialect.specs.Writable.{IsReference, IsNext, IsTestId, IsRefused, IsInRange, IsWritableContent, IsWritable}
 
 -- ---- short fields of the session's messages
 
@@ -84,14 +86,14 @@ record IsGood (read : Decoding) (content : Content) (b : Body) : Type 0 where
   says : content_of read b ≡ content
 
 logon_good : (read : Decoding) (heart : ℕ) (reset : Bool) (next : Option ℕ) → heart ≤ 999999 → IsNext next
-    → IsGood read (Logon heart reset next) (body.Logon heart reset next)
+    → IsGood read (Session (Logon heart reset next)) (body.Session (Logon heart reset next))
 logon_good read heart true None low range = record {
   kind = refl;
   body = rw (heart_is heart low) refl;
   short_kind = omega arith;
   short = omega (
     arith,
-    length-small (body_fields (body.Logon heart true None)) (
+    length-small (body_fields (body.Session (Logon heart true None))) (
       (omega arith, omega arith),
       ((omega arith, short_number heart (omega arith)), ((omega arith, omega arith), tt)),
     ),
@@ -104,7 +106,7 @@ logon_good read heart false None low range = record {
   short_kind = omega arith;
   short = omega (
     arith,
-    length-small (body_fields (body.Logon heart false None)) (
+    length-small (body_fields (body.Session (Logon heart false None))) (
       (omega arith, omega arith),
       ((omega arith, short_number heart (omega arith)), tt),
     ),
@@ -117,7 +119,7 @@ logon_good read heart true (Some next) low range = record {
   short_kind = omega arith;
   short = omega (
     arith,
-    length-small (body_fields (body.Logon heart true (Some next))) (
+    length-small (body_fields (body.Session (Logon heart true (Some next)))) (
       (omega arith, omega arith),
       (
         (omega arith, short_number heart (omega arith)),
@@ -142,7 +144,7 @@ logon_good read heart false (Some next) low range = record {
   short_kind = omega arith;
   short = omega (
     arith,
-    length-small (body_fields (body.Logon heart false (Some next))) (
+    length-small (body_fields (body.Session (Logon heart false (Some next)))) (
       (omega arith, omega arith),
       ((omega arith, short_number heart (omega arith)), ((omega arith, short_number next range.1), tt)),
     ),
@@ -150,35 +152,35 @@ logon_good read heart false (Some next) low range = record {
   says = refl;
 }
 
-heartbeat_good : (read : Decoding) (id : Option (List ℕ)) → IsTestId id → IsGood read (Heartbeat id) (body.Heartbeat id)
+heartbeat_good : (read : Decoding) (id : Option (List ℕ)) → IsTestId id → IsGood read (Session (Heartbeat id)) (body.Session (Heartbeat id))
 heartbeat_good read None range = record { kind = refl; body = refl; short_kind = omega arith; short = omega arith; says = refl }
 heartbeat_good read (Some id) range = record {
   kind = refl;
   body = rw (test_id_is id range) refl;
   short_kind = omega arith;
-  short = omega (arith, length-small (body_fields (body.Heartbeat (Some id))) ((omega arith, short_id id range), tt));
+  short = omega (arith, length-small (body_fields (body.Session (Heartbeat (Some id)))) ((omega arith, short_id id range), tt));
   says = refl;
 }
 
 test_request_good : (read : Decoding) (id : List ℕ) → IsFreeText 64 id
-    → IsGood read (TestRequest id) (body.TestRequest id)
+    → IsGood read (Session (TestRequest id)) (body.Session (TestRequest id))
 test_request_good read id range = record {
   kind = refl;
   body = rw (test_id_is id range) refl;
   short_kind = omega arith;
-  short = omega (arith, length-small (body_fields (body.TestRequest id)) ((omega arith, short_id id range), tt));
+  short = omega (arith, length-small (body_fields (body.Session (TestRequest id))) ((omega arith, short_id id range), tt));
   says = refl;
 }
 
 resend_request_good : (read : Decoding) (begin last : ℕ) → IsReference begin → IsReference last
-    → IsGood read (ResendRequest begin last) (body.ResendRequest begin last)
+    → IsGood read (Session (ResendRequest begin last)) (body.Session (ResendRequest begin last))
 resend_request_good read begin last first second = record {
   kind = refl;
   body = rw (reference_is begin first, reference_is last second) refl;
   short_kind = omega arith;
   short = omega (
     arith,
-    length-small (body_fields (body.ResendRequest begin last)) (
+    length-small (body_fields (body.Session (ResendRequest begin last))) (
       (
         omega arith,
         short_number begin first,
@@ -189,23 +191,23 @@ resend_request_good read begin last first second = record {
   says = refl;
 }
 
-reject_good : (read : Decoding) (number : ℕ) → IsReference number → IsGood read (Reject number) (body.Reject number)
+reject_good : (read : Decoding) (number : ℕ) → IsReference number → IsGood read (Session (Reject number)) (body.Session (Reject number))
 reject_good read number range = record {
   kind = refl;
   body = rw (reference_is number range) refl;
   short_kind = omega arith;
-  short = omega (arith, length-small (body_fields (body.Reject number)) ((omega arith, short_number number range), tt));
+  short = omega (arith, length-small (body_fields (body.Session (Reject number))) ((omega arith, short_number number range), tt));
   says = refl;
 }
 
-gap_fill_good : (read : Decoding) (number : ℕ) → IsReference number → IsGood read (GapFill number) (body.GapFill number)
+gap_fill_good : (read : Decoding) (number : ℕ) → IsReference number → IsGood read (Session (GapFill number)) (body.Session (GapFill number))
 gap_fill_good read number range = record {
   kind = refl;
   body = rw (reference_is number range) refl;
   short_kind = omega arith;
   short = omega (
     arith,
-    length-small (body_fields (body.GapFill number)) (
+    length-small (body_fields (body.Session (GapFill number))) (
       (omega arith, omega arith),
       (
         (
@@ -219,14 +221,14 @@ gap_fill_good read number range = record {
   says = refl;
 }
 
-reset_good : (read : Decoding) (number : ℕ) → IsReference number → IsGood read (Reset number) (body.Reset number)
+reset_good : (read : Decoding) (number : ℕ) → IsReference number → IsGood read (Session (Reset number)) (body.Session (Reset number))
 reset_good read number range = record {
   kind = refl;
   body = rw (reference_is number range) refl;
   short_kind = omega arith;
   short = omega (
     arith,
-    length-small (body_fields (body.Reset number)) (
+    length-small (body_fields (body.Session (Reset number))) (
       (omega arith, omega arith),
       (
         (
@@ -240,32 +242,31 @@ reset_good read number range = record {
   says = refl;
 }
 
-logout_good : (read : Decoding) → IsGood read Logout body.Logout
+logout_good : (read : Decoding) → IsGood read (Session Logout) (body.Session Logout)
 logout_good read = record { kind = refl; body = refl; short_kind = omega arith; short = omega arith; says = refl }
 
-business_reject_good : (read : Decoding) (beside : Option OrderViewParts) (number : Option ℕ)
-    → IsWritableContent beside (BusinessReject number)
-    → IsGood read (BusinessReject number) (body.BusinessReject number)
-business_reject_good read beside None range = record {
+business_reject_good : (read : Decoding) (number : Option ℕ) → IsRefused number
+    → IsGood read (Session (BusinessReject number)) (body.Session (BusinessReject number))
+business_reject_good read None range = record {
   kind = refl;
   body = refl;
   short_kind = omega arith;
   short = omega (
     arith,
-    length-small (body_fields (body.BusinessReject None)) (
+    length-small (body_fields (body.Session (BusinessReject None))) (
       (omega arith, omega arith),
       ((omega arith, omega arith), tt),
     ),
   );
   says = refl;
 }
-business_reject_good read beside (Some number) range = record {
+business_reject_good read (Some number) range = record {
   kind = refl;
   body = rw (reference_is number range) refl;
   short_kind = omega arith;
   short = omega (
     arith,
-    length-small (body_fields (body.BusinessReject (Some number))) (
+    length-small (body_fields (body.Session (BusinessReject (Some number)))) (
       (
         omega arith,
         short_number number range,
@@ -275,6 +276,17 @@ business_reject_good read beside (Some number) range = record {
   );
   says = refl;
 }
+
+session_good : (read : Decoding) (says : SessionBody) → IsInRange says → IsGood read (Session says) (body.Session says)
+session_good read (Logon heart reset next) range = logon_good read heart reset next range.0 range.1
+session_good read (Heartbeat id) range = heartbeat_good read id range
+session_good read (TestRequest id) range = test_request_good read id range
+session_good read (ResendRequest begin last) range = resend_request_good read begin last range.0 range.1
+session_good read (Reject number) range = reject_good read number range
+session_good read (GapFill number) range = gap_fill_good read number range
+session_good read (Reset number) range = reset_good read number range
+session_good read Logout range = logout_good read
+session_good read (BusinessReject number) range = business_reject_good read number range
 
 -- an application message of one of the two kinds
 order_good : (read : Decoding) (leg : Leg) (fields : List Tagged) → FitsMessage fields → read.order fields ≡ Ok leg
@@ -325,18 +337,7 @@ good_from read content own b is good = subst (IsGood read content) (sym is) good
 good : (w : Encoding) (read : Decoding) (stamp : StampParts) (beside : Option OrderViewParts) (content : Content)
     (b : Body) → Agrees w read → IsWritableContent beside content → IsBody w stamp beside content b
     → IsGood read content b
-good w read stamp beside (Logon heart reset next) b agrees range is = good_from read _ _ b is
-    (logon_good read heart reset next range.0 range.1)
-good w read stamp beside (Heartbeat id) b agrees range is = good_from read _ _ b is (heartbeat_good read id range)
-good w read stamp beside (TestRequest id) b agrees range is = good_from read _ _ b is (test_request_good read id range)
-good w read stamp beside (ResendRequest begin last) b agrees range is = good_from read _ _ b is
-    (resend_request_good read begin last range.0 range.1)
-good w read stamp beside (Reject number) b agrees range is = good_from read _ _ b is (reject_good read number range)
-good w read stamp beside (GapFill number) b agrees range is = good_from read _ _ b is (gap_fill_good read number range)
-good w read stamp beside (Reset number) b agrees range is = good_from read _ _ b is (reset_good read number range)
-good w read stamp beside Logout b agrees range is = good_from read _ _ b is (logout_good read)
-good w read stamp beside (BusinessReject number) b agrees range is = good_from read _ _ b is
-    (business_reject_good read beside number range)
+good w read stamp beside (Session says) b agrees range is = good_from read _ _ b is (session_good read says range)
 good w read stamp beside (Order (Ok leg)) b agrees range is =
     good_from read _ _ b is.body_is (order_good read leg is.fields (agrees.order_fits leg stamp is.fields is.written)
     (agrees.order_back leg stamp is.fields is.written))
@@ -389,22 +390,6 @@ never_refused w read stamp out b agrees range is =
     let fine = good w read stamp out.beside out.message.content b agrees range.content is in
     unrefused out.message b stamp fine.kind fine.body fine.short_kind fine.short range.from range.to (number_is out.message.number range.number_from range.number_to)
 
--- what may be written of the session may be written in any dialect
-pub session_body_is : (w : Encoding) (stamp : StampParts) (beside : Option OrderViewParts) (content : Content) (b : Body)
-    → IsSessionBody content b → IsBody w stamp beside content b
-session_body_is w stamp beside (Logon heart reset next) b is = is
-session_body_is w stamp beside (Heartbeat id) b is = is
-session_body_is w stamp beside (TestRequest id) b is = is
-session_body_is w stamp beside (ResendRequest begin last) b is = is
-session_body_is w stamp beside (Reject number) b is = is
-session_body_is w stamp beside (GapFill number) b is = is
-session_body_is w stamp beside (Reset number) b is = is
-session_body_is w stamp beside Logout b is = is
-session_body_is w stamp beside (BusinessReject number) b is = is
-session_body_is w stamp beside (Order read) b is = absurd is
-session_body_is w stamp beside (ExecutionReport read) b is = absurd is
-session_body_is w stamp beside Other b is = absurd is
-
 -- a dialect of no orders and no reports
 abbrev no_writers : Encoding
 no_writers = record { IsOrder = λ leg stamp fields. ⊥; IsReport = λ report view fields. ⊥ }
@@ -421,11 +406,11 @@ none_agree = record {
 }
 
 -- a message of the session that can be written is never refused
-pub session_unrefused : (stamp : StampParts) (out : Outgoing) (b : Body) → IsWritable out
-    → IsSessionBody out.message.content b → envelope_refusal (envelope_of out.message b) stamp ≡ None
-session_unrefused stamp out b range is =
-    never_refused no_writers no_readers stamp out b none_agree range
-    (session_body_is no_writers stamp out.beside out.message.content b is)
+pub session_unrefused : (stamp : StampParts) (out : Outgoing) (says : SessionBody) → IsWritable out
+    → out.message.content ≡ Session says → envelope_refusal (envelope_of out.message (body.Session says)) stamp ≡ None
+session_unrefused stamp out says range is =
+    never_refused no_writers no_readers stamp out (body.Session says) none_agree range
+    (subst (λ (content : Content). IsBody no_writers stamp out.beside content (body.Session says)) (sym is) refl)
 
 -- its frame is read back
 pub frame_back : (w : Encoding) (read : Decoding) (stamp : StampParts) (out : Outgoing) (bytes rest : List ℕ)
@@ -451,15 +436,7 @@ exists_of w laws = record { order = laws.order_exists; report = laws.report_exis
 
 body_exists : (w : Encoding) (stamp : StampParts) (beside : Option OrderViewParts) (content : Content) → Exists w
     → IsStamp stamp → IsWritableContent beside content → (b : Body) × IsBody w stamp beside content b
-body_exists w stamp beside (Logon heart reset next) exist at range = (body.Logon heart reset next, refl)
-body_exists w stamp beside (Heartbeat id) exist at range = (body.Heartbeat id, refl)
-body_exists w stamp beside (TestRequest id) exist at range = (body.TestRequest id, refl)
-body_exists w stamp beside (ResendRequest begin last) exist at range = (body.ResendRequest begin last, refl)
-body_exists w stamp beside (Reject number) exist at range = (body.Reject number, refl)
-body_exists w stamp beside (GapFill number) exist at range = (body.GapFill number, refl)
-body_exists w stamp beside (Reset number) exist at range = (body.Reset number, refl)
-body_exists w stamp beside Logout exist at range = (body.Logout, refl)
-body_exists w stamp beside (BusinessReject number) exist at range = (body.BusinessReject number, refl)
+body_exists w stamp beside (Session says) exist at range = (body.Session says, refl)
 body_exists w stamp beside (Order (Ok leg)) exist at range =
     let order = exist.order leg stamp range at in
     (body.App (codes "D") order.0, record { fields = order.0; written = order.1; body_is = refl })

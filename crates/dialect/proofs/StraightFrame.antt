@@ -10,21 +10,23 @@ use Rattle.fix_text.specs.Frame.{framed, frame_text}
 use Rattle.fix_text.specs.Sink.{if_short, TakesFields}
 use Rattle.fix_tags.specs.Message.{header_fields, envelope_fields}
 use Rattle.fix_tags.specs.Stamp.{StampParts, stamp_text}
-use Rattle.fix_tags.specs.declared.body.Body.{Body}
+use Rattle.fix_tags.specs.Body.{Body}
+use Rattle.fix_tags.specs.declared.body.Body.TheVariants as body
 use Rattle.fix_tags.specs.declared.body.Body.TheVariants.{App}
+use Rattle.fix_tags.specs.declared.session_body.SessionBody.{SessionBody}
 use Rattle.fix_tags.specs.declared.envelope.Envelope.{Envelope}
 use Rattle.leg.specs.declared.leg.Leg.{Leg}
 use Rattle.dialect.specs.declared.report.Report.{Report}
 use Rattle.dialect.specs.declared.content.Content.{Content}
-use Rattle.dialect.specs.declared.content.Content.TheVariants.{Order, ExecutionReport}
+use Rattle.dialect.specs.declared.content.Content.TheVariants.{Session, Order, ExecutionReport}
 use Rattle.dialect.specs.declared.outgoing.Outgoing.{Outgoing}
 use Rattle.dialect.specs.OrderView.{OrderViewParts}
 use Rattle.fix_tags.proofs.AppFits.{header_length}
 use Rattle.fix_tags.proofs.Written.{length-stamp_text}
-use Rattle.dialect.proofs.FrameBack.{number_is, session_body_is}
+use Rattle.dialect.proofs.FrameBack.{number_is}
 use Rattle.dialect.specs.declared.message.Message.{Message}
 use Rattle.dialect.specs.Dialect.{FitsMessage}
-use Rattle.dialect.specs.Framed.{IsSessionBody, IsBody, envelope_of, AppendsApp, AppendsSession, AppendsFrame}
+use Rattle.dialect.specs.Framed.{IsBody, envelope_of, AppendsApp, AppendsSession, AppendsFrame}
 use Rattle.dialect.specs.Wording.{Encoding}
 use Rattle.dialect.specs.Writable.{IsAddressed}
 
@@ -103,24 +105,16 @@ framed_report w stamp out report view old new (Ok done) says beside appended =
     )
 framed_report w stamp out report view old new (Err fault) says beside appended = tt
 
-pub framed_session : (w : Encoding) (stamp : StampParts) (out : Outgoing) (old new : List ℕ)
-    (result : Result (Unit {0}) AllocError) → OnOk result (AppendsSession out.message stamp old new)
-    → OnOk result (AppendsFrame w stamp out old new)
-framed_session w stamp out old new (Ok done) appended = (
-  frame_text (envelope_fields (envelope_of out.message appended.0) stamp),
+pub framed_session : (w : Encoding) (stamp : StampParts) (out : Outgoing) (says : SessionBody) (old new : List ℕ)
+    (result : Result (Unit {0}) AllocError) → out.message.content ≡ Session says
+    → OnOk result (AppendsSession out.message says stamp old new) → OnOk result (AppendsFrame w stamp out old new)
+framed_session w stamp out says old new (Ok done) is appended = (
+  frame_text (envelope_fields (envelope_of out.message (body.Session says)) stamp),
   record {
-    says = appended.0;
-    is_body = session_body_is w stamp out.beside out.message.content appended.0 appended.1;
+    says = body.Session says;
+    is_body = subst (λ (content : Content). IsBody w stamp out.beside content (body.Session says)) (sym is) refl;
     written = refl;
   },
-  appended.2,
+  appended,
 )
-framed_session w stamp out old new (Err fault) appended = tt
-
--- by its envelope
-pub appended_session : (m : Message) (stamp : StampParts) (b : Body) (e : Envelope) (old new : List ℕ)
-    (result : Result (Unit {0}) AllocError) → IsSessionBody m.content b → e ≡ envelope_of m b
-    → OnOk result (new ≡ old ++ frame_text (envelope_fields e stamp)) → OnOk result (AppendsSession m stamp old new)
-appended_session m stamp b e old new (Ok done) is_body is appended =
-    (b, is_body, appended ∙ ap (λ (e : Envelope). old ++ frame_text (envelope_fields e stamp)) is)
-appended_session m stamp b e old new (Err fault) is_body is appended = tt
+framed_session w stamp out says old new (Err fault) is appended = tt

@@ -6,14 +6,15 @@ use Rattle.fix_text.specs.Reading.{Stream, next_read}
 use Rattle.fix_tags.specs.Message.{envelope_fields}
 use Rattle.fix_tags.specs.Reading.{envelope_read}
 use Rattle.fix_tags.specs.Stamp.{StampParts}
-use Rattle.fix_tags.specs.declared.body.Body.{Body}
+use Rattle.fix_tags.specs.Body.{Body}
 use Rattle.fix_tags.specs.declared.body.Body.TheVariants as body
 use Rattle.fix_tags.specs.declared.envelope.Envelope.{Envelope}
 use Rattle.leg.specs.declared.leg.Leg.{Leg}
 use Rattle.dialect.specs.declared.fault.DialectFault.{DialectFault}
 use Rattle.dialect.specs.declared.report.Report.{Report}
 use Rattle.dialect.specs.declared.content.Content.{Content}
-use Rattle.dialect.specs.declared.content.Content.TheVariants.{Logon, Heartbeat, TestRequest, ResendRequest, Reject, GapFill, Reset, Logout, BusinessReject, Order, ExecutionReport, Other}
+use Rattle.dialect.specs.declared.content.Content.TheVariants.{Session, Order, ExecutionReport, Other}
+use Rattle.fix_tags.specs.declared.session_body.SessionBody.{SessionBody}
 use Rattle.dialect.specs.declared.message.Message.{Message}
 use Rattle.dialect.specs.Message.{seen}
 use Rattle.dialect.specs.Wording.{Encoding, Decoding}
@@ -37,31 +38,12 @@ IsReportBody w (Ok report) (Some view) b = IsApp (w.IsReport report view) (codes
 IsReportBody w (Ok report) None b = ⊥
 IsReportBody w (Err fault) beside b = ⊥
 
--- a content of the session, and none of the application
-abbrev pub IsSession : Content → Type 0
-IsSession (Order read) = ⊥
-IsSession (ExecutionReport read) = ⊥
-IsSession Other = ⊥
-IsSession _ = Unit {0}
-
--- the body of a content of the session: only its own
-abbrev pub IsSessionBody : Content → Body → Type 0
-IsSessionBody (Logon heart reset next) b = b ≡ body.Logon heart reset next
-IsSessionBody (Heartbeat id) b = b ≡ body.Heartbeat id
-IsSessionBody (TestRequest id) b = b ≡ body.TestRequest id
-IsSessionBody (ResendRequest begin last) b = b ≡ body.ResendRequest begin last
-IsSessionBody (Reject number) b = b ≡ body.Reject number
-IsSessionBody (GapFill new_number) b = b ≡ body.GapFill new_number
-IsSessionBody (Reset new_number) b = b ≡ body.Reset new_number
-IsSessionBody Logout b = b ≡ body.Logout
-IsSessionBody (BusinessReject number) b = b ≡ body.BusinessReject number
-IsSessionBody _ b = ⊥
-
 -- the bodies that may be written for a content
 abbrev pub IsBody : Encoding → StampParts → Option OrderViewParts → Content → Body → Type 0
+IsBody w stamp beside (Session says) b = b ≡ body.Session says
 IsBody w stamp beside (Order read) b = IsOrderBody w stamp read b
 IsBody w stamp beside (ExecutionReport read) b = IsReportBody w read beside b
-IsBody w stamp beside content b = IsSessionBody content b
+IsBody w stamp beside Other b = ⊥
 
 -- the message under its header, never under another number again (no 97)
 abbrev pub envelope_of : Message → Body → Envelope
@@ -81,9 +63,8 @@ AppendsApp IsWritten m stamp kind old new =
     × (new ≡ old ++ frame_text (envelope_fields (envelope_of m (body.App kind fields)) stamp))
 
 -- new is old with the frame of a message of the session behind it
-abbrev pub AppendsSession : Message → StampParts → List ℕ → List ℕ → Type 0
-AppendsSession m stamp old new =
-    (b : Body) × IsSessionBody m.content b × (new ≡ old ++ frame_text (envelope_fields (envelope_of m b) stamp))
+abbrev pub AppendsSession : Message → SessionBody → StampParts → List ℕ → List ℕ → Type 0
+AppendsSession m says stamp old new = new ≡ old ++ frame_text (envelope_fields (envelope_of m (body.Session says)) stamp)
 
 -- new is old with the one frame of this message behind it
 abbrev pub AppendsFrame : Encoding → StampParts → Outgoing → List ℕ → List ℕ → Type 0

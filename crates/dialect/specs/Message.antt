@@ -1,17 +1,18 @@
 -- A message as a session and an exchange understand it: an envelope whose application fields the dialect has read.
 use Rattle.std.specs.Prelude.{ℕ, Bool, true, false, List, [], ◌∷◌, ◌==◌, if◌then◌else◌}
 use Rattle.fix_text.specs.Tagged.{Tagged}
-use Rattle.fix_tags.specs.declared.body.Body.{Body}
+use Rattle.fix_tags.specs.Body.{Body}
 use Rattle.fix_tags.specs.declared.body.Body.TheVariants as body
 use Rattle.fix_tags.specs.declared.envelope.Envelope.{Envelope}
 use Rattle.dialect.specs.declared.content.Content.{Content}
-use Rattle.dialect.specs.declared.content.Content.TheVariants.{Logon, Heartbeat, TestRequest, ResendRequest, Reject, GapFill, Reset, Logout, BusinessReject, Order, ExecutionReport, Other}
+use Rattle.dialect.specs.declared.content.Content.TheVariants.{Session, Order, ExecutionReport, Other}
+use Rattle.fix_tags.specs.declared.session_body.SessionBody.TheVariants.{Logon}
 use Rattle.dialect.specs.declared.message.Message.{Message}
 use Rattle.dialect.specs.Wording.{Decoding}
 
 -- whether it is a Logon
 abbrev pub is_logon : Content → Bool
-is_logon (Logon heart reset next) = true
+is_logon (Session (Logon heart reset next)) = true
 is_logon _ = false
 
 -- what an application message of one kind says
@@ -23,15 +24,7 @@ application read kind fields = Other
 
 -- what a body says
 abbrev pub content_of : Decoding → Body → Content
-content_of read (body.Logon heart reset next) = Logon heart reset next
-content_of read (body.Heartbeat id) = Heartbeat id
-content_of read (body.TestRequest id) = TestRequest id
-content_of read (body.ResendRequest begin last) = ResendRequest begin last
-content_of read (body.Reject number) = Reject number
-content_of read (body.GapFill new_number) = GapFill new_number
-content_of read (body.Reset new_number) = Reset new_number
-content_of read body.Logout = Logout
-content_of read (body.BusinessReject number) = BusinessReject number
+content_of read (body.Session says) = Session says
 content_of read (body.App kind fields) = application read kind fields
 
 -- an envelope as a message

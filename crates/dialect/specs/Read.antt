@@ -7,11 +7,10 @@ use Rattle.leg.specs.Leg.{IsLeg}
 use Rattle.dialect.specs.declared.fault.DialectFault.{DialectFault}
 use Rattle.dialect.specs.declared.report.Report.{Report}
 use Rattle.dialect.specs.declared.content.Content.{Content}
-use Rattle.dialect.specs.declared.content.Content.TheVariants.{Logon, Heartbeat, TestRequest, ResendRequest, Reject, GapFill, Reset, Logout, BusinessReject, Order, ExecutionReport, Other}
+use Rattle.dialect.specs.declared.content.Content.TheVariants.{Session, Order, ExecutionReport, Other}
 use Rattle.dialect.specs.declared.message.Message.{Message}
-use Rattle.dialect.specs.FreeText.{IsFreeText}
 use Rattle.dialect.specs.Report.{IsReport}
-use Rattle.dialect.specs.Writable.{IsReference, IsNext, IsTestId, IsRefused}
+use Rattle.dialect.specs.Writable.{IsInRange}
 
 -- the leg of an order that the dialect read
 abbrev pub IsReadOrder : Result Leg DialectFault → Type 0
@@ -23,17 +22,9 @@ abbrev pub IsReadReport : Result Report DialectFault → Type 0
 IsReadReport (Ok report) = IsReport report
 IsReadReport (Err fault) = Unit {0}
 
--- what a message says: an interval (108) is up to 999,999 seconds
+-- what a message says
 abbrev pub IsReadContent : Content → Type 0
-IsReadContent (Logon heart reset next) = (heart ≤ 999999) × IsNext next
-IsReadContent (Heartbeat id) = IsTestId id
-IsReadContent (TestRequest id) = IsFreeText 64 id
-IsReadContent (ResendRequest begin last) = IsReference begin × IsReference last
-IsReadContent (Reject number) = IsReference number
-IsReadContent (GapFill new_number) = IsReference new_number
-IsReadContent (Reset new_number) = IsReference new_number
-IsReadContent Logout = Unit {0}
-IsReadContent (BusinessReject number) = IsRefused number
+IsReadContent (Session says) = IsInRange says
 IsReadContent (Order read) = IsReadOrder read
 IsReadContent (ExecutionReport read) = IsReadReport read
 IsReadContent Other = Unit {0}

@@ -7,7 +7,9 @@ use Rattle.dialect.specs.declared.fault.DialectFault.{DialectFault}
 use Rattle.dialect.specs.declared.report.Report.{Report}
 use Rattle.dialect.specs.FreeText.{IsFreeText}
 use Rattle.dialect.specs.declared.content.Content.{Content}
-use Rattle.dialect.specs.declared.content.Content.TheVariants.{Logon, Heartbeat, TestRequest, ResendRequest, Reject, GapFill, Reset, Logout, BusinessReject, Order, ExecutionReport, Other}
+use Rattle.dialect.specs.declared.content.Content.TheVariants.{Session, Order, ExecutionReport, Other}
+use Rattle.fix_tags.specs.declared.session_body.SessionBody.{SessionBody}
+use Rattle.fix_tags.specs.declared.session_body.SessionBody.TheVariants.{Logon, Heartbeat, TestRequest, ResendRequest, Reject, GapFill, Reset, Logout, BusinessReject}
 use Rattle.dialect.specs.declared.message.Message.{Message}
 use Rattle.dialect.specs.OrderView.{OrderViewParts, IsOrderView}
 use Rattle.dialect.specs.declared.outgoing.Outgoing.{Outgoing}
@@ -49,17 +51,21 @@ IsWritableReport (Ok report) (Some view) = IsReportBeside report view
 IsWritableReport (Ok report) None = ⊥
 IsWritableReport (Err fault) beside = ⊥
 
--- what a message may say that is written: an interval (108) is up to 999,999 seconds
+-- what a message of the session says is in range: an interval (108) is up to 999,999 seconds
+abbrev pub IsInRange : SessionBody → Type 0
+IsInRange (Logon heart reset next) = (heart ≤ 999999) × IsNext next
+IsInRange (Heartbeat id) = IsTestId id
+IsInRange (TestRequest id) = IsFreeText 64 id
+IsInRange (ResendRequest begin last) = IsReference begin × IsReference last
+IsInRange (Reject number) = IsReference number
+IsInRange (GapFill new_number) = IsReference new_number
+IsInRange (Reset new_number) = IsReference new_number
+IsInRange Logout = Unit {0}
+IsInRange (BusinessReject number) = IsRefused number
+
+-- what a message may say that is written
 abbrev pub IsWritableContent : Option OrderViewParts → Content → Type 0
-IsWritableContent beside (Logon heart reset next) = (heart ≤ 999999) × IsNext next
-IsWritableContent beside (Heartbeat id) = IsTestId id
-IsWritableContent beside (TestRequest id) = IsFreeText 64 id
-IsWritableContent beside (ResendRequest begin last) = IsReference begin × IsReference last
-IsWritableContent beside (Reject number) = IsReference number
-IsWritableContent beside (GapFill new_number) = IsReference new_number
-IsWritableContent beside (Reset new_number) = IsReference new_number
-IsWritableContent beside Logout = Unit {0}
-IsWritableContent beside (BusinessReject number) = IsRefused number
+IsWritableContent beside (Session says) = IsInRange says
 IsWritableContent beside (Order read) = IsWritableOrder read
 IsWritableContent beside (ExecutionReport read) = IsWritableReport read beside
 IsWritableContent beside Other = ⊥

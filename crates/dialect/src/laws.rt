@@ -5,7 +5,7 @@ ghost use Rattle.fix_text.specs.Reading.{Stream};
 ghost use Rattle.fix_text.specs.Tagged.{Tagged};
 ghost use Rattle.fix_tags.specs.Message.{envelope_refusal};
 ghost use Rattle.fix_tags.specs.Stamp.{StampParts, IsStamp};
-ghost use Rattle.fix_tags.specs.declared.body.Body.{Body};
+ghost use Rattle.fix_tags.specs.Body.{Body};
 ghost use Rattle.leg.specs.declared.leg.Leg.{Leg};
 ghost use Rattle.dialect.specs.declared.report.Report.{Report};
 ghost use Rattle.dialect.specs.Framed.{IsBody, envelope_of, IsFramed, IsReadAs};

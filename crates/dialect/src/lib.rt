@@ -37,7 +37,6 @@ mod split;
 mod split4;
 mod symbol_text;
 mod tag;
-mod text_ref;
 mod time;
 
 pub use any_dialect::AnyDialect;
@@ -59,4 +58,3 @@ pub use report::{Report, ReportKind};
 pub use spelling::{IdText, Spelling};
 pub use split4::Split4;
 pub use symbol_text::read_symbol;
-pub use text_ref::TextRef;

@@ -4,8 +4,7 @@ ghost use Rattle.std.specs.Prelude.{◌≡◌};
 ghost use Rattle.dialect.specs.Addressed.{message_of};
 
 use crate::content::Content;
-use crate::text_ref::TextRef;
-use fix_tags::Config;
+use fix_tags::{Config, TextRef};
 
 /// A message whose application fields a dialect has read: its header (FIX 4.4 Volume 2, "Standard Message Header"), and
 /// what it says.

@@ -1,6 +1,5 @@
 //! An envelope is read as a message.
 ghost use Rattle.std.specs.Prelude.{◌≡◌};
-ghost use Rattle.fix_tags.specs.Lent.{body_of};
 ghost use Rattle.fix_tags.specs.Readable.{HaveNoSoh, IsReadableBody};
 ghost use Rattle.dialect.specs.Read.{IsRead, IsReadContent};
 ghost use Rattle.dialect.specs.Message.{application, content_of, seen};
@@ -9,8 +8,7 @@ ghost use Rattle.dialect.specs.Wording.{Decoding};
 use crate::content::Content;
 use crate::dialect::Dialect;
 use crate::message::Message;
-use crate::text_ref::TextRef;
-use fix_tags::{AppFields, BodyRef, EnvelopeRef};
+use fix_tags::{AppFields, Body, BodyRef, EnvelopeRef, TextRef};
 
 /// What an application message of one kind says.
 fn application<D: Dialect>(dialect: &D, kind: &[u8], fields: &AppFields<'_>) -> Content<'static>
@@ -26,41 +24,17 @@ fn application<D: Dialect>(dialect: &D, kind: &[u8], fields: &AppFields<'_>) -> 
 }
 
 /// What a body says that was read from a frame.
-#[tactic(auto, using(crate::proofs::ReadRanges::free_text, crate::proofs::ReadRanges::test_id, crate::proofs::ReadRanges::next_number, crate::proofs::ReadRanges::refused_number))]
+#[tactic(auto, using(crate::proofs::ReadRanges::session_range))]
 fn content_of<'a, D: Dialect>(dialect: &D, body: &BodyRef<'a>) -> Content<'a>
-    requires range { IsReadableBody (body_of body.now) }
-    requires no_soh { HaveNoSoh (body_of body.now) }
+    requires range { IsReadableBody body.now }
+    requires no_soh { HaveNoSoh body.now }
     ensures value { result ≡ content_of
-        (D.wording dialect.now).decoding (body_of body.now) }
+        (D.wording dialect.now).decoding body.now }
     ensures in_range { IsReadContent result }
 {
     match body {
-        BodyRef::Logon { heart, reset, next } => Content::Logon {
-            heart: *heart,
-            reset: *reset,
-            next: *next,
-        },
-        BodyRef::Heartbeat { id: None } => Content::Heartbeat { id: None },
-        BodyRef::Heartbeat { id: Some(id) } => Content::Heartbeat {
-            id: Some(TextRef::new(id)),
-        },
-        BodyRef::TestRequest { id } => Content::TestRequest {
-            id: TextRef::new(id),
-        },
-        BodyRef::ResendRequest { begin, last } => Content::ResendRequest {
-            begin: *begin,
-            last: *last,
-        },
-        BodyRef::Reject { number } => Content::Reject { number: *number },
-        BodyRef::GapFill { new_number } => Content::GapFill {
-            new_number: *new_number,
-        },
-        BodyRef::Reset { new_number } => Content::Reset {
-            new_number: *new_number,
-        },
-        BodyRef::Logout => Content::Logout,
-        BodyRef::BusinessReject { number } => Content::BusinessReject { number: *number },
-        BodyRef::App { kind, fields } => application(dialect, kind, fields),
+        Body::Session(says) => Content::Session(says.clone().unwrap()),
+        Body::App { kind, fields } => application(dialect, kind.as_bytes(), fields),
     }
 }
 

@@ -3,7 +3,9 @@ ghost use Rattle.std.specs.Prelude.{◌≡◌, ◌++◌, None, IfOk, OnOk, OnErr
 ghost use Rattle.fix_text.specs.Frame.{frame_text};
 ghost use Rattle.fix_tags.specs.CompId.{IsCompId};
 ghost use Rattle.fix_tags.specs.Message.{envelope_fields, envelope_refusal};
-ghost use Rattle.dialect.specs.Framed.{IsSession, IsSessionBody, envelope_of, IsFramed, AppendsSession, AppendsFrame};
+ghost use Rattle.fix_tags.specs.declared.body.Body.TheVariants.{Session};
+ghost use Rattle.dialect.specs.declared.content.Content.TheVariants as content;
+ghost use Rattle.dialect.specs.Framed.{envelope_of, IsFramed, AppendsSession, AppendsFrame};
 ghost use Rattle.dialect.specs.Writable.{IsWritable};
 
 use crate::app_write::{append_order, append_report};
@@ -11,59 +13,14 @@ use crate::content::Content;
 use crate::dialect::Dialect;
 use crate::message::Message;
 use crate::outgoing::Outgoing;
-use crate::text_ref::TextRef;
-use fix_tags::{Body, CompId, Envelope, Stamp, Text, WriteFault, write_envelope};
+use fix_tags::{Body, CompId, Envelope, SessionBody, Stamp, WriteFault, write_envelope};
 use std::alloc::{AllocError, Global};
 
-/// The body of a Heartbeat.
-fn heartbeat(alloc: Global, id: &Option<TextRef<'_>>) -> Result<Body, AllocError>
-    ensures { IfOk result (λ body. body ≡ Body.Heartbeat id.now) }
-{
-    let id = match id {
-        None => None,
-        Some(id) => Some(Text::from_slice(alloc, id.as_bytes())?),
-    };
-    Ok(Body::Heartbeat { id })
-}
-
-/// The body of a message of the session.
-fn session_body(alloc: Global, content: &Content<'_>) -> Result<Body, AllocError>
-    requires { IsSession content.now }
-    ensures { IfOk result (IsSessionBody content.now) }
-{
-    match content {
-        Content::Logon { heart, reset, next } => Ok(Body::Logon {
-            heart: *heart,
-            reset: *reset,
-            next: *next,
-        }),
-        Content::Heartbeat { id } => heartbeat(alloc, id),
-        Content::TestRequest { id } => {
-            let id = Text::from_slice(alloc, id.as_bytes())?;
-            Ok(Body::TestRequest { id })
-        }
-        Content::ResendRequest { begin, last } => Ok(Body::ResendRequest {
-            begin: *begin,
-            last: *last,
-        }),
-        Content::Reject { number } => Ok(Body::Reject { number: *number }),
-        Content::GapFill { new_number } => Ok(Body::GapFill {
-            new_number: *new_number,
-        }),
-        Content::Reset { new_number } => Ok(Body::Reset {
-            new_number: *new_number,
-        }),
-        Content::Logout => Ok(Body::Logout),
-        Content::BusinessReject { number } => Ok(Body::BusinessReject { number: *number }),
-        Content::Order(_) | Content::ExecutionReport(_) | Content::Other => unreachable!(),
-    }
-}
-
-/// The body under the message's header, never under another number again (no 97).
-fn envelope_of(message: &Message<'_>, body: Body) -> Envelope
+/// The message of the session under its header, never under another number again (no 97).
+fn envelope_of<'a>(message: &Message<'a>, says: &SessionBody<'a>) -> Envelope<'a>
     requires from { IsCompId message.now.from }
     requires to { IsCompId message.now.to }
-    ensures { result ≡ envelope_of message.now body }
+    ensures { result ≡ envelope_of message.now (Session says.now) }
 {
     Envelope {
         sender: CompId::new(message.from.as_bytes()).unwrap(),
@@ -71,12 +28,16 @@ fn envelope_of(message: &Message<'_>, body: Body) -> Envelope
         number: message.number,
         poss_dup: message.poss_dup,
         poss_resend: false,
-        body,
+        body: Body::Session(says.clone().unwrap()),
     }
 }
 
 /// Appends the frame of a message that isn't refused.
-fn append_envelope(envelope: &Envelope, stamp: &Stamp, out: &mut Vec<u8>) -> Result<(), AllocError>
+fn append_envelope(
+    envelope: &Envelope<'_>,
+    stamp: &Stamp,
+    out: &mut Vec<u8>,
+) -> Result<(), AllocError>
     requires { envelope_refusal envelope.now stamp.now ≡ None }
     ensures ok { OnOk result (out.new.items ≡ out.old.items ++ frame_text (envelope_fields envelope.now stamp.now)) }
     ensures err { OnErr result (out.new.items ≡ out.old.items) }
@@ -88,28 +49,26 @@ fn append_envelope(envelope: &Envelope, stamp: &Stamp, out: &mut Vec<u8>) -> Res
     }
 }
 
-/// Appends the frame of a message of the session, by its envelope.
-fn append_session(
-    alloc: Global,
+/// Appends the frame of a message of the session. It takes no memory where `out` has room for it.
+fn append_session<'a>(
     stamp: &Stamp,
-    outgoing: &Outgoing<'_>,
+    outgoing: &Outgoing<'a>,
+    says: &SessionBody<'a>,
     out: &mut Vec<u8>,
 ) -> Result<(), AllocError>
     requires writable { IsWritable outgoing.now }
-    requires session { IsSession outgoing.now.message.content }
-    ensures ok { OnOk result (AppendsSession outgoing.now.message stamp.now out.old.items out.new.items) }
+    requires said { outgoing.now.message.content ≡ content.Session says.now }
+    ensures ok { OnOk result (AppendsSession outgoing.now.message says.now stamp.now out.old.items out.new.items) }
     ensures err { OnErr result (out.new.items ≡ out.old.items) }
 {
-    let message = &outgoing.message;
-    let body = session_body(alloc, &message.content)?;
-    let envelope = envelope_of(message, body);
+    let envelope = envelope_of(&outgoing.message, says);
     append_envelope(&envelope, stamp, out)
 }
 
 /// Appends the one frame of a message that is sent at this moment, in this dialect: the stamp is its SendingTime (52),
 /// and TransactTime (60) of an order. Where the message may have been sent before (43=Y) the stamp is OrigSendingTime
-/// (122) too. The only refusal is want of memory, and leaves `out` as it was: an order and a report take none where
-/// `out` has room for the frame.
+/// (122) too. The only refusal is out of memory, and leaves `out` as it was: none comes where `out` has room for the
+/// frame.
 pub fn append_message<D: Dialect>(
     alloc: Global,
     dialect: &D,
@@ -130,9 +89,9 @@ pub fn append_message<D: Dialect>(
             Some(view) => append_report(alloc, dialect, stamp, message, report, view, out),
             None => unreachable!(),
         },
+        Content::Session(says) => append_session(stamp, outgoing, says, out),
         Content::Order(Err(_)) | Content::ExecutionReport(Err(_)) | Content::Other =>
             unreachable!(),
-        _ => append_session(alloc, stamp, outgoing, out),
     }
 }
 

@@ -9,7 +9,8 @@ use Rattle.leg.specs.Numbered.{numbered}
 use Rattle.leg.specs.declared.leg.Leg.{Leg}
 use Rattle.dialect.specs.declared.report.ReportKind.{ReportKind}
 use Rattle.dialect.specs.declared.report.ReportKind.TheVariants.{Canceled, Rejected}
-use Rattle.dialect.specs.declared.content.Content.TheVariants.{TestRequest}
+use Rattle.dialect.specs.declared.content.Content.TheVariants.{Session}
+use Rattle.fix_tags.specs.declared.session_body.SessionBody.TheVariants.{TestRequest}
 use Rattle.dialect.specs.declared.outgoing.Outgoing.{Outgoing}
 use Rattle.exchange_core.specs.declared.exchange_fault.ExchangeFault.{ExchangeFault}
 use Rattle.exchange_core.specs.Acceptance.{Intake, HasAccepted, MayWrite, May, IsLast}
@@ -109,7 +110,7 @@ always live written connection is = rw is refl
 tested_keeps : (x : ExchangeParts) (live : LiveConnection) → IsLastLive x → x.live ≡ Some live → has_numbers 1 x.config x.own ≡ true → IsDone x (tested x)
 tested_keeps x live sound is left =
     let y : ExchangeParts = (tested x).1 in
-    let out : Outgoing = next_message x (TestRequest (test_id (next_own_number x.own))) in
+    let out : Outgoing = next_message x (Session (TestRequest (test_id (next_own_number x.own)))) in
     record {
       allowed = kept_next x y None Admin (into (live_connection x) (out ∷ [])) (rules.stays refl) refl tt
           (subst (λ written. All (MayWrite (rule_state x) None (rule_state y)) (into (live_connection x) written)) (always x.live (out ∷ []) live is)

@@ -6,7 +6,8 @@ use Rattle.leg.specs.Numbered.{numbered, with_numbered}
 use Rattle.leg.specs.declared.leg.Leg.{Leg}
 use Rattle.dialect.specs.declared.report.ReportKind.{ReportKind}
 use Rattle.dialect.specs.declared.content.Content.{Content}
-use Rattle.dialect.specs.declared.content.Content.TheVariants.{TestRequest, GapFill, Logout, Order}
+use Rattle.dialect.specs.declared.content.Content.TheVariants.{Session, Order}
+use Rattle.fix_tags.specs.declared.session_body.SessionBody.TheVariants.{TestRequest, GapFill, Logout}
 use Rattle.dialect.specs.declared.message.Message.{Message}
 use Rattle.exchange_core.specs.Order.{OrderParts, new_order, view_of}
 use Rattle.exchange_core.specs.declared.own.Own.{Own}
@@ -52,9 +53,9 @@ due_after x (Order (Ok leg)) = record {
   own = (_, refl, omega arith);
 }
 due_after x (Order (Err fault)) = after_used x (due_taken x (Order (Err fault))).1 (Refused x.expected ∷ []) refl (omega arith) (omega arith) refl refl (omega arith)
-due_after x (GapFill new_number) = after_same x (due_taken x (GapFill new_number)).1 refl (omega arith) (omega arith) refl refl
-due_after x Logout = after_used x (due_taken x Logout).1 (Admin ∷ []) refl (omega arith) (omega arith) refl refl (omega arith)
-due_after x (TestRequest id) = after_used x (due_taken x (TestRequest id)).1 (Admin ∷ []) refl (omega arith) (omega arith) refl refl (omega arith)
+due_after x (Session (GapFill new_number)) = after_same x (due_taken x (Session (GapFill new_number))).1 refl (omega arith) (omega arith) refl refl
+due_after x (Session Logout) = after_used x (due_taken x (Session Logout)).1 (Admin ∷ []) refl (omega arith) (omega arith) refl refl (omega arith)
+due_after x (Session (TestRequest id)) = after_used x (due_taken x (Session (TestRequest id))).1 (Admin ∷ []) refl (omega arith) (omega arith) refl refl (omega arith)
 due_after x content = after_same x (due_taken x content).1 refl (omega arith) (omega arith) refl refl
 
 pub asks_after : (x : ExchangeParts) (live : LiveConnection) → IsExchangeLater x (asks x live).1

@@ -4,7 +4,8 @@ use Rattle.std.proofs.lemmas.Bool.{and_parts}
 use Rattle.std.proofs.lemmas.Bool.Decides.{nat_tests}
 use Rattle.dialect.specs.Addressed.{is_for}
 use Rattle.dialect.specs.declared.content.Content.{Content}
-use Rattle.dialect.specs.declared.content.Content.TheVariants.{Logon}
+use Rattle.dialect.specs.declared.content.Content.TheVariants.{Session}
+use Rattle.fix_tags.specs.declared.session_body.SessionBody.TheVariants.{Logon}
 use Rattle.dialect.specs.declared.message.Message.{Message}
 use Rattle.exchange_core.specs.Own.{has_numbers, next_own_number}
 use Rattle.exchange_core.specs.declared.live_connection.LiveConnection.{LiveConnection}
@@ -13,7 +14,7 @@ use Rattle.exchange_core.proofs.Entries.{chosen}
 
 -- a Logon that is taken
 pub record IsLogonTaken (x : ExchangeParts) (connection number : ℕ) (content : Content) (heart : ℕ) (reset : Bool) (next : Option ℕ) : Type 0 where
-  pub says : content ≡ Logon heart reset next
+  pub says : content ≡ Session (Logon heart reset next)
   pub newer : x.last < connection
   pub above : x.expected ≤ number
 
@@ -35,7 +36,7 @@ module _ (x : ExchangeParts) (connection number : ℕ) (P : Answer → Type 0) (
       (λ other. same)
 
   comes_is : (content : Content) → ((heart : ℕ) (reset : Bool) (next : Option ℕ) → IsLogonTaken x connection number content heart reset next → P (logon_taken x connection number heart next)) → ((live : LiveConnection) → IsLive x connection live → P (received x live number content)) → P (comes x connection number content)
-  comes_is (Logon heart reset next) logon step =
+  comes_is (Session (Logon heart reset next)) logon step =
       chosen P (nat_lt x.last connection && nat_le x.expected number) (logon_taken x connection number heart next) ([], x)
       (λ is.
       let parts = and_parts (nat_lt x.last connection) (nat_le x.expected number) is in

@@ -1,14 +1,15 @@
 -- What the end of a connection and a Logout leave.
 use Rattle.std.proofs.Common.{◌≡◌, ◌==◌, ℕ, Bool, true, false, inl, inr, [], Option, Some, None, Ok, Err, refl}
 use Rattle.dialect.specs.declared.content.Content.{Content}
-use Rattle.dialect.specs.declared.content.Content.TheVariants.{Logon, TestRequest, GapFill, Logout, Order}
+use Rattle.dialect.specs.declared.content.Content.TheVariants.{Session, Order}
+use Rattle.fix_tags.specs.declared.session_body.SessionBody.TheVariants.{Logon, TestRequest, GapFill, Logout}
 use Rattle.dialect.specs.declared.message.Message.{Message}
 use Rattle.dialect.specs.Message.{is_logon}
 use Rattle.exchange_core.specs.Exchange.{ExchangeParts, Answer, logon_answer, with_connection, due_taken, take}
 use Rattle.exchange_core.specs.Keeping.{IsMarked}
 use Rattle.exchange_core.proofs.Cases.{take_is, after_take_is}
 
-logon_is : (content : Content) (heart : ℕ) (reset : Bool) (next : Option ℕ) → content ≡ Logon heart reset next → is_logon content ≡ true
+logon_is : (content : Content) (heart : ℕ) (reset : Bool) (next : Option ℕ) → content ≡ Session (Logon heart reset next) → is_logon content ≡ true
 logon_is content heart reset next says = rw says refl
 
 -- while no connection is live a message that is no Logon does nothing
@@ -21,9 +22,9 @@ take_down x connection m none other =
 due_marked : (x : ExchangeParts) (content : Content) → IsMarked x content (due_taken x content).1
 due_marked x (Order (Ok leg)) = inl refl
 due_marked x (Order (Err fault)) = inl refl
-due_marked x (GapFill new_number) = inl refl
-due_marked x Logout = inr (record { logout = refl; ended = refl; mark = refl })
-due_marked x (TestRequest id) = inl refl
+due_marked x (Session (GapFill new_number)) = inl refl
+due_marked x (Session Logout) = inr (record { logout = refl; ended = refl; mark = refl })
+due_marked x (Session (TestRequest id)) = inl refl
 due_marked x content = inl refl
 
 logon_marked : (x : ExchangeParts) (connection number heart : ℕ) (next : Option ℕ) (b : Bool) (content : Content) → IsMarked x content (logon_answer (with_connection x connection number) connection b heart next).1

@@ -5,7 +5,8 @@ use Rattle.dialect.specs.declared.report.ReportKind.{ReportKind}
 use Rattle.dialect.specs.declared.report.ReportKind.TheVariants.{New}
 use Rattle.dialect.specs.OrderView.{OrderViewParts}
 use Rattle.dialect.specs.declared.content.Content.{Content}
-use Rattle.dialect.specs.declared.content.Content.TheVariants.{TestRequest, GapFill, Logout, Order}
+use Rattle.dialect.specs.declared.content.Content.TheVariants.{Session, Order}
+use Rattle.fix_tags.specs.declared.session_body.SessionBody.TheVariants.{TestRequest, GapFill, Logout}
 use Rattle.dialect.specs.declared.message.Message.{Message}
 use Rattle.exchange_core.specs.Order.{OrderParts, new_order, view_of}
 use Rattle.exchange_core.specs.declared.own.Own.{Own}
@@ -58,9 +59,9 @@ Counted x = AreCounted 0 x.own
 due_counted : (x : ExchangeParts) (content : Content) → Counted x → Counted (due_taken x content).1
 due_counted x (Order (Ok leg)) counted = next_counted x (new_order leg) New (view_of (suc (length x.orders)) (new_order leg)) counted
 due_counted x (Order (Err fault)) counted = more_refused 0 x.expected x.own counted
-due_counted x (GapFill new_number) counted = counted
-due_counted x Logout counted = more_admin 0 x.own counted
-due_counted x (TestRequest id) counted = more_admin 0 x.own counted
+due_counted x (Session (GapFill new_number)) counted = counted
+due_counted x (Session Logout) counted = more_admin 0 x.own counted
+due_counted x (Session (TestRequest id)) counted = more_admin 0 x.own counted
 due_counted x content counted = counted
 
 logon_counted : (x : ExchangeParts) (connection number heart : ℕ) (next : Option ℕ) (b : Bool) → Counted x → Counted (logon_answer (with_connection x connection number) connection b heart next).1

@@ -11,7 +11,8 @@ use Rattle.dialect.specs.FreeText.{IsFreeText}
 use Rattle.dialect.specs.declared.report.ReportKind.{ReportKind}
 use Rattle.dialect.specs.declared.report.ReportKind.TheVariants.{New, Canceled, Rejected}
 use Rattle.dialect.specs.declared.content.Content.{Content}
-use Rattle.dialect.specs.declared.content.Content.TheVariants.{TestRequest, GapFill, Logout, Order}
+use Rattle.dialect.specs.declared.content.Content.TheVariants.{Session, Order}
+use Rattle.fix_tags.specs.declared.session_body.SessionBody.TheVariants.{TestRequest, GapFill, Logout}
 use Rattle.dialect.specs.declared.message.Message.{Message}
 use Rattle.dialect.specs.Report.{IsReportKind}
 use Rattle.dialect.specs.Writable.{IsReportBeside}
@@ -194,9 +195,9 @@ refused_parts x sound expectable =
 due_parts : (x : ExchangeParts) (content : Content) → HasSoundParts x → HasNumber x → IsExpectable x → IsReadContent content → HasSoundParts (due_taken x content).1
 due_parts x (Order (Ok leg)) sound number expectable read = ordered_parts x leg sound number read
 due_parts x (Order (Err fault)) sound number expectable read = refused_parts x sound expectable
-due_parts x (GapFill new_number) sound number expectable read = same_parts x (due_taken x (GapFill new_number)).1 sound refl refl
-due_parts x Logout sound number expectable read = admin_parts x (due_taken x Logout).1 sound refl refl
-due_parts x (TestRequest id) sound number expectable read = admin_parts x (due_taken x (TestRequest id)).1 sound refl refl
+due_parts x (Session (GapFill new_number)) sound number expectable read = same_parts x (due_taken x (Session (GapFill new_number))).1 sound refl refl
+due_parts x (Session Logout) sound number expectable read = admin_parts x (due_taken x (Session Logout)).1 sound refl refl
+due_parts x (Session (TestRequest id)) sound number expectable read = admin_parts x (due_taken x (Session (TestRequest id))).1 sound refl refl
 due_parts x content sound number expectable read = same_parts x (due_taken x content).1 sound refl refl
 
 logon_parts : (x : ExchangeParts) (connection number heart : ℕ) (next : Option ℕ) (b : Bool) → HasSoundParts x → HasSoundParts (logon_answer (with_connection x connection number) connection b heart next).1

@@ -9,7 +9,8 @@ use Rattle.dialect.specs.declared.outgoing.Outgoing.{Outgoing}
 use Rattle.exchange_core.specs.declared.own.Own.{Own}
 use Rattle.exchange_core.specs.declared.own.Own.TheVariants.{Admin, Reported, Refused}
 use Rattle.exchange_core.specs.Own.{closing_fill, execution_report, again, resent}
-use Rattle.dialect.specs.declared.content.Content.TheVariants.{Reject}
+use Rattle.dialect.specs.declared.content.Content.TheVariants.{Session}
+use Rattle.fix_tags.specs.declared.session_body.SessionBody.TheVariants.{Reject}
 use Rattle.dialect.specs.Writable.{IsWritable}
 use Rattle.exchange_core.specs.Frames.{Writes}
 use Rattle.exchange_core.specs.Resending.{resent_one, run_after}
@@ -28,7 +29,7 @@ one_and_rest config run number Admin own = refl
 one_and_rest config run number (Reported report view) own =
     sym (append_assoc (closing_fill config run number) (execution_report config number true report view ∷ []) (resent config None (suc number) own))
 one_and_rest config run number (Refused refused) own =
-    sym (append_assoc (closing_fill config run number) (again config number (Reject refused) ∷ []) (resent config None (suc number) own))
+    sym (append_assoc (closing_fill config run number) (again config number (Session (Reject refused)) ∷ []) (resent config None (suc number) own))
 
 -- what is left of a list, where one of it is looked at
 left : (own : List Own) (index : ℕ) (entry : Own) → index < length own → entry ≡ get_or own index entry → drop index own ≡ entry ∷ drop (index + 1) own

@@ -10,7 +10,8 @@ use Rattle.fix_tags.specs.Config.{ConfigParts}
 use Rattle.fix_tags.specs.Range.{range_end, is_range}
 use Rattle.leg.specs.Numbered.{numbered}
 use Rattle.dialect.specs.declared.content.Content.{Content}
-use Rattle.dialect.specs.declared.content.Content.TheVariants.{GapFill, Reject}
+use Rattle.dialect.specs.declared.content.Content.TheVariants.{Session}
+use Rattle.fix_tags.specs.declared.session_body.SessionBody.TheVariants.{GapFill, Reject}
 use Rattle.dialect.specs.declared.outgoing.Outgoing.{Outgoing}
 use Rattle.exchange_core.specs.Acceptance.{Carried, RuleState, MayWrite}
 use Rattle.exchange_core.specs.declared.own.Own.{Own}
@@ -46,7 +47,7 @@ below_suc (suc k) zero h = absurd (omega arith)
 below_suc (suc k) (suc n) h = elim (below_suc k n (omega arith)) [ inl below ↦ inl (omega arith) | inr same ↦ inr (ap suc same) ]
 
 module _ (s : RuleState) (coming : Option Carried) (t : RuleState) (connection : ℕ) (from : 1 ≤ connection) (to : connection ≤ t.intake.last) (config : ConfigParts) where
-  fill_written : (first number : ℕ) → IsRun t.own (Some first) number → MayWrite s coming t (written_in connection (again config first (GapFill number)))
+  fill_written : (first number : ℕ) → IsRun t.own (Some first) number → MayWrite s coming t (written_in connection (again config first (Session (GapFill number))))
   fill_written first number run = record {
     from = from;
     to = to;
@@ -55,7 +56,7 @@ module _ (s : RuleState) (coming : Option Carried) (t : RuleState) (connection :
 
   closing_written : (run : Option ℕ) (number : ℕ) → IsRun t.own run number → All (MayWrite s coming t) (map (written_in connection) (closing_fill config run number))
   closing_written None number is = All-nil (MayWrite s coming t)
-  closing_written (Some first) number is = All-cons (MayWrite s coming t) (written_in connection (again config first (GapFill number))) [] (fill_written first number is) (All-nil (MayWrite s coming t))
+  closing_written (Some first) number is = All-cons (MayWrite s coming t) (written_in connection (again config first (Session (GapFill number)))) [] (fill_written first number is) (All-nil (MayWrite s coming t))
 
   -- a report or a refusal, again
   again_written : (out : Outgoing) → numbered out.message.number t.own ≡ Some (Some out.message.content) → MayWrite s coming t (written_in connection out)
@@ -86,7 +87,7 @@ module _ (s : RuleState) (coming : Option Carried) (t : RuleState) (connection :
   resent_written run number (Reported report view ∷ entries) is are =
       closed_then run number (execution_report config number true report view) (resent config None (suc number) entries) is are.0 (resent_written None (suc number) entries tt are.1)
   resent_written run number (Refused refused ∷ entries) is are =
-      closed_then run number (again config number (Reject refused)) (resent config None (suc number) entries) is are.0 (resent_written None (suc number) entries tt are.1)
+      closed_then run number (again config number (Session (Reject refused))) (resent config None (suc number) entries) is are.0 (resent_written None (suc number) entries tt are.1)
 
 -- the entries behind some others
 pub are_from : (front entries back : List Own) → AreFrom (map kept (front ++ (entries ++ back))) (suc (length front)) entries

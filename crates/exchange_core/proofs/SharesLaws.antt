@@ -7,7 +7,8 @@ use Rattle.leg.specs.Numbered.{numbered}
 use Rattle.leg.specs.declared.leg.Leg.{Leg}
 use Rattle.dialect.specs.declared.report.ReportKind.{ReportKind}
 use Rattle.dialect.specs.declared.content.Content.{Content}
-use Rattle.dialect.specs.declared.content.Content.TheVariants.{TestRequest, GapFill, Logout, Order}
+use Rattle.dialect.specs.declared.content.Content.TheVariants.{Session, Order}
+use Rattle.fix_tags.specs.declared.session_body.SessionBody.TheVariants.{TestRequest, GapFill, Logout}
 use Rattle.dialect.specs.declared.message.Message.{Message}
 use Rattle.exchange_core.specs.declared.ending.Ending.{Ending}
 use Rattle.exchange_core.specs.Order.{OrderParts, TradeParts, new_order, ended_by}
@@ -59,9 +60,9 @@ busted_adds order (suc i) trade adds there live =
 due_adds : (x : ExchangeParts) (content : Content) → OrdersAddUp x → OrdersAddUp (due_taken x content).1
 due_adds x (Order (Ok leg)) all = all_more SharesAddUp x.orders (new_order leg) all (new_adds leg)
 due_adds x (Order (Err fault)) all = all
-due_adds x (GapFill new_number) all = all
-due_adds x Logout all = all
-due_adds x (TestRequest id) all = all
+due_adds x (Session (GapFill new_number)) all = all
+due_adds x (Session Logout) all = all
+due_adds x (Session (TestRequest id)) all = all
 due_adds x content all = all
 
 logon_adds : (x : ExchangeParts) (connection number heart : ℕ) (next : Option ℕ) (b : Bool) → OrdersAddUp x → OrdersAddUp (logon_answer (with_connection x connection number) connection b heart next).1

@@ -4,7 +4,8 @@ use Rattle.std.specs.Option.{option_map}
 use Rattle.std.proofs.lemmas.Bool.Decides.{nat_tests}
 use Rattle.std.proofs.lemmas.Option.{same_Some}
 use Rattle.dialect.specs.declared.content.Content.{Content}
-use Rattle.dialect.specs.declared.content.Content.TheVariants.{TestRequest, GapFill, Logout, Order}
+use Rattle.dialect.specs.declared.content.Content.TheVariants.{Session, Order}
+use Rattle.fix_tags.specs.declared.session_body.SessionBody.TheVariants.{TestRequest, GapFill, Logout}
 use Rattle.dialect.specs.declared.message.Message.{Message}
 use Rattle.exchange_core.specs.Own.{next_own_number}
 use Rattle.exchange_core.specs.declared.live_connection.LiveConnection.{LiveConnection}
@@ -23,9 +24,9 @@ no_live y live = λ connection is. absurd cc
 due_sound : (x : ExchangeParts) (content : Content) → IsLastLive x → IsLastLive (due_taken x content).1
 due_sound x (Order (Ok leg)) sound = same_live x (due_taken x (Order (Ok leg))).1 refl refl sound
 due_sound x (Order (Err fault)) sound = same_live x (due_taken x (Order (Err fault))).1 refl refl sound
-due_sound x (GapFill new_number) sound = same_live x (due_taken x (GapFill new_number)).1 refl refl sound
-due_sound x Logout sound = no_live (due_taken x Logout).1 refl
-due_sound x (TestRequest id) sound = same_live x (due_taken x (TestRequest id)).1 refl refl sound
+due_sound x (Session (GapFill new_number)) sound = same_live x (due_taken x (Session (GapFill new_number))).1 refl refl sound
+due_sound x (Session Logout) sound = no_live (due_taken x (Session Logout)).1 refl
+due_sound x (Session (TestRequest id)) sound = same_live x (due_taken x (Session (TestRequest id))).1 refl refl sound
 due_sound x content sound = same_live x (due_taken x content).1 refl refl sound
 
 new_live : (y : ExchangeParts) (connection : ℕ) → 1 ≤ connection → live_connection y ≡ Some connection → y.last ≡ connection → IsLastLive y
@@ -62,9 +63,9 @@ take_numbered x connection m numbered =
 due_in_range : (x : ExchangeParts) (content : Content) → x.expected ≤ 999_999_998 → IsFillInRange content → IsExpectable x → IsExpectable (due_taken x content).1
 due_in_range x (Order (Ok leg)) below fill range = record { from = omega arith; to = omega arith }
 due_in_range x (Order (Err fault)) below fill range = record { from = omega arith; to = omega arith }
-due_in_range x (GapFill new_number) below fill range = record { from = omega (arith, range.from); to = omega (arith, range.to) }
-due_in_range x Logout below fill range = record { from = omega arith; to = omega arith }
-due_in_range x (TestRequest id) below fill range = record { from = omega arith; to = omega arith }
+due_in_range x (Session (GapFill new_number)) below fill range = record { from = omega (arith, range.from); to = omega (arith, range.to) }
+due_in_range x (Session Logout) below fill range = record { from = omega arith; to = omega arith }
+due_in_range x (Session (TestRequest id)) below fill range = record { from = omega arith; to = omega arith }
 due_in_range x content below fill range = record { from = omega arith; to = omega arith }
 
 pub passed_in_range : (x : ExchangeParts) (number : ℕ) → number ≤ 999_999_998 → IsExpectable x → (1 ≤ passed_by x number) × (passed_by x number ≤ 999_999_999)

@@ -8,7 +8,8 @@ use Rattle.leg.specs.declared.leg.Leg.{Leg}
 use Rattle.dialect.specs.declared.fault.DialectFault.{DialectFault}
 use Rattle.dialect.specs.declared.report.ReportKind.TheVariants.{New}
 use Rattle.dialect.specs.declared.content.Content.{Content}
-use Rattle.dialect.specs.declared.content.Content.TheVariants.{Logon, Heartbeat, TestRequest, ResendRequest, Reject, GapFill, Logout, Order, ExecutionReport}
+use Rattle.dialect.specs.declared.content.Content.TheVariants.{Session, Order, ExecutionReport}
+use Rattle.fix_tags.specs.declared.session_body.SessionBody.TheVariants.{Logon, Heartbeat, TestRequest, ResendRequest, Reject, GapFill, Logout}
 use Rattle.dialect.specs.declared.message.Message.{Message}
 use Rattle.dialect.specs.declared.outgoing.Outgoing.{Outgoing}
 use Rattle.exchange_core.specs.Acceptance.{Carried, Intake, RuleState, IsDue, IsOther, Takes, MayMove, Took, MayWrite, May, IsLast}
@@ -45,33 +46,33 @@ module _ (x : ExchangeParts) (connection number : ℕ) (live : live_connection x
   others content other =
       silent x (expecting_next x) (Some (in_connection connection number content)) (moved content (intake_of (expecting_next x)) (rules.other (is_due content) other refl)) refl
 
-  filled : (new_number : ℕ) → Keeps x (Some (in_connection connection number (GapFill new_number))) connection ([], record x { expected = max x.expected new_number })
+  filled : (new_number : ℕ) → Keeps x (Some (in_connection connection number (Session (GapFill new_number)))) connection ([], record x { expected = max x.expected new_number })
   filled new_number =
       let y : ExchangeParts = record x { expected = max x.expected new_number } in
-      silent x y (Some (in_connection connection number (GapFill new_number))) (moved (GapFill new_number) (intake_of y) (rules.fill (is_due (GapFill new_number)) new_number refl refl)) refl
+      silent x y (Some (in_connection connection number (Session (GapFill new_number)))) (moved (Session (GapFill new_number)) (intake_of y) (rules.fill (is_due (Session (GapFill new_number))) new_number refl refl)) refl
 
-  tested : (id : List ℕ) → Keeps x (Some (in_connection connection number (TestRequest id))) connection (test_taken x id)
+  tested : (id : List ℕ) → Keeps x (Some (in_connection connection number (Session (TestRequest id)))) connection (test_taken x id)
   tested id =
-      let content : Content = TestRequest id in
+      let content : Content = Session (TestRequest id) in
       let coming : Option Carried = Some (in_connection connection number content) in
       let y : ExchangeParts = (test_taken x id).1 in
       let took : Took (intake_of x) (intake_of y) coming content = record { message = in_connection connection number content; came = refl; due = is_due content; says = refl; passed = refl } in
-      one x y coming Admin connection (Heartbeat (Some id)) (moved content (intake_of y) (rules.other (is_due content) tt refl)) refl tt last.from (omega (arith, last.same)) (inr (refl, inr took))
+      one x y coming Admin connection (Session (Heartbeat (Some id))) (moved content (intake_of y) (rules.other (is_due content) tt refl)) refl tt last.from (omega (arith, last.same)) (inr (refl, inr took))
 
-  logged_out : Keeps x (Some (in_connection connection number Logout)) connection (logout_taken x)
+  logged_out : Keeps x (Some (in_connection connection number (Session Logout))) connection (logout_taken x)
   logged_out =
-      let coming : Option Carried = Some (in_connection connection number Logout) in
+      let coming : Option Carried = Some (in_connection connection number (Session Logout)) in
       let y : ExchangeParts = (logout_taken x).1 in
       let count : length (accepted_by x) ≡ length x.orders = length-map x.orders (λ order. order.leg) in
       let mark : intake_of y ≡ record (intake_of x) { expected = suc x.expected; live = None; closed_at = Some (length (accepted_by x)) } = ap (λ n. let i : Intake = record (intake_of x) { expected = suc x.expected; live = None; closed_at = Some n } in i) (sym count) in
-      one x y coming Admin connection Logout (moved Logout (intake_of y) (rules.logout (is_due Logout) refl mark)) refl tt last.from (omega (arith, last.same)) (inr (refl, (length x.orders, refl)))
+      one x y coming Admin connection (Session Logout) (moved (Session Logout) (intake_of y) (rules.logout (is_due (Session Logout)) refl mark)) refl tt last.from (omega (arith, last.same)) (inr (refl, (length x.orders, refl)))
 
   refused : (content : Content) (fault : DialectFault) → content ≡ Order (Err fault) → IsOther content → Keeps x (Some (in_connection connection number content)) connection (order_refused x)
   refused content fault is other =
       let coming : Option Carried = Some (in_connection connection number content) in
       let y : ExchangeParts = (order_refused x).1 in
       let took : Took (intake_of x) (intake_of y) coming (Order (Err fault)) = record { message = in_connection connection number content; came = refl; due = is_due content; says = is; passed = refl } in
-      one x y coming (Refused x.expected) connection (Reject x.expected) (moved content (intake_of y) (rules.other (is_due content) other refl)) refl (inr (Err fault, took, refl)) last.from (omega (arith, last.same)) (inl refl)
+      one x y coming (Refused x.expected) connection (Session (Reject x.expected)) (moved content (intake_of y) (rules.other (is_due content) other refl)) refl (inr (Err fault, took, refl)) last.from (omega (arith, last.same)) (inl refl)
 
   ordered : (leg : Leg) → Keeps x (Some (in_connection connection number (Order (Ok leg)))) connection (order_taken x leg)
   ordered leg =
@@ -89,9 +90,9 @@ module _ (x : ExchangeParts) (connection number : ℕ) (live : live_connection x
   due_keeps : (content : Content) → Keeps x (Some (in_connection connection number content)) connection (due_taken x content)
   due_keeps (Order (Ok leg)) = ordered leg
   due_keeps (Order (Err fault)) = refused (Order (Err fault)) fault refl tt
-  due_keeps (GapFill new_number) = filled new_number
-  due_keeps Logout = logged_out
-  due_keeps (TestRequest id) = tested id
+  due_keeps (Session (GapFill new_number)) = filled new_number
+  due_keeps (Session Logout) = logged_out
+  due_keeps (Session (TestRequest id)) = tested id
   due_keeps content = others content tt
 
 -- A message of the live connection, whatever its number.
@@ -119,7 +120,7 @@ module _ (x : ExchangeParts) (connection number : ℕ) (live : LiveConnection) (
 
 -- what a request is answered with, after own numbers were used
 resends_written : (x y : ExchangeParts) (coming : Option Carried) (connection : ℕ) (content : Content) → 1 ≤ connection → connection ≤ y.last → (more : List Own) → y.own ≡ x.own ++ more → All (MayWrite (rule_state x) coming (rule_state y)) (map (written_in connection) (resends x content))
-resends_written x y coming connection (ResendRequest begin last) from to more own =
+resends_written x y coming connection (Session (ResendRequest begin last)) from to more own =
     answer_written (rule_state x) coming (rule_state y) connection from to x.config x.own more begin last (ap (map kept) own)
 resends_written x y coming connection content from to more own = All-nil (MayWrite (rule_state x) coming (rule_state y))
 
@@ -145,24 +146,24 @@ received_keeps x connection number live content is last =
 
 -- A Logon of a newer connection.
 module _ (x : ExchangeParts) (connection number heart : ℕ) (reset : Bool) (newer : x.last < connection) (above : x.expected ≤ number) where
-  new_logon : (next : Option ℕ) (t : Intake) → t ≡ intake_of (with_connection x connection number) → MayMove (intake_of x) (Some (in_connection connection number (Logon heart reset next))) t
+  new_logon : (next : Option ℕ) (t : Intake) → t ≡ intake_of (with_connection x connection number) → MayMove (intake_of x) (Some (in_connection connection number (Session (Logon heart reset next)))) t
   new_logon next t is =
-      rules.takes (in_connection connection number (Logon heart reset next)) refl
+      rules.takes (in_connection connection number (Session (Logon heart reset next))) refl
       (rules.new_logon (record { heart = heart; reset = reset; next = next; says = refl; newer = newer; number = above }) is)
 
-  answered : (next told : Option ℕ) → rules.TellsExpected (passed_by x number) told → Keeps x (Some (in_connection connection number (Logon heart reset next))) connection (with_logon (with_connection x connection number) heart told)
+  answered : (next told : Option ℕ) → rules.TellsExpected (passed_by x number) told → Keeps x (Some (in_connection connection number (Session (Logon heart reset next)))) connection (with_logon (with_connection x connection number) heart told)
   answered next told tells =
-      let coming : Option Carried = Some (in_connection connection number (Logon heart reset next)) in
+      let coming : Option Carried = Some (in_connection connection number (Session (Logon heart reset next))) in
       let y : ExchangeParts = (with_logon (with_connection x connection number) heart told).1 in
-      one x y coming Admin connection (Logon heart false told) (new_logon next (intake_of y) refl) refl tt (omega arith) (omega arith) (inr (refl, tells))
+      one x y coming Admin connection (Session (Logon heart false told)) (new_logon next (intake_of y) refl) refl tt (omega arith) (omega arith) (inr (refl, tells))
 
-  answered_and_asked : Keeps x (Some (in_connection connection number (Logon heart reset None))) connection (with_logon_and_request (with_connection x connection number) connection heart)
+  answered_and_asked : Keeps x (Some (in_connection connection number (Session (Logon heart reset None)))) connection (with_logon_and_request (with_connection x connection number) connection heart)
   answered_and_asked =
-      let coming : Option Carried = Some (in_connection connection number (Logon heart reset None)) in
+      let coming : Option Carried = Some (in_connection connection number (Session (Logon heart reset None))) in
       let y : ExchangeParts = (with_logon_and_request (with_connection x connection number) connection heart).1 in
-      two x y coming connection (Logon heart false None) (request y) (new_logon None (intake_of y) refl) refl (omega arith) (omega arith) tt refl
+      two x y coming connection (Session (Logon heart false None)) (request y) (new_logon None (intake_of y) refl) refl (omega arith) (omega arith) tt refl
 
-  by_due : (b : Bool) (next : Option ℕ) → Keeps x (Some (in_connection connection number (Logon heart reset next))) connection (logon_answer (with_connection x connection number) connection b heart next)
+  by_due : (b : Bool) (next : Option ℕ) → Keeps x (Some (in_connection connection number (Session (Logon heart reset next)))) connection (logon_answer (with_connection x connection number) connection b heart next)
   by_due b (Some next) = answered (Some next) (Some (passed_by x number)) refl
   by_due true None = answered None None tt
   by_due false None = answered_and_asked

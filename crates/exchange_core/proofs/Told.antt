@@ -17,7 +17,8 @@ use Rattle.dialect.specs.declared.report.Report.{Report}
 use Rattle.dialect.specs.declared.report.ReportKind.{ReportKind}
 use Rattle.dialect.specs.declared.report.ReportKind.TheVariants.{New, Trade, Canceled, Rejected, Bust}
 use Rattle.dialect.specs.declared.content.Content.{Content}
-use Rattle.dialect.specs.declared.content.Content.TheVariants.{TestRequest, GapFill, Logout, Order}
+use Rattle.dialect.specs.declared.content.Content.TheVariants.{Session, Order}
+use Rattle.fix_tags.specs.declared.session_body.SessionBody.TheVariants.{TestRequest, GapFill, Logout}
 use Rattle.dialect.specs.declared.message.Message.{Message}
 use Rattle.exchange_core.specs.declared.exchange_fault.ExchangeFault.{ExchangeFault}
 use Rattle.exchange_core.specs.declared.exchange_fault.ExchangeFault.TheVariants.{TooManyShares, Done, NotCancelled, NoSuchTrade}
@@ -233,9 +234,9 @@ new_is_told = record { each = λ place order there. none place order there; othe
 due_told : (x : ExchangeParts) (content : Content) → IsSound x → OrdersAreTold x → OrdersAreTold (due_taken x content).1
 due_told x (Order (Ok leg)) sound told = accepted x leg sound told
 due_told x (Order (Err fault)) sound told = unreported x.own (Refused x.expected ∷ []) x.orders (λ place. refl) told
-due_told x (GapFill new_number) sound told = told
-due_told x Logout sound told = unreported x.own (Admin ∷ []) x.orders (λ place. refl) told
-due_told x (TestRequest id) sound told = unreported x.own (Admin ∷ []) x.orders (λ place. refl) told
+due_told x (Session (GapFill new_number)) sound told = told
+due_told x (Session Logout) sound told = unreported x.own (Admin ∷ []) x.orders (λ place. refl) told
+due_told x (Session (TestRequest id)) sound told = unreported x.own (Admin ∷ []) x.orders (λ place. refl) told
 due_told x content sound told = told
 
 logon_told : (x : ExchangeParts) (connection number heart : ℕ) (next : Option ℕ) (b : Bool) → OrdersAreTold x → OrdersAreTold (logon_answer (with_connection x connection number) connection b heart next).1

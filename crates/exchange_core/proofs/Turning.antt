@@ -8,7 +8,8 @@ use Rattle.dialect.specs.Wording.{Encoding}
 use Rattle.dialect.specs.Outgoing.{alone}
 use Rattle.dialect.specs.declared.outgoing.Outgoing.{Outgoing}
 use Rattle.dialect.specs.declared.content.Content.{Content}
-use Rattle.dialect.specs.declared.content.Content.TheVariants.{Logon, Heartbeat, TestRequest, ResendRequest, Reject, GapFill, Reset, Logout, BusinessReject, Order, ExecutionReport, Other}
+use Rattle.dialect.specs.declared.content.Content.TheVariants.{Session, Order, ExecutionReport, Other}
+use Rattle.fix_tags.specs.declared.session_body.SessionBody.TheVariants.{Logon, Heartbeat, TestRequest, ResendRequest, Reject, GapFill, Reset, Logout, BusinessReject}
 use Rattle.exchange_core.specs.declared.own.Own.{Own}
 use Rattle.exchange_core.specs.declared.turn.Says.{Says}
 use Rattle.exchange_core.specs.declared.turn.Says.TheVariants.{Nothing, One, OneAndRequest}
@@ -24,15 +25,15 @@ use Rattle.exchange_core.proofs.Writing.{writes_both}
 -- a turn reports nothing
 pub turn_silent : (own : List Own) (says : Says) → reports_of (turn_own own says) ≡ reports_of own
 turn_silent own Nothing = refl
-turn_silent own (One (Logon heart reset next)) = reports_silent own
-turn_silent own (One (Heartbeat id)) = reports_silent own
-turn_silent own (One (TestRequest id)) = reports_silent own
-turn_silent own (One (ResendRequest begin last)) = reports_silent own
-turn_silent own (One (Reject refused)) = reports_refused own refused
-turn_silent own (One (GapFill new_number)) = reports_silent own
-turn_silent own (One (Reset new_number)) = reports_silent own
-turn_silent own (One Logout) = reports_silent own
-turn_silent own (One (BusinessReject refused)) = reports_silent own
+turn_silent own (One (Session (Logon heart reset next))) = reports_silent own
+turn_silent own (One (Session (Heartbeat id))) = reports_silent own
+turn_silent own (One (Session (TestRequest id))) = reports_silent own
+turn_silent own (One (Session (ResendRequest begin last))) = reports_silent own
+turn_silent own (One (Session (Reject refused))) = reports_refused own refused
+turn_silent own (One (Session (GapFill new_number))) = reports_silent own
+turn_silent own (One (Session (Reset new_number))) = reports_silent own
+turn_silent own (One (Session Logout)) = reports_silent own
+turn_silent own (One (Session (BusinessReject refused))) = reports_silent own
 turn_silent own (One (Order read)) = reports_silent own
 turn_silent own (One (ExecutionReport read)) = reports_silent own
 turn_silent own (One Other) = reports_silent own
@@ -54,11 +55,11 @@ written_behind w stamp first second a b c (Ok x) one two = writes_both w stamp (
 written_behind w stamp first second a b c (Err e) one two = tt
 
 -- both messages of a turn that asks for what is missing
-pub says_two : {X E : Type 0} (w : Encoding) (stamp : StampParts) (x : ExchangeParts) (expected : ℕ) (says : Says) (content : Content) (config : ConfigParts) (number later : ℕ) (first second : Outgoing) (a b c : List (Vec ℕ)) (result : Result X E) → says ≡ OneAndRequest content → config ≡ x.config → number ≡ suc (length x.own) → later ≡ suc (suc (length x.own)) → first ≡ alone (message_of config number false content) → second ≡ alone (message_of config later false (ResendRequest expected 0)) → Writes w stamp (first ∷ []) a b → OnOk result (Writes w stamp (second ∷ []) b c) → OnOk result (Writes w stamp (turn_written x expected says) a c)
+pub says_two : {X E : Type 0} (w : Encoding) (stamp : StampParts) (x : ExchangeParts) (expected : ℕ) (says : Says) (content : Content) (config : ConfigParts) (number later : ℕ) (first second : Outgoing) (a b c : List (Vec ℕ)) (result : Result X E) → says ≡ OneAndRequest content → config ≡ x.config → number ≡ suc (length x.own) → later ≡ suc (suc (length x.own)) → first ≡ alone (message_of config number false content) → second ≡ alone (message_of config later false (Session (ResendRequest expected 0))) → Writes w stamp (first ∷ []) a b → OnOk result (Writes w stamp (second ∷ []) b c) → OnOk result (Writes w stamp (turn_written x expected says) a c)
 says_two w stamp x expected says content config number later first second a b c result says_is config_is number_is later_is first_is second_is one two =
     let first_is_next : first ≡ next_message x content = rw (first_is, config_is, number_is) refl in
-    let second_is_next : second ≡ alone (message_of x.config (suc (next_own_number x.own)) false (ResendRequest expected 0)) =
+    let second_is_next : second ≡ alone (message_of x.config (suc (next_own_number x.own)) false (Session (ResendRequest expected 0))) =
     rw (second_is, config_is, later_is) refl in
-    rw says_is (written_behind w stamp (next_message x content) (alone (message_of x.config (suc (next_own_number x.own)) false (ResendRequest expected 0))) a b c result
+    rw says_is (written_behind w stamp (next_message x content) (alone (message_of x.config (suc (next_own_number x.own)) false (Session (ResendRequest expected 0)))) a b c result
     (subst (λ (out : Outgoing). Writes w stamp (out ∷ []) a b) first_is_next one)
     (subst (λ (out : Outgoing). OnOk result (Writes w stamp (out ∷ []) b c)) second_is_next two))

@@ -12,7 +12,8 @@ use Rattle.dialect.specs.declared.report.Report.{Report}
 use Rattle.dialect.specs.declared.report.ReportKind.{ReportKind}
 use Rattle.dialect.specs.declared.report.ReportKind.TheVariants.{New, Canceled, Rejected}
 use Rattle.dialect.specs.declared.content.Content.{Content}
-use Rattle.dialect.specs.declared.content.Content.TheVariants.{Logon, Heartbeat, TestRequest, ResendRequest, Reject, GapFill, Logout, Order}
+use Rattle.dialect.specs.declared.content.Content.TheVariants.{Session, Order}
+use Rattle.fix_tags.specs.declared.session_body.SessionBody.TheVariants.{Logon, Heartbeat, TestRequest, ResendRequest, Reject, GapFill, Logout}
 use Rattle.dialect.specs.declared.message.Message.{Message}
 use Rattle.dialect.specs.OrderView.{OrderViewParts}
 use Rattle.dialect.specs.declared.outgoing.Outgoing.{Outgoing}
@@ -66,7 +67,7 @@ longer_run (Some first) number from within = (within.0, omega (arith, within.1))
 closing_said : (config : ConfigParts) → IsConfig config → (run : Option ℕ) (number : ℕ) → number ≤ 999_999_999 → IsRunWithin run number → AreWritable (closing_fill config run number)
 closing_said config is None number to within = All-nil IsWritable
 closing_said config is (Some first) number to within =
-    one_written (again config first (GapFill number)) (said config first true (GapFill number) is within.0 (omega (arith, within.1, to)) to)
+    one_written (again config first (Session (GapFill number))) (said config first true (Session (GapFill number)) is within.0 (omega (arith, within.1, to)) to)
 
 resent_said : (config : ConfigParts) → IsConfig config → (run : Option ℕ) (number : ℕ) (entries : List Own) → 1 ≤ number → number + length entries ≤ 999_999_999 → IsRunWithin run number → AllByRecursion IsOwnSound entries → AreWritable (resent config run number entries)
 resent_said config is run number [] from to within all = closing_said config is run number (omega (arith, to)) within
@@ -80,11 +81,11 @@ resent_said config is run number (Reported report view ∷ entries) from to with
     (report_said config number true report view is from (omega (arith, to)) all.0)
     (resent_said config is None (suc number) entries (omega arith) (omega (arith, to)) tt all.1))
 resent_said config is run number (Refused refused ∷ entries) from to within all =
-    let out : Outgoing = again config number (Reject refused) in
+    let out : Outgoing = again config number (Session (Reject refused)) in
     All-append IsWritable (closing_fill config run number) (out ∷ resent config None (suc number) entries)
     (closing_said config is run number (omega (arith, to)) within)
     (All-cons IsWritable out (resent config None (suc number) entries)
-    (said config number true (Reject refused) is from (omega (arith, to)) all.0)
+    (said config number true (Session (Reject refused)) is from (omega (arith, to)) all.0)
     (resent_said config is None (suc number) entries (omega arith) (omega (arith, to)) tt all.1))
 
 answer_said : (config : ConfigParts) → IsConfig config → (own : List Own) (begin last : ℕ) → next_own_number own ≤ config.max_number → AllByRecursion IsOwnSound own → AreWritable (resent_answer config own begin last)
@@ -104,7 +105,7 @@ answer_said config is own begin last fits all =
     (λ other. All-nil IsWritable)
 
 -- A message that comes.
-heart_of : (content : Content) (heart : ℕ) (reset : Bool) (next : Option ℕ) → content ≡ Logon heart reset next → IsReadContent content → heart ≤ 999_999
+heart_of : (content : Content) (heart : ℕ) (reset : Bool) (next : Option ℕ) → content ≡ Session (Logon heart reset next) → IsReadContent content → heart ≤ 999_999
 heart_of content heart reset next says read = subst IsReadContent says read
 
 logon_said : (x : ExchangeParts) (connection number heart : ℕ) (next : Option ℕ) (b : Bool) → IsSound x → HasRoom x → number ≤ 999_999_998 → heart ≤ 999_999 → AreWritable (logon_answer (with_connection x connection number) connection b heart next).0
@@ -112,18 +113,18 @@ logon_said x connection number heart (Some next) b sound room small low =
     let y : ExchangeParts = with_connection x connection number in
     let expected = passed_in_range x number small sound.expectable in
     let two = room_for_two x sound.config room in
-    one_written (next_message y (Logon heart false (Some y.expected))) (next_said y (Logon heart false (Some y.expected)) sound.config (omega (arith, two)) (low, expected))
+    one_written (next_message y (Session (Logon heart false (Some y.expected)))) (next_said y (Session (Logon heart false (Some y.expected))) sound.config (omega (arith, two)) (low, expected))
 logon_said x connection number heart None true sound room small low =
     let y : ExchangeParts = with_connection x connection number in
     let two = room_for_two x sound.config room in
-    one_written (next_message y (Logon heart false None)) (next_said y (Logon heart false None) sound.config (omega (arith, two)) (low, tt))
+    one_written (next_message y (Session (Logon heart false None))) (next_said y (Session (Logon heart false None)) sound.config (omega (arith, two)) (low, tt))
 logon_said x connection number heart None false sound room small low =
     let y : ExchangeParts = with_connection x connection number in
     let expected = passed_in_range x number small sound.expectable in
     let two = room_for_two x sound.config room in
     let second : Outgoing = alone (message_of y.config (suc (next_own_number y.own)) false (request y)) in
-    All-cons IsWritable (next_message y (Logon heart false None)) (second ∷ [])
-    (next_said y (Logon heart false None) sound.config (omega (arith, two)) (low, tt))
+    All-cons IsWritable (next_message y (Session (Logon heart false None))) (second ∷ [])
+    (next_said y (Session (Logon heart false None)) sound.config (omega (arith, two)) (low, tt))
     (one_written second (said y.config (suc (next_own_number y.own)) false (request y) sound.config (omega arith) two (expected.1, omega arith)))
 
 due_said : (x : ExchangeParts) (content : Content) → IsSound x → HasNumber x → IsReadContent content → AreWritable (due_taken x content).0
@@ -133,17 +134,17 @@ due_said x (Order (Ok leg)) sound number read =
     one_written (next_execution_report x place order New)
     (report_said x.config (next_own_number x.own) false (next_report x order New) (view_of place order) sound.config (omega arith) number
     (new_reported x leg (parts_of x sound) number read))
-due_said x (Order (Err fault)) sound number read = one_written (next_message x (Reject x.expected)) (next_said x (Reject x.expected) sound.config number sound.expectable.to)
-due_said x (GapFill new_number) sound number read = All-nil IsWritable
-due_said x Logout sound number read = one_written (next_message x Logout) (next_said x Logout sound.config number tt)
-due_said x (TestRequest id) sound number read = one_written (next_message x (Heartbeat (Some id))) (next_said x (Heartbeat (Some id)) sound.config number read)
+due_said x (Order (Err fault)) sound number read = one_written (next_message x (Session (Reject x.expected))) (next_said x (Session (Reject x.expected)) sound.config number sound.expectable.to)
+due_said x (Session (GapFill new_number)) sound number read = All-nil IsWritable
+due_said x (Session Logout) sound number read = one_written (next_message x (Session Logout)) (next_said x (Session Logout) sound.config number tt)
+due_said x (Session (TestRequest id)) sound number read = one_written (next_message x (Session (Heartbeat (Some id)))) (next_said x (Session (Heartbeat (Some id))) sound.config number read)
 due_said x content sound number read = All-nil IsWritable
 
 asks_said : (x : ExchangeParts) (live : LiveConnection) → IsSound x → HasNumber x → AreWritable (asks x live).0
 asks_said x live sound number = one_written (next_message x (request x)) (next_said x (request x) sound.config number (sound.expectable.to, omega arith))
 
 resends_said : (x : ExchangeParts) (content : Content) → IsSound x → AreWritable (resends x content)
-resends_said x (ResendRequest begin last) sound = answer_said x.config sound.config x.own begin last sound.numbered sound.own
+resends_said x (Session (ResendRequest begin last)) sound = answer_said x.config sound.config x.own begin last sound.numbered sound.own
 resends_said x content sound = All-nil IsWritable
 
 received_said : (x : ExchangeParts) (live : LiveConnection) (number : ℕ) (content : Content) → IsSound x → HasNumber x → IsReadContent content → AreWritable (received x live number content).0
@@ -188,7 +189,7 @@ bust_said x place which sound = written_by x (bust_answer x place which) (bust_r
 pub tested_said : (x : ExchangeParts) → IsSound x → has_numbers 1 x.config x.own ≡ true → AreWritable (tested x).0
 tested_said x sound left =
     let number : HasNumber x = room_for_one x sound.config left in
-    let content : Content = TestRequest (test_id (next_own_number x.own)) in
+    let content : Content = Session (TestRequest (test_id (next_own_number x.own))) in
     one_written (next_message x content) (next_said x content sound.config number (test_id_is (next_own_number x.own) (omega (arith, number))))
 
 pub test_said : (x : ExchangeParts) → IsSound x → IfOk (test x).0 AreWritable

@@ -7,7 +7,8 @@ use Rattle.leg.specs.LegId.{LegIdParts}
 use Rattle.leg.specs.Numbered.{numbered}
 use Rattle.dialect.specs.declared.fault.DialectFault.{DialectFault}
 use Rattle.dialect.specs.declared.content.Content.{Content}
-use Rattle.dialect.specs.declared.content.Content.TheVariants.{Logon, Heartbeat, TestRequest, ResendRequest, Reject, GapFill, Reset, Logout, BusinessReject, Order, ExecutionReport}
+use Rattle.dialect.specs.declared.content.Content.TheVariants.{Session, Order, ExecutionReport}
+use Rattle.fix_tags.specs.declared.session_body.SessionBody.TheVariants.{Logon, Heartbeat, TestRequest, ResendRequest, Reject, GapFill, Reset, Logout, BusinessReject}
 
 -- a message in its connection, delivered or written
 pub record Carried : Type 0 where
@@ -65,7 +66,7 @@ pub record IsNewLogon (s : Intake) (m : Carried) : Type 0 where
   pub heart : ℕ
   pub reset : Bool
   pub next : Option ℕ
-  pub says : m.content ≡ Logon heart reset next
+  pub says : m.content ≡ Session (Logon heart reset next)
   pub newer : s.last < m.connection
   pub number : s.expected ≤ m.number
 
@@ -77,8 +78,8 @@ pub record IsDue (s : Intake) (m : Carried) : Type 0 where
 -- a message that is no order of a leg, no gap fill and no Logout
 abbrev pub IsOther : Content → Type 0
 IsOther (Order (Ok leg)) = ⊥
-IsOther (GapFill new_number) = ⊥
-IsOther Logout = ⊥
+IsOther (Session (GapFill new_number)) = ⊥
+IsOther (Session Logout) = ⊥
 IsOther content = Unit {0}
 
 -- the expected number, passed where it is this one
@@ -96,11 +97,11 @@ pub data Takes (s : Intake) (m : Carried) (t : Intake) : Type 0 where
       → t ≡ record s { expected = suc s.expected; accepted = s.accepted ++ leg ∷ [] }
       → Takes s m t
   -- a gap fill in its turn moves the expected number forward, and never back
-  fill : IsDue s m → (new_number : ℕ) → m.content ≡ GapFill new_number
+  fill : IsDue s m → (new_number : ℕ) → m.content ≡ Session (GapFill new_number)
       → t ≡ record s { expected = max s.expected new_number }
       → Takes s m t
   -- a Logout in its turn ends the connection, and marks how many orders were accepted
-  logout : IsDue s m → m.content ≡ Logout
+  logout : IsDue s m → m.content ≡ (Session Logout)
       → t ≡ record s { expected = suc s.expected; live = None; closed_at = Some (length s.accepted) }
       → Takes s m t
   -- any other message in its turn is passed
@@ -128,7 +129,7 @@ pub record Took (s t : Intake) (coming : Option Carried) (content : Content) : T
 
 -- a TestRequest of this id was taken, now or before, so it may be answered; one above the expected number never is
 abbrev pub MayAnswer : RuleState → Option Carried → RuleState → List ℕ → Type 0
-MayAnswer s coming t id = Contains s.tests id ⊎ Took s.intake t.intake coming (TestRequest id)
+MayAnswer s coming t id = Contains s.tests id ⊎ Took s.intake t.intake coming (Session (TestRequest id))
 
 -- an order of this number was taken, now or before, whether it could be read or not, so it may be refused
 abbrev pub MayRefuse : RuleState → Option Carried → RuleState → ℕ → Type 0
@@ -139,8 +140,8 @@ MayRefuse s coming t number =
 -- a message that is no order, and no sequence reset, which may stand where an order was
 abbrev pub IsNoOrder : Content → Type 0
 IsNoOrder (Order read) = ⊥
-IsNoOrder (GapFill new_number) = ⊥
-IsNoOrder (Reset new_number) = ⊥
+IsNoOrder (Session (GapFill new_number)) = ⊥
+IsNoOrder (Session (Reset new_number)) = ⊥
 IsNoOrder content = Unit {0}
 
 -- such a message comes under this number
@@ -166,8 +167,8 @@ pub record HasAccepted (accepted : List Leg) (id : LegIdParts) : Type 0 where
 -- an order by its number
 abbrev pub MayCarry : RuleState → Option Carried → RuleState → Content → Type 0
 MayCarry s coming t (ExecutionReport (Ok report)) = HasAccepted t.intake.accepted report.id
-MayCarry s coming t (Reject number) = MayRefuse s coming t number
-MayCarry s coming t (BusinessReject (Some number)) = MayRefuse s coming t number
+MayCarry s coming t (Session (Reject number)) = MayRefuse s coming t number
+MayCarry s coming t (Session (BusinessReject (Some number))) = MayRefuse s coming t number
 MayCarry s coming t content = ⊥
 
 -- what a new own number may be used for: one of these, or any other message
@@ -194,18 +195,18 @@ TellsExpected expected (Some next) = next ≡ expected
 -- what may be said under a number that carries no report and no refusal of an order
 abbrev pub MaySay : RuleState → Option Carried → RuleState → ℕ → Content → Type 0
 -- a Logon may say which number is expected next (789), as it is after what came was taken
-MaySay s coming t number (Logon heart reset next) = TellsExpected t.intake.expected next
+MaySay s coming t number (Session (Logon heart reset next)) = TellsExpected t.intake.expected next
 -- a request for what is missing begins with the expected number
-MaySay s coming t number (ResendRequest begin last) = begin ≡ t.intake.expected
+MaySay s coming t number (Session (ResendRequest begin last)) = begin ≡ t.intake.expected
 -- a Heartbeat with an id answers a TestRequest that was taken
-MaySay s coming t number (Heartbeat (Some id)) = MayAnswer s coming t id
+MaySay s coming t number (Session (Heartbeat (Some id))) = MayAnswer s coming t id
 -- a Logout is written once a Logout was taken
-MaySay s coming t number Logout = (count : ℕ) × (t.intake.closed_at ≡ Some count)
+MaySay s coming t number (Session Logout) = (count : ℕ) × (t.intake.closed_at ≡ Some count)
 -- a gap fill stands for own numbers that carry nothing
-MaySay s coming t number (GapFill new_number) = IsGap t.own number new_number
+MaySay s coming t number (Session (GapFill new_number)) = IsGap t.own number new_number
 -- a refusal here is one of a message that is no order
-MaySay s coming t number (Reject refused) = MayRefuseOther s coming refused
-MaySay s coming t number (BusinessReject (Some refused)) = MayRefuseOther s coming refused
+MaySay s coming t number (Session (Reject refused)) = MayRefuseOther s coming refused
+MaySay s coming t number (Session (BusinessReject (Some refused))) = MayRefuseOther s coming refused
 -- a report has a number of its own
 MaySay s coming t number (ExecutionReport read) = ⊥
 -- everything else may be said at any time

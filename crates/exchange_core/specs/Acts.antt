@@ -5,7 +5,8 @@ use Rattle.fix_text.specs.Then.{◌>>=◌, unless}
 use Rattle.leg.specs.Numbered.{numbered, with_numbered}
 use Rattle.dialect.specs.declared.report.ReportKind.{ReportKind}
 use Rattle.dialect.specs.declared.report.ReportKind.TheVariants.{Trade, Canceled, Rejected, Bust}
-use Rattle.dialect.specs.declared.content.Content.TheVariants.{TestRequest}
+use Rattle.dialect.specs.declared.content.Content.TheVariants.{Session}
+use Rattle.fix_tags.specs.declared.session_body.SessionBody.TheVariants.{TestRequest}
 use Rattle.dialect.specs.declared.outgoing.Outgoing.{Outgoing}
 use Rattle.exchange_core.specs.declared.exchange_fault.ExchangeFault.{ExchangeFault}
 use Rattle.exchange_core.specs.declared.exchange_fault.ExchangeFault.TheVariants.{NoSuchOrder, TooManyShares, Done, NumbersSpent, NoSuchTrade, NotCancelled}
@@ -106,7 +107,7 @@ test_id number = codes "X" ++ decimal number
 -- a TestRequest is written under the next number
 abbrev pub tested : ExchangeParts → Answer
 tested x =
-    (next_message x (TestRequest (test_id (next_own_number x.own))) ∷ [], record x { own = x.own ++ Admin ∷ [] })
+    (next_message x (Session (TestRequest (test_id (next_own_number x.own)))) ∷ [], record x { own = x.own ++ Admin ∷ [] })
 
 -- the peer is asked for a sign of life, where a connection is live
 abbrev pub test_answer : ExchangeParts → Option LiveConnection → Result Answer ExchangeFault

@@ -8,7 +8,8 @@ use Rattle.dialect.specs.declared.report.ReportKind.{ReportKind}
 use Rattle.dialect.specs.declared.report.ReportKind.TheVariants.{New}
 use Rattle.dialect.specs.Addressed.{message_of, is_for}
 use Rattle.dialect.specs.declared.content.Content.{Content}
-use Rattle.dialect.specs.declared.content.Content.TheVariants.{Logon, Heartbeat, TestRequest, ResendRequest, Reject, GapFill, Logout, Order}
+use Rattle.dialect.specs.declared.content.Content.TheVariants.{Session, Order}
+use Rattle.fix_tags.specs.declared.session_body.SessionBody.TheVariants.{Logon, Heartbeat, TestRequest, ResendRequest, Reject, GapFill, Logout}
 use Rattle.dialect.specs.declared.message.Message.{Message}
 use Rattle.dialect.specs.declared.outgoing.Outgoing.{Outgoing}
 use Rattle.dialect.specs.Outgoing.{alone}
@@ -64,7 +65,7 @@ next_message x content = alone (message_of x.config (next_own_number x.own) fals
 
 -- the request for everything from the expected number on
 abbrev pub request : ExchangeParts → Content
-request x = ResendRequest x.expected 0
+request x = Session (ResendRequest x.expected 0)
 
 -- a Logon with the expected number is passed, one above it is not
 abbrev pub passed_by : ExchangeParts → ℕ → ℕ
@@ -82,12 +83,12 @@ having_asked connection number = Some (record { connection = connection; asked =
 
 -- a Logon is answered by a Logon with the interval it asked for ("Logon": the interval is echoed)
 abbrev pub with_logon : ExchangeParts → ℕ → Option ℕ → Answer
-with_logon x heart next = (next_message x (Logon heart false next) ∷ [], record x { own = x.own ++ Admin ∷ [] })
+with_logon x heart next = (next_message x (Session (Logon heart false next)) ∷ [], record x { own = x.own ++ Admin ∷ [] })
 
 -- and then asks for what is missing, under the number after it
 abbrev pub with_logon_and_request : ExchangeParts → ℕ → ℕ → Answer
 with_logon_and_request x connection heart = (
-  next_message x (Logon heart false None)
+  next_message x (Session (Logon heart false None))
       ∷ alone (message_of x.config (suc (next_own_number x.own)) false (request x)) ∷ [],
   record x { own = x.own ++ Admin ∷ Admin ∷ []; live = having_asked connection x.expected },
 )
@@ -121,26 +122,26 @@ order_taken x leg =
 -- an order that can't be read is refused by its number
 abbrev pub order_refused : ExchangeParts → Answer
 order_refused x =
-    (next_message x (Reject x.expected) ∷ [], record (expecting_next x) { own = x.own ++ Refused x.expected ∷ [] })
+    (next_message x (Session (Reject x.expected)) ∷ [], record (expecting_next x) { own = x.own ++ Refused x.expected ∷ [] })
 
 -- a Logout is answered by a Logout, and ends the connection
 abbrev pub logout_taken : ExchangeParts → Answer
 logout_taken x = (
-  next_message x Logout ∷ [],
+  next_message x (Session Logout) ∷ [],
   record (expecting_next x) { live = None; closed_at = Some (length x.orders); own = x.own ++ Admin ∷ [] },
 )
 
 -- a TestRequest is answered by a Heartbeat with its id
 abbrev pub test_taken : ExchangeParts → List ℕ → Answer
-test_taken x id = (next_message x (Heartbeat (Some id)) ∷ [], record (expecting_next x) { own = x.own ++ Admin ∷ [] })
+test_taken x id = (next_message x (Session (Heartbeat (Some id))) ∷ [], record (expecting_next x) { own = x.own ++ Admin ∷ [] })
 
 -- the message of the expected number
 abbrev pub due_taken : ExchangeParts → Content → Answer
 due_taken x (Order (Ok leg)) = order_taken x leg
 due_taken x (Order (Err fault)) = order_refused x
-due_taken x (GapFill new_number) = ([], record x { expected = max x.expected new_number })
-due_taken x Logout = logout_taken x
-due_taken x (TestRequest id) = test_taken x id
+due_taken x (Session (GapFill new_number)) = ([], record x { expected = max x.expected new_number })
+due_taken x (Session Logout) = logout_taken x
+due_taken x (Session (TestRequest id)) = test_taken x id
 due_taken x content = ([], expecting_next x)
 
 -- whether the missing messages were asked for from a number on
@@ -165,7 +166,7 @@ by_number x live number content =
 
 -- what a request is answered with, whatever its own number is
 abbrev pub resends : ExchangeParts → Content → List Outgoing
-resends x (ResendRequest begin last) = resent_answer x.config x.own begin last
+resends x (Session (ResendRequest begin last)) = resent_answer x.config x.own begin last
 resends x content = []
 
 -- a message of the live connection: the answer to a request comes before anything else
@@ -181,7 +182,7 @@ heard x (Some live) connection number content =
 
 -- what comes: a Logon counts in a newer connection alone, everything else in the live one alone
 abbrev pub comes : ExchangeParts → ℕ → ℕ → Content → Answer
-comes x connection number (Logon heart reset next) =
+comes x connection number (Session (Logon heart reset next)) =
     if nat_lt x.last connection && nat_le x.expected number
     then logon_taken x connection number heart next
     else ([], x)

@@ -2,7 +2,8 @@
 use Rattle.std.specs.Prelude.{◌≡◌, suc, ◌∷◌, ◌⊎◌, ℕ, ◌≤◌, List, [], ◌++◌, length, map, Option, Some, None, Ok, Err}
 use Rattle.leg.specs.Growing.{Grew}
 use Rattle.dialect.specs.declared.content.Content.{Content}
-use Rattle.dialect.specs.declared.content.Content.TheVariants.{Reject, GapFill, Logout, ExecutionReport}
+use Rattle.dialect.specs.declared.content.Content.TheVariants.{Session, ExecutionReport}
+use Rattle.fix_tags.specs.declared.session_body.SessionBody.TheVariants.{Reject, GapFill, Logout}
 use Rattle.dialect.specs.declared.message.Message.{Message}
 use Rattle.dialect.specs.declared.outgoing.Outgoing.{Outgoing}
 use Rattle.exchange_core.specs.Acceptance.{Carried, Intake, RuleState, LiveIsLast, May}
@@ -16,7 +17,7 @@ use Rattle.exchange_core.specs.Acts.{ActAnswer}
 abbrev pub kept : Own → Option Content
 kept Admin = None
 kept (Reported report view) = Some (ExecutionReport (Ok report))
-kept (Refused number) = Some (Reject number)
+kept (Refused number) = Some (Session (Reject number))
 
 -- what it has taken
 abbrev pub intake_of : ExchangeParts → Intake
@@ -64,7 +65,7 @@ OwnNumbersFit x = next_own_number x.own ≤ x.config.max_number
 
 -- the mark of the close is as it was, or was set by a Logout: the connection ended, and it is the count of the orders
 pub record IsClosedBy (content : Content) (y : ExchangeParts) : Type 0 where
-  pub logout : content ≡ Logout
+  pub logout : content ≡ (Session Logout)
   pub ended : y.live ≡ None
   pub mark : y.closed_at ≡ Some (length y.orders)
 
@@ -101,7 +102,7 @@ pub record IsExpectable (x : ExchangeParts) : Type 0 where
 
 -- the new number of a gap fill is in the range that is read
 abbrev pub IsFillInRange : Content → Type 0
-IsFillInRange (GapFill new_number) = new_number ≤ 999_999_999
+IsFillInRange (Session (GapFill new_number)) = new_number ≤ 999_999_999
 IsFillInRange content = Unit {0}
 
 -- the numbers of a message are in the ranges that are read

@@ -6,7 +6,8 @@ use Rattle.fix_tags.specs.Range.{range_end, is_range}
 use Rattle.dialect.specs.declared.report.Report.{Report}
 use Rattle.dialect.specs.Addressed.{message_of}
 use Rattle.dialect.specs.declared.content.Content.{Content}
-use Rattle.dialect.specs.declared.content.Content.TheVariants.{Reject, GapFill, ExecutionReport}
+use Rattle.dialect.specs.declared.content.Content.TheVariants.{Session, ExecutionReport}
+use Rattle.fix_tags.specs.declared.session_body.SessionBody.TheVariants.{Reject, GapFill}
 use Rattle.dialect.specs.OrderView.{OrderViewParts}
 use Rattle.dialect.specs.declared.outgoing.Outgoing.{Outgoing}
 use Rattle.dialect.specs.Outgoing.{alone}
@@ -47,7 +48,7 @@ again config number content = alone (message_of config number true content)
 -- a gap fill over the numbers from the first one that is open, if there is one, to the one before this
 abbrev pub closing_fill : ConfigParts → Option ℕ → ℕ → List Outgoing
 closing_fill config None number = []
-closing_fill config (Some first) number = again config first (GapFill number) ∷ []
+closing_fill config (Some first) number = again config first (Session (GapFill number)) ∷ []
 
 -- the first number of an open run of messages of the session, where this one carries on or begins it
 abbrev pub run_from : Option ℕ → ℕ → ℕ
@@ -63,7 +64,7 @@ resent config run number (Reported report view ∷ own) =
     closing_fill config run number
     ++ execution_report config number true report view ∷ resent config None (suc number) own
 resent config run number (Refused refused ∷ own) =
-    closing_fill config run number ++ again config number (Reject refused) ∷ resent config None (suc number) own
+    closing_fill config run number ++ again config number (Session (Reject refused)) ∷ resent config None (suc number) own
 
 -- what the request for a range is answered with
 abbrev pub resent_answer : ConfigParts → List Own → ℕ → ℕ → List Outgoing

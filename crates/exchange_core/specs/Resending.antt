@@ -1,7 +1,8 @@
 -- A resend request, answered number by number.
 use Rattle.std.specs.Prelude.{ℕ, true, List, [], ◌∷◌, ◌++◌, Option, Some, None}
 use Rattle.fix_tags.specs.Config.{ConfigParts}
-use Rattle.dialect.specs.declared.content.Content.TheVariants.{Reject}
+use Rattle.dialect.specs.declared.content.Content.TheVariants.{Session}
+use Rattle.fix_tags.specs.declared.session_body.SessionBody.TheVariants.{Reject}
 use Rattle.dialect.specs.declared.outgoing.Outgoing.{Outgoing}
 use Rattle.exchange_core.specs.declared.own.Own.{Own}
 use Rattle.exchange_core.specs.declared.own.Own.TheVariants.{Admin, Reported, Refused}
@@ -13,7 +14,7 @@ resent_one config run number Admin = []
 resent_one config run number (Reported report view) =
     closing_fill config run number ++ execution_report config number true report view ∷ []
 resent_one config run number (Refused refused) =
-    closing_fill config run number ++ again config number (Reject refused) ∷ []
+    closing_fill config run number ++ again config number (Session (Reject refused)) ∷ []
 
 -- the first number of the run that is open behind it, if one is
 abbrev pub run_after : Option ℕ → ℕ → Own → Option ℕ

@@ -5,7 +5,8 @@ use Rattle.leg.specs.declared.side.Side.TheVariants.{Buy}
 use Rattle.dialect.specs.declared.report.Report.{Report}
 use Rattle.dialect.specs.declared.report.ReportKind.{ReportKind}
 use Rattle.dialect.specs.declared.content.Content.{Content}
-use Rattle.dialect.specs.declared.content.Content.TheVariants.{Logon, TestRequest, Order, ExecutionReport}
+use Rattle.dialect.specs.declared.content.Content.TheVariants.{Session, Order, ExecutionReport}
+use Rattle.fix_tags.specs.declared.session_body.SessionBody.TheVariants.{Logon, TestRequest}
 use Rattle.dialect.specs.declared.message.Message.{Message}
 use Rattle.dialect.specs.OrderView.{OrderViewParts}
 use Rattle.dialect.specs.declared.outgoing.Outgoing.{Outgoing}
@@ -54,7 +55,7 @@ begun x = ([], x)
 
 -- the Logon of a session, with no reset and no number that it expects
 abbrev pub logon : Content
-logon = Logon 30 false None
+logon = Session (Logon 30 false None)
 
 -- the order of 100 BRK.B at 10.25, under number S1L1
 abbrev pub leg : Leg
@@ -86,7 +87,7 @@ reports_again number exec kind view =
 
 -- after a Logon in connection 1, and the fence under number 2
 abbrev pub fenced : Answer
-fenced = begun (exchange_to 999_999_999) then coming 1 1 logon then coming 1 2 (TestRequest (codes "F2"))
+fenced = begun (exchange_to 999_999_999) then coming 1 1 logon then coming 1 2 (Session (TestRequest (codes "F2")))
 
 -- and the order under number 3
 abbrev pub ordered : Answer

@@ -5,7 +5,8 @@ use Rattle.fix_tags.specs.Config.{IsConfig}
 use Rattle.leg.specs.Leg.{IsLeg}
 use Rattle.dialect.specs.FreeText.{IsFreeText}
 use Rattle.dialect.specs.declared.content.Content.{Content}
-use Rattle.dialect.specs.declared.content.Content.TheVariants.{Logon, TestRequest, Order}
+use Rattle.dialect.specs.declared.content.Content.TheVariants.{Session, Order}
+use Rattle.fix_tags.specs.declared.session_body.SessionBody.TheVariants.{Logon, TestRequest}
 use Rattle.dialect.specs.declared.message.Message.{Message}
 use Rattle.dialect.specs.Writable.{IsReference, IsReportBeside}
 use Rattle.exchange_core.specs.Order.{OrderParts, TradeParts}
@@ -17,8 +18,8 @@ use Rattle.exchange_core.specs.Shares.{SharesAddUp}
 
 -- what comes is in the ranges that are read: an interval (108), the id of a test (112), a leg
 abbrev pub IsReadContent : Content → Type 0
-IsReadContent (Logon heart reset next) = heart ≤ 999_999
-IsReadContent (TestRequest id) = IsFreeText 64 id
+IsReadContent (Session (Logon heart reset next)) = heart ≤ 999_999
+IsReadContent (Session (TestRequest id)) = IsFreeText 64 id
 IsReadContent (Order (Ok leg)) = IsLeg leg
 IsReadContent content = Unit {0}
 

@@ -3,7 +3,8 @@ use Rattle.std.specs.Prelude.{ℕ, suc, false, List, [], ◌∷◌, ◌++◌, Op
 use Rattle.dialect.specs.Addressed.{message_of}
 use Rattle.dialect.specs.Outgoing.{alone}
 use Rattle.dialect.specs.declared.content.Content.{Content}
-use Rattle.dialect.specs.declared.content.Content.TheVariants.{ResendRequest, Reject}
+use Rattle.dialect.specs.declared.content.Content.TheVariants.{Session}
+use Rattle.fix_tags.specs.declared.session_body.SessionBody.TheVariants.{ResendRequest, Reject}
 use Rattle.dialect.specs.declared.outgoing.Outgoing.{Outgoing}
 use Rattle.exchange_core.specs.declared.turn.Says.{Says}
 use Rattle.exchange_core.specs.declared.turn.Says.TheVariants as says
@@ -21,7 +22,7 @@ use Rattle.exchange_core.specs.Exchange.{ExchangeParts, Answer, next_message, or
 
 -- what an own number is used for, by what is said under it
 abbrev pub used_for : Content → Own
-used_for (Reject number) = Refused number
+used_for (Session (Reject number)) = Refused number
 used_for content = Admin
 
 -- what is written, under the next own numbers
@@ -30,7 +31,7 @@ turn_written x expected says.Nothing = []
 turn_written x expected (says.One content) = next_message x content ∷ []
 turn_written x expected (says.OneAndRequest content) =
     next_message x content
-    ∷ alone (message_of x.config (suc (next_own_number x.own)) false (ResendRequest expected 0))
+    ∷ alone (message_of x.config (suc (next_own_number x.own)) false (Session (ResendRequest expected 0)))
     ∷ []
 
 -- the own numbers afterwards

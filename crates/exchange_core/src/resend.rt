@@ -10,7 +10,7 @@ use crate::own::Own;
 use crate::to_peer::{report_to_peer, to_peer};
 use crate::write::write;
 use dialect::{Content, Dialect};
-use fix_tags::{Config, Stamp};
+use fix_tags::{Config, SessionBody, Stamp};
 use std::alloc::{AllocError, Global};
 
 /// Sends again what these own numbers were used for, of which the first is this one: each report and refusal under its
@@ -69,7 +69,7 @@ fn resend_one<D: Dialect>(
         }
         Own::Refused { number: refused } => {
             close_run(alloc, dialect, config, run, number, stamp, frames)?;
-            let content = Content::Reject { number: *refused };
+            let content = Content::Session(SessionBody::Reject { number: *refused });
             let outgoing = to_peer(config, number, true, content);
             write(alloc, dialect, stamp, &outgoing, frames)?;
             Ok(None)
@@ -95,7 +95,7 @@ fn close_run<D: Dialect>(
     match run {
         None => Ok(()),
         Some(first) => {
-            let content = Content::GapFill { new_number: number };
+            let content = Content::Session(SessionBody::GapFill { new_number: number });
             let outgoing = to_peer(config, first, true, content);
             write(alloc, dialect, stamp, &outgoing, frames)
         }

@@ -1,7 +1,8 @@
 //! Worked rows: each is the contract of a function that does nothing, and is proved by computing it.
 
 ghost use Rattle.std.specs.Prelude.{◌≡◌, false, [], ◌∷◌, ◌++◌, codes, Some, None, Ok, Err, map, length};
-ghost use Rattle.dialect.specs.declared.content.Content.TheVariants.{Logon, Heartbeat, TestRequest, ResendRequest, Reject, GapFill, Logout, Order};
+ghost use Rattle.dialect.specs.declared.content.Content.TheVariants.{Session, Order};
+ghost use Rattle.fix_tags.specs.declared.session_body.SessionBody.TheVariants.{Logon, Heartbeat, TestRequest, ResendRequest, Reject, GapFill, Logout};
 ghost use Rattle.dialect.specs.declared.fault.DialectFault.TheVariants.{NotMarked};
 ghost use Rattle.dialect.specs.declared.report.ReportKind.TheVariants.{New, Trade, Canceled, Rejected, Bust};
 ghost use Rattle.exchange_core.specs.declared.exchange_fault.ExchangeFault.TheVariants.{NoSuchOrder, TooManyShares, Done, NumbersSpent, NoSuchTrade, NotCancelled};
@@ -20,7 +21,7 @@ pub fn ids_are_spelled()
 
 /// A Logon is answered by a Logon, and the fence by a Heartbeat with its id.
 pub fn a_fence_is_answered()
-    ensures { fenced.0 ≡ to_peer 1 logon ∷ to_peer 2 (Heartbeat (Some (codes "F2"))) ∷ [] }
+    ensures { fenced.0 ≡ to_peer 1 logon ∷ to_peer 2 (Session (Heartbeat (Some (codes "F2")))) ∷ [] }
 {}
 
 /// An order is accepted, and reported as new under the next number.
@@ -83,34 +84,34 @@ pub fn numbers_are_spent()
     ensures test { (acts.test (limited then tests 13).1).0 ≡ Err NumbersSpent }
     ensures trade { (acts.trade (limited then tests 13).1 1 1 (codes "10.25")).0 ≡ Err NumbersSpent }
     ensures one_is_left { length (limited then tests 12 then tests 1).0 ≡ 15 }
-    ensures nothing_is_taken { (coming 1 3 Logout (limited then tests 12).1).1.expected ≡ 3 }
-    ensures nothing_is_written { (coming 1 3 Logout (limited then tests 12).1).0 ≡ [] }
+    ensures nothing_is_taken { (coming 1 3 (Session Logout) (limited then tests 12).1).1.expected ≡ 3 }
+    ensures nothing_is_written { (coming 1 3 (Session Logout) (limited then tests 12).1).0 ≡ [] }
     ensures not_live { (acts.test (drop_connection (limited then tests 13).1)).0 ≡ Ok [] }
 {}
 
 /// A newer Logon above the expected number is taken, and the missing messages are asked for.
 pub fn a_logon_ahead_asks()
     ensures written { (coming 2 4 logon fenced.1).0 ≡
-        to_peer 3 logon ∷ to_peer 4 (ResendRequest 3 0) ∷ [] }
+        to_peer 3 logon ∷ to_peer 4 (Session (ResendRequest 3 0)) ∷ [] }
     ensures counts { (coming 2 4 logon fenced.1).1.live ≡ Some (record { connection = 2; asked = Some 3 }) }
     ensures connection { live_connection (coming 2 4 logon fenced.1).1 ≡ Some 2 }
-    ensures once { (coming 2 5 (TestRequest (codes "F5")) (coming 2 4 logon fenced.1).1).0 ≡ [] }
+    ensures once { (coming 2 5 (Session (TestRequest (codes "F5"))) (coming 2 4 logon fenced.1).1).0 ≡ [] }
 {}
 
 /// One that says which number its sender expects next is told the expected number in place of that.
 pub fn a_logon_is_told()
-    ensures ahead { (coming 2 4 (Logon 30 false (Some 1)) fenced.1).0 ≡
-        to_peer 3 (Logon 30 false (Some 3)) ∷ [] }
-    ensures due { (coming 2 3 (Logon 30 false (Some 1)) fenced.1).0 ≡
-        to_peer 3 (Logon 30 false (Some 4)) ∷ [] }
-    ensures not_asked { (coming 2 4 (Logon 30 false (Some 1)) fenced.1).1.live ≡
+    ensures ahead { (coming 2 4 (Session (Logon 30 false (Some 1))) fenced.1).0 ≡
+        to_peer 3 (Session (Logon 30 false (Some 3))) ∷ [] }
+    ensures due { (coming 2 3 (Session (Logon 30 false (Some 1))) fenced.1).0 ≡
+        to_peer 3 (Session (Logon 30 false (Some 4))) ∷ [] }
+    ensures not_asked { (coming 2 4 (Session (Logon 30 false (Some 1))) fenced.1).1.live ≡
         Some (record { connection = 2; asked = None }) }
 {}
 
 /// A number above the expected one asks for what is missing, once in a connection.
 pub fn a_gap_is_asked_for_once()
     ensures written { (fenced then coming 1 5 (Order (Ok leg)) then coming 1 6 (Order (Ok leg))).0 ≡
-        fenced.0 ++ to_peer 3 (ResendRequest 3 0) ∷ [] }
+        fenced.0 ++ to_peer 3 (Session (ResendRequest 3 0)) ∷ [] }
     ensures nothing_taken { (coming 1 5 (Order (Ok leg)) fenced.1).1.orders ≡ [] }
 {}
 
@@ -121,7 +122,7 @@ pub fn a_repeat_is_not_accepted()
 
 /// An order that can't be read is refused by its number, and passed.
 pub fn an_unread_order_is_refused()
-    ensures written { (coming 1 3 (Order (Err NotMarked)) fenced.1).0 ≡ to_peer 3 (Reject 3) ∷ [] }
+    ensures written { (coming 1 3 (Order (Err NotMarked)) fenced.1).0 ≡ to_peer 3 (Session (Reject 3)) ∷ [] }
     ensures passed { (coming 1 3 (Order (Err NotMarked)) fenced.1).1.expected ≡ 4 }
     ensures not_accepted { (coming 1 3 (Order (Err NotMarked)) fenced.1).1.orders ≡ [] }
 {}
@@ -137,35 +138,35 @@ pub fn an_older_connection_is_not_heard()
 
 /// A gap fill moves the expected number forward, and never back.
 pub fn a_fill_moves_forward()
-    ensures forward { (coming 1 3 (GapFill 7) fenced.1).1 ≡ record fenced.1 { expected = 7 } }
-    ensures never_back { coming 1 3 (GapFill 2) fenced.1 ≡ ([], fenced.1) }
+    ensures forward { (coming 1 3 (Session (GapFill 7)) fenced.1).1 ≡ record fenced.1 { expected = 7 } }
+    ensures never_back { coming 1 3 (Session (GapFill 2)) fenced.1 ≡ ([], fenced.1) }
 {}
 
 /// A Logout is answered, ends the connection, and marks how many orders were accepted.
 pub fn a_logout_closes()
-    ensures written { (coming 1 4 Logout ordered.1).0 ≡ to_peer 4 Logout ∷ [] }
-    ensures mark { (coming 1 4 Logout ordered.1).1.closed_at ≡ Some 1 }
-    ensures live { (coming 1 4 Logout ordered.1).1.live ≡ None }
-    ensures nothing_more { coming 1 5 (Order (Ok leg)) (coming 1 4 Logout ordered.1).1 ≡
-        ([], (coming 1 4 Logout ordered.1).1) }
+    ensures written { (coming 1 4 (Session Logout) ordered.1).0 ≡ to_peer 4 (Session Logout) ∷ [] }
+    ensures mark { (coming 1 4 (Session Logout) ordered.1).1.closed_at ≡ Some 1 }
+    ensures live { (coming 1 4 (Session Logout) ordered.1).1.live ≡ None }
+    ensures nothing_more { coming 1 5 (Order (Ok leg)) (coming 1 4 (Session Logout) ordered.1).1 ≡
+        ([], (coming 1 4 (Session Logout) ordered.1).1) }
 {}
 
 /// What was sent is asked for again: reports again under their numbers, and each run of the rest by one gap fill.
 pub fn reports_are_sent_again()
-    ensures all { (coming 1 4 (ResendRequest 1 0) ordered.1).0 ≡
-        to_peer_again 1 (GapFill 3) ∷ reports_again 3 (exec_id 1) New (view 0 100) ∷ [] }
-    ensures taken { (coming 1 4 (ResendRequest 1 0) ordered.1).1.expected ≡ 5 }
-    ensures cut { (coming 1 4 (ResendRequest 2 2) ordered.1).0 ≡ to_peer_again 2 (GapFill 3) ∷ [] }
-    ensures to_the_last { (coming 1 4 (ResendRequest 3 99) ordered.1).0 ≡
+    ensures all { (coming 1 4 (Session (ResendRequest 1 0)) ordered.1).0 ≡
+        to_peer_again 1 (Session (GapFill 3)) ∷ reports_again 3 (exec_id 1) New (view 0 100) ∷ [] }
+    ensures taken { (coming 1 4 (Session (ResendRequest 1 0)) ordered.1).1.expected ≡ 5 }
+    ensures cut { (coming 1 4 (Session (ResendRequest 2 2)) ordered.1).0 ≡ to_peer_again 2 (Session (GapFill 3)) ∷ [] }
+    ensures to_the_last { (coming 1 4 (Session (ResendRequest 3 99)) ordered.1).0 ≡
         reports_again 3 (exec_id 1) New (view 0 100) ∷ [] }
-    ensures ahead { (coming 1 6 (ResendRequest 3 0) ordered.1).0 ≡
-        reports_again 3 (exec_id 1) New (view 0 100) ∷ to_peer 4 (ResendRequest 4 0) ∷ [] }
-    ensures not_sent { (coming 1 4 (ResendRequest 4 0) ordered.1).0 ≡ [] }
+    ensures ahead { (coming 1 6 (Session (ResendRequest 3 0)) ordered.1).0 ≡
+        reports_again 3 (exec_id 1) New (view 0 100) ∷ to_peer 4 (Session (ResendRequest 4 0)) ∷ [] }
+    ensures not_sent { (coming 1 4 (Session (ResendRequest 4 0)) ordered.1).0 ≡ [] }
 {}
 
 /// A report that is sent again carries the order as it was when it was made.
 pub fn a_report_is_as_it_was()
-    ensures written { (coming 1 4 (ResendRequest 3 0) half_traded.1).0 ≡
+    ensures written { (coming 1 4 (Session (ResendRequest 3 0)) half_traded.1).0 ≡
         reports_again 3 (exec_id 1) New (view 0 100)
         ∷ reports_again 4 (exec_id 2) (Trade (record { shares = 60; px = codes "10.25" })) (view 60 40) ∷ [] }
 {}
@@ -173,7 +174,7 @@ pub fn a_report_is_as_it_was()
 /// While no connection is live a report is kept and not written; it is sent again when it is asked for.
 pub fn a_report_is_kept()
     ensures not_written { (trade 60 (drop_connection ordered.1)).0 ≡ [] }
-    ensures sent_later { (coming 2 5 (ResendRequest 4 0) (coming 2 4 logon (trade 60 (drop_connection ordered.1)).1).1).0 ≡
+    ensures sent_later { (coming 2 5 (Session (ResendRequest 4 0)) (coming 2 4 logon (trade 60 (drop_connection ordered.1)).1).1).0 ≡
         reports_again 4 (exec_id 2) (Trade (record { shares = 60; px = codes "10.25" })) (view 60 40)
-        ∷ to_peer_again 5 (GapFill 6) ∷ [] }
+        ∷ to_peer_again 5 (Session (GapFill 6)) ∷ [] }
 {}

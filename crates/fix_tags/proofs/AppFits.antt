@@ -11,7 +11,7 @@ use Rattle.fix_tags.specs.CompId.{IsCompId}
 use Rattle.fix_tags.specs.Message.{field, number_field, header_fields, body_fields, envelope_fields, kind_of, is_app_kind, is_message_number, app_fault, unless_ok, ◌or_then◌, kind_fault, body_fault, field_fault, envelope_refusal}
 use Rattle.fix_tags.specs.Stamp.{StampParts, stamp_text}
 use Rattle.fix_tags.proofs.Written.{length-comp_id, length-decimal, length-stamp_text}
-use Rattle.fix_tags.specs.declared.body.Body.{Body}
+use Rattle.fix_tags.specs.Body.{Body}
 use Rattle.fix_tags.specs.declared.body.Body.TheVariants.{App}
 use Rattle.fix_tags.specs.declared.envelope.Envelope.{Envelope}
 use Rattle.fix_tags.proofs.Apps.{app_kind_parts}

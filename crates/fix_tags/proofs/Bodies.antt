@@ -11,7 +11,8 @@ use Rattle.fix_tags.specs.Flag.{flag_of}
 use Rattle.fix_tags.proofs.ReadBack.{number_of-decimal}
 use Rattle.fix_tags.specs.Reading.{required, flag_at, short_text, some_text, number_if, body_read}
 use Rattle.fix_tags.specs.Message.{is_reference, is_heart, is_next_number, is_message_number, is_test_id, unless_ok, ◌or_then◌, header_fields, body_fields, body_fault, app_fault, field, number_field, option_field, flag_field}
-use Rattle.fix_tags.specs.declared.body.Body.TheVariants.{Logon, Heartbeat, TestRequest, ResendRequest, Reject, GapFill, Reset, Logout, BusinessReject}
+use Rattle.fix_tags.specs.declared.body.Body.TheVariants.{Session}
+use Rattle.fix_tags.specs.declared.session_body.SessionBody.TheVariants.{Logon, Heartbeat, TestRequest, ResendRequest, Reject, GapFill, Reset, Logout, BusinessReject}
 use Rattle.fix_tags.specs.declared.envelope.Envelope.{Envelope}
 use Rattle.fix_tags.specs.declared.write_fault.WriteFault.{WriteFault}
 use Rattle.fix_tags.specs.declared.write_fault.WriteFault.TheVariants.{BadValue}
@@ -94,53 +95,53 @@ module _ (e : Envelope) (time : List ℕ) where
   behind : (fields : List Tagged) (tag : ℕ) → IsOutside tag → value_of (header_fields e time ++ fields) tag ≡ value_of fields tag
   behind = value_of-header e time
 
-  pub resend_request_back : (begin last : ℕ) → body_fault (ResendRequest begin last) ≡ None
-      → body_read (codes "2") (header_fields e time ++ body_fields (ResendRequest begin last)) ≡ Ok (ResendRequest begin last)
+  pub resend_request_back : (begin last : ℕ) → body_fault (Session (ResendRequest begin last)) ≡ None
+      → body_read (codes "2") (header_fields e time ++ body_fields (Session (ResendRequest begin last))) ≡ Ok (Session (ResendRequest begin last))
   resend_request_back begin last none =
-      let all : List Tagged = header_fields e time ++ body_fields (ResendRequest begin last) in
-      let at7 = behind (body_fields (ResendRequest begin last)) 7 (record { kind = refl; sender = refl; target = refl; number = refl; dup = refl; resend = refl; time = refl; original = refl }) in
-      let at16 = behind (body_fields (ResendRequest begin last)) 16 (record { kind = refl; sender = refl; target = refl; number = refl; dup = refl; resend = refl; time = refl; original = refl }) in
+      let all : List Tagged = header_fields e time ++ body_fields (Session (ResendRequest begin last)) in
+      let at7 = behind (body_fields (Session (ResendRequest begin last))) 7 (record { kind = refl; sender = refl; target = refl; number = refl; dup = refl; resend = refl; time = refl; original = refl }) in
+      let at16 = behind (body_fields (Session (ResendRequest begin last))) 16 (record { kind = refl; sender = refl; target = refl; number = refl; dup = refl; resend = refl; time = refl; original = refl }) in
       let first = reference_reads begin 7 (or_then-first (unless_ok (is_reference begin) 7) (unless_ok (is_reference last) 16) none) in
       let second = reference_reads last 16 (or_then-second (unless_ok (is_reference begin) 7) (unless_ok (is_reference last) 16) none) in
       rw (required-found all 7 (number_if is_reference) (decimal begin) begin at7 first, required-found all 16 (number_if is_reference) (decimal last) last at16 second) refl
 
-  pub reject_back : (number : ℕ) → body_fault (Reject number) ≡ None → body_read (codes "3") (header_fields e time ++ body_fields (Reject number)) ≡ Ok (Reject number)
+  pub reject_back : (number : ℕ) → body_fault (Session (Reject number)) ≡ None → body_read (codes "3") (header_fields e time ++ body_fields (Session (Reject number))) ≡ Ok (Session (Reject number))
   reject_back number none =
-      let all : List Tagged = header_fields e time ++ body_fields (Reject number) in
-      rw (required-found all 45 (number_if is_reference) (decimal number) number (behind (body_fields (Reject number)) 45 (record { kind = refl; sender = refl; target = refl; number = refl; dup = refl; resend = refl; time = refl; original = refl })) (reference_reads number 45 none)) refl
+      let all : List Tagged = header_fields e time ++ body_fields (Session (Reject number)) in
+      rw (required-found all 45 (number_if is_reference) (decimal number) number (behind (body_fields (Session (Reject number))) 45 (record { kind = refl; sender = refl; target = refl; number = refl; dup = refl; resend = refl; time = refl; original = refl })) (reference_reads number 45 none)) refl
 
-  pub gap_fill_back : (number : ℕ) → body_fault (GapFill number) ≡ None → body_read (codes "4") (header_fields e time ++ body_fields (GapFill number)) ≡ Ok (GapFill number)
+  pub gap_fill_back : (number : ℕ) → body_fault (Session (GapFill number)) ≡ None → body_read (codes "4") (header_fields e time ++ body_fields (Session (GapFill number))) ≡ Ok (Session (GapFill number))
   unfolding flag_of
   gap_fill_back number none =
-      let all : List Tagged = header_fields e time ++ body_fields (GapFill number) in
-      let at123 = behind (body_fields (GapFill number)) 123 (record { kind = refl; sender = refl; target = refl; number = refl; dup = refl; resend = refl; time = refl; original = refl }) in
+      let all : List Tagged = header_fields e time ++ body_fields (Session (GapFill number)) in
+      let at123 = behind (body_fields (Session (GapFill number))) 123 (record { kind = refl; sender = refl; target = refl; number = refl; dup = refl; resend = refl; time = refl; original = refl }) in
       let set : flag_at all 123 ≡ Ok true = rw at123 refl in
-      rw (set, required-found all 36 (number_if is_reference) (decimal number) number (behind (body_fields (GapFill number)) 36 (record { kind = refl; sender = refl; target = refl; number = refl; dup = refl; resend = refl; time = refl; original = refl })) (reference_reads number 36 none)) refl
+      rw (set, required-found all 36 (number_if is_reference) (decimal number) number (behind (body_fields (Session (GapFill number))) 36 (record { kind = refl; sender = refl; target = refl; number = refl; dup = refl; resend = refl; time = refl; original = refl })) (reference_reads number 36 none)) refl
 
-  pub reset_back : (number : ℕ) → body_fault (Reset number) ≡ None → body_read (codes "4") (header_fields e time ++ body_fields (Reset number)) ≡ Ok (Reset number)
+  pub reset_back : (number : ℕ) → body_fault (Session (Reset number)) ≡ None → body_read (codes "4") (header_fields e time ++ body_fields (Session (Reset number))) ≡ Ok (Session (Reset number))
   unfolding flag_of
   reset_back number none =
-      let all : List Tagged = header_fields e time ++ body_fields (Reset number) in
-      let at123 = behind (body_fields (Reset number)) 123 (record { kind = refl; sender = refl; target = refl; number = refl; dup = refl; resend = refl; time = refl; original = refl }) in
+      let all : List Tagged = header_fields e time ++ body_fields (Session (Reset number)) in
+      let at123 = behind (body_fields (Session (Reset number))) 123 (record { kind = refl; sender = refl; target = refl; number = refl; dup = refl; resend = refl; time = refl; original = refl }) in
       let unset : flag_at all 123 ≡ Ok false = rw at123 refl in
-      rw (unset, required-found all 36 (number_if is_reference) (decimal number) number (behind (body_fields (Reset number)) 36 (record { kind = refl; sender = refl; target = refl; number = refl; dup = refl; resend = refl; time = refl; original = refl })) (reference_reads number 36 none)) refl
+      rw (unset, required-found all 36 (number_if is_reference) (decimal number) number (behind (body_fields (Session (Reset number))) 36 (record { kind = refl; sender = refl; target = refl; number = refl; dup = refl; resend = refl; time = refl; original = refl })) (reference_reads number 36 none)) refl
 
-  pub business_reject_back : (number : Option ℕ) → body_fault (BusinessReject number) ≡ None → body_read (codes "j") (header_fields e time ++ body_fields (BusinessReject number)) ≡ Ok (BusinessReject number)
-  business_reject_back None none = rw (behind (body_fields (BusinessReject None)) 45 (record { kind = refl; sender = refl; target = refl; number = refl; dup = refl; resend = refl; time = refl; original = refl })) refl
-  business_reject_back (Some n) none = rw (behind (body_fields (BusinessReject (Some n))) 45 (record { kind = refl; sender = refl; target = refl; number = refl; dup = refl; resend = refl; time = refl; original = refl }), reference_reads n 45 none) refl
+  pub business_reject_back : (number : Option ℕ) → body_fault (Session (BusinessReject number)) ≡ None → body_read (codes "j") (header_fields e time ++ body_fields (Session (BusinessReject number))) ≡ Ok (Session (BusinessReject number))
+  business_reject_back None none = rw (behind (body_fields (Session (BusinessReject None))) 45 (record { kind = refl; sender = refl; target = refl; number = refl; dup = refl; resend = refl; time = refl; original = refl })) refl
+  business_reject_back (Some n) none = rw (behind (body_fields (Session (BusinessReject (Some n)))) 45 (record { kind = refl; sender = refl; target = refl; number = refl; dup = refl; resend = refl; time = refl; original = refl }), reference_reads n 45 none) refl
 
-  pub heartbeat_back : (id : Option (List ℕ)) → body_fault (Heartbeat id) ≡ None → body_read (codes "0") (header_fields e time ++ body_fields (Heartbeat id)) ≡ Ok (Heartbeat id)
+  pub heartbeat_back : (id : Option (List ℕ)) → body_fault (Session (Heartbeat id)) ≡ None → body_read (codes "0") (header_fields e time ++ body_fields (Session (Heartbeat id))) ≡ Ok (Session (Heartbeat id))
   heartbeat_back None none = rw (behind [] 112 (record { kind = refl; sender = refl; target = refl; number = refl; dup = refl; resend = refl; time = refl; original = refl })) refl
   heartbeat_back (Some id) none =
-      let found : value_of (header_fields e time ++ body_fields (Heartbeat (Some id))) 112 ≡ Some id = behind (body_fields (Heartbeat (Some id))) 112 (record { kind = refl; sender = refl; target = refl; number = refl; dup = refl; resend = refl; time = refl; original = refl }) in
+      let found : value_of (header_fields e time ++ body_fields (Session (Heartbeat (Some id)))) 112 ≡ Some id = behind (body_fields (Session (Heartbeat (Some id)))) 112 (record { kind = refl; sender = refl; target = refl; number = refl; dup = refl; resend = refl; time = refl; original = refl }) in
       let reads : some_text id ≡ Some (Some id) = ap (option_and_then (λ (v : List ℕ). Some (Some v))) (test_id_reads id 112 none) in
       rw (found, reads) refl
 
-  pub test_request_back : (id : List ℕ) → body_fault (TestRequest id) ≡ None → body_read (codes "1") (header_fields e time ++ body_fields (TestRequest id)) ≡ Ok (TestRequest id)
+  pub test_request_back : (id : List ℕ) → body_fault (Session (TestRequest id)) ≡ None → body_read (codes "1") (header_fields e time ++ body_fields (Session (TestRequest id))) ≡ Ok (Session (TestRequest id))
   test_request_back id none =
-      rw (required-found (header_fields e time ++ body_fields (TestRequest id)) 112 (short_text 64) id id (behind (body_fields (TestRequest id)) 112 (record { kind = refl; sender = refl; target = refl; number = refl; dup = refl; resend = refl; time = refl; original = refl })) (test_id_reads id 112 none)) refl
+      rw (required-found (header_fields e time ++ body_fields (Session (TestRequest id))) 112 (short_text 64) id id (behind (body_fields (Session (TestRequest id))) 112 (record { kind = refl; sender = refl; target = refl; number = refl; dup = refl; resend = refl; time = refl; original = refl })) (test_id_reads id 112 none)) refl
 
-  pub logout_back : body_read (codes "5") (header_fields e time ++ body_fields Logout) ≡ Ok Logout
+  pub logout_back : body_read (codes "5") (header_fields e time ++ body_fields (Session Logout)) ≡ Ok (Session Logout)
   logout_back = refl
 
   -- the heartbeat interval of a written Logon reads back
@@ -151,22 +152,22 @@ module _ (e : Envelope) (time : List ℕ) where
       (behind (field 98 (codes "0") ∷ number_field 108 heart ∷ behind_it) 108 (record { kind = refl; sender = refl; target = refl; number = refl; dup = refl; resend = refl; time = refl; original = refl }))
       (number_if-decimal is_heart heart (heart_small heart is) is)
 
-  pub logon_back : (heart : ℕ) (reset : Bool) (next : Option ℕ) → body_fault (Logon heart reset next) ≡ None
-      → body_read (codes "A") (header_fields e time ++ body_fields (Logon heart reset next)) ≡ Ok (Logon heart reset next)
+  pub logon_back : (heart : ℕ) (reset : Bool) (next : Option ℕ) → body_fault (Session (Logon heart reset next)) ≡ None
+      → body_read (codes "A") (header_fields e time ++ body_fields (Session (Logon heart reset next))) ≡ Ok (Session (Logon heart reset next))
   unfolding flag_of
   logon_back heart true None none =
-      let fields : List Tagged = body_fields (Logon heart true None) in
+      let fields : List Tagged = body_fields (Session (Logon heart true None)) in
       rw (behind fields 98 (record { kind = refl; sender = refl; target = refl; number = refl; dup = refl; resend = refl; time = refl; original = refl }), heart_back heart (flag_field 141 true ++ []) (unless_ok-none (is_heart heart) 108 none), behind fields 141 (record { kind = refl; sender = refl; target = refl; number = refl; dup = refl; resend = refl; time = refl; original = refl }), behind fields 789 (record { kind = refl; sender = refl; target = refl; number = refl; dup = refl; resend = refl; time = refl; original = refl })) refl
   logon_back heart false None none =
-      let fields : List Tagged = body_fields (Logon heart false None) in
+      let fields : List Tagged = body_fields (Session (Logon heart false None)) in
       rw (behind fields 98 (record { kind = refl; sender = refl; target = refl; number = refl; dup = refl; resend = refl; time = refl; original = refl }), heart_back heart [] (unless_ok-none (is_heart heart) 108 none), behind fields 141 (record { kind = refl; sender = refl; target = refl; number = refl; dup = refl; resend = refl; time = refl; original = refl }), behind fields 789 (record { kind = refl; sender = refl; target = refl; number = refl; dup = refl; resend = refl; time = refl; original = refl })) refl
   logon_back heart true (Some next) none =
-      let fields : List Tagged = body_fields (Logon heart true (Some next)) in
+      let fields : List Tagged = body_fields (Session (Logon heart true (Some next))) in
       let heart_is = unless_ok-none (is_heart heart) 108 (or_then-first (unless_ok (is_heart heart) 108) (unless_ok (is_next_number next) 789) none) in
       let next_is = unless_ok-none (is_next_number next) 789 (or_then-second (unless_ok (is_heart heart) 108) (unless_ok (is_next_number next) 789) none) in
       rw (behind fields 98 (record { kind = refl; sender = refl; target = refl; number = refl; dup = refl; resend = refl; time = refl; original = refl }), heart_back heart (flag_field 141 true ++ option_field 789 (Some next)) heart_is, behind fields 141 (record { kind = refl; sender = refl; target = refl; number = refl; dup = refl; resend = refl; time = refl; original = refl }), behind fields 789 (record { kind = refl; sender = refl; target = refl; number = refl; dup = refl; resend = refl; time = refl; original = refl }), number_if-decimal is_next_number next (next_small next next_is) next_is) refl
   logon_back heart false (Some next) none =
-      let fields : List Tagged = body_fields (Logon heart false (Some next)) in
+      let fields : List Tagged = body_fields (Session (Logon heart false (Some next))) in
       let heart_is = unless_ok-none (is_heart heart) 108 (or_then-first (unless_ok (is_heart heart) 108) (unless_ok (is_next_number next) 789) none) in
       let next_is = unless_ok-none (is_next_number next) 789 (or_then-second (unless_ok (is_heart heart) 108) (unless_ok (is_next_number next) 789) none) in
       rw (behind fields 98 (record { kind = refl; sender = refl; target = refl; number = refl; dup = refl; resend = refl; time = refl; original = refl }), heart_back heart (option_field 789 (Some next)) heart_is, behind fields 141 (record { kind = refl; sender = refl; target = refl; number = refl; dup = refl; resend = refl; time = refl; original = refl }), behind fields 789 (record { kind = refl; sender = refl; target = refl; number = refl; dup = refl; resend = refl; time = refl; original = refl }), number_if-decimal is_next_number next (next_small next next_is) next_is) refl

@@ -11,8 +11,9 @@ use Rattle.fix_tags.specs.Message.{is_reference, is_heart, is_message_number, is
 use Rattle.fix_tags.specs.Readable.{IsShortText, IsReference, IsNextNumber, IsReadableBody, IsReadable}
 use Rattle.fix_tags.specs.Reading.{Gives, required, optional, flag_at, short_text, some_text, number_if, some_number, no_encryption, anything, logon_read, heartbeat_read, test_request_read, resend_request_read, reject_read, reset_or_fill, sequence_reset_read, business_reject_read, app_read, body_of_byte, body_read, envelope_read}
 use Rattle.fix_tags.specs.Says.{SaysNumber, SaysFlag, SaysBody, IsReadingOf}
-use Rattle.fix_tags.specs.declared.body.Body.{Body}
-use Rattle.fix_tags.specs.declared.body.Body.TheVariants.{Logon, Heartbeat, TestRequest, ResendRequest, Reject, Logout, BusinessReject, App}
+use Rattle.fix_tags.specs.Body.{Body}
+use Rattle.fix_tags.specs.declared.body.Body.TheVariants.{Session, App}
+use Rattle.fix_tags.specs.declared.session_body.SessionBody.TheVariants.{Logon, Heartbeat, TestRequest, ResendRequest, Reject, Logout, BusinessReject}
 use Rattle.fix_tags.specs.declared.envelope.Envelope.{Envelope}
 use Rattle.fix_tags.specs.declared.tag_fault.TagFault.{TagFault}
 use Rattle.fix_tags.proofs.Steps.{step, same_ok, required-Ok, comp_id_of-Some, IfAny, says_number, says_number_if_any, says_text, says_text_if_any, says_flag, says_no_encryption}
@@ -56,7 +57,7 @@ logon_is fields body e =
     step _ (optional fields 789 (some_number is_next_number) None) body e3 (λ next fourth e4.
     let seconds = says_number fields 108 is_heart heart second in
     let expected = says_number_if_any fields 789 is_next_number next fourth in
-    is_body (codes "A") fields (Logon heart reset next) body (record {
+    is_body (codes "A") fields (Session (Logon heart reset next)) body (record {
       kind = refl;
       says = record {
         encryption = says_no_encryption fields encryption first;
@@ -71,14 +72,14 @@ heartbeat_is : (fields : List Tagged) (body : Body) → heartbeat_read fields �
 heartbeat_is fields body e =
     step _ (optional fields 112 some_text None) body e (λ id first e1.
     let found = says_text_if_any fields 112 id first in
-    is_body (codes "0") fields (Heartbeat id) body (record { kind = refl; says = found.0; range = found.1 }) e1)
+    is_body (codes "0") fields (Session (Heartbeat id)) body (record { kind = refl; says = found.0; range = found.1 }) e1)
 
 test_request_is : (fields : List Tagged) (body : Body) → test_request_read fields ≡ Ok body
     → IsBody (codes "1") fields body
 test_request_is fields body e =
     step _ (required fields 112 (short_text 64)) body e (λ id first e1.
     let found = says_text fields 112 64 id first in
-    is_body (codes "1") fields (TestRequest id) body (record { kind = refl; says = found.0; range = found.1 }) e1)
+    is_body (codes "1") fields (Session (TestRequest id)) body (record { kind = refl; says = found.0; range = found.1 }) e1)
 
 resend_request_is : (fields : List Tagged) (body : Body) → resend_request_read fields ≡ Ok body
     → IsBody (codes "2") fields body
@@ -87,7 +88,7 @@ resend_request_is fields body e =
     step _ (required fields 16 (number_if is_reference)) body e1 (λ last second e2.
     let from = says_number fields 7 is_reference begin first in
     let upto = says_number fields 16 is_reference last second in
-    is_body (codes "2") fields (ResendRequest begin last) body (record {
+    is_body (codes "2") fields (Session (ResendRequest begin last)) body (record {
       kind = refl;
       says = (from.0, upto.0);
       range = (reference_from begin from.1, reference_from last upto.1);
@@ -97,7 +98,7 @@ reject_is : (fields : List Tagged) (body : Body) → reject_read fields ≡ Ok b
 reject_is fields body e =
     step _ (required fields 45 (number_if is_reference)) body e (λ number first e1.
     let found = says_number fields 45 is_reference number first in
-    is_body (codes "3") fields (Reject number) body
+    is_body (codes "3") fields (Session (Reject number)) body
     (record { kind = refl; says = found.0; range = reference_from number found.1 }) e1)
 
 reset_or_fill_is : (fields : List Tagged) (fills : Bool) (number : ℕ) → SaysFlag fields 123 fills
@@ -119,11 +120,11 @@ business_reject_is : (fields : List Tagged) (body : Body) → business_reject_re
 business_reject_is fields body e =
     step _ (optional fields 45 (some_number is_reference) None) body e (λ number first e1.
     let found = says_number_if_any fields 45 is_reference number first in
-    is_body (codes "j") fields (BusinessReject number) body
+    is_body (codes "j") fields (Session (BusinessReject number)) body
     (record { kind = refl; says = found.0; range = reference_if_any number found.1 }) e1)
 
-logout_is : (fields : List Tagged) (body : Body) → ◌≡◌ {A = Result Body TagFault} (Ok Logout) (Ok body) → IsBody (codes "5") fields body
-logout_is fields body e = is_body (codes "5") fields Logout body (record { kind = refl; says = tt; range = tt }) e
+logout_is : (fields : List Tagged) (body : Body) → ◌≡◌ {A = Result Body TagFault} (Ok (Session Logout)) (Ok body) → IsBody (codes "5") fields body
+logout_is fields body e = is_body (codes "5") fields (Session Logout) body (record { kind = refl; says = tt; range = tt }) e
 
 -- the fields that are kept are the application's
 kept_by : (b : Bool) (f : Tagged) (fields : List Tagged) → is_app_tag f.tag ≡ b

@@ -11,8 +11,9 @@ use Rattle.fix_tags.specs.Message.{is_message_number, kind_of}
 use Rattle.fix_tags.specs.Readable.{HasNoSoh, HaveNoSoh, IsRead}
 use Rattle.fix_tags.specs.Reading.{required, short_text, number_if, body_read, message_of, envelope_read}
 use Rattle.fix_tags.specs.Says.{SaysBody}
-use Rattle.fix_tags.specs.declared.body.Body.{Body}
-use Rattle.fix_tags.specs.declared.body.Body.TheVariants.{Logon, Heartbeat, TestRequest, ResendRequest, Reject, GapFill, Reset, Logout, BusinessReject, App}
+use Rattle.fix_tags.specs.Body.{Body}
+use Rattle.fix_tags.specs.declared.body.Body.TheVariants.{Session, App}
+use Rattle.fix_tags.specs.declared.session_body.SessionBody.TheVariants.{Logon, Heartbeat, TestRequest, ResendRequest, Reject, GapFill, Reset, Logout, BusinessReject}
 use Rattle.fix_tags.specs.declared.envelope.Envelope.{Envelope}
 use Rattle.fix_tags.proofs.Steps.{required-Ok, comp_id_of-Some, says_number, says_text}
 use Rattle.fix_tags.proofs.Readings.{message_number_from, body_is, is_reading}
@@ -42,15 +43,15 @@ id_no_soh fields None none is = tt
 -- a body, by what the fields say
 body_no_soh : (fields : List Tagged) (body : Body) → IsTrue (have_no_soh fields) → value_of fields 35 ≡ Some (kind_of body)
     → SaysBody fields body → HaveNoSoh body
-body_no_soh fields (Logon heart reset next) none kind says = tt
-body_no_soh fields (Heartbeat id) none kind says = id_no_soh fields id none says
-body_no_soh fields (TestRequest id) none kind says = value_holds_no_soh fields 112 id none says
-body_no_soh fields (ResendRequest begin last) none kind says = tt
-body_no_soh fields (Reject number) none kind says = tt
-body_no_soh fields (GapFill new_number) none kind says = tt
-body_no_soh fields (Reset new_number) none kind says = tt
-body_no_soh fields Logout none kind says = tt
-body_no_soh fields (BusinessReject number) none kind says = tt
+body_no_soh fields (Session (Logon heart reset next)) none kind says = tt
+body_no_soh fields (Session (Heartbeat id)) none kind says = id_no_soh fields id none says
+body_no_soh fields (Session (TestRequest id)) none kind says = value_holds_no_soh fields 112 id none says
+body_no_soh fields (Session (ResendRequest begin last)) none kind says = tt
+body_no_soh fields (Session (Reject number)) none kind says = tt
+body_no_soh fields (Session (GapFill new_number)) none kind says = tt
+body_no_soh fields (Session (Reset new_number)) none kind says = tt
+body_no_soh fields (Session Logout) none kind says = tt
+body_no_soh fields (Session (BusinessReject number)) none kind says = tt
 body_no_soh fields (App app_kind kept) none kind says = (
   value_holds_no_soh fields 35 app_kind none kind,
   subst (λ (fs : List Tagged). IsTrue (have_no_soh fs)) (sym says) (kept_hold_no_soh (λ f. is_app_tag f.tag) fields none),

@@ -9,8 +9,9 @@ use Rattle.fix_tags.specs.Message.{is_between, is_reference, is_message_number, 
 use Rattle.fix_tags.specs.Readable.{IsShortText, IsReference, IsNextNumber, IsReadableBody, IsReadable}
 use Rattle.fix_tags.specs.Reading.{required, optional, flag_at, short_text, some_text, number_if, some_number, no_encryption, anything, body_read, envelope_read}
 use Rattle.fix_tags.specs.Says.{SaysNumber, SaysNumberIfAny, SaysFlag, SaysBody, IsReadingOf}
-use Rattle.fix_tags.specs.declared.body.Body.{Body}
-use Rattle.fix_tags.specs.declared.body.Body.TheVariants.{Logon, Heartbeat, TestRequest, ResendRequest, Reject, GapFill, Reset, Logout, BusinessReject, App}
+use Rattle.fix_tags.specs.Body.{Body}
+use Rattle.fix_tags.specs.declared.body.Body.TheVariants.{Session, App}
+use Rattle.fix_tags.specs.declared.session_body.SessionBody.TheVariants.{Logon, Heartbeat, TestRequest, ResendRequest, Reject, GapFill, Reset, Logout, BusinessReject}
 use Rattle.fix_tags.specs.declared.envelope.Envelope.{Envelope}
 use Rattle.fix_tags.proofs.Apps.{app_kind}
 use Rattle.fix_tags.proofs.HeaderBack.{bind_ok, required-found}
@@ -60,35 +61,35 @@ flag_read fields tag false (inr says) = rw says refl
 -- a body
 said_body : (fields : List Tagged) (body : Body) → SaysBody fields body → IsReadableBody body
     → body_read (kind_of body) fields ≡ Ok body
-said_body fields (Logon heart reset next) says range =
+said_body fields (Session (Logon heart reset next)) says range =
     let seconds = number_read fields 108 0 999999 heart says.heart (omega arith) range.0 in
     let encryption = required-found fields 98 no_encryption (codes "0") (codes "0") says.encryption refl in
     rw (encryption, seconds, flag_read fields 141 reset says.reset, next_read fields next says.next range.1) refl
-said_body fields (Heartbeat id) says range = rw (id_if_any_read fields id says range) refl
-said_body fields (TestRequest id) says range =
+said_body fields (Session (Heartbeat id)) says range = rw (id_if_any_read fields id says range) refl
+said_body fields (Session (TestRequest id)) says range =
     rw (required-found fields 112 (short_text 64) id id says (short_text_read 64 id range)) refl
-said_body fields (ResendRequest begin last) says range =
+said_body fields (Session (ResendRequest begin last)) says range =
     rw (reference_read fields 7 begin says.0 range.0, reference_read fields 16 last says.1 range.1) refl
-said_body fields (Reject number) says range = rw (reference_read fields 45 number says range) refl
-said_body fields (GapFill number) says range =
+said_body fields (Session (Reject number)) says range = rw (reference_read fields 45 number says range) refl
+said_body fields (Session (GapFill number)) says range =
     rw (flag_read fields 123 true says.0, reference_read fields 36 number says.1 range) refl
-said_body fields (Reset number) says range =
+said_body fields (Session (Reset number)) says range =
     rw (flag_read fields 123 false says.0, reference_read fields 36 number says.1 range) refl
-said_body fields Logout says range = refl
-said_body fields (BusinessReject number) says range = rw (reference_if_any_read fields number says range) refl
+said_body fields (Session Logout) says range = refl
+said_body fields (Session (BusinessReject number)) says range = rw (reference_if_any_read fields number says range) refl
 said_body fields (App kind kept) says range =
     app_kind kind fields range.1 ∙ ap (λ (fields : List Tagged). Ok (App kind fields)) (sym says)
 
 kind_short : (body : Body) → IsReadableBody body → IsShortText 8 (kind_of body)
-kind_short (Logon heart reset next) range = (omega arith, omega arith)
-kind_short (Heartbeat id) range = (omega arith, omega arith)
-kind_short (TestRequest id) range = (omega arith, omega arith)
-kind_short (ResendRequest begin last) range = (omega arith, omega arith)
-kind_short (Reject number) range = (omega arith, omega arith)
-kind_short (GapFill number) range = (omega arith, omega arith)
-kind_short (Reset number) range = (omega arith, omega arith)
-kind_short Logout range = (omega arith, omega arith)
-kind_short (BusinessReject number) range = (omega arith, omega arith)
+kind_short (Session (Logon heart reset next)) range = (omega arith, omega arith)
+kind_short (Session (Heartbeat id)) range = (omega arith, omega arith)
+kind_short (Session (TestRequest id)) range = (omega arith, omega arith)
+kind_short (Session (ResendRequest begin last)) range = (omega arith, omega arith)
+kind_short (Session (Reject number)) range = (omega arith, omega arith)
+kind_short (Session (GapFill number)) range = (omega arith, omega arith)
+kind_short (Session (Reset number)) range = (omega arith, omega arith)
+kind_short (Session Logout) range = (omega arith, omega arith)
+kind_short (Session (BusinessReject number)) range = (omega arith, omega arith)
 kind_short (App kind fields) range = range.0
 
 time_read : (fields : List Tagged) (o : Option (List ℕ)) → value_of fields 52 ≡ o → IsSome o

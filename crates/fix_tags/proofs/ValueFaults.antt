@@ -3,8 +3,9 @@ use Rattle.std.proofs.Common.{◌≡◌, ℕ, Bool, true, false, cond, List, [],
 use Rattle.fix_text.specs.Tagged.{Tagged}
 use Rattle.fix_tags.specs.App.{is_app_field}
 use Rattle.fix_tags.specs.Message.{is_app_kind, is_test_id, is_reference, is_message_number, is_heart, is_next_number, unless_ok, ◌or_then◌, app_fault, kind_fault, body_fault, field_fault}
-use Rattle.fix_tags.specs.declared.body.Body.{Body}
-use Rattle.fix_tags.specs.declared.body.Body.TheVariants.{Logon, Heartbeat, TestRequest, ResendRequest, Reject, GapFill, Reset, Logout, BusinessReject, App}
+use Rattle.fix_tags.specs.Body.{Body}
+use Rattle.fix_tags.specs.declared.body.Body.TheVariants.{Session, App}
+use Rattle.fix_tags.specs.declared.session_body.SessionBody.TheVariants.{Logon, Heartbeat, TestRequest, ResendRequest, Reject, GapFill, Reset, Logout, BusinessReject}
 use Rattle.fix_tags.specs.declared.envelope.Envelope.{Envelope}
 use Rattle.fix_tags.specs.declared.write_fault.WriteFault.{WriteFault}
 use Rattle.fix_tags.specs.declared.write_fault.WriteFault.TheVariants.{BadValue, OutOfMemory}
@@ -31,30 +32,30 @@ of_app [] = tt
 of_app (f ∷ fields) = of_field (is_app_field f) f.tag (app_fault fields) (of_app fields)
 
 of_kind : (body : Body) → NoWantOfMemory (kind_fault body)
-of_kind (Logon heart reset next) = tt
-of_kind (Heartbeat id) = tt
-of_kind (TestRequest id) = tt
-of_kind (ResendRequest begin last) = tt
-of_kind (Reject number) = tt
-of_kind (GapFill new_number) = tt
-of_kind (Reset new_number) = tt
-of_kind Logout = tt
-of_kind (BusinessReject number) = tt
+of_kind (Session (Logon heart reset next)) = tt
+of_kind (Session (Heartbeat id)) = tt
+of_kind (Session (TestRequest id)) = tt
+of_kind (Session (ResendRequest begin last)) = tt
+of_kind (Session (Reject number)) = tt
+of_kind (Session (GapFill new_number)) = tt
+of_kind (Session (Reset new_number)) = tt
+of_kind (Session Logout) = tt
+of_kind (Session (BusinessReject number)) = tt
 of_kind (App kind fields) = of_test (is_app_kind kind) 35
 
 of_body : (body : Body) → NoWantOfMemory (body_fault body)
-of_body (Logon heart reset None) = of_test (is_heart heart) 108
-of_body (Logon heart reset (Some next)) = of_either _ _ (of_test (is_heart heart) 108) (of_test (is_next_number next) 789)
-of_body (Heartbeat None) = tt
-of_body (Heartbeat (Some id)) = of_test (is_test_id id) 112
-of_body (TestRequest id) = of_test (is_test_id id) 112
-of_body (ResendRequest begin last) = of_either _ _ (of_test (is_reference begin) 7) (of_test (is_reference last) 16)
-of_body (Reject number) = of_test (is_reference number) 45
-of_body (GapFill new_number) = of_test (is_reference new_number) 36
-of_body (Reset new_number) = of_test (is_reference new_number) 36
-of_body Logout = tt
-of_body (BusinessReject None) = tt
-of_body (BusinessReject (Some number)) = of_test (is_reference number) 45
+of_body (Session (Logon heart reset None)) = of_test (is_heart heart) 108
+of_body (Session (Logon heart reset (Some next))) = of_either _ _ (of_test (is_heart heart) 108) (of_test (is_next_number next) 789)
+of_body (Session (Heartbeat None)) = tt
+of_body (Session (Heartbeat (Some id))) = of_test (is_test_id id) 112
+of_body (Session (TestRequest id)) = of_test (is_test_id id) 112
+of_body (Session (ResendRequest begin last)) = of_either _ _ (of_test (is_reference begin) 7) (of_test (is_reference last) 16)
+of_body (Session (Reject number)) = of_test (is_reference number) 45
+of_body (Session (GapFill new_number)) = of_test (is_reference new_number) 36
+of_body (Session (Reset new_number)) = of_test (is_reference new_number) 36
+of_body (Session Logout) = tt
+of_body (Session (BusinessReject None)) = tt
+of_body (Session (BusinessReject (Some number))) = of_test (is_reference number) 45
 of_body (App kind fields) = of_app fields
 
 of_message : (e : Envelope) → NoWantOfMemory (field_fault e)

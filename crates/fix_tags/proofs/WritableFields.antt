@@ -11,8 +11,9 @@ use Rattle.fix_tags.specs.CompId.{IsCompId}
 use Rattle.fix_tags.specs.Message.{number_field, kind_of, body_fields, header_fields, is_test_id, is_app_kind, is_message_number, is_reference, is_heart, is_next_number, unless_ok, ◌or_then◌, app_fault, kind_fault, body_fault, field_fault}
 use Rattle.fix_tags.specs.Stamp.{StampParts, stamp_text}
 use Rattle.fix_tags.proofs.Written.{HasNoDelimiter, HasNoDelimiter-decimal, HasNoDelimiter-comp_id, HasNoDelimiter-stamp_text, nonempty-decimal, nonempty-comp_id, length-stamp_text}
-use Rattle.fix_tags.specs.declared.body.Body.{Body}
-use Rattle.fix_tags.specs.declared.body.Body.TheVariants.{Logon, Heartbeat, TestRequest, ResendRequest, Reject, GapFill, Reset, Logout, BusinessReject, App}
+use Rattle.fix_tags.specs.Body.{Body}
+use Rattle.fix_tags.specs.declared.body.Body.TheVariants.{Session, App}
+use Rattle.fix_tags.specs.declared.session_body.SessionBody.TheVariants.{Logon, Heartbeat, TestRequest, ResendRequest, Reject, GapFill, Reset, Logout, BusinessReject}
 use Rattle.fix_tags.specs.declared.envelope.Envelope.{Envelope}
 use Rattle.fix_tags.proofs.Lookups.{marks}
 use Rattle.fix_tags.proofs.Bodies.{unless_ok-none, or_then-first, or_then-second, if_passed}
@@ -101,41 +102,41 @@ test_id_writable id none = (and_parts (is_writable_value id) (nat_le (length id)
 
 -- the fields of a body without a fault can be written
 pub good_body : (body : Body) → body_fault body ≡ None → are_good (body_fields body) ≡ true
-good_body (Logon heart true None) none = rw (good_heart heart none) refl
-good_body (Logon heart false None) none = rw (good_heart heart none) refl
-good_body (Logon heart true (Some next)) none =
+good_body (Session (Logon heart true None)) none = rw (good_heart heart none) refl
+good_body (Session (Logon heart false None)) none = rw (good_heart heart none) refl
+good_body (Session (Logon heart true (Some next))) none =
     let first = good_heart heart (or_then-first (unless_ok (is_heart heart) 108) (unless_ok (is_next_number next) 789) none) in
     let second = good_next next (or_then-second (unless_ok (is_heart heart) 108) (unless_ok (is_next_number next) 789) none) in
     rw (first, second) refl
-good_body (Logon heart false (Some next)) none =
+good_body (Session (Logon heart false (Some next))) none =
     let first = good_heart heart (or_then-first (unless_ok (is_heart heart) 108) (unless_ok (is_next_number next) 789) none) in
     let second = good_next next (or_then-second (unless_ok (is_heart heart) 108) (unless_ok (is_next_number next) 789) none) in
     rw (first, second) refl
-good_body (Heartbeat None) none = refl
-good_body (Heartbeat (Some id)) none = rw (test_id_writable id none) refl
-good_body (TestRequest id) none = rw (test_id_writable id none) refl
-good_body (ResendRequest begin last) none =
+good_body (Session (Heartbeat None)) none = refl
+good_body (Session (Heartbeat (Some id))) none = rw (test_id_writable id none) refl
+good_body (Session (TestRequest id)) none = rw (test_id_writable id none) refl
+good_body (Session (ResendRequest begin last)) none =
     let first = good_reference 7 begin refl (or_then-first (unless_ok (is_reference begin) 7) (unless_ok (is_reference last) 16) none) in
     let second = good_reference 16 last refl (or_then-second (unless_ok (is_reference begin) 7) (unless_ok (is_reference last) 16) none) in
     rw (first, second) refl
-good_body (Reject number) none = rw (good_reference 45 number refl none) refl
-good_body (GapFill new_number) none = rw (good_reference 36 new_number refl none) refl
-good_body (Reset new_number) none = rw (good_reference 36 new_number refl none) refl
-good_body Logout none = refl
-good_body (BusinessReject None) none = refl
-good_body (BusinessReject (Some number)) none = rw (good_reference 45 number refl none) refl
+good_body (Session (Reject number)) none = rw (good_reference 45 number refl none) refl
+good_body (Session (GapFill new_number)) none = rw (good_reference 36 new_number refl none) refl
+good_body (Session (Reset new_number)) none = rw (good_reference 36 new_number refl none) refl
+good_body (Session Logout) none = refl
+good_body (Session (BusinessReject None)) none = refl
+good_body (Session (BusinessReject (Some number))) none = rw (good_reference 45 number refl none) refl
 good_body (App kind fields) none = good_apps fields none
 
 kind_writable : (body : Body) → kind_fault body ≡ None → is_writable_value (kind_of body) ≡ true
-kind_writable (Logon heart reset next) none = refl
-kind_writable (Heartbeat id) none = refl
-kind_writable (TestRequest id) none = refl
-kind_writable (ResendRequest begin last) none = refl
-kind_writable (Reject number) none = refl
-kind_writable (GapFill new_number) none = refl
-kind_writable (Reset new_number) none = refl
-kind_writable Logout none = refl
-kind_writable (BusinessReject number) none = refl
+kind_writable (Session (Logon heart reset next)) none = refl
+kind_writable (Session (Heartbeat id)) none = refl
+kind_writable (Session (TestRequest id)) none = refl
+kind_writable (Session (ResendRequest begin last)) none = refl
+kind_writable (Session (Reject number)) none = refl
+kind_writable (Session (GapFill new_number)) none = refl
+kind_writable (Session (Reset new_number)) none = refl
+kind_writable (Session Logout) none = refl
+kind_writable (Session (BusinessReject number)) none = refl
 kind_writable (App kind fields) none = (app_kind_parts kind (unless_ok-none (is_app_kind kind) 35 none)).0
 
 good_marks : (dup resend : Bool) (time : List ℕ) (fields : List Tagged) → is_writable_value time ≡ true → are_good fields ≡ true → are_good (marks dup resend time fields) ≡ true

@@ -4,7 +4,7 @@ pub mod Config
 pub mod Digits
 pub mod Flag
 pub mod Header
-pub mod Lent
+pub mod Body
 pub mod Message
 pub mod Number
 pub mod Price

@@ -10,8 +10,9 @@ use Rattle.fix_text.specs.declared.fault.TextFault.TheVariants as text
 use Rattle.fix_text.specs.Text.{fields_text, has_writable_tags, has_writable_values, is_writable_value}
 use Rattle.fix_tags.specs.App.{is_app_field}
 use Rattle.fix_tags.specs.Stamp.{StampParts, stamp_text}
-use Rattle.fix_tags.specs.declared.body.Body.{Body}
-use Rattle.fix_tags.specs.declared.body.Body.TheVariants.{Logon, Heartbeat, TestRequest, ResendRequest, Reject, GapFill, Reset, Logout, BusinessReject, App}
+use Rattle.fix_tags.specs.Body.{Body}
+use Rattle.fix_tags.specs.declared.body.Body.TheVariants.{Session, App}
+use Rattle.fix_tags.specs.declared.session_body.SessionBody.TheVariants.{Logon, Heartbeat, TestRequest, ResendRequest, Reject, GapFill, Reset, Logout, BusinessReject}
 use Rattle.fix_tags.specs.declared.envelope.Envelope.{Envelope}
 use Rattle.fix_tags.specs.declared.write_fault.WriteFault.{WriteFault}
 use Rattle.fix_tags.specs.declared.write_fault.WriteFault.TheVariants.{BadValue, TooLong}
@@ -40,29 +41,29 @@ flag_field tag flag = if flag then field tag (codes "Y") ∷ [] else []
 
 -- MsgType (35)
 abbrev pub kind_of : Body → List ℕ
-kind_of (Logon heart reset next) = codes "A"
-kind_of (Heartbeat id) = codes "0"
-kind_of (TestRequest id) = codes "1"
-kind_of (ResendRequest begin last) = codes "2"
-kind_of (Reject number) = codes "3"
-kind_of (GapFill new_number) = codes "4"
-kind_of (Reset new_number) = codes "4"
-kind_of Logout = codes "5"
-kind_of (BusinessReject number) = codes "j"
+kind_of (Session (Logon heart reset next)) = codes "A"
+kind_of (Session (Heartbeat id)) = codes "0"
+kind_of (Session (TestRequest id)) = codes "1"
+kind_of (Session (ResendRequest begin last)) = codes "2"
+kind_of (Session (Reject number)) = codes "3"
+kind_of (Session (GapFill new_number)) = codes "4"
+kind_of (Session (Reset new_number)) = codes "4"
+kind_of (Session Logout) = codes "5"
+kind_of (Session (BusinessReject number)) = codes "j"
 kind_of (App kind fields) = kind
 
 -- the fields behind the header
 abbrev pub body_fields : Body → List Tagged
-body_fields (Logon heart reset next) =
+body_fields (Session (Logon heart reset next)) =
     field 98 (codes "0") ∷ number_field 108 heart ∷ flag_field 141 reset ++ option_field 789 next
-body_fields (Heartbeat id) = text_field 112 id
-body_fields (TestRequest id) = field 112 id ∷ []
-body_fields (ResendRequest begin last) = number_field 7 begin ∷ number_field 16 last ∷ []
-body_fields (Reject number) = number_field 45 number ∷ []
-body_fields (GapFill new_number) = field 123 (codes "Y") ∷ number_field 36 new_number ∷ []
-body_fields (Reset new_number) = field 123 (codes "N") ∷ number_field 36 new_number ∷ []
-body_fields Logout = []
-body_fields (BusinessReject number) = option_field 45 number ++ field 372 (codes "D") ∷ field 380 (codes "0") ∷ []
+body_fields (Session (Heartbeat id)) = text_field 112 id
+body_fields (Session (TestRequest id)) = field 112 id ∷ []
+body_fields (Session (ResendRequest begin last)) = number_field 7 begin ∷ number_field 16 last ∷ []
+body_fields (Session (Reject number)) = number_field 45 number ∷ []
+body_fields (Session (GapFill new_number)) = field 123 (codes "Y") ∷ number_field 36 new_number ∷ []
+body_fields (Session (Reset new_number)) = field 123 (codes "N") ∷ number_field 36 new_number ∷ []
+body_fields (Session Logout) = []
+body_fields (Session (BusinessReject number)) = option_field 45 number ++ field 372 (codes "D") ∷ field 380 (codes "0") ∷ []
 body_fields (App kind fields) = fields
 
 -- the sending time again as the original one (122), where the message may have been sent before
@@ -154,17 +155,17 @@ resend_request_fault begin last = unless_ok (is_reference begin) 7 or_then unles
 
 -- the first field of a body that can't be written, in written order
 abbrev pub body_fault : Body → Option WriteFault
-body_fault (Logon heart reset next) = logon_fault heart next
-body_fault (Heartbeat None) = None
-body_fault (Heartbeat (Some id)) = unless_ok (is_test_id id) 112
-body_fault (TestRequest id) = unless_ok (is_test_id id) 112
-body_fault (ResendRequest begin last) = resend_request_fault begin last
-body_fault (Reject number) = unless_ok (is_reference number) 45
-body_fault (GapFill new_number) = unless_ok (is_reference new_number) 36
-body_fault (Reset new_number) = unless_ok (is_reference new_number) 36
-body_fault Logout = None
-body_fault (BusinessReject None) = None
-body_fault (BusinessReject (Some number)) = unless_ok (is_reference number) 45
+body_fault (Session (Logon heart reset next)) = logon_fault heart next
+body_fault (Session (Heartbeat None)) = None
+body_fault (Session (Heartbeat (Some id))) = unless_ok (is_test_id id) 112
+body_fault (Session (TestRequest id)) = unless_ok (is_test_id id) 112
+body_fault (Session (ResendRequest begin last)) = resend_request_fault begin last
+body_fault (Session (Reject number)) = unless_ok (is_reference number) 45
+body_fault (Session (GapFill new_number)) = unless_ok (is_reference new_number) 36
+body_fault (Session (Reset new_number)) = unless_ok (is_reference new_number) 36
+body_fault (Session Logout) = None
+body_fault (Session (BusinessReject None)) = None
+body_fault (Session (BusinessReject (Some number))) = unless_ok (is_reference number) 45
 body_fault (App kind fields) = app_fault fields
 
 -- the first field of a message that can't be written, in written order

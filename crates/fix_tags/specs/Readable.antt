@@ -5,8 +5,9 @@ use Rattle.fix_text.specs.Text.{holds_soh, have_no_soh}
 use Rattle.fix_tags.specs.App.{is_app_tag}
 use Rattle.fix_tags.specs.CompId.{IsCompId}
 use Rattle.fix_tags.specs.Message.{is_session_kind}
-use Rattle.fix_tags.specs.declared.body.Body.{Body}
-use Rattle.fix_tags.specs.declared.body.Body.TheVariants.{Logon, Heartbeat, TestRequest, ResendRequest, Reject, GapFill, Reset, Logout, BusinessReject, App}
+use Rattle.fix_tags.specs.Body.{Body}
+use Rattle.fix_tags.specs.declared.body.Body.TheVariants.{Session, App}
+use Rattle.fix_tags.specs.declared.session_body.SessionBody.TheVariants.{Logon, Heartbeat, TestRequest, ResendRequest, Reject, GapFill, Reset, Logout, BusinessReject}
 use Rattle.fix_tags.specs.declared.envelope.Envelope.{Envelope}
 
 -- a text of at least one byte and at most so many
@@ -23,15 +24,15 @@ IsNextNumber number = (1 ≤ number) × (number ≤ 999_999_999)
 
 -- each part of a body is in its range
 abbrev pub IsReadableBody : Body → Type 0
-IsReadableBody (Logon heart reset next) = (heart ≤ 999_999) × IfSome next IsNextNumber
-IsReadableBody (Heartbeat id) = IfSome id (IsShortText 64)
-IsReadableBody (TestRequest id) = IsShortText 64 id
-IsReadableBody (ResendRequest begin last) = IsReference begin × IsReference last
-IsReadableBody (Reject number) = IsReference number
-IsReadableBody (GapFill new_number) = IsReference new_number
-IsReadableBody (Reset new_number) = IsReference new_number
-IsReadableBody Logout = Unit {0}
-IsReadableBody (BusinessReject number) = IfSome number IsReference
+IsReadableBody (Session (Logon heart reset next)) = (heart ≤ 999_999) × IfSome next IsNextNumber
+IsReadableBody (Session (Heartbeat id)) = IfSome id (IsShortText 64)
+IsReadableBody (Session (TestRequest id)) = IsShortText 64 id
+IsReadableBody (Session (ResendRequest begin last)) = IsReference begin × IsReference last
+IsReadableBody (Session (Reject number)) = IsReference number
+IsReadableBody (Session (GapFill new_number)) = IsReference new_number
+IsReadableBody (Session (Reset new_number)) = IsReference new_number
+IsReadableBody (Session Logout) = Unit {0}
+IsReadableBody (Session (BusinessReject number)) = IfSome number IsReference
 IsReadableBody (App kind fields) =
     IsShortText 8 kind × (is_session_kind kind ≡ false) × IsTrue (list_all (λ f. is_app_tag f.tag) fields)
 
@@ -49,8 +50,8 @@ HasNoSoh text = holds_soh text ≡ false
 
 -- no text of a body holds SOH
 abbrev pub HaveNoSoh : Body → Type 0
-HaveNoSoh (Heartbeat id) = IfSome id HasNoSoh
-HaveNoSoh (TestRequest id) = HasNoSoh id
+HaveNoSoh (Session (Heartbeat id)) = IfSome id HasNoSoh
+HaveNoSoh (Session (TestRequest id)) = HasNoSoh id
 HaveNoSoh (App kind fields) = HasNoSoh kind × IsTrue (have_no_soh fields)
 HaveNoSoh _ = Unit {0}
 

@@ -7,8 +7,9 @@ use Rattle.fix_tags.specs.CompId.{comp_id_of}
 use Rattle.fix_tags.specs.Flag.{flag_of}
 use Rattle.fix_tags.specs.Number.{number_of}
 use Rattle.fix_tags.specs.Message.{is_reference, is_heart, is_message_number, is_next_number}
-use Rattle.fix_tags.specs.declared.body.Body.{Body}
-use Rattle.fix_tags.specs.declared.body.Body.TheVariants.{Logon, Heartbeat, TestRequest, ResendRequest, Reject, GapFill, Reset, Logout, BusinessReject, App}
+use Rattle.fix_tags.specs.Body.{Body}
+use Rattle.fix_tags.specs.declared.body.Body.TheVariants.{Session, App}
+use Rattle.fix_tags.specs.declared.session_body.SessionBody.TheVariants.{Logon, Heartbeat, TestRequest, ResendRequest, Reject, GapFill, Reset, Logout, BusinessReject}
 use Rattle.fix_tags.specs.declared.envelope.Envelope.{Envelope}
 use Rattle.fix_tags.specs.declared.tag_fault.TagFault.{TagFault}
 use Rattle.fix_tags.specs.declared.tag_fault.TagFault.TheVariants.{Missing, BadField}
@@ -80,32 +81,32 @@ logon_read fields = do
   heart ← required fields 108 (number_if is_heart)
   reset ← flag_at fields 141
   next ← optional fields 789 (some_number is_next_number) None
-  Ok (Logon heart reset next)
+  Ok (Session (Logon heart reset next))
 
 abbrev pub heartbeat_read : List Tagged → Result Body TagFault
 heartbeat_read fields = do
   id ← optional fields 112 some_text None
-  Ok (Heartbeat id)
+  Ok (Session (Heartbeat id))
 
 abbrev pub test_request_read : List Tagged → Result Body TagFault
 test_request_read fields = do
   id ← required fields 112 (short_text 64)
-  Ok (TestRequest id)
+  Ok (Session (TestRequest id))
 
 abbrev pub resend_request_read : List Tagged → Result Body TagFault
 resend_request_read fields = do
   begin ← required fields 7 (number_if is_reference)
   last ← required fields 16 (number_if is_reference)
-  Ok (ResendRequest begin last)
+  Ok (Session (ResendRequest begin last))
 
 abbrev pub reject_read : List Tagged → Result Body TagFault
 reject_read fields = do
   number ← required fields 45 (number_if is_reference)
-  Ok (Reject number)
+  Ok (Session (Reject number))
 
 -- a SequenceReset is a gap fill where GapFillFlag (123) is set
 abbrev pub reset_or_fill : Bool → ℕ → Body
-reset_or_fill fills new_number = if fills then GapFill new_number else Reset new_number
+reset_or_fill fills new_number = if fills then Session (GapFill new_number) else Session (Reset new_number)
 
 abbrev pub sequence_reset_read : List Tagged → Result Body TagFault
 sequence_reset_read fields = do
@@ -116,7 +117,7 @@ sequence_reset_read fields = do
 abbrev pub business_reject_read : List Tagged → Result Body TagFault
 business_reject_read fields = do
   number ← optional fields 45 (some_number is_reference) None
-  Ok (BusinessReject number)
+  Ok (Session (BusinessReject number))
 
 -- an application message takes the fields that aren't the header's nor the frame's
 abbrev pub app_read : List ℕ → List Tagged → Result Body TagFault
@@ -131,7 +132,7 @@ body_of_byte c fields =
     else (if c == 50 then resend_request_read fields
     else (if c == 51 then reject_read fields
     else (if c == 52 then sequence_reset_read fields
-    else (if c == 53 then Ok Logout
+    else (if c == 53 then Ok (Session Logout)
     else (if c == 106 then business_reject_read fields
     else app_read (c ∷ []) fields)))))))
 

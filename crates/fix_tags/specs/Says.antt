@@ -4,8 +4,9 @@ use Rattle.fix_text.specs.Tagged.{Tagged, value_of}
 use Rattle.fix_tags.specs.App.{is_app_tag}
 use Rattle.fix_tags.specs.Message.{kind_of}
 use Rattle.fix_tags.specs.Number.{number_of}
-use Rattle.fix_tags.specs.declared.body.Body.{Body}
-use Rattle.fix_tags.specs.declared.body.Body.TheVariants.{Logon, Heartbeat, TestRequest, ResendRequest, Reject, GapFill, Reset, Logout, BusinessReject, App}
+use Rattle.fix_tags.specs.Body.{Body}
+use Rattle.fix_tags.specs.declared.body.Body.TheVariants.{Session, App}
+use Rattle.fix_tags.specs.declared.session_body.SessionBody.TheVariants.{Logon, Heartbeat, TestRequest, ResendRequest, Reject, GapFill, Reset, Logout, BusinessReject}
 use Rattle.fix_tags.specs.declared.envelope.Envelope.{Envelope}
 
 -- a field is there, and its value is digits that write this number
@@ -34,15 +35,15 @@ pub record SaysLogon (fields : List Tagged) (seconds : ℕ) (resets : Bool) (exp
 -- what the fields say of a body; those of an application message are kept as they are, but for the header's and the
 -- frame's own
 abbrev pub SaysBody : List Tagged → Body → Type 0
-SaysBody fields (Logon heart reset next) = SaysLogon fields heart reset next
-SaysBody fields (Heartbeat id) = value_of fields 112 ≡ id
-SaysBody fields (TestRequest id) = value_of fields 112 ≡ Some id
-SaysBody fields (ResendRequest begin last) = SaysNumber fields 7 begin × SaysNumber fields 16 last
-SaysBody fields (Reject number) = SaysNumber fields 45 number
-SaysBody fields (GapFill new_number) = SaysFlag fields 123 true × SaysNumber fields 36 new_number
-SaysBody fields (Reset new_number) = SaysFlag fields 123 false × SaysNumber fields 36 new_number
-SaysBody fields Logout = Unit {0}
-SaysBody fields (BusinessReject number) = SaysNumberIfAny fields 45 number
+SaysBody fields (Session (Logon heart reset next)) = SaysLogon fields heart reset next
+SaysBody fields (Session (Heartbeat id)) = value_of fields 112 ≡ id
+SaysBody fields (Session (TestRequest id)) = value_of fields 112 ≡ Some id
+SaysBody fields (Session (ResendRequest begin last)) = SaysNumber fields 7 begin × SaysNumber fields 16 last
+SaysBody fields (Session (Reject number)) = SaysNumber fields 45 number
+SaysBody fields (Session (GapFill new_number)) = SaysFlag fields 123 true × SaysNumber fields 36 new_number
+SaysBody fields (Session (Reset new_number)) = SaysFlag fields 123 false × SaysNumber fields 36 new_number
+SaysBody fields (Session Logout) = Unit {0}
+SaysBody fields (Session (BusinessReject number)) = SaysNumberIfAny fields 45 number
 SaysBody fields (App kind kept) = kept ≡ filter (λ f. is_app_tag f.tag) fields
 
 -- what fields say that are read as this message; the sending time only has to be there

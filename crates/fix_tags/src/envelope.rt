@@ -1,13 +1,14 @@
-//! A message with its header, owned or lent. Contracts see both as one `Envelope`.
+//! A message with its header, written or read. Contracts see both as one `Envelope`.
 ghost use Rattle.std.specs.Prelude.{◌≡◌, ◌≤◌};
 
 use crate::body::{Body, BodyRef};
 use crate::comp_id::CompId;
+use fix_text::Fields;
 use std::marker::Model;
 
-/// A message but for its sending time (FIX 4.4 Volume 2, "Standard Message Header").
+/// A message that is written, but for its sending time (FIX 4.4 Volume 2, "Standard Message Header").
 #[derive(Debug, Drop)]
-pub struct Envelope {
+pub struct Envelope<'a> {
     /// SenderCompID (49).
     pub sender: CompId,
     /// TargetCompID (56).
@@ -19,10 +20,10 @@ pub struct Envelope {
     /// PossResend (97): the message may have been sent before, under another number.
     pub poss_resend: bool,
     /// What the message says, which gives its MsgType (35).
-    pub body: Body,
+    pub body: Body<'a, Fields>,
 }
 
-/// An `Envelope` whose texts and fields are lent from the frame that it was read from.
+/// A message that was read, with its texts and fields lent from its frame.
 #[derive(Debug, Drop)]
 pub struct EnvelopeRef<'a> {
     sender: &'a [u8],
@@ -38,7 +39,6 @@ impl<'a> Model for EnvelopeRef<'a> {
 
     ghost Value = { Envelope };
 
-    ghost use Rattle.fix_tags.specs.Lent.{body_of};
     ghost use Rattle.fix_tags.specs.Readable.{IsRead};
 
     ghost view = { λ e. record {
@@ -47,7 +47,7 @@ impl<'a> Model for EnvelopeRef<'a> {
       number = e.number;
       poss_dup = e.poss_dup;
       poss_resend = e.poss_resend;
-      body = body_of e.body;
+      body = e.body;
     } };
 
     ghost invariant = { λ e. IsRead (record {
@@ -56,12 +56,11 @@ impl<'a> Model for EnvelopeRef<'a> {
       number = e.number;
       poss_dup = e.poss_dup;
       poss_resend = e.poss_resend;
-      body = body_of e.body;
+      body = e.body;
     }) };
 }
 
 impl<'a> EnvelopeRef<'a> {
-    ghost use Rattle.fix_tags.specs.Lent.{body_of};
     ghost use Rattle.fix_tags.specs.Readable.{IsRead};
 
     /// The message of these parts, as they were read from a frame.
@@ -79,7 +78,7 @@ impl<'a> EnvelopeRef<'a> {
           number = number;
           poss_dup = poss_dup;
           poss_resend = poss_resend;
-          body = body_of body;
+          body = body;
         }) }
         ensures { result ≡ record {
           sender = sender.entry.now;
@@ -87,7 +86,7 @@ impl<'a> EnvelopeRef<'a> {
           number = number;
           poss_dup = poss_dup;
           poss_resend = poss_resend;
-          body = body_of body.entry;
+          body = body.entry;
         } }
     {
         EnvelopeRef {
@@ -137,7 +136,7 @@ impl<'a> EnvelopeRef<'a> {
 
     /// What the message says, which its MsgType (35) gave.
     pub fn body(&self) -> &BodyRef<'a>
-        ensures value { body_of result.now ≡ self.now.body }
+        ensures value { result.now ≡ self.now.body }
         ensures in_range { IsRead self.now }
     {
         &self.body

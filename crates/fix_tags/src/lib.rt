@@ -18,12 +18,13 @@ mod number;
 mod price;
 mod read;
 mod read_body;
+mod session_body;
 mod shares;
 mod stamp;
 mod stamp_text;
 mod tag;
 mod tag_fault;
-mod text;
+mod text_ref;
 mod value_at;
 mod writable;
 mod write;
@@ -42,10 +43,11 @@ pub use price::{
     PriceText, price_four_text, price_short_text, read_price, write_price_four, write_price_short,
 };
 pub use read::read_envelope;
+pub use session_body::SessionBody;
 pub use shares::read_shares;
 pub use stamp::Stamp;
 pub use stamp_text::{read_stamp, stamp_bytes, write_stamp};
 pub use tag_fault::TagFault;
-pub use text::Text;
+pub use text_ref::TextRef;
 pub use write::write_envelope;
 pub use write_fault::WriteFault;

@@ -3,13 +3,12 @@ ghost use Rattle.std.specs.Prelude.{◌≡◌, IfOk, filter};
 ghost use Rattle.fix_text.specs.FrameFields.{fields_in};
 ghost use Rattle.fix_tags.specs.App.{is_app_tag};
 ghost use Rattle.fix_tags.specs.Header.{IsHeader, IsFoundIn};
-ghost use Rattle.fix_tags.specs.Lent.{body_of};
 ghost use Rattle.fix_tags.specs.Readable.{HaveNoSoh, IsReadable};
 ghost use Rattle.fix_tags.specs.Reading.{Gives, body_read, message_read, envelope_read};
 ghost use Rattle.fix_tags.specs.Says.{IsReadingOf};
 
 use crate::app_fields::AppFields;
-use crate::body::BodyRef;
+use crate::body::{Body, BodyRef};
 use crate::envelope::EnvelopeRef;
 use crate::header_fields::HeaderFields;
 use crate::limits::{MAX_KIND, MESSAGE_NUMBER};
@@ -18,6 +17,7 @@ use crate::tag::{
     MSG_SEQ_NUM, MSG_TYPE, POSS_DUP_FLAG, POSS_RESEND, SENDER_COMP_ID, SENDING_TIME, TARGET_COMP_ID,
 };
 use crate::tag_fault::TagFault;
+use crate::text_ref::TextRef;
 use crate::value_at::{firm_of, flag_in, number_of, text_of};
 use crate::writable::is_session_kind;
 use fix_text::Frame;
@@ -40,13 +40,15 @@ fn body_of_kind<'a>(
     left: Frame<'a>,
 ) -> Result<BodyRef<'a>, TagFault>
     requires { filter (λ f. is_app_tag f.tag) (fields_in left) ≡ filter (λ f. is_app_tag f.tag) (fields_in frame.now) }
-    ensures { Gives body_of result (body_read kind.entry.now (fields_in frame.now)) }
+    ensures { Gives (λ body. body) result (body_read kind.entry.now (fields_in frame.now)) }
 {
     if is_session_kind(kind) {
-        return session_body(kind, frame);
+        return Ok(Body::Session(session_body(kind, frame)?));
     }
-    let fields = AppFields::new(left);
-    Ok(BodyRef::App { kind, fields })
+    Ok(Body::App {
+        kind: TextRef::new(kind),
+        fields: AppFields::new(left),
+    })
 }
 
 /// The message of this header, from its marks on. It is on a leg's way, and called once: so it is inlined.

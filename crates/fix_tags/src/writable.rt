@@ -1,18 +1,20 @@
 //! Which messages can be written: the first bad field in written order.
 ghost use Rattle.std.specs.Prelude.{◌≡◌};
 ghost use Rattle.fix_tags.specs.App.{is_header_tag, is_app_field};
+ghost use Rattle.fix_tags.specs.declared.body.Body.TheVariants.{Session};
 ghost use Rattle.fix_tags.specs.Message.{is_session_kind, is_app_kind, is_test_id, unless_ok, app_fault, kind_fault, logon_fault, resend_request_fault, body_fault, field_fault};
 
 use crate::body::Body;
 use crate::envelope::Envelope;
 use crate::limits::{HEART, MAX_KIND, MAX_TEST_ID, MESSAGE_NUMBER, NEXT_NUMBER, REFERENCE};
+use crate::session_body::SessionBody;
 use crate::tag::{
     BEGIN_SEQ_NO, END_SEQ_NO, HEART_BT_INT, MSG_SEQ_NUM, MSG_TYPE, NEW_SEQ_NO,
     NEXT_EXPECTED_MSG_SEQ_NUM, ORIG_SENDING_TIME, POSS_DUP_FLAG, POSS_RESEND, REF_SEQ_NUM,
     SENDER_COMP_ID, SENDING_TIME, TARGET_COMP_ID, TEST_REQ_ID,
 };
 use crate::write_fault::WriteFault;
-use fix_text::{Field, can_write_tag, can_write_value};
+use fix_text::{Field, Fields, can_write_tag, can_write_value};
 
 pub(crate) fn is_session_kind(kind: &[u8]) -> bool
     ensures { result ≡ is_session_kind kind.now }
@@ -78,7 +80,7 @@ fn app_fault(fields: &[Field]) -> Option<WriteFault>
     None
 }
 
-fn kind_fault(body: &Body) -> Option<WriteFault>
+fn kind_fault(body: &Body<'_, Fields>) -> Option<WriteFault>
     ensures { result ≡ kind_fault body.now }
 {
     match body {
@@ -108,29 +110,39 @@ fn resend_request_fault(begin: u64, last: u64) -> Option<WriteFault>
     unless_ok(REFERENCE.contains(last), END_SEQ_NO)
 }
 
-fn body_fault(body: &Body) -> Option<WriteFault>
+fn session_fault(says: &SessionBody<'_>) -> Option<WriteFault>
+    ensures { result ≡ body_fault (Session says.now) }
+{
+    match says {
+        SessionBody::Logon { heart, next, .. } => logon_fault(*heart, *next),
+        SessionBody::Heartbeat { id: None }
+        | SessionBody::Logout
+        | SessionBody::BusinessReject { number: None } => None,
+        SessionBody::Heartbeat { id: Some(id) } | SessionBody::TestRequest { id } => {
+            unless_ok(is_test_id(id.as_bytes()), TEST_REQ_ID)
+        }
+        SessionBody::ResendRequest { begin, last } => resend_request_fault(*begin, *last),
+        SessionBody::Reject { number }
+        | SessionBody::BusinessReject {
+            number: Some(number),
+        } => { unless_ok(REFERENCE.contains(*number), REF_SEQ_NUM) }
+        SessionBody::GapFill { new_number } | SessionBody::Reset { new_number } => {
+            unless_ok(REFERENCE.contains(*new_number), NEW_SEQ_NO)
+        }
+    }
+}
+
+fn body_fault(body: &Body<'_, Fields>) -> Option<WriteFault>
     ensures { result ≡ body_fault body.now }
 {
     match body {
-        Body::Logon { heart, next, .. } => logon_fault(*heart, *next),
-        Body::Heartbeat { id: None } | Body::Logout | Body::BusinessReject { number: None } => None,
-        Body::Heartbeat { id: Some(id) } | Body::TestRequest { id } => {
-            unless_ok(is_test_id(id.as_bytes()), TEST_REQ_ID)
-        }
-        Body::ResendRequest { begin, last } => resend_request_fault(*begin, *last),
-        Body::Reject { number }
-        | Body::BusinessReject {
-            number: Some(number),
-        } => { unless_ok(REFERENCE.contains(*number), REF_SEQ_NUM) }
-        Body::GapFill { new_number } | Body::Reset { new_number } => {
-            unless_ok(REFERENCE.contains(*new_number), NEW_SEQ_NO)
-        }
+        Body::Session(says) => session_fault(says),
         Body::App { fields, .. } => app_fault(fields.as_slice()),
     }
 }
 
 /// The first field of a message that can't be written, in written order.
-pub(crate) fn field_fault(envelope: &Envelope) -> Option<WriteFault>
+pub(crate) fn field_fault(envelope: &Envelope<'_>) -> Option<WriteFault>
     ensures { result ≡ field_fault envelope.now }
 {
     if let Some(fault) = kind_fault(&envelope.body) {

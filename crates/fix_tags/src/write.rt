@@ -4,10 +4,12 @@ ghost use Rattle.fix_text.specs.Frame.{frame_text};
 ghost use Rattle.fix_tags.specs.CompId.{IsCompId};
 ghost use Rattle.fix_tags.specs.Message.{AreWritable, WritesFrame, field, marks_and_time, kind_of, body_fields, header_fields, field_fault, envelope_fields, is_too_long, envelope_refusal};
 ghost use Rattle.fix_tags.specs.Reading.{reset_or_fill};
+ghost use Rattle.fix_tags.specs.declared.body.Body.TheVariants.{Session};
 ghost use Rattle.fix_tags.specs.ReadsBack.{ReadsBackAs};
 
 use crate::body::Body;
 use crate::envelope::Envelope;
+use crate::session_body::SessionBody;
 use crate::stamp::Stamp;
 use crate::stamp_text::stamp_bytes;
 use crate::tag::{
@@ -16,25 +18,34 @@ use crate::tag::{
     POSS_RESEND, REF_MSG_TYPE, REF_SEQ_NUM, RESET_SEQ_NUM_FLAG, SENDER_COMP_ID, SENDING_TIME,
     TARGET_COMP_ID, TEST_REQ_ID,
 };
-use crate::text::Text;
+use crate::text_ref::TextRef;
 use crate::writable::field_fault;
 use crate::write_fault::WriteFault;
-use fix_text::{FieldRef, TextFault, write_writable_parts};
+use fix_text::{FieldRef, Fields, TextFault, write_writable_parts};
 use itoa::Buffer;
 
+/// MsgType (35) of a message of the session.
+fn session_kind(says: &SessionBody<'_>) -> &'static [u8]
+    ensures { result.now ≡ kind_of (Session says.now) }
+{
+    match says {
+        SessionBody::Logon { .. } => b"A",
+        SessionBody::Heartbeat { .. } => b"0",
+        SessionBody::TestRequest { .. } => b"1",
+        SessionBody::ResendRequest { .. } => b"2",
+        SessionBody::Reject { .. } => b"3",
+        SessionBody::GapFill { .. } | SessionBody::Reset { .. } => b"4",
+        SessionBody::Logout => b"5",
+        SessionBody::BusinessReject { .. } => b"j",
+    }
+}
+
 /// MsgType (35).
-fn kind_of(body: &Body) -> &[u8]
+fn kind_of<'a>(body: &Body<'a, Fields>) -> &'a [u8]
     ensures { result.now ≡ kind_of body.now }
 {
     match body {
-        Body::Logon { .. } => b"A",
-        Body::Heartbeat { .. } => b"0",
-        Body::TestRequest { .. } => b"1",
-        Body::ResendRequest { .. } => b"2",
-        Body::Reject { .. } => b"3",
-        Body::GapFill { .. } | Body::Reset { .. } => b"4",
-        Body::Logout => b"5",
-        Body::BusinessReject { .. } => b"j",
+        Body::Session(says) => session_kind(says),
         Body::App { kind, .. } => kind.as_bytes(),
     }
 }
@@ -46,8 +57,9 @@ fn write_logon(
     next: Option<u64>,
     out: &mut Vec<u8>,
 ) -> Result<(), TextFault>
-    requires { AreWritable (head.now ++ body_fields (Body.Logon heart reset next)) }
-    ensures { WritesFrame (head.now ++ body_fields (Body.Logon heart reset next)) out.old out.new result }
+    requires { AreWritable (head.now ++ body_fields (Session (SessionBody.Logon heart reset next))) }
+    ensures { WritesFrame (head.now ++ body_fields (Session (SessionBody.Logon heart reset next)))
+        out.old out.new result }
 {
     let mut heart_digits = Buffer::new();
     let mut next_digits = Buffer::new();
@@ -83,8 +95,9 @@ fn write_resend_request(
     last: u64,
     out: &mut Vec<u8>,
 ) -> Result<(), TextFault>
-    requires { AreWritable (head.now ++ body_fields (Body.ResendRequest begin last)) }
-    ensures { WritesFrame (head.now ++ body_fields (Body.ResendRequest begin last)) out.old out.new result }
+    requires { AreWritable (head.now ++ body_fields (Session (SessionBody.ResendRequest begin last))) }
+    ensures { WritesFrame (head.now ++ body_fields (Session (SessionBody.ResendRequest begin last)))
+        out.old out.new result }
 {
     let mut begin_digits = Buffer::new();
     let mut last_digits = Buffer::new();
@@ -121,8 +134,8 @@ fn write_sequence_reset(
 }
 
 fn write_reject(head: &[FieldRef<'_>], number: u64, out: &mut Vec<u8>) -> Result<(), TextFault>
-    requires { AreWritable (head.now ++ body_fields (Body.Reject number)) }
-    ensures { WritesFrame (head.now ++ body_fields (Body.Reject number)) out.old out.new result }
+    requires { AreWritable (head.now ++ body_fields (Session (SessionBody.Reject number))) }
+    ensures { WritesFrame (head.now ++ body_fields (Session (SessionBody.Reject number))) out.old out.new result }
 {
     let mut digits = Buffer::new();
     let number = FieldRef::new(REF_SEQ_NUM, digits.format(number).as_bytes());
@@ -134,8 +147,9 @@ fn write_business_reject(
     number: Option<u64>,
     out: &mut Vec<u8>,
 ) -> Result<(), TextFault>
-    requires { AreWritable (head.now ++ body_fields (Body.BusinessReject number)) }
-    ensures { WritesFrame (head.now ++ body_fields (Body.BusinessReject number)) out.old out.new result }
+    requires { AreWritable (head.now ++ body_fields (Session (SessionBody.BusinessReject number))) }
+    ensures { WritesFrame (head.now ++ body_fields (Session (SessionBody.BusinessReject number)))
+        out.old out.new result }
 {
     let mut digits = Buffer::new();
     let kind = FieldRef::new(REF_MSG_TYPE, b"D");
@@ -151,19 +165,19 @@ fn write_business_reject(
 
 /// A body of a TestReqID (112).
 fn write_test_id(head: &[FieldRef<'_>], id: &[u8], out: &mut Vec<u8>) -> Result<(), TextFault>
-    requires { AreWritable (head.now ++ body_fields (Body.TestRequest id.now)) }
-    ensures { WritesFrame (head.now ++ body_fields (Body.TestRequest id.now)) out.old out.new result }
+    requires { AreWritable (head.now ++ body_fields (Session (SessionBody.TestRequest id.now))) }
+    ensures { WritesFrame (head.now ++ body_fields (Session (SessionBody.TestRequest id.now))) out.old out.new result }
 {
     write_writable_parts(head, &[FieldRef::new(TEST_REQ_ID, id)], &[], out)
 }
 
 fn write_heartbeat(
     head: &[FieldRef<'_>],
-    id: &Option<Text>,
+    id: &Option<TextRef<'_>>,
     out: &mut Vec<u8>,
 ) -> Result<(), TextFault>
-    requires { AreWritable (head.now ++ body_fields (Body.Heartbeat id.now)) }
-    ensures { WritesFrame (head.now ++ body_fields (Body.Heartbeat id.now)) out.old out.new result }
+    requires { AreWritable (head.now ++ body_fields (Session (SessionBody.Heartbeat id.now))) }
+    ensures { WritesFrame (head.now ++ body_fields (Session (SessionBody.Heartbeat id.now))) out.old out.new result }
 {
     match id {
         None => write_writable_parts(head, &[], &[], out),
@@ -171,20 +185,39 @@ fn write_heartbeat(
     }
 }
 
-fn write_body(head: &[FieldRef<'_>], body: &Body, out: &mut Vec<u8>) -> Result<(), TextFault>
+fn write_session(
+    head: &[FieldRef<'_>],
+    says: &SessionBody<'_>,
+    out: &mut Vec<u8>,
+) -> Result<(), TextFault>
+    requires { AreWritable (head.now ++ body_fields (Session says.now)) }
+    ensures { WritesFrame (head.now ++ body_fields (Session says.now)) out.old out.new result }
+{
+    match says {
+        SessionBody::Logon { heart, reset, next } => write_logon(head, *heart, *reset, *next, out),
+        SessionBody::Heartbeat { id } => write_heartbeat(head, id, out),
+        SessionBody::TestRequest { id } => write_test_id(head, id.as_bytes(), out),
+        SessionBody::ResendRequest { begin, last } => {
+            write_resend_request(head, *begin, *last, out)
+        }
+        SessionBody::Reject { number } => write_reject(head, *number, out),
+        SessionBody::GapFill { new_number } => write_sequence_reset(head, true, *new_number, out),
+        SessionBody::Reset { new_number } => write_sequence_reset(head, false, *new_number, out),
+        SessionBody::BusinessReject { number } => write_business_reject(head, *number, out),
+        SessionBody::Logout => write_writable_parts(head, &[], &[], out),
+    }
+}
+
+fn write_body(
+    head: &[FieldRef<'_>],
+    body: &Body<'_, Fields>,
+    out: &mut Vec<u8>,
+) -> Result<(), TextFault>
     requires { AreWritable (head.now ++ body_fields body.now) }
     ensures { WritesFrame (head.now ++ body_fields body.now) out.old out.new result }
 {
     match body {
-        Body::Logon { heart, reset, next } => write_logon(head, *heart, *reset, *next, out),
-        Body::Heartbeat { id } => write_heartbeat(head, id, out),
-        Body::TestRequest { id } => write_test_id(head, id.as_bytes(), out),
-        Body::ResendRequest { begin, last } => write_resend_request(head, *begin, *last, out),
-        Body::Reject { number } => write_reject(head, *number, out),
-        Body::GapFill { new_number } => write_sequence_reset(head, true, *new_number, out),
-        Body::Reset { new_number } => write_sequence_reset(head, false, *new_number, out),
-        Body::BusinessReject { number } => write_business_reject(head, *number, out),
-        Body::Logout => write_writable_parts(head, &[], &[], out),
+        Body::Session(says) => write_session(head, says, out),
         Body::App { fields, .. } => write_writable_parts(head, &[], fields.as_slice(), out),
     }
 }
@@ -204,7 +237,7 @@ fn write_with_header<'a>(
     texts: HeaderTexts<'a>,
     poss_dup: bool,
     poss_resend: bool,
-    body: &Body,
+    body: &Body<'_, Fields>,
     out: &mut Vec<u8>,
 ) -> Result<(), TextFault>
     requires { AreWritable (field 35 texts.kind.now ∷ field 49 texts.sender.now ∷ field 56 texts.target.now
@@ -240,7 +273,7 @@ fn write_with_header<'a>(
 }
 
 /// The frame of a message whose fields have no fault: only its length can be refused.
-fn write_message(envelope: &Envelope, stamp: &Stamp, out: &mut Vec<u8>) -> Result<(), TextFault>
+fn write_message(envelope: &Envelope<'_>, stamp: &Stamp, out: &mut Vec<u8>) -> Result<(), TextFault>
     requires { field_fault envelope.now ≡ None }
     ensures refusal { MatchOption (if is_too_long envelope.now stamp.now then Some TextFault.TooLong else None)
         (IsOkUnless result TextFault.OutOfMemory) (λ fault. result ≡ Err fault) }
@@ -269,7 +302,11 @@ fn write_message(envelope: &Envelope, stamp: &Stamp, out: &mut Vec<u8>) -> Resul
 }
 
 /// The same, with the message's own faults.
-fn write_faultless(envelope: &Envelope, stamp: &Stamp, out: &mut Vec<u8>) -> Result<(), WriteFault>
+fn write_faultless(
+    envelope: &Envelope<'_>,
+    stamp: &Stamp,
+    out: &mut Vec<u8>,
+) -> Result<(), WriteFault>
     requires { field_fault envelope.now ≡ None }
     ensures refusal { MatchOption (envelope_refusal envelope.now stamp.now) (IsOkUnless result WriteFault.OutOfMemory)
         (λ fault. result ≡ Err fault) }
@@ -297,7 +334,7 @@ fn write_faultless(envelope: &Envelope, stamp: &Stamp, out: &mut Vec<u8>) -> Res
 /// value or SOH in it. Then `TooLong`: the fields take more than 4,096 bytes. Then `OutOfMemory`: `out`
 /// has no room for the frame, and no memory is left. A refusal leaves `out` as it was.
 pub fn write_envelope(
-    envelope: &Envelope,
+    envelope: &Envelope<'_>,
     stamp: &Stamp,
     out: &mut Vec<u8>,
 ) -> Result<(), WriteFault>

@@ -76,15 +76,3 @@ pub(crate) fn pops_to<L: Run>(rt: &impl Wait, drain: &mut VenueDrain<L>, count: 
     }
     drain.pop_to(rt, count).is_none()
 }
-
-/// Puts the gates of these drains' venues up.
-pub(crate) fn raises<L: Run>(
-    rt: &impl Wait,
-    lock: &ReleaseLock<L>,
-    drains: &[VenueDrain<L>],
-) -> Result<(), Fail> {
-    for drain in drains {
-        lock.raise(rt, drain)?;
-    }
-    Ok(())
-}

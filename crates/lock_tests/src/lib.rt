@@ -17,11 +17,3 @@ mod read_back;
 mod reports;
 #[cfg(test)]
 mod rings;
-#[cfg(test)]
-mod seats;
-#[cfg(test)]
-mod swapped_ends;
-#[cfg(test)]
-mod threads;
-#[cfg(test)]
-mod works;

@@ -10,7 +10,7 @@ use Rattle.fix_tags.specs.Stamp.{StampParts}
 use Rattle.fix_tags.specs.declared.envelope.Envelope.{Envelope}
 use Rattle.fix_tags.specs.declared.write_fault.WriteFault.{WriteFault}
 use Rattle.fix_tags.specs.declared.write_fault.WriteFault.TheVariants.{OutOfMemory}
-use Rattle.fix_tags.specs.declared.body.Body.{Body}
+use Rattle.fix_tags.specs.Body.{Body}
 use Rattle.fix_tags.specs.declared.body.Body.TheVariants as body
 use Rattle.fix_tags.specs.CompId.{IsCompId}
 use Rattle.leg.specs.Leg.{IsLeg}
@@ -108,15 +108,7 @@ by_kind read fields leg false true is = cc
 by_kind read fields leg false false is = cc
 
 order_said : (read : Decoding) (b : Body) (leg : Leg) → content_of read b ≡ Order (Ok leg) → order_in read.order b ≡ Ok leg
-order_said read (body.Logon heart reset next) leg is = cc
-order_said read (body.Heartbeat id) leg is = cc
-order_said read (body.TestRequest id) leg is = cc
-order_said read (body.ResendRequest begin last) leg is = cc
-order_said read (body.Reject number) leg is = cc
-order_said read (body.GapFill new_number) leg is = cc
-order_said read (body.Reset new_number) leg is = cc
-order_said read body.Logout leg is = cc
-order_said read (body.BusinessReject number) leg is = cc
+order_said read (body.Session says) leg is = cc
 order_said read (body.App [] fields) leg is = cc
 order_said read (body.App (c ∷ []) fields) leg is = by_kind read fields leg (c == 68) (c == 56) is
 order_said read (body.App (c ∷ d ∷ more) fields) leg is = cc

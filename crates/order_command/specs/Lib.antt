@@ -5,3 +5,4 @@ pub mod OrderFrame
 pub mod OrderLines
 pub mod OrderOption
 pub mod Request
+pub mod Running

@@ -21,7 +21,7 @@ use Rattle.std.specs.Prelude.{
 use Rattle.fix_text.specs.Tagged.{Tagged}
 use Rattle.fix_text.specs.Reading.{Stream, next_read}
 use Rattle.fix_tags.specs.Reading.{envelope_read}
-use Rattle.fix_tags.specs.declared.body.Body.{Body}
+use Rattle.fix_tags.specs.Body.{Body}
 use Rattle.fix_tags.specs.declared.body.Body.TheVariants.{App}
 use Rattle.fix_tags.specs.declared.envelope.Envelope.{Envelope}
 use Rattle.fix_tags.specs.declared.tag_fault.TagFault.{TagFault}

@@ -10,8 +10,8 @@ ghost use Rattle.order_command.specs.OrderFrame.{stream_of, IsOrderFrame, order_
 use crate::header::Header;
 use crate::order_fault::OrderFault;
 use crate::room::OrderRoom;
-use dialect::Dialect;
-use fix_tags::{Body, BodyRef, EnvelopeRef, read_envelope, write_envelope};
+use dialect::{Dialect, ORDER_KIND};
+use fix_tags::{Body, EnvelopeRef, TextRef, read_envelope, write_envelope};
 use fix_text::{Fields, Frame, FrameReader};
 use leg::Leg;
 use std::alloc::{AllocError, Global};
@@ -31,12 +31,12 @@ pub fn write_order_frame<D: Dialect>(
     leg.in_range();
     let at = header.at();
     let OrderRoom {
-        kind,
         mut fields,
         mut frame,
     } = room;
     dialect.write_order(alloc, leg, &at, &mut fields).unwrap();
     let fields = Fields::new(fields);
+    let kind = TextRef::new(ORDER_KIND);
     let message = header.message(Body::App { kind, fields });
     write_envelope(&message, &at, &mut frame).unwrap();
     frame
@@ -47,11 +47,11 @@ fn order_of_message<D: Dialect>(dialect: &D, message: &EnvelopeRef<'_>) -> Resul
     ensures { result ≡ order_in (D.wording dialect.now).decoding.order message.now.body }
 {
     match message.body() {
-        BodyRef::App {
-            kind: [b'D'],
-            fields,
-        } => dialect.read_order(fields).map_err(OrderFault::BadOrder),
-        _ => Err(OrderFault::NoOrder),
+        Body::App { kind, fields } => match kind.as_bytes() {
+            [b'D'] => dialect.read_order(fields).map_err(OrderFault::BadOrder),
+            _ => Err(OrderFault::NoOrder),
+        },
+        Body::Session(_) => Err(OrderFault::NoOrder),
     }
 }
 

@@ -3,6 +3,7 @@ ghost use Rattle.std.specs.Prelude.{◌≡◌, ◌≤◌, false};
 ghost use Rattle.order_command.specs.Header.{IsHeader};
 
 use fix_tags::{Body, CompId, Envelope, MAX_MESSAGE_NUMBER, Stamp};
+use fix_text::Fields;
 use std::marker::Model;
 
 /// What the header of an order says: who sends it to whom, under which number, and when.
@@ -48,14 +49,14 @@ impl Header {
     }
 
     /// The message of this body, sent once.
-    pub fn message(self, body: Body) -> Envelope
+    pub fn message<'a>(self, body: Body<'a, Fields>) -> Envelope<'a>
         ensures { result ≡ record {
           sender = self.from;
           target = self.to;
           number = self.number;
           poss_dup = false;
           poss_resend = false;
-          body = body;
+          body = body.entry;
         } }
     {
         let Header {

@@ -6,6 +6,7 @@ ghost use Rattle.command_line.specs.FrameText.{bytes_of};
 ghost use Rattle.order_command.specs.OrderFrame.{order_read_from, stream_of};
 ghost use Rattle.order_command.specs.OrderLines.{IsOrderText, PrintsText, EndsOrder, EndsReading};
 ghost use Rattle.order_command.specs.Request.{request_of};
+ghost use Rattle.order_command.specs.Running.{EndsRun, ExitsSo};
 
 mod asked;
 mod fault;
@@ -52,7 +53,9 @@ pub fn order_run<S: AsStr, C: Clock, R: Read, W: Write, E: Write>(
     input: &mut R,
     out: &mut W,
     err: &mut E,
-) -> u8 {
+) -> u8
+    ensures { ExitsSo (C.last clock.new) (R.remaining input.old) (W.contents out.old) (W.contents out.new) result }
+{
     finish(order(alloc, words, clock, input, out), err)
 }
 
@@ -62,7 +65,9 @@ fn order<S: AsStr, C: Clock, R: Read, W: Write>(
     clock: &mut C,
     input: &mut R,
     out: &mut W,
-) -> Result<(), CommandFault> {
+) -> Result<(), CommandFault>
+    ensures { EndsRun (C.last clock.new) (R.remaining input.old) (W.contents out.old) (W.contents out.new) result }
+{
     match read_words(alloc, words)? {
         Asked::Write(options) => print_order(alloc, &options.dialect, &options, clock, out),
         Asked::Read(dialect) => {

@@ -1,7 +1,9 @@
 //! The options of `dispatch order`, as text.
-ghost use Rattle.std.specs.Prelude.{◌≡◌, Some, IfOk, IfErr, codes, option_and_then};
+ghost use Rattle.std.specs.Prelude.{◌≡◌, Some, IfOk, IfErr, MatchResult, codes, option_and_then};
+ghost use Rattle.clap.specs.declared.parser.matches.ArgMatches.{ArgMatches};
 ghost use Rattle.dialect.specs.DialectName.{dialect_named};
 ghost use Rattle.order_command.specs.Options.{matched, flagged, AreOptions, IsAsked};
+ghost use Rattle.order_command.specs.Running.{IsOfWords};
 
 use crate::asked::Asked;
 use crate::fault::CommandFault;
@@ -99,8 +101,8 @@ fn value<'a>(matches: &ArgMatches<'a>, option: OrderOption) -> Result<&'a str, C
 
 /// The dialect that the command line named.
 fn dialect_of(matches: &ArgMatches<'_>) -> Result<AnyDialect, CommandFault>
-    ensures { IfOk result (λ dialect. option_and_then dialect_named (matched matches.now OrderOption.Dialect)
-        ≡ Some dialect) }
+    ensures { MatchResult result (λ dialect. option_and_then dialect_named (matched matches.now OrderOption.Dialect)
+        ≡ Some dialect) IsOfWords }
 {
     let name = value(matches, OrderOption::Dialect)?;
     AnyDialect::named(name).ok_or(CommandFault::BadValue(OrderOption::Dialect))
@@ -120,7 +122,7 @@ fn form_of(matches: &ArgMatches<'_>) -> OrderForm
 
 /// The options that the command line matched, each under its name.
 fn options_of<'a>(matches: &ArgMatches<'a>) -> Result<Options<'a>, CommandFault>
-    ensures { IfOk result (AreOptions matches.now) }
+    ensures { MatchResult result (AreOptions matches.now) IsOfWords }
 {
     Ok(Options {
         dialect: dialect_of(matches)?,
@@ -140,7 +142,7 @@ fn options_of<'a>(matches: &ArgMatches<'a>) -> Result<Options<'a>, CommandFault>
 
 /// What the command line asks for.
 fn asked_of<'a>(matches: &ArgMatches<'a>) -> Result<Asked<'a>, CommandFault>
-    ensures { IfOk result (IsAsked matches.now) }
+    ensures { MatchResult result (IsAsked matches.now) IsOfWords }
 {
     if matches.get_flag(READ) {
         return Ok(Asked::Read(dialect_of(matches)?));
@@ -150,7 +152,9 @@ fn asked_of<'a>(matches: &ArgMatches<'a>) -> Result<Asked<'a>, CommandFault>
 
 /// What these words ask for. A missing, unknown or repeated option, one that stands beside `--read`, and a dialect that
 /// isn't there are faults of the command line.
-pub fn read_words<'a, S: AsStr>(alloc: Global, words: &'a [S]) -> Result<Asked<'a>, CommandFault> {
+pub fn read_words<'a, S: AsStr>(alloc: Global, words: &'a [S]) -> Result<Asked<'a>, CommandFault>
+    ensures { MatchResult result (λ asked. (matches : ArgMatches) × IsAsked matches asked) IsOfWords }
+{
     let command = order_command(alloc)?.bin_name("dispatch order")?;
     let matches = command.try_get_matches_from(words)?;
     asked_of(&matches)

@@ -1,8 +1,6 @@
 //! The room that an order takes to be written.
-ghost use Rattle.std.specs.Prelude.{◌≡◌, ◌≤◌, [], codes, vec_capacity};
+ghost use Rattle.std.specs.Prelude.{◌≡◌, ◌≤◌, [], vec_capacity};
 
-use dialect::ORDER_KIND;
-use fix_tags::Text;
 use fix_text::{Field, MAX_FRAME};
 use std::alloc::{AllocError, Global};
 
@@ -12,10 +10,8 @@ const ORDER_FIELDS: usize = 16;
 /// All the memory that writing one order takes: so no order is refused once this is had.
 #[derive(Debug, Drop)]
 pub struct OrderRoom {
-    pub(crate) kind: Text,
     pub(crate) fields: Vec<Field>,
     pub(crate) frame: Vec<u8>,
-    ghost kind_is: { kind ≡ codes "D" },
     ghost no_field: { fields.items ≡ [] },
     ghost fields_room: { 16 ≤ vec_capacity fields },
     ghost no_byte: { frame.items ≡ [] },
@@ -26,7 +22,6 @@ impl OrderRoom {
     /// Room for an order of any leg, in any dialect and under any header. The only refusal is want of memory.
     pub fn new(alloc: Global) -> Result<OrderRoom, AllocError> {
         Ok(OrderRoom {
-            kind: Text::from_slice(alloc, ORDER_KIND)?,
             fields: Vec::with_capacity(alloc, ORDER_FIELDS)?,
             frame: Vec::with_capacity(alloc, MAX_FRAME)?,
         })

@@ -6,7 +6,8 @@ use Rattle.dialect.specs.declared.report.Report.{Report}
 use Rattle.dialect.specs.declared.note.Note.{Note}
 use Rattle.dialect.specs.declared.note.Note.TheVariants as note
 use Rattle.dialect.specs.declared.content.Content.{Content}
-use Rattle.dialect.specs.declared.content.Content.TheVariants.{TestRequest, GapFill, Logout, Order}
+use Rattle.dialect.specs.declared.content.Content.TheVariants.{Session, Order}
+use Rattle.fix_tags.specs.declared.session_body.SessionBody.TheVariants.{TestRequest, GapFill, Logout}
 use Rattle.dialect.specs.declared.message.Message.{Message}
 use Rattle.resend.specs.Log.{Entry}
 use Rattle.exchange_core.specs.declared.own.Own.{Own}
@@ -42,9 +43,9 @@ due_clean : (x : ExchangeParts) (content : Content) → IsRead content → IsCle
     → IsClean (due_taken x content).1.own
 due_clean x (Order (Ok leg)) read clean = clean-append x.own _ clean tt
 due_clean x (Order (Err fault)) read clean = absurd (read fault refl)
-due_clean x (GapFill new_number) read clean = clean
-due_clean x Logout read clean = clean-append x.own (Admin ∷ []) clean tt
-due_clean x (TestRequest id) read clean = clean-append x.own (Admin ∷ []) clean tt
+due_clean x (Session (GapFill new_number)) read clean = clean
+due_clean x (Session Logout) read clean = clean-append x.own (Admin ∷ []) clean tt
+due_clean x (Session (TestRequest id)) read clean = clean-append x.own (Admin ∷ []) clean tt
 due_clean x content read clean = clean
 
 logon_clean : (x : ExchangeParts) (connection number heart : ℕ) (next : Option ℕ) (due : Bool) → IsClean x.own

@@ -11,7 +11,8 @@ use Rattle.dialect.specs.declared.report.Report.{Report}
 use Rattle.dialect.specs.declared.report.ReportKind.{ReportKind}
 use Rattle.dialect.specs.declared.report.ReportKind.TheVariants.{New}
 use Rattle.dialect.specs.declared.content.Content.{Content}
-use Rattle.dialect.specs.declared.content.Content.TheVariants.{TestRequest, GapFill, Logout, Order}
+use Rattle.dialect.specs.declared.content.Content.TheVariants.{Session, Order}
+use Rattle.fix_tags.specs.declared.session_body.SessionBody.TheVariants.{TestRequest, GapFill, Logout}
 use Rattle.dialect.specs.declared.message.Message.{Message}
 use Rattle.exchange_core.specs.Order.{OrderParts, new_order, view_of}
 use Rattle.exchange_core.specs.declared.own.Own.{Own}
@@ -122,9 +123,9 @@ module _ (x : ExchangeParts) (o : IsOrderly x) where
   due_matched (Order (Ok leg)) = order_matched leg
   due_matched (Order (Err fault)) =
       unreported x (due_taken x (Order (Err fault))).1 (Refused x.expected ∷ []) refl refl refl o.matched
-  due_matched (GapFill new_number) = o.matched
-  due_matched Logout = unreported x (due_taken x Logout).1 (Admin ∷ []) refl refl refl o.matched
-  due_matched (TestRequest id) = unreported x (due_taken x (TestRequest id)).1 (Admin ∷ []) refl refl refl o.matched
+  due_matched (Session (GapFill new_number)) = o.matched
+  due_matched (Session Logout) = unreported x (due_taken x (Session Logout)).1 (Admin ∷ []) refl refl refl o.matched
+  due_matched (Session (TestRequest id)) = unreported x (due_taken x (Session (TestRequest id))).1 (Admin ∷ []) refl refl refl o.matched
   due_matched content = o.matched
 
   logon_matched : (connection number heart : ℕ) (next : Option ℕ) (due : Bool)
@@ -184,10 +185,10 @@ module _ (x : ExchangeParts) (o : IsOrderly x) where
       (view_of (suc (length x.orders)) (new_order leg)) ∷ []) refl refl (omega arith) o.small
   due_small (Order (Err fault)) room =
       small_after x (due_taken x (Order (Err fault))).1 (Refused x.expected ∷ []) refl refl (omega arith) o.small
-  due_small (GapFill new_number) room = record { limit = o.small.limit; used = o.small.used }
-  due_small Logout room = small_after x (due_taken x Logout).1 (Admin ∷ []) refl refl (omega arith) o.small
-  due_small (TestRequest id) room =
-      small_after x (due_taken x (TestRequest id)).1 (Admin ∷ []) refl refl (omega arith) o.small
+  due_small (Session (GapFill new_number)) room = record { limit = o.small.limit; used = o.small.used }
+  due_small (Session Logout) room = small_after x (due_taken x (Session Logout)).1 (Admin ∷ []) refl refl (omega arith) o.small
+  due_small (Session (TestRequest id)) room =
+      small_after x (due_taken x (Session (TestRequest id))).1 (Admin ∷ []) refl refl (omega arith) o.small
   due_small content room = record { limit = o.small.limit; used = o.small.used }
 
   logon_small : (connection number heart : ℕ) (next : Option ℕ) (due : Bool) → HasRoom x

@@ -8,7 +8,8 @@ use Rattle.leg.specs.declared.leg.Leg.{Leg}
 use Rattle.dialect.specs.declared.report.Report.{Report}
 use Rattle.dialect.specs.declared.report.ReportKind.{ReportKind}
 use Rattle.dialect.specs.declared.content.Content.{Content}
-use Rattle.dialect.specs.declared.content.Content.TheVariants.{TestRequest, GapFill, Logout, Order}
+use Rattle.dialect.specs.declared.content.Content.TheVariants.{Session, Order}
+use Rattle.fix_tags.specs.declared.session_body.SessionBody.TheVariants.{TestRequest, GapFill, Logout}
 use Rattle.dialect.specs.declared.message.Message.{Message}
 use Rattle.exchange_core.specs.Order.{OrderParts, new_order}
 use Rattle.exchange_core.specs.declared.own.Own.{Own}
@@ -74,9 +75,9 @@ order_on x leg on =
 due_on : (x : ExchangeParts) (content : Content) → ReportsOn x → ReportsOn (due_taken x content).1
 due_on x (Order (Ok leg)) on = order_on x leg on
 due_on x (Order (Err fault)) on = on-append (accepted_by x) x.own (Refused x.expected ∷ []) on tt
-due_on x (GapFill new_number) on = on
-due_on x Logout on = on-append (accepted_by x) x.own (Admin ∷ []) on tt
-due_on x (TestRequest id) on = on-append (accepted_by x) x.own (Admin ∷ []) on tt
+due_on x (Session (GapFill new_number)) on = on
+due_on x (Session Logout) on = on-append (accepted_by x) x.own (Admin ∷ []) on tt
+due_on x (Session (TestRequest id)) on = on-append (accepted_by x) x.own (Admin ∷ []) on tt
 due_on x content on = on
 
 logon_on : (x : ExchangeParts) (connection number heart : ℕ) (next : Option ℕ) (due : Bool) → ReportsOn x

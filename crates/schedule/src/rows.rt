@@ -4,7 +4,8 @@
 ghost use Rattle.std.specs.Prelude.{◌≡◌, ◌∷◌, ◌++◌, [], codes, true, false};
 ghost use Rattle.std.specs.Prelude.{None, Some, Ok};
 ghost use Rattle.dialect.specs.declared.report.ReportKind.TheVariants.{Bust};
-ghost use Rattle.dialect.specs.declared.content.Content.TheVariants.{Logon, Heartbeat, TestRequest, ResendRequest, GapFill, ExecutionReport};
+ghost use Rattle.dialect.specs.declared.content.Content.TheVariants.{Session, ExecutionReport};
+ghost use Rattle.fix_tags.specs.declared.session_body.SessionBody.TheVariants.{Logon, Heartbeat, TestRequest, ResendRequest, GapFill};
 ghost use Rattle.leg.specs.declared.sweep.Routed.{Routed};
 ghost use Rattle.schedule.specs.declared.event.Event.TheVariants as event;
 ghost use Rattle.std.specs.Prelude.{Err};
@@ -85,29 +86,29 @@ pub fn told_that_none_is_lost()
 
 /// The frames of the first connection.
 pub fn first_frames()
-    ensures first { written_to 1 (after []) ≡ (1, Logon 30 false None) ∷ (2, TestRequest (codes "F2")) ∷ [] }
-    ensures told { written_to 1 (after_told []) ≡ (1, Logon 30 false (Some 1)) ∷ (2, TestRequest (codes "F2")) ∷ [] }
+    ensures first { written_to 1 (after []) ≡ (1, Session (Logon 30 false None)) ∷ (2, Session (TestRequest (codes "F2"))) ∷ [] }
+    ensures told { written_to 1 (after_told []) ≡ (1, Session (Logon 30 false (Some 1))) ∷ (2, Session (TestRequest (codes "F2"))) ∷ [] }
 {}
 
 /// The frames after a break: the missing report is asked for, the fence, and once the exchange asks, the gap fill and a
 /// new fence.
 pub fn frames_after_a_break()
-    ensures { written_to 5 (after broken) ≡ (5, Logon 30 false None) ∷ (6, ResendRequest 3 0) ∷ (7, TestRequest (codes "F7")) ∷ (4, GapFill 8) ∷ (8, TestRequest (codes "F8")) ∷ [] }
+    ensures { written_to 5 (after broken) ≡ (5, Session (Logon 30 false None)) ∷ (6, Session (ResendRequest 3 0)) ∷ (7, Session (TestRequest (codes "F7"))) ∷ (4, Session (GapFill 8)) ∷ (8, Session (TestRequest (codes "F8"))) ∷ [] }
 {}
 
 /// The same resend request again is filled up to the settled number, below the new leg's.
 pub fn frames_of_a_resend_request_again()
-    ensures { written_to 11 (after (broken ++ to 8 ∷ to 9 ∷ from 6 ∷ up ∷ release (buy 0 ibm 50 100000 ∷ []) ∷ take ∷ from 5 ∷ [])) ≡ (4, GapFill 9) ∷ [] }
+    ensures { written_to 11 (after (broken ++ to 8 ∷ to 9 ∷ from 6 ∷ up ∷ release (buy 0 ibm 50 100000 ∷ []) ∷ take ∷ from 5 ∷ [])) ≡ (4, Session (GapFill 9)) ∷ [] }
 {}
 
 /// The frames where the exchange's Logon says which number it expects next.
 pub fn frames_when_told()
-    ensures { written_to 5 (after_told (three_legs ∷ take ∷ take ∷ break ∷ down ∷ drop ∷ to 3 ∷ connect ∷ to 5 ∷ to 4 ∷ from 4 ∷ [])) ≡ (5, Logon 30 false (Some 3)) ∷ (4, GapFill 6) ∷ (6, ResendRequest 3 0) ∷ (7, TestRequest (codes "F7")) ∷ [] }
+    ensures { written_to 5 (after_told (three_legs ∷ take ∷ take ∷ break ∷ down ∷ drop ∷ to 3 ∷ connect ∷ to 5 ∷ to 4 ∷ from 4 ∷ [])) ≡ (5, Session (Logon 30 false (Some 3))) ∷ (4, Session (GapFill 6)) ∷ (6, Session (ResendRequest 3 0)) ∷ (7, Session (TestRequest (codes "F7"))) ∷ [] }
 {}
 
 /// The frames of a quiet session, of its exchange's test, and of a silence.
 pub fn frames_of_a_quiet_session()
-    ensures { written_to 3 (after (quiet ∷ test ∷ from 3 ∷ silent ∷ silent ∷ [])) ≡ (3, Heartbeat None) ∷ (4, Heartbeat (Some (codes "X3"))) ∷ (5, TestRequest (codes "F5")) ∷ [] }
+    ensures { written_to 3 (after (quiet ∷ test ∷ from 3 ∷ silent ∷ silent ∷ [])) ≡ (3, Session (Heartbeat None)) ∷ (4, Session (Heartbeat (Some (codes "X3")))) ∷ (5, Session (TestRequest (codes "F5"))) ∷ [] }
 {}
 
 /// The report of a bust.

@@ -5,7 +5,8 @@ use Rattle.leg.specs.Growing.{Grew}
 use Rattle.dialect.specs.Addressed.{message_of}
 use Rattle.dialect.specs.declared.content.Content.{Content}
 use Rattle.dialect.specs.declared.message.Message.{Message}
-use Rattle.dialect.specs.declared.content.Content.TheVariants.{TestRequest, ResendRequest, GapFill}
+use Rattle.dialect.specs.declared.content.Content.TheVariants.{Session}
+use Rattle.fix_tags.specs.declared.session_body.SessionBody.TheVariants.{TestRequest, ResendRequest, GapFill}
 use Rattle.resend.specs.Log.{Entry, GapFillParts, last_ordinal}
 use Rattle.resend.specs.Log.Entry.{Admin}
 use Rattle.resend.specs.Later.{IsLater, WithdrawsNone, withdrawn_since}
@@ -125,7 +126,7 @@ adds-writes content t =
 pub adds-puts_fence : (t : Turn) → Adds t (puts_fence t)
 adds-puts_fence t =
     one_written t (spending (fenced t.session))
-    (message_of t.session.config (next_out t.session) false (TestRequest (fence_id (next_out t.session))))
+    (message_of t.session.config (next_out t.session) false (Session (TestRequest (fence_id (next_out t.session)))))
     refl refl refl (omega arith) refl refl refl
 
 pub adds-writes_fence : (t : Turn) → Adds t (writes_fence t)
@@ -135,9 +136,9 @@ adds-writes_fence t =
 pub adds-asks : (t : Turn) → Adds t (asks t)
 adds-asks t =
     chosen (Adds t) (may_write t.session)
-    (puts (ResendRequest t.session.expected 0) (with_session (asking t.session) t)) t
+    (puts (Session (ResendRequest t.session.expected 0)) (with_session (asking t.session) t)) t
     (λ may. one_written t (spending (asking t.session))
-    (message_of t.session.config (next_out t.session) false (ResendRequest t.session.expected 0))
+    (message_of t.session.config (next_out t.session) false (Session (ResendRequest t.session.expected 0)))
     refl refl refl (omega arith) refl refl refl)
     (λ spent. adds-refl t)
 
@@ -147,7 +148,7 @@ adds-asks_if false t = adds-refl t
 
 pub adds-fills : (fill : GapFillParts) (t : Turn) → Adds t (fills fill t)
 adds-fills fill t =
-    (let filled : Message = message_of t.session.config fill.first true (GapFill fill.new_number) in
+    (let filled : Message = message_of t.session.config fill.first true (Session (GapFill fill.new_number)) in
     adds-none t (fills fill t) refl refl refl (omega arith) refl refl refl
     (new_numbers-append t.step.written (filled ∷ []) ∙ append-nil (new_numbers t.step.written)))
 

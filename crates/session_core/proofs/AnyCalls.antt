@@ -3,7 +3,8 @@ use Rattle.std.proofs.Common.{◌≡◌, ◌≤◌, ◌<◌, ◌+◌, ℕ, false
 use Rattle.std.proofs.lemmas.Bool.Decides.{nat_tests}
 use Rattle.std.specs.Prelude.{Ok, Err, option_to_list}
 use Rattle.leg.specs.declared.leg.Leg.{Leg}
-use Rattle.dialect.specs.declared.content.Content.TheVariants.{Heartbeat}
+use Rattle.dialect.specs.declared.content.Content.TheVariants.{Session}
+use Rattle.fix_tags.specs.declared.session_body.SessionBody.TheVariants.{Heartbeat}
 use Rattle.dialect.specs.declared.message.Message.{Message}
 use Rattle.dialect.specs.Message.{seen}
 use Rattle.dialect.specs.Wording.{Decoding}
@@ -160,7 +161,7 @@ quiet-last s =
     (let Same : SessionAnswer StepParts → Type 0 = λ answer. last_ordinal (added answer).1.log ≡ last_ordinal s.log in
     chosen Same (not (is_connected s.phase)) (refuses fault.NotConnected s) _ (λ off. refl)
     (λ on. chosen Same (is_still s.phase) (answers (quietly s)) _ (λ still. refl)
-    (λ going. numbered-last s (puts (Heartbeat None) (quietly s)) (last-admin 0 s.log))))
+    (λ going. numbered-last s (puts (Session (Heartbeat None)) (quietly s)) (last-admin 0 s.log))))
 
 silent-last : (s : SessionParts) → last_ordinal (added (silent s)).1.log ≡ last_ordinal s.log
 silent-last s =

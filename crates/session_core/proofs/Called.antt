@@ -5,7 +5,8 @@ use Rattle.std.proofs.lemmas.List.{append-nil}
 use Rattle.leg.specs.declared.leg.Leg.{Leg}
 use Rattle.leg.specs.declared.leg_state.LegState.TheVariants.{Doubt}
 use Rattle.dialect.specs.declared.message.Message.{Message}
-use Rattle.dialect.specs.declared.content.Content.TheVariants.{Heartbeat}
+use Rattle.dialect.specs.declared.content.Content.TheVariants.{Session}
+use Rattle.fix_tags.specs.declared.session_body.SessionBody.TheVariants.{Heartbeat}
 use Rattle.resend.specs.Log.{Entry, last_ordinal}
 use Rattle.resend.specs.Log.Entry.{Admin, Sent}
 use Rattle.session_core.specs.declared.phase.Phase.{Phase}
@@ -153,9 +154,9 @@ pub quiet_keeps : (s : SessionParts) → OrUnchanged s (IsCall s) (quiet s)
 quiet_keeps s =
     chosen (Calls s) (not (is_connected s.phase)) (refuses fault.NotConnected s) _ (λ off. refl)
     (λ on. chosen (Calls s) (is_still s.phase) (answers (quietly s)) _ (λ still. call_quietly s s (keeps-refl s) refl)
-    (λ going. numbered_call s (puts (Heartbeat None) (quietly s))
-    (call_by s (quietly s) (puts (Heartbeat None) (quietly s))
-    (call_quietly s s (keeps-refl s) refl) (adds-puts (Heartbeat None) (quietly s)))))
+    (λ going. numbered_call s (puts (Session (Heartbeat None)) (quietly s))
+    (call_by s (quietly s) (puts (Session (Heartbeat None)) (quietly s))
+    (call_quietly s s (keeps-refl s) refl) (adds-puts (Session (Heartbeat None)) (quietly s)))))
 
 hushed_call : (s : SessionParts) → IsCall s no_step (hushed s)
 hushed_call s =

@@ -6,7 +6,8 @@ use Rattle.std.specs.Global.{Vec}
 use Rattle.fix_tags.specs.Stamp.{StampParts}
 use Rattle.leg.specs.declared.leg.Leg.{Leg}
 use Rattle.dialect.specs.declared.message.Message.{Message}
-use Rattle.dialect.specs.declared.content.Content.TheVariants.{Heartbeat}
+use Rattle.dialect.specs.declared.content.Content.TheVariants.{Session}
+use Rattle.fix_tags.specs.declared.session_body.SessionBody.TheVariants.{Heartbeat}
 use Rattle.dialect.specs.Framed.{IsFramed}
 use Rattle.dialect.specs.Wording.{Decoding, Encoding}
 use Rattle.dialect.specs.Outgoing.{alone}
@@ -97,7 +98,7 @@ quiet-never : (s : SessionParts) → NeverWants (quiet s)
 quiet-never s =
     chosen NeverWants (not (is_connected s.phase)) (refuses fault.NotConnected s) _ (λ off wants. absurd cc)
     (λ on. chosen NeverWants (is_still s.phase) (answers (quietly s)) _ (λ still. tt)
-    (λ going. numbered-never s (puts (Heartbeat None) (quietly s))))
+    (λ going. numbered-never s (puts (Session (Heartbeat None)) (quietly s))))
 
 silent-never : (s : SessionParts) → NeverWants (silent s)
 silent-never s =

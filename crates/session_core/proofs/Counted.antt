@@ -9,7 +9,8 @@ use Rattle.dialect.specs.Addressed.{is_for}
 use Rattle.dialect.specs.declared.content.Content.{Content}
 use Rattle.dialect.specs.declared.message.Message.{Message}
 use Rattle.dialect.specs.Message.{is_logon}
-use Rattle.dialect.specs.declared.content.Content.TheVariants.{Logon, Heartbeat, TestRequest, ResendRequest, Reject, GapFill, Reset, Logout, BusinessReject, Order, ExecutionReport, Other}
+use Rattle.dialect.specs.declared.content.Content.TheVariants.{Session, Order, ExecutionReport, Other}
+use Rattle.fix_tags.specs.declared.session_body.SessionBody.TheVariants.{Logon, Heartbeat, TestRequest, ResendRequest, Reject, GapFill, Reset, Logout, BusinessReject}
 use Rattle.resend.specs.declared.judged.Judged.{Judged}
 use Rattle.resend.specs.declared.judged.Judged.TheVariants as judged
 use Rattle.resend.specs.Judging.{judged}
@@ -40,7 +41,7 @@ q_fence e t q = chosen (Quiet e) (may_write t.session) _ t (λ may. q_puts_fence
 q_asks : (e : ℕ) (t : Turn) → Quiet e t → Quiet e (asks t)
 q_asks e t q =
     chosen (Quiet e) (may_write t.session)
-    (puts (ResendRequest t.session.expected 0) (with_session (asking t.session) t)) t
+    (puts (Session (ResendRequest t.session.expected 0)) (with_session (asking t.session) t)) t
     (λ may. record { expected = q.expected; pending = q.pending; note = q.note })
     (λ spent. q)
 
@@ -142,7 +143,7 @@ module _ (s : SessionParts) (still : s.current.pending ≡ false) where
 
   q_out : (fence : ℕ) → Quiet s.expected (logs_out (passing fence s))
   q_out fence =
-      (let x = q_writes s.expected Logout (quietly (passing fence s)) (q_passing fence) in
+      (let x = q_writes s.expected (Session Logout) (quietly (passing fence s)) (q_passing fence) in
       record { expected = x.expected; pending = x.pending; note = x.note })
 
   q_passed : (now : Phase) (fence : ℕ) → Quiet s.expected (passed_in now fence (passing fence s))
@@ -164,14 +165,14 @@ module _ (s : SessionParts) (still : s.current.pending ≡ false) where
 
   q_test : (id : List ℕ) → Quiet s.expected (answers_test s id)
   q_test id =
-      chosen (Quiet s.expected) (is_logged_out s.phase) (quietly s) (writes (Heartbeat (Some id)) (quietly s))
+      chosen (Quiet s.expected) (is_logged_out s.phase) (quietly s) (writes (Session (Heartbeat (Some id))) (quietly s))
       (λ out. start) (λ on. q_writes s.expected _ (quietly s) start)
 
   q_logout : Quiet s.expected (logout_row s)
   q_logout =
       chosen (Quiet s.expected) (is_logged_out s.phase) (ends ended.LogoutDone s) _ (λ out. over ended.LogoutDone)
       (λ on.
-      q_ends s.expected ended.PeerLogout (writes Logout (quietly s)) (q_writes s.expected Logout (quietly s) start))
+      q_ends s.expected ended.PeerLogout (writes (Session Logout) (quietly s)) (q_writes s.expected (Session Logout) (quietly s) start))
 
   module _ (number : ℕ) (due : number ≡ s.expected) where
     by_row : (content : Content) (t : Turn) → note_for s.log content ≡ None → Row true s.expected t
@@ -193,27 +194,27 @@ module _ (s : SessionParts) (still : s.current.pending ≡ false) where
     counts_on content t none q = counted due none (q_counts s.expected t q)
 
     due_counted : (content : Content) → Counted s number content (row true s number content)
-    due_counted (Logon heart reset next) =
-        by_row (Logon heart reset next) (logon_row true s next) refl (row_logon true next)
-    due_counted (ResendRequest begin last) =
-        by_row (ResendRequest begin last) (resend_row true s begin last) refl (row_resend true begin last)
-    due_counted (Heartbeat id) =
-        by_row (Heartbeat id) (counts_if true (passes_fence s (named_fence s id))) refl
+    due_counted (Session (Logon heart reset next)) =
+        by_row (Session (Logon heart reset next)) (logon_row true s next) refl (row_logon true next)
+    due_counted (Session (ResendRequest begin last)) =
+        by_row (Session (ResendRequest begin last)) (resend_row true s begin last) refl (row_resend true begin last)
+    due_counted (Session (Heartbeat id)) =
+        by_row (Session (Heartbeat id)) (counts_if true (passes_fence s (named_fence s id))) refl
         (row_counts_if true s.expected (passes_fence s (named_fence s id)) (q_passes (named_fence s id)))
-    due_counted (TestRequest id) = counts_on (TestRequest id) (answers_test s id) refl (q_test id)
-    due_counted (GapFill new_number) =
-        chosen (Counted s number (GapFill new_number)) (nat_lt number new_number)
+    due_counted (Session (TestRequest id)) = counts_on (Session (TestRequest id)) (answers_test s id) refl (q_test id)
+    due_counted (Session (GapFill new_number)) =
+        chosen (Counted s number (Session (GapFill new_number))) (nat_lt number new_number)
         (quietly (record s { expected = new_number })) (ends ended.BadGapFill s)
         (λ forward.
         passed due new_number refl (grind (arith, nat_tests, forward))
         (record { expected = refl; pending = still; note = refl }))
         (λ back. stays (over ended.BadGapFill))
-    due_counted (Reject refused) = by_refusal (Reject refused) (leg_at refused s.log) refl
-    due_counted (BusinessReject None) = counts_on (BusinessReject None) (quietly s) refl start
-    due_counted (BusinessReject (Some refused)) = by_refusal (BusinessReject (Some refused)) (leg_at refused s.log) refl
-    due_counted Logout = stays q_logout
+    due_counted (Session (Reject refused)) = by_refusal (Session (Reject refused)) (leg_at refused s.log) refl
+    due_counted (Session (BusinessReject None)) = counts_on (Session (BusinessReject None)) (quietly s) refl start
+    due_counted (Session (BusinessReject (Some refused))) = by_refusal (Session (BusinessReject (Some refused))) (leg_at refused s.log) refl
+    due_counted (Session Logout) = stays q_logout
     due_counted (ExecutionReport read) = gives_note (ExecutionReport read) (report_note read) refl
-    due_counted (Reset new_number) = counts_on (Reset new_number) (quietly s) refl start
+    due_counted (Session (Reset new_number)) = counts_on (Session (Reset new_number)) (quietly s) refl start
     due_counted (Order read) = counts_on (Order read) (quietly s) refl start
     due_counted Other = counts_on Other (quietly s) refl start
 
@@ -222,15 +223,15 @@ module _ (s : SessionParts) (still : s.current.pending ≡ false) where
   q_row t (inr is) = absurd (let e = is.0 in cc)
 
   q_ahead : (number : ℕ) (content : Content) → Quiet s.expected (row false s number content)
-  q_ahead number (Logon heart reset next) = q_row (logon_row false s next) (row_logon false next)
-  q_ahead number (ResendRequest begin last) = q_row (resend_row false s begin last) (row_resend false begin last)
-  q_ahead number (Heartbeat id) = q_passes (named_fence s id)
-  q_ahead number Logout = q_logout
-  q_ahead number (Reset new_number) = start
-  q_ahead number (TestRequest id) = start
-  q_ahead number (GapFill new_number) = start
-  q_ahead number (Reject refused) = start
-  q_ahead number (BusinessReject refused) = start
+  q_ahead number (Session (Logon heart reset next)) = q_row (logon_row false s next) (row_logon false next)
+  q_ahead number (Session (ResendRequest begin last)) = q_row (resend_row false s begin last) (row_resend false begin last)
+  q_ahead number (Session (Heartbeat id)) = q_passes (named_fence s id)
+  q_ahead number (Session Logout) = q_logout
+  q_ahead number (Session (Reset new_number)) = start
+  q_ahead number (Session (TestRequest id)) = start
+  q_ahead number (Session (GapFill new_number)) = start
+  q_ahead number (Session (Reject refused)) = start
+  q_ahead number (Session (BusinessReject refused)) = start
   q_ahead number (ExecutionReport read) = start
   q_ahead number (Order read) = start
   q_ahead number Other = start

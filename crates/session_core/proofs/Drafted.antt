@@ -9,15 +9,17 @@ use Rattle.leg.specs.declared.leg_state.LegState.TheVariants.{Taken, Withdrawn}
 use Rattle.std.specs.Prelude.{nat_lt, nat_le}
 use Rattle.resend.proofs.Later.{length-settled_where}
 use Rattle.session_core.specs.declared.line.Line.{Line}
-use Rattle.session_core.specs.declared.line.Said.{Said}
-use Rattle.session_core.specs.declared.line.Said.TheVariants as said
+use Rattle.session_core.specs.declared.line.Says.TheVariants.{Fence, Body}
+use Rattle.fix_tags.specs.declared.session_body.SessionBody.{SessionBody}
+use Rattle.fix_tags.specs.declared.session_body.SessionBody.TheVariants.{GapFill}
+use Rattle.dialect.specs.declared.content.Content.TheVariants.{Session}
 use Rattle.session_core.specs.declared.draft.Draft.{Draft}
 use Rattle.session_core.specs.declared.draft.Settling.{Settling}
 use Rattle.session_core.specs.declared.draft.Settling.TheVariants.{Nothing, Passed, At}
 use Rattle.session_core.specs.Session.{SessionParts, next_out}
 use Rattle.session_core.specs.Turn.{Turn, puts, puts_fence, fills}
 use Rattle.session_core.specs.Kept.{seen}
-use Rattle.session_core.specs.Draft.{content_in, message_in, logged, is_fence, with_fences, settled_log, fences_left, withdrawn_by, drafted}
+use Rattle.session_core.specs.Draft.{message_in, logged, is_fence, with_fences, settled_log, fences_left, withdrawn_by, drafted}
 
 -- one line more
 pub logged-push : (log : List Entry) (lines : List Line) (line : Line)
@@ -27,10 +29,10 @@ logged-push log (first ∷ lines) line = logged-push (if first.poss_dup then log
 
 pub with_fences-push : (fences : List ℕ) (lines : List Line) (line : Line)
     → with_fences fences (lines ++ line ∷ [])
-    ≡ (if is_fence line.said then with_fences fences lines ++ line.number ∷ [] else with_fences fences lines)
+    ≡ (if is_fence line.says then with_fences fences lines ++ line.number ∷ [] else with_fences fences lines)
 with_fences-push fences [] line = refl
 with_fences-push fences (first ∷ lines) line =
-    with_fences-push (if is_fence first.said then fences ++ first.number ∷ [] else fences) lines line
+    with_fences-push (if is_fence first.says then fences ++ first.number ∷ [] else fences) lines line
 
 -- how many numbers are spent
 length-if : (b : Bool) (log : List Entry) → length (if b then log else log ++ Admin ∷ [])
@@ -80,7 +82,7 @@ turn_with s draft written log fences = record {
 
 module _ (s : SessionParts) (draft : Draft) where
   abbrev written : List Message
-  written = map (message_in s.config draft.answered) draft.lines.items
+  written = map (message_in s.config) draft.lines.items
 
   abbrev log : List Entry
   log = logged (settled_log draft.settling s.log) draft.lines.items
@@ -93,9 +95,9 @@ module _ (s : SessionParts) (draft : Draft) where
 
   pushed : (line : Line) (lines : List Line) → lines ≡ draft.lines.items ++ line ∷ []
       → drafted s (with_lines lines)
-      ≡ turn_with s draft (written ++ message_in s.config draft.answered line ∷ []) (if line.poss_dup then log else
+      ≡ turn_with s draft (written ++ message_in s.config line ∷ []) (if line.poss_dup then log else
       log ++ Admin ∷ [])
-      (if is_fence line.said then fences ++ line.number ∷ [] else fences)
+      (if is_fence line.says then fences ++ line.number ∷ [] else fences)
   unfolding turn_with
   pushed line lines is =
       (let more : List Line = draft.lines.items ++ line ∷ [] in
@@ -103,54 +105,49 @@ module _ (s : SessionParts) (draft : Draft) where
       let left : List ℕ = fences_left draft.settling s.current.fences in
       ap (λ (ls : List Line). drafted s (with_lines ls)) is
       ∙ (ap (λ (w : List Message). turn_with s draft w (logged kept more) (with_fences left more))
-      (map-append (message_in s.config draft.answered) draft.lines.items (line ∷ []))
-      ∙ (ap (λ (l : List Entry). turn_with s draft (written ++ message_in s.config draft.answered line ∷ []) l
+      (map-append (message_in s.config) draft.lines.items (line ∷ []))
+      ∙ (ap (λ (l : List Entry). turn_with s draft (written ++ message_in s.config line ∷ []) l
       (with_fences left more))
       (logged-push kept draft.lines.items line)
-      ∙ ap (λ (f : List ℕ). turn_with s draft (written ++ message_in s.config draft.answered line ∷ [])
+      ∙ ap (λ (f : List ℕ). turn_with s draft (written ++ message_in s.config line ∷ [])
       (if line.poss_dup then log else log ++ Admin ∷ []) f)
       (with_fences-push left draft.lines.items line))))
 
-  pub put-turn : (what : Said) (number : ℕ) (lines : List Line)
-      → lines ≡ draft.lines.items ++ (let line : Line = record { number = number; poss_dup = false; said = what } in
+  pub put-turn : (body : SessionBody) (number : ℕ) (lines : List Line)
+      → lines ≡ draft.lines.items ++ (let line : Line = record { number = number; poss_dup = false; says = Body body } in
       line) ∷ []
-      → number ≡ next_out (drafted s draft).session → is_fence what ≡ false
-      → drafted s (with_lines lines) ≡ puts (content_in draft.answered (next_out (drafted s draft).session) what)
-      (drafted s draft)
+      → number ≡ next_out (drafted s draft).session
+      → drafted s (with_lines lines) ≡ puts (Session body) (drafted s draft)
   unfolding turn_with
-  put-turn what number lines is number_is no_fence =
-      (let line : Line = record { number = number; poss_dup = false; said = what } in
+  put-turn body number lines is number_is =
+      (let line : Line = record { number = number; poss_dup = false; says = Body body } in
       pushed line lines is
-      ∙ (ap (λ (b : Bool). turn_with s draft (written ++ message_in s.config draft.answered line ∷ []) (log ++ Admin ∷
-      [])
-      (if b then fences ++ number ∷ [] else fences)) no_fence
-      ∙ ap (λ (n : ℕ). let line : Line = record { number = n; poss_dup = false; said = what } in
-      turn_with s draft (written ++ message_in s.config draft.answered line ∷ []) (log ++ Admin ∷ []) fences)
-      number_is))
+      ∙ ap (λ (n : ℕ). let line : Line = record { number = n; poss_dup = false; says = Body body } in
+      turn_with s draft (written ++ message_in s.config line ∷ []) (log ++ Admin ∷ []) fences)
+      number_is)
 
   pub fence-turn : (number : ℕ) (lines : List Line)
       → lines ≡ draft.lines.items ++ (let line : Line = record {
         number = number;
         poss_dup = false;
-        said = said.Fence;
+        says = Fence;
       } in line) ∷ []
       → number ≡ next_out (drafted s draft).session
       → drafted s (with_lines lines) ≡ puts_fence (drafted s draft)
   unfolding turn_with
   fence-turn number lines is number_is =
-      pushed (record { number = number; poss_dup = false; said = said.Fence }) lines is
-      ∙ ap (λ (n : ℕ). let line : Line = record { number = n; poss_dup = false; said = said.Fence } in
-      turn_with s draft (written ++ message_in s.config draft.answered line ∷ []) (log ++ Admin ∷ []) (fences ++ n ∷
+      pushed (record { number = number; poss_dup = false; says = Fence }) lines is
+      ∙ ap (λ (n : ℕ). let line : Line = record { number = n; poss_dup = false; says = Fence } in
+      turn_with s draft (written ++ message_in s.config line ∷ []) (log ++ Admin ∷ []) (fences ++ n ∷
       [])) number_is
 
   pub fill-turn : (fill : GapFillParts) (lines : List Line)
       → lines ≡ draft.lines.items ++ (let line : Line = record {
         number = fill.first;
         poss_dup = true;
-        said =
-            said.GapFill fill.new_number;
+        says = Body (GapFill fill.new_number);
       } in line) ∷ []
       → drafted s (with_lines lines) ≡ fills fill (drafted s draft)
   unfolding turn_with
   fill-turn fill lines is =
-      pushed (record { number = fill.first; poss_dup = true; said = said.GapFill fill.new_number }) lines is
+      pushed (record { number = fill.first; poss_dup = true; says = Body (GapFill fill.new_number) }) lines is

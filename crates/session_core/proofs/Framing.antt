@@ -31,12 +31,12 @@ framed-push w stamp (x ∷ ms) [] m b all one = absurd all
 framed-push w stamp (x ∷ ms) (f ∷ fs) m b all one = (all.0, framed-push w stamp ms fs m b all.1 one)
 
 -- each of the messages can be written
-pub writable-at : (f : Line → Message) (lines : List Line) (i : ℕ) (d : Line) → i < length lines
+writable-at-place : (f : Line → Message) (lines : List Line) (i : ℕ) (d : Line) → i < length lines
     → AreWritable (map f lines)
     → IsWritable (alone (f (get_or lines i d)))
-writable-at f [] i d below all = absurd (omega (arith, below))
-writable-at f (line ∷ lines) zero d below all = all.0
-writable-at f (line ∷ lines) (suc i) d below all = writable-at f lines i d (omega (arith, below)) all.1
+writable-at-place f [] i d below all = absurd (omega (arith, below))
+writable-at-place f (line ∷ lines) zero d below all = all.0
+writable-at-place f (line ∷ lines) (suc i) d below all = writable-at-place f lines i d (omega (arith, below)) all.1
 
 -- what one line more spends and keeps
 pub logged-more : (log : List Entry) (lines : List Line) (i : ℕ) (d : Line) → i < length lines
@@ -48,7 +48,7 @@ logged-more log lines i d below =
 
 pub with_fences-more : (fences : List ℕ) (lines : List Line) (i : ℕ) (d : Line) → i < length lines
     → with_fences fences (take (i + 1) lines)
-    ≡ (if is_fence (get_or lines i d).said then with_fences fences (take i lines) ++ (get_or lines i d).number ∷ []
+    ≡ (if is_fence (get_or lines i d).says then with_fences fences (take i lines) ++ (get_or lines i d).number ∷ []
     else with_fences fences (take i lines))
 with_fences-more fences lines i d below =
     ap (λ (ls : List Line). with_fences fences ls) (take_more lines i d below)
@@ -127,52 +127,52 @@ wanting_leg entry log now fault is left =
     (let whole : Answers OutOfMemory log (answer_of entry log true) (Err fault) now =
     subst (λ (b : Bool). Answers OutOfMemory log (answer_of entry log b) (Err fault) now) left is in whole.1)
 
-pub spent-new : (start before now : OutLogParts) (r : Result ℕ LogFault) (lines : List Line) (i : ℕ) (d : Line)
+spent-new-place : (start before now : OutLogParts) (r : Result ℕ LogFault) (lines : List Line) (i : ℕ) (d : Line)
     → i < length lines → length (logged start.entries lines) + 1 ≤ start.max_number → (get_or lines i d).poss_dup
     ≡ false
     → before ≡ record start { entries = logged start.entries (take i lines) } → (r, now) ≡ push Admin before
     → now ≡ record start { entries = logged start.entries (take (i + 1) lines) }
-spent-new start before now r lines i d below limited new so is =
+spent-new-place start before now r lines i d below limited new so is =
     (let kept : OutLogParts = record start { entries = logged start.entries (take i lines) } in
     let left = number_left start.max_number start.entries lines i d below limited new in
     pushed_admin kept now r (subst (λ (log : OutLogParts). (r, now) ≡ push Admin log) so is) left
     ∙ ap (λ (es : List Entry). let parts : OutLogParts = record start { entries = es } in parts)
     (sym (logged-new start.entries lines i d below new)))
 
-pub spent-old : (start now : OutLogParts) (lines : List Line) (i : ℕ) (d : Line) → i < length lines
+spent-old-place : (start now : OutLogParts) (lines : List Line) (i : ℕ) (d : Line) → i < length lines
     → (get_or lines i d).poss_dup ≡ true → now ≡ record start { entries = logged start.entries (take i lines) }
     → now ≡ record start { entries = logged start.entries (take (i + 1) lines) }
-spent-old start now lines i d below old so =
+spent-old-place start now lines i d below old so =
     so
     ∙ ap (λ (es : List Entry). let parts : OutLogParts = record start { entries = es } in parts)
     (sym (logged-old start.entries lines i d below old))
 
-pub kept-new : (start before now : List ℕ) (lines : List Line) (i : ℕ) (d : Line) → i < length lines
-    → is_fence (get_or lines i d).said ≡ true → before ≡ with_fences start (take i lines)
+kept-new-place : (start before now : List ℕ) (lines : List Line) (i : ℕ) (d : Line) → i < length lines
+    → is_fence (get_or lines i d).says ≡ true → before ≡ with_fences start (take i lines)
     → now ≡ before ++ (get_or lines i d).number ∷ [] → now ≡ with_fences start (take (i + 1) lines)
-kept-new start before now lines i d below fence so is =
+kept-new-place start before now lines i d below fence so is =
     is
     ∙ (ap (λ (fences : List ℕ). fences ++ (get_or lines i d).number ∷ []) so
     ∙ sym (with_fences-more start lines i d below
     ∙ ap (λ (b : Bool). if b then with_fences start (take i lines) ++ (get_or lines i d).number ∷ []
     else with_fences start (take i lines)) fence))
 
-pub kept-old : (start now : List ℕ) (lines : List Line) (i : ℕ) (d : Line) → i < length lines
-    → is_fence (get_or lines i d).said ≡ false → now ≡ with_fences start (take i lines)
+kept-old-place : (start now : List ℕ) (lines : List Line) (i : ℕ) (d : Line) → i < length lines
+    → is_fence (get_or lines i d).says ≡ false → now ≡ with_fences start (take i lines)
     → now ≡ with_fences start (take (i + 1) lines)
-kept-old start now lines i d below no_fence so =
+kept-old-place start now lines i d below no_fence so =
     so
     ∙ sym (with_fences-more start lines i d below
     ∙ ap (λ (b : Bool). if b then with_fences start (take i lines) ++ (get_or lines i d).number ∷ []
     else with_fences start (take i lines)) no_fence)
 
 -- one frame more
-pub framed-more : (w : Encoding) (stamp : StampParts) (f : Line → Message) (lines : List Line) (i : ℕ) (d : Line)
+framed-more-place : (w : Encoding) (stamp : StampParts) (f : Line → Message) (lines : List Line) (i : ℕ) (d : Line)
     (frames now : List (Vec ℕ)) (frame : Vec ℕ) → i < length lines
     → AreFramed w stamp (map alone (map f (take i lines))) (map (λ (v : Vec ℕ). v.items) frames)
     → IsFramed w stamp (alone (f (get_or lines i d))) frame.items → now ≡ frames ++ frame ∷ []
     → AreFramed w stamp (map alone (map f (take (i + 1) lines))) (map (λ (v : Vec ℕ). v.items) now)
-framed-more w stamp f lines i d frames now frame below all one is =
+framed-more-place w stamp f lines i d frames now frame below all one is =
     (let messages : map f (take (i + 1) lines) ≡ map f (take i lines) ++ f (get_or lines i d) ∷ [] =
     ap (λ (ls : List Line). map f ls) (take_more lines i d below) ∙ map-append f (take i lines) (get_or lines i d ∷
     []) in
@@ -182,3 +182,45 @@ framed-more w stamp f lines i d frames now frame below all one is =
     rw (messages, bytes)
     (framed-push w stamp (map f (take i lines)) (map (λ (v : Vec ℕ). v.items) frames) (f (get_or lines i d)) frame.items
     all one))
+
+-- the same of the line that stands at a place
+pub writable-at : (f : Line → Message) (lines : List Line) (i : ℕ) (line : Line) → i < length lines
+    → line ≡ get_or lines i line → AreWritable (map f lines) → IsWritable (alone (f line))
+writable-at f lines i line below at all =
+    subst (λ (l : Line). IsWritable (alone (f l))) (sym at) (writable-at-place f lines i line below all)
+
+pub spent-new : (start before now : OutLogParts) (r : Result ℕ LogFault) (lines : List Line) (i : ℕ) (line : Line)
+    → i < length lines → line ≡ get_or lines i line → length (logged start.entries lines) + 1 ≤ start.max_number
+    → line.poss_dup ≡ false → before ≡ record start { entries = logged start.entries (take i lines) }
+    → (r, now) ≡ push Admin before → now ≡ record start { entries = logged start.entries (take (i + 1) lines) }
+spent-new start before now r lines i line below at limited new so is =
+    spent-new-place start before now r lines i line below limited (ap (λ (l : Line). l.poss_dup) (sym at) ∙ new) so is
+
+pub spent-old : (start now : OutLogParts) (lines : List Line) (i : ℕ) (line : Line) → i < length lines
+    → line ≡ get_or lines i line → line.poss_dup ≡ true
+    → now ≡ record start { entries = logged start.entries (take i lines) }
+    → now ≡ record start { entries = logged start.entries (take (i + 1) lines) }
+spent-old start now lines i line below at old so =
+    spent-old-place start now lines i line below (ap (λ (l : Line). l.poss_dup) (sym at) ∙ old) so
+
+pub kept-new : (start before now : List ℕ) (lines : List Line) (i : ℕ) (line : Line) → i < length lines
+    → line ≡ get_or lines i line → is_fence line.says ≡ true → before ≡ with_fences start (take i lines)
+    → now ≡ before ++ line.number ∷ [] → now ≡ with_fences start (take (i + 1) lines)
+kept-new start before now lines i line below at fence so is =
+    kept-new-place start before now lines i line below (ap (λ (l : Line). is_fence l.says) (sym at) ∙ fence) so
+    (subst (λ (l : Line). now ≡ before ++ l.number ∷ []) at is)
+
+pub kept-old : (start now : List ℕ) (lines : List Line) (i : ℕ) (line : Line) → i < length lines
+    → line ≡ get_or lines i line → is_fence line.says ≡ false → now ≡ with_fences start (take i lines)
+    → now ≡ with_fences start (take (i + 1) lines)
+kept-old start now lines i line below at no_fence so =
+    kept-old-place start now lines i line below (ap (λ (l : Line). is_fence l.says) (sym at) ∙ no_fence) so
+
+pub framed-more : (w : Encoding) (stamp : StampParts) (f : Line → Message) (lines : List Line) (i : ℕ) (line : Line)
+    (frames now : List (Vec ℕ)) (frame : Vec ℕ) → i < length lines → line ≡ get_or lines i line
+    → AreFramed w stamp (map alone (map f (take i lines))) (map (λ (v : Vec ℕ). v.items) frames)
+    → IsFramed w stamp (alone (f line)) frame.items → now ≡ frames ++ frame ∷ []
+    → AreFramed w stamp (map alone (map f (take (i + 1) lines))) (map (λ (v : Vec ℕ). v.items) now)
+framed-more w stamp f lines i line frames now frame below at all one is =
+    framed-more-place w stamp f lines i line frames now frame below all
+    (subst (λ (l : Line). IsFramed w stamp (alone (f l)) frame.items) at one) is

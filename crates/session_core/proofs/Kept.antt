@@ -17,7 +17,8 @@ use Rattle.dialect.specs.FreeText.{IsFreeText}
 use Rattle.dialect.specs.declared.content.Content.{Content}
 use Rattle.dialect.specs.declared.message.Message.{Message}
 use Rattle.dialect.specs.Message.{is_logon}
-use Rattle.dialect.specs.declared.content.Content.TheVariants.{Logon, Heartbeat, TestRequest, ResendRequest, Reject, GapFill, Reset, Logout, BusinessReject, Order, ExecutionReport, Other}
+use Rattle.dialect.specs.declared.content.Content.TheVariants.{Session, Order, ExecutionReport, Other}
+use Rattle.fix_tags.specs.declared.session_body.SessionBody.TheVariants.{Logon, Heartbeat, TestRequest, ResendRequest, Reject, GapFill, Reset, Logout, BusinessReject}
 use Rattle.dialect.specs.Outgoing.{alone}
 use Rattle.dialect.specs.Writable.{IsNext, IsWritable, IsWritableContent}
 use Rattle.resend.specs.declared.judged.Judged.{Judged}
@@ -88,7 +89,7 @@ one_more t m written says = all-append (λ m. IsWritable (alone m)) t.step.writt
 
 -- a message that is no gap fill, under the next number
 pub IsNoFill : Content → Type 0
-IsNoFill content = (new_number : ℕ) → content ≡ GapFill new_number → ⊥
+IsNoFill content = (new_number : ℕ) → content ≡ Session (GapFill new_number) → ⊥
 
 spares_next : (t : Turn) (content : Content) → IsNoFill content → FillsSpareDoubt t.session.log t.step.written
     → FillsSpareDoubt (t.session.log ++ Admin ∷ [])
@@ -121,25 +122,25 @@ kept-writes content t kept says no_fill =
     (λ spent. kept)
 
 pub fence_message : (s : SessionParts) → IsSound s → may_write s ≡ true
-    → IsWritable (alone (message_of s.config (next_out s) false (TestRequest (fence_id (next_out s)))))
+    → IsWritable (alone (message_of s.config (next_out s) false (Session (TestRequest (fence_id (next_out s))))))
 fence_message s is may =
     (let low = next_writable s is may in
-    writable s.config is.config (next_out s) false (TestRequest (fence_id (next_out s))) (omega arith) low
+    writable s.config is.config (next_out s) false (Session (TestRequest (fence_id (next_out s)))) (omega arith) low
     (fence_writable (next_out s) (omega (arith, low))))
 
-pub no_fill-heartbeat : (id : Option (List ℕ)) → IsNoFill (Heartbeat id)
+pub no_fill-heartbeat : (id : Option (List ℕ)) → IsNoFill (Session (Heartbeat id))
 unfolding IsNoFill
 no_fill-heartbeat id new_number is = absurd cc
 
-no_fill-test : (id : List ℕ) → IsNoFill (TestRequest id)
+no_fill-test : (id : List ℕ) → IsNoFill (Session (TestRequest id))
 unfolding IsNoFill
 no_fill-test id new_number is = absurd cc
 
-no_fill-request : (begin last : ℕ) → IsNoFill (ResendRequest begin last)
+no_fill-request : (begin last : ℕ) → IsNoFill (Session (ResendRequest begin last))
 unfolding IsNoFill
 no_fill-request begin last new_number is = absurd cc
 
-no_fill-logout : IsNoFill Logout
+no_fill-logout : IsNoFill (Session Logout)
 unfolding IsNoFill
 no_fill-logout new_number is = absurd cc
 
@@ -147,7 +148,7 @@ pub kept-puts_fence : (t : Turn) → Kept t → may_write t.session ≡ true →
 kept-puts_fence t kept may = record {
   sound = sound-fenced t.session kept.sound may;
   spares =
-      spares_next t (TestRequest (fence_id (next_out t.session))) (no_fill-test (fence_id (next_out t.session)))
+      spares_next t (Session (TestRequest (fence_id (next_out t.session)))) (no_fill-test (fence_id (next_out t.session)))
       kept.spares;
   written = one_more t _ kept.written (fence_message t.session kept.sound may);
 }
@@ -169,14 +170,14 @@ same_sound s is = record {
 
 kept-asks : (t : Turn) → Kept t → Kept (asks t)
 kept-asks t kept =
-    chosen Kept (may_write t.session) (puts (ResendRequest t.session.expected 0) (with_session (asking t.session) t)) t
+    chosen Kept (may_write t.session) (puts (Session (ResendRequest t.session.expected 0)) (with_session (asking t.session) t)) t
     (λ may.
     (let asked : Kept (with_session (asking t.session) t) = record {
       sound = same_sound t.session kept.sound;
       written = kept.written;
       spares = kept.spares;
     } in
-    kept-puts (ResendRequest t.session.expected 0) (with_session (asking t.session) t) asked may
+    kept-puts (Session (ResendRequest t.session.expected 0)) (with_session (asking t.session) t) asked may
     (kept.sound.expected.to, omega arith) (no_fill-request t.session.expected 0)))
     (λ spent. kept)
 
@@ -189,7 +190,7 @@ IsSpared : List Entry → GapFillParts → Type 0
 IsSpared log fill = EveryLeg log (λ number leg. number < fill.new_number → leg.state ≡ Doubt → ⊥)
 
 spares_fill : (log : List Entry) (config : ConfigParts) (fill : GapFillParts) → IsSpared log fill
-    → FillSpares log (message_of config fill.first true (GapFill fill.new_number))
+    → FillSpares log (message_of config fill.first true (Session (GapFill fill.new_number)))
 unfolding IsSpared
 spares_fill log config fill spared new_number is number leg there low below doubt =
     (let same : fill.new_number ≡ new_number = cc in spared number leg there (omega (arith, same, below)) doubt)
@@ -214,7 +215,7 @@ kept-fills fill t kept from forward to spared = record {
       (spares_fill t.session.log t.session.config fill spared, tt);
   written =
       one_more t _ kept.written
-      (writable t.session.config kept.sound.config fill.first true (GapFill fill.new_number) from
+      (writable t.session.config kept.sound.config fill.first true (Session (GapFill fill.new_number)) from
       (omega (arith, forward, to)) to);
 }
 
@@ -299,9 +300,9 @@ module _ (top : ℕ) where
       let out_is : IsSound out =
       sound-phase s is LoggedOut (stands-logged_out s.log s.current.fences s.current.closing_fence none) in
       chosen (λ (t : Turn). Good top (with_session (record t.session { phase = LoggedOut }) t)) (may_write s)
-      (puts Logout (quietly s)) (quietly s)
+      (puts (Session Logout) (quietly s)) (quietly s)
       (λ may. record {
-        kept = kept-puts Logout (quietly out) (kept-quietly out out_is) may tt no_fill-logout;
+        kept = kept-puts (Session Logout) (quietly out) (kept-quietly out out_is) may tt no_fill-logout;
         heard = heard;
         expected = below;
       })
@@ -531,9 +532,9 @@ module _ (s : SessionParts) (is : IsSound s) (heard : s.current.pending ≡ fals
   kept-test : (id : List ℕ) → IsFreeText 64 id → s.expected ≤ 999999998 → Kept (counts (answers_test s id))
   kept-test id says low =
       kept-counts (answers_test s id)
-      (chosen (Good 999999998) (is_logged_out s.phase) (quietly s) (writes (Heartbeat (Some id)) (quietly s))
+      (chosen (Good 999999998) (is_logged_out s.phase) (quietly s) (writes (Session (Heartbeat (Some id))) (quietly s))
       (λ over. good-quietly 999999998 s is heard low)
-      (λ going. good-writes 999999998 (Heartbeat (Some id)) (quietly s) (good-quietly 999999998 s is heard low) says
+      (λ going. good-writes 999999998 (Session (Heartbeat (Some id))) (quietly s) (good-quietly 999999998 s is heard low) says
       (no_fill-heartbeat (Some id))))
 
   kept-gap_fill : (number new_number : ℕ) → new_number ≤ 999999999 → Kept (gap_fill_row s number new_number)
@@ -554,25 +555,25 @@ module _ (s : SessionParts) (is : IsSound s) (heard : s.current.pending ≡ fals
   kept-logout : Kept (logout_row s)
   kept-logout =
       chosen Kept (is_logged_out s.phase) (ends ended.LogoutDone s)
-      (ends_turn ended.PeerLogout (writes Logout (quietly s)))
+      (ends_turn ended.PeerLogout (writes (Session Logout) (quietly s)))
       (λ done. kept-ends ended.LogoutDone s is)
       (λ first.
-      kept-ends_turn ended.PeerLogout (writes Logout (quietly s))
-      (kept-writes Logout (quietly s) (kept-quietly s is) tt no_fill-logout))
+      kept-ends_turn ended.PeerLogout (writes (Session Logout) (quietly s))
+      (kept-writes (Session Logout) (quietly s) (kept-quietly s is) tt no_fill-logout))
 
   kept-row : (number : ℕ) (content : Content) → IsReadContent content → Kept (row due s number content)
-  kept-row number (Logon heart reset next) says = kept-logon next says
-  kept-row number (ResendRequest begin last) says = kept-resend begin last
-  kept-row number (Heartbeat id) says = kept-heartbeat id
-  kept-row number (TestRequest id) says = kept-in_turn _ (kept-test id says)
-  kept-row number (GapFill new_number) says = kept-in_turn _ (λ low. kept-gap_fill number new_number says)
-  kept-row number (Reject refused) says =
+  kept-row number (Session (Logon heart reset next)) says = kept-logon next says
+  kept-row number (Session (ResendRequest begin last)) says = kept-resend begin last
+  kept-row number (Session (Heartbeat id)) says = kept-heartbeat id
+  kept-row number (Session (TestRequest id)) says = kept-in_turn _ (kept-test id says)
+  kept-row number (Session (GapFill new_number)) says = kept-in_turn _ (λ low. kept-gap_fill number new_number says)
+  kept-row number (Session (Reject refused)) says =
       kept-in_turn _ (kept-refused_leg (leg_at refused s.log))
-  kept-row number (BusinessReject refused) says =
+  kept-row number (Session (BusinessReject refused)) says =
       kept-in_turn _ (kept-refused_leg (option_and_then (λ n. leg_at n s.log) refused))
-  kept-row number Logout says = kept-logout
+  kept-row number (Session Logout) says = kept-logout
   kept-row number (ExecutionReport read) says = kept-in_turn _ (kept-notes (report_note read))
-  kept-row number (Reset new_number) says = kept-in_turn _ counted_low
+  kept-row number (Session (Reset new_number)) says = kept-in_turn _ counted_low
   kept-row number (Order read) says = kept-in_turn _ counted_low
   kept-row number Other says = kept-in_turn _ counted_low
 

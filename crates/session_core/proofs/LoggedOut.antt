@@ -7,7 +7,8 @@ use Rattle.dialect.specs.declared.note.Note.{Note}
 use Rattle.dialect.specs.Addressed.{is_for}
 use Rattle.dialect.specs.declared.content.Content.{Content}
 use Rattle.dialect.specs.declared.message.Message.{Message}
-use Rattle.dialect.specs.declared.content.Content.TheVariants.{Logon, Heartbeat, TestRequest, ResendRequest, Reject, GapFill, Reset, Logout, BusinessReject, Order, ExecutionReport, Other}
+use Rattle.dialect.specs.declared.content.Content.TheVariants.{Session, Order, ExecutionReport, Other}
+use Rattle.fix_tags.specs.declared.session_body.SessionBody.TheVariants.{Logon, Heartbeat, TestRequest, ResendRequest, Reject, GapFill, Reset, Logout, BusinessReject}
 use Rattle.resend.specs.declared.judged.Judged.{Judged}
 use Rattle.resend.specs.declared.judged.Judged.TheVariants as judged
 use Rattle.resend.specs.Judging.{judged}
@@ -99,16 +100,16 @@ out_counted : (s : SessionParts) → IsOut s (counts (quietly (out s)))
 out_counted s = out_counts s (quietly (out s)) (out_quietly s (out s) refl)
 
 out_row : (s : SessionParts) (due : Bool) (number : ℕ) (content : Content) → IsOut s (row due (out s) number content)
-out_row s due number (Logon heart reset next) = out_ends s (out s) ended.LogonAgain
-out_row s due number (ResendRequest begin last) = out_resend s due begin last
-out_row s due number (Heartbeat id) = out_counts_if s due _ (out_fence s (named_fence (out s) id))
-out_row s due number (TestRequest id) = out_in_turn s due _ (out_counted s)
-out_row s due number (GapFill new_number) = out_in_turn s due _ (out_gap_fill s number new_number)
-out_row s due number (Reject refused) = out_in_turn s due _ (out_refused s (Some refused))
-out_row s due number (BusinessReject refused) = out_in_turn s due _ (out_refused s refused)
-out_row s due number Logout = out_ends s (out s) ended.LogoutDone
+out_row s due number (Session (Logon heart reset next)) = out_ends s (out s) ended.LogonAgain
+out_row s due number (Session (ResendRequest begin last)) = out_resend s due begin last
+out_row s due number (Session (Heartbeat id)) = out_counts_if s due _ (out_fence s (named_fence (out s) id))
+out_row s due number (Session (TestRequest id)) = out_in_turn s due _ (out_counted s)
+out_row s due number (Session (GapFill new_number)) = out_in_turn s due _ (out_gap_fill s number new_number)
+out_row s due number (Session (Reject refused)) = out_in_turn s due _ (out_refused s (Some refused))
+out_row s due number (Session (BusinessReject refused)) = out_in_turn s due _ (out_refused s refused)
+out_row s due number (Session Logout) = out_ends s (out s) ended.LogoutDone
 out_row s due number (ExecutionReport read) = out_in_turn s due _ (out_notes s (out s) (report_note read) refl)
-out_row s due number (Reset new_number) = out_in_turn s due _ (out_counted s)
+out_row s due number (Session (Reset new_number)) = out_in_turn s due _ (out_counted s)
 out_row s due number (Order read) = out_in_turn s due _ (out_counted s)
 out_row s due number Other = out_in_turn s due _ (out_counted s)
 

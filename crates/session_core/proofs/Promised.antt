@@ -5,7 +5,8 @@ use Rattle.std.proofs.lemmas.Bool.Decides.{nat_tests}
 use Rattle.leg.specs.declared.leg.Leg.{Leg}
 use Rattle.leg.specs.Leg.{IsLeg}
 use Rattle.dialect.specs.declared.message.Message.{Message}
-use Rattle.dialect.specs.declared.content.Content.TheVariants.{Logon, Heartbeat, Order}
+use Rattle.dialect.specs.declared.content.Content.TheVariants.{Session, Order}
+use Rattle.fix_tags.specs.declared.session_body.SessionBody.TheVariants.{Logon, Heartbeat}
 use Rattle.dialect.specs.Outgoing.{alone}
 use Rattle.dialect.specs.Writable.{IsNext, IsWritable}
 use Rattle.resend.specs.Log.{last_ordinal}
@@ -49,7 +50,7 @@ keeps-logs_on s is =
       sound = sound-connecting s is may;
       says =
           (let heart = is.config.heart in
-          writable s.config is.config (next_out s) false (Logon s.config.heart false (own_next s)) (omega arith)
+          writable s.config is.config (next_out s) false (Session (Logon s.config.heart false (own_next s))) (omega arith)
           (next_writable s is may)
           (omega (arith, heart), own_next_writable s is));
     })
@@ -137,8 +138,8 @@ keeps-quiet s is =
     (λ off. keeps_refused StepCanBe fault.NotConnected s is)
     (λ on. chosen (Keeps StepCanBe) (is_still s.phase) (answers (quietly s)) _
     (λ still. keeps-answers (quietly s) (kept-quietly s is))
-    (λ going. keeps-numbered s is (puts (Heartbeat None) (quietly s))
-    (λ may. kept-puts (Heartbeat None) (quietly s) (kept-quietly s is) may tt (no_fill-heartbeat None))))
+    (λ going. keeps-numbered s is (puts (Session (Heartbeat None)) (quietly s))
+    (λ may. kept-puts (Session (Heartbeat None)) (quietly s) (kept-quietly s is) may tt (no_fill-heartbeat None))))
 
 pub quiet_sound : (s : SessionParts) → IsSound s → IsSound (quiet s).1
 quiet_sound s is = (keeps-quiet s is).sound

@@ -10,7 +10,8 @@ use Rattle.dialect.specs.Addressed.{is_for}
 use Rattle.dialect.specs.declared.content.Content.{Content}
 use Rattle.dialect.specs.declared.message.Message.{Message}
 use Rattle.dialect.specs.Message.{is_logon}
-use Rattle.dialect.specs.declared.content.Content.TheVariants.{Logon, Heartbeat, TestRequest, ResendRequest, Reject, GapFill, Reset, Logout, BusinessReject, Order, ExecutionReport, Other}
+use Rattle.dialect.specs.declared.content.Content.TheVariants.{Session, Order, ExecutionReport, Other}
+use Rattle.fix_tags.specs.declared.session_body.SessionBody.TheVariants.{Logon, Heartbeat, TestRequest, ResendRequest, Reject, GapFill, Reset, Logout, BusinessReject}
 use Rattle.resend.specs.declared.judged.Judged.{Judged}
 use Rattle.resend.specs.declared.judged.Judged.TheVariants as judged
 use Rattle.resend.specs.Judging.{judged}
@@ -216,7 +217,7 @@ module _ (may : Bool) (told : Option ℕ) where
   received_test s id =
       chosen (Goes may told s) (is_logged_out s.phase) (quietly s) _
       (λ over. received_quietly s)
-      (λ going. received_by may told s (quietly s) _ (received_quietly s) (adds-writes (Heartbeat (Some id)) (quietly s)))
+      (λ going. received_by may told s (quietly s) _ (received_quietly s) (adds-writes (Session (Heartbeat (Some id))) (quietly s)))
 
   received_gap_fill : (s : SessionParts) (number new_number : ℕ) → number ≡ s.expected
       → Goes may told s (gap_fill_row s number new_number)
@@ -240,9 +241,9 @@ module _ (may : Bool) (told : Option ℕ) where
       chosen (Goes may told s) (is_logged_out s.phase) (ends ended.LogoutDone s) _
       (λ done. received_ends ended.LogoutDone s)
       (λ first.
-      (let wrote = writes Logout (quietly s) in
+      (let wrote = writes (Session Logout) (quietly s) in
       received_by may told s wrote (ends_turn ended.PeerLogout wrote)
-      (received_by may told s (quietly s) wrote (received_quietly s) (adds-writes Logout (quietly s)))
+      (received_by may told s (quietly s) wrote (received_quietly s) (adds-writes (Session Logout) (quietly s)))
       (adds-ends_turn ended.PeerLogout wrote)))
 
   received_in_turn : (due : Bool) (s : SessionParts) (turn : Turn) → (due ≡ true → Goes may told s turn)
@@ -255,22 +256,22 @@ module _ (may : Bool) (told : Option ℕ) where
   received_row : (due : Bool) (s : SessionParts) (number : ℕ) (content : Content) → may_withdraw s content ≡ may
       → told_taken s content ≡ told → (due ≡ true → number ≡ s.expected)
       → Goes may told s (row due s number content)
-  received_row due s number (Logon heart reset next) is says at = received_logon due s next is says
-  received_row due s number (ResendRequest begin last) is says at = received_resend due s begin last is says
-  received_row due s number (Heartbeat id) is says at =
+  received_row due s number (Session (Logon heart reset next)) is says at = received_logon due s next is says
+  received_row due s number (Session (ResendRequest begin last)) is says at = received_resend due s begin last is says
+  received_row due s number (Session (Heartbeat id)) is says at =
       received_by may told s _ _ (received_fence s (named_fence s id) says)
       (adds-counts_if due (passes_fence s (named_fence s id)))
-  received_row due s number (TestRequest id) is says at =
+  received_row due s number (Session (TestRequest id)) is says at =
       received_in_turn due s _ (λ now. received_counts s (answers_test s id) (received_test s id))
-  received_row due s number (GapFill new_number) is says at =
+  received_row due s number (Session (GapFill new_number)) is says at =
       received_in_turn due s _ (λ now. received_gap_fill s number new_number (at now))
-  received_row due s number (Reject refused) is says at = received_in_turn due s _ (λ now. received_refused s (Some refused))
-  received_row due s number (BusinessReject refused) is says at =
+  received_row due s number (Session (Reject refused)) is says at = received_in_turn due s _ (λ now. received_refused s (Some refused))
+  received_row due s number (Session (BusinessReject refused)) is says at =
       received_in_turn due s _ (λ now. received_refused s refused)
-  received_row due s number Logout is says at = received_logout s
+  received_row due s number (Session Logout) is says at = received_logout s
   received_row due s number (ExecutionReport read) is says at =
       received_in_turn due s _ (λ now. received_notes (report_note read) s)
-  received_row due s number (Reset new_number) is says at = received_counted due s
+  received_row due s number (Session (Reset new_number)) is says at = received_counted due s
   received_row due s number (Order read) is says at = received_counted due s
   received_row due s number Other is says at = received_counted due s
 

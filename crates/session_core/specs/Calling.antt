@@ -4,7 +4,8 @@ use Rattle.leg.specs.declared.leg.Leg.{Leg}
 use Rattle.leg.specs.declared.leg_state.LegState.TheVariants.{Doubt}
 use Rattle.dialect.specs.Addressed.{message_of}
 use Rattle.dialect.specs.declared.message.Message.{Message}
-use Rattle.dialect.specs.declared.content.Content.TheVariants.{Logon, Heartbeat, Order}
+use Rattle.dialect.specs.declared.content.Content.TheVariants.{Session, Order}
+use Rattle.fix_tags.specs.declared.session_body.SessionBody.TheVariants.{Logon, Heartbeat}
 use Rattle.resend.specs.Log.{SentLeg, last_ordinal}
 use Rattle.resend.specs.Log.Entry.{Sent}
 use Rattle.session_core.specs.declared.phase.Phase.{Phase}
@@ -46,7 +47,7 @@ own_next s = if s.config.has_next then Some s.expected else None
 abbrev pub logs_on : SessionParts → SessionAnswer Message
 logs_on s =
     if may_write s
-    then (Ok (message_of s.config (next_out s) false (Logon s.config.heart false (own_next s))), connecting s)
+    then (Ok (message_of s.config (next_out s) false (Session (Logon s.config.heart false (own_next s)))), connecting s)
     else refuses fault.NumbersSpent s
 
 abbrev pub connect_in : Phase → SessionParts → SessionAnswer Message
@@ -83,7 +84,7 @@ abbrev pub quiet : SessionParts → SessionAnswer StepParts
 quiet s =
     if not (is_connected s.phase) then refuses fault.NotConnected s
     else (if is_still s.phase then answers (quietly s)
-    else answers_numbered s (puts (Heartbeat None) (quietly s)))
+    else answers_numbered s (puts (Session (Heartbeat None)) (quietly s)))
 
 -- silent: nothing was received for a while, so a fence is written; the second time the connection ends
 abbrev pub hushed : SessionParts → SessionParts

@@ -4,7 +4,8 @@ use Rattle.leg.specs.LegId.{LegIdParts}
 use Rattle.dialect.specs.declared.note.Note.{Note}
 use Rattle.dialect.specs.declared.note.Note.TheVariants as note
 use Rattle.dialect.specs.declared.content.Content.{Content}
-use Rattle.dialect.specs.declared.content.Content.TheVariants.{Reject, GapFill, BusinessReject, ExecutionReport}
+use Rattle.dialect.specs.declared.content.Content.TheVariants.{Session, ExecutionReport}
+use Rattle.fix_tags.specs.declared.session_body.SessionBody.TheVariants.{Reject, GapFill, BusinessReject}
 use Rattle.resend.specs.Log.{Entry, leg_at}
 use Rattle.session_core.specs.Session.{SessionParts}
 use Rattle.session_core.specs.Turn.{Turn}
@@ -18,8 +19,8 @@ refusal_note (Some id) = Some (note.Refused id)
 -- the note of a message, if it has one: a report's, or that of a refusal of a leg's number
 abbrev pub note_for : List Entry → Content → Option Note
 note_for log (ExecutionReport read) = Some (report_note read)
-note_for log (Reject number) = refusal_note (leg_at number log)
-note_for log (BusinessReject (Some number)) = refusal_note (leg_at number log)
+note_for log (Session (Reject number)) = refusal_note (leg_at number log)
+note_for log (Session (BusinessReject (Some number))) = refusal_note (leg_at number log)
 note_for log content = None
 
 -- nothing is noted, and this number is expected
@@ -36,7 +37,7 @@ pub data Counted (s : SessionParts) (number : ℕ) (content : Content) (turn : T
   counted : number ≡ s.expected → note_for s.log content ≡ None → Quiet (suc s.expected) turn
       → Counted s number content turn
   -- it is, and a gap fill
-  passed : number ≡ s.expected → (new_number : ℕ) → content ≡ GapFill new_number → number < new_number
+  passed : number ≡ s.expected → (new_number : ℕ) → content ≡ Session (GapFill new_number) → number < new_number
       → Quiet new_number turn → Counted s number content turn
   -- it is, and its note is given: it is counted once that is confirmed
   gives : number ≡ s.expected → (given : Note) → note_for s.log content ≡ Some given

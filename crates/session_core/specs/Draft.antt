@@ -5,12 +5,13 @@ use Rattle.leg.specs.LegId.{LegIdParts}
 use Rattle.dialect.specs.Addressed.{message_of}
 use Rattle.dialect.specs.declared.message.Message.{Message}
 use Rattle.dialect.specs.declared.content.Content.{Content}
-use Rattle.dialect.specs.declared.content.Content.TheVariants.{Heartbeat, TestRequest, ResendRequest, GapFill, Logout}
+use Rattle.dialect.specs.declared.content.Content.TheVariants.{Session}
+use Rattle.fix_tags.specs.declared.session_body.SessionBody.TheVariants.{TestRequest}
 use Rattle.resend.specs.Log.{Entry, take_below, give_up_from, doubt_from}
 use Rattle.resend.specs.Log.Entry.{Admin}
 use Rattle.session_core.specs.declared.line.Line.{Line}
-use Rattle.session_core.specs.declared.line.Said.{Said}
-use Rattle.session_core.specs.declared.line.Said.TheVariants as said
+use Rattle.session_core.specs.declared.line.Says.{Says}
+use Rattle.session_core.specs.declared.line.Says.TheVariants.{Fence, Body}
 use Rattle.session_core.specs.declared.session_fault.SessionFault.{SessionFault}
 use Rattle.session_core.specs.declared.draft.Draft.{Draft}
 use Rattle.session_core.specs.declared.draft.Settling.{Settling}
@@ -21,17 +22,13 @@ use Rattle.session_core.specs.Calling.{SessionAnswer}
 use Rattle.session_core.specs.Receiving.{above}
 use Rattle.session_core.specs.Kept.{seen}
 
--- what a message says that is to be written under a number, where a TestRequest of this id is answered or none is
-abbrev pub content_in : Option (List ℕ) → ℕ → Said → Content
-content_in answered number said.Heartbeat = Heartbeat answered
-content_in answered number said.Fence = TestRequest (fence_id number)
-content_in answered number (said.ResendRequest begin) = ResendRequest begin 0
-content_in answered number (said.GapFill new_number) = GapFill new_number
-content_in answered number said.Logout = Logout
+-- what a message says that is to be written under a number
+abbrev pub content_in : ℕ → Says → Content
+content_in number Fence = Session (TestRequest (fence_id number))
+content_in number (Body body) = Session body
 
-abbrev pub message_in : ConfigParts → Option (List ℕ) → Line → Message
-message_in config answered line =
-    message_of config line.number line.poss_dup (content_in answered line.number line.said)
+abbrev pub message_in : ConfigParts → Line → Message
+message_in config line = message_of config line.number line.poss_dup (content_in line.number line.says)
 
 -- the log with a number spent on each message that is written for the first time
 abbrev pub logged : List Entry → List Line → List Entry
@@ -39,17 +36,14 @@ logged log [] = log
 logged log (line ∷ lines) = logged (if line.poss_dup then log else log ++ Admin ∷ []) lines
 
 -- the fences with those that are written
-abbrev pub is_fence : Said → Bool
-is_fence said.Heartbeat = false
-is_fence said.Fence = true
-is_fence (said.ResendRequest begin) = false
-is_fence (said.GapFill new_number) = false
-is_fence said.Logout = false
+abbrev pub is_fence : Says → Bool
+is_fence Fence = true
+is_fence (Body body) = false
 
 abbrev pub with_fences : List ℕ → List Line → List ℕ
 with_fences fences [] = fences
 with_fences fences (line ∷ lines) =
-    with_fences (if is_fence line.said then fences ++ line.number ∷ [] else fences) lines
+    with_fences (if is_fence line.says then fences ++ line.number ∷ [] else fences) lines
 
 -- the legs in doubt once they are settled, the fences that are kept then, and the legs that are withdrawn
 abbrev pub settled_log : Settling → List Entry → List Entry
@@ -71,7 +65,7 @@ withdrawn_by (At number) log = doubt_from number log
 abbrev pub drafted : SessionParts → Draft → Turn
 drafted s draft = record {
   step = record {
-    written = map (message_in s.config draft.answered) draft.lines.items;
+    written = map (message_in s.config) draft.lines.items;
     note = draft.note;
     withdrawn = withdrawn_by draft.settling s.log;
     ended = draft.ended;

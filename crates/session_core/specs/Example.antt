@@ -7,7 +7,8 @@ use Rattle.dialect.specs.declared.report.Report.{Report}
 use Rattle.dialect.specs.declared.report.ReportKind.TheVariants.{New}
 use Rattle.dialect.specs.declared.content.Content.{Content}
 use Rattle.dialect.specs.declared.message.Message.{Message}
-use Rattle.dialect.specs.declared.content.Content.TheVariants.{Logon, Heartbeat}
+use Rattle.dialect.specs.declared.content.Content.TheVariants.{Session}
+use Rattle.fix_tags.specs.declared.session_body.SessionBody.TheVariants.{Logon, Heartbeat}
 use Rattle.session_core.specs.declared.ended.Ended.{Ended}
 use Rattle.session_core.specs.Session.{SessionParts, new_session}
 use Rattle.session_core.specs.Turn.{StepParts, Turn}
@@ -42,12 +43,12 @@ heard s (m ∷ ms) = heard (receive s m).session ms
 
 -- logged on, with its fence not yet answered
 abbrev pub settling : SessionParts
-settling = heard (connected (new_session config)) (from_b 1 (Logon 30 false None) ∷ [])
+settling = heard (connected (new_session config)) (from_b 1 (Session (Logon 30 false None)) ∷ [])
 
 -- logged on, with the fence of number 2 answered: the settled number is 2, and 3 is expected
 abbrev pub up_of : ConfigParts → SessionParts
 up_of of =
-    heard (connected (new_session of)) (from_b 1 (Logon 30 false None) ∷ from_b 2 (Heartbeat (Some (codes "F2"))) ∷ [])
+    heard (connected (new_session of)) (from_b 1 (Session (Logon 30 false None)) ∷ from_b 2 (Session (Heartbeat (Some (codes "F2")))) ∷ [])
 
 abbrev pub up : SessionParts
 up = up_of config
@@ -72,7 +73,7 @@ abbrev pub closing : SessionParts
 closing = (close up).1
 
 abbrev pub logged_out : SessionParts
-logged_out = heard closing (from_b 3 (Heartbeat (Some (codes "F3"))) ∷ [])
+logged_out = heard closing (from_b 3 (Session (Heartbeat (Some (codes "F3")))) ∷ [])
 
 -- the numbers and contents of what was written
 abbrev pub told : Message → ℕ × Content

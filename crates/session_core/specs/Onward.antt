@@ -9,7 +9,8 @@ use Rattle.leg.specs.Growing.{Grew}
 use Rattle.dialect.specs.Addressed.{message_of}
 use Rattle.dialect.specs.declared.content.Content.{Content}
 use Rattle.dialect.specs.declared.message.Message.{Message}
-use Rattle.dialect.specs.declared.content.Content.TheVariants.{Logon, Heartbeat, ResendRequest, GapFill, Order}
+use Rattle.dialect.specs.declared.content.Content.TheVariants.{Session, Order}
+use Rattle.fix_tags.specs.declared.session_body.SessionBody.TheVariants.{Logon, Heartbeat, ResendRequest, GapFill}
 use Rattle.resend.specs.Log.{Entry, GapFillParts, last_ordinal}
 use Rattle.resend.specs.Log.Entry.{Sent}
 use Rattle.resend.specs.Later.{IsLater, WithdrawsNone, withdrawn_since}
@@ -66,7 +67,7 @@ pub record IsConnection (before : SessionParts) (message : Message) (after : Ses
   pub keeps : KeepsLegs before after
   pub spends : SpendsNumbers before (message ∷ []) after
   pub was_down : before.phase ≡ Down
-  pub logs_on : (after.phase ≡ LoggingOn) × (message.content ≡ Logon before.config.heart false (own_next before))
+  pub logs_on : (after.phase ≡ LoggingOn) × (message.content ≡ Session (Logon before.config.heart false (own_next before)))
   pub counted : after.connection ≡ before.connection + 1
 
 -- a leg that is sent: in phase Up alone, with a higher ordinal than any before it, and in doubt under the next number
@@ -82,16 +83,16 @@ pub record SendsLeg (before : SessionParts) (ordinal : ℕ) (leg : Leg) (message
 -- whether a message says what the exchange got: a resend request while settling, or a Logon that tells the number which
 -- it expects next, where the venue chose to be told it
 abbrev pub may_withdraw : SessionParts → Content → Bool
-may_withdraw s (ResendRequest begin last) = is_settling s.phase
-may_withdraw s (Logon heart reset next) = is_logging_on s.phase && is_some (told_number s next)
+may_withdraw s (Session (ResendRequest begin last)) = is_settling s.phase
+may_withdraw s (Session (Logon heart reset next)) = is_logging_on s.phase && is_some (told_number s next)
 may_withdraw s _ = false
 
 -- the number below which a message says that all was taken: of the fence that it names, or the one that the exchange
 -- expects
 abbrev pub told_taken : SessionParts → Content → Option ℕ
-told_taken s (Heartbeat id) = named_fence s id
-told_taken s (ResendRequest begin last) = Some begin
-told_taken s (Logon heart reset next) = told_number s next
+told_taken s (Session (Heartbeat id)) = named_fence s id
+told_taken s (Session (ResendRequest begin last)) = Some begin
+told_taken s (Session (Logon heart reset next)) = told_number s next
 told_taken s _ = None
 
 -- such a number was told, and a leg's is below it
@@ -113,7 +114,7 @@ pub record SettlesAsTold (told : Option ℕ) (before after : List Entry) : Type 
 -- a gap fill stands for no leg in doubt
 abbrev pub FillSpares : List Entry → Message → Type 0
 FillSpares log m =
-    (new_number : ℕ) → m.content ≡ GapFill new_number
+    (new_number : ℕ) → m.content ≡ Session (GapFill new_number)
     → EveryLeg log (λ number leg. m.number ≤ number → number < new_number → leg.state ≡ Doubt → ⊥)
 
 abbrev pub FillsSpareDoubt : List Entry → List Message → Type 0
@@ -123,7 +124,7 @@ FillsSpareDoubt log messages = AllByRecursion (FillSpares log) messages
 abbrev pub WritesFillAlone : SessionParts → List Message → Type 0
 WritesFillAlone s written =
     (written ≡ [])
-    ⊎ ((fill : GapFillParts) × (written ≡ message_of s.config fill.first true (GapFill fill.new_number) ∷ []))
+    ⊎ ((fill : GapFillParts) × (written ≡ message_of s.config fill.first true (Session (GapFill fill.new_number)) ∷ []))
 
 -- no leg is withdrawn, and none is named so
 pub record SparesLegs (before : SessionParts) (turn : Turn) : Type 0 where

@@ -13,7 +13,8 @@ use Rattle.dialect.specs.Addressed.{is_for}
 use Rattle.dialect.specs.declared.content.Content.{Content}
 use Rattle.dialect.specs.declared.message.Message.{Message}
 use Rattle.dialect.specs.Message.{is_logon}
-use Rattle.dialect.specs.declared.content.Content.TheVariants.{Logon, Heartbeat, TestRequest, ResendRequest, Reject, GapFill, Reset, Logout, BusinessReject, ExecutionReport}
+use Rattle.dialect.specs.declared.content.Content.TheVariants.{Session, ExecutionReport}
+use Rattle.fix_tags.specs.declared.session_body.SessionBody.TheVariants.{Logon, Heartbeat, TestRequest, ResendRequest, Reject, GapFill, Reset, Logout, BusinessReject}
 use Rattle.resend.specs.declared.judged.Judged.{Judged}
 use Rattle.resend.specs.declared.judged.Judged.TheVariants as judged
 use Rattle.resend.specs.Judging.{judged}
@@ -26,8 +27,8 @@ use Rattle.session_core.specs.Turn.{Turn, quietly, with_session, writes, writes_
 
 -- the exchange wants to begin its numbers anew: SequenceReset in reset mode, or ResetSeqNumFlag (141) of a Logon
 abbrev pub is_reset : Content → Bool
-is_reset (Logon heart reset next) = reset
-is_reset (Reset new_number) = true
+is_reset (Session (Logon heart reset next)) = reset
+is_reset (Session (Reset new_number)) = true
 is_reset _ = false
 
 -- the message is counted where it is due and the connection goes on
@@ -119,7 +120,7 @@ passes_fence s (Some fence) = passed_in s.phase fence (passing fence s)
 
 -- TestRequest: answered with its id
 abbrev pub answers_test : SessionParts → List ℕ → Turn
-answers_test s id = if is_logged_out s.phase then quietly s else writes (Heartbeat (Some id)) (quietly s)
+answers_test s id = if is_logged_out s.phase then quietly s else writes (Session (Heartbeat (Some id))) (quietly s)
 
 -- GapFill: the numbers up to its new one are passed over, which is all its counting
 abbrev pub gap_fill_row : SessionParts → ℕ → ℕ → Turn
@@ -136,7 +137,7 @@ refused_row s number = refused_leg s (option_and_then (λ n. leg_at n s.log) num
 
 -- Logout: the answer to the session's own, or the exchange's first
 abbrev pub logout_row : SessionParts → Turn
-logout_row s = if is_logged_out s.phase then ends LogoutDone s else ends_turn PeerLogout (writes Logout (quietly s))
+logout_row s = if is_logged_out s.phase then ends LogoutDone s else ends_turn PeerLogout (writes (Session Logout) (quietly s))
 
 abbrev pub report_note : Result Report DialectFault → Note
 report_note (Ok report) = note.Report report
@@ -148,14 +149,14 @@ in_turn due s turn = if due then turn else quietly s
 
 -- a message under the number that is expected, which is due, or ahead of it
 abbrev pub row : Bool → SessionParts → ℕ → Content → Turn
-row due s number (Logon heart reset next) = logon_row due s next
-row due s number (ResendRequest begin last) = resend_row due s begin last
-row due s number (Heartbeat id) = counts_if due (passes_fence s (named_fence s id))
-row due s number (TestRequest id) = in_turn due s (counts (answers_test s id))
-row due s number (GapFill new_number) = in_turn due s (gap_fill_row s number new_number)
-row due s number (Reject refused) = in_turn due s (refused_row s (Some refused))
-row due s number (BusinessReject refused) = in_turn due s (refused_row s refused)
-row due s number Logout = logout_row s
+row due s number (Session (Logon heart reset next)) = logon_row due s next
+row due s number (Session (ResendRequest begin last)) = resend_row due s begin last
+row due s number (Session (Heartbeat id)) = counts_if due (passes_fence s (named_fence s id))
+row due s number (Session (TestRequest id)) = in_turn due s (counts (answers_test s id))
+row due s number (Session (GapFill new_number)) = in_turn due s (gap_fill_row s number new_number)
+row due s number (Session (Reject refused)) = in_turn due s (refused_row s (Some refused))
+row due s number (Session (BusinessReject refused)) = in_turn due s (refused_row s refused)
+row due s number (Session Logout) = logout_row s
 row due s number (ExecutionReport read) = in_turn due s (notes (report_note read) s)
 row due s number _ = in_turn due s (counts (quietly s))
 

@@ -6,7 +6,8 @@ use Rattle.leg.specs.Numbered.{numbered}
 use Rattle.leg.specs.declared.leg_state.LegState.TheVariants.{Queued, Doubt}
 use Rattle.dialect.specs.declared.content.Content.{Content}
 use Rattle.dialect.specs.declared.message.Message.{Message}
-use Rattle.dialect.specs.declared.content.Content.TheVariants.{Logon, TestRequest, GapFill}
+use Rattle.dialect.specs.declared.content.Content.TheVariants.{Session}
+use Rattle.fix_tags.specs.declared.session_body.SessionBody.TheVariants.{Logon, TestRequest, GapFill}
 use Rattle.dialect.specs.FreeText.{IsFreeText}
 use Rattle.dialect.specs.Outgoing.{alone}
 use Rattle.dialect.specs.Writable.{IsReference, IsNext, IsWritable}
@@ -78,9 +79,9 @@ pub record IsSound (s : SessionParts) : Type 0 where
 -- what was read of a message: its number (34), a number that is expected next (789), a test's id (112) and a new number
 -- (36) are in their ranges
 abbrev pub IsReadContent : Content → Type 0
-IsReadContent (Logon heart reset next) = IsNext next
-IsReadContent (TestRequest id) = IsFreeText 64 id
-IsReadContent (GapFill new_number) = IsReference new_number
+IsReadContent (Session (Logon heart reset next)) = IsNext next
+IsReadContent (Session (TestRequest id)) = IsFreeText 64 id
+IsReadContent (Session (GapFill new_number)) = IsReference new_number
 IsReadContent _ = Unit {0}
 
 pub record IsRead (m : Message) : Type 0 where

@@ -5,7 +5,8 @@ use Rattle.dialect.specs.declared.note.Note.{Note}
 use Rattle.dialect.specs.Addressed.{message_of}
 use Rattle.dialect.specs.declared.content.Content.{Content}
 use Rattle.dialect.specs.declared.message.Message.{Message}
-use Rattle.dialect.specs.declared.content.Content.TheVariants.{TestRequest, ResendRequest, GapFill, Logout}
+use Rattle.dialect.specs.declared.content.Content.TheVariants.{Session}
+use Rattle.fix_tags.specs.declared.session_body.SessionBody.TheVariants.{TestRequest, ResendRequest, GapFill, Logout}
 use Rattle.resend.specs.Log.{GapFillParts, doubt_from, take_below, give_up_from}
 use Rattle.resend.specs.Log.Entry.{Admin}
 use Rattle.session_core.specs.declared.phase.Phase.{Phase}
@@ -65,7 +66,7 @@ abbrev pub fenced : SessionParts → SessionParts
 fenced s = record s { current = record s.current { fences = s.current.fences ++ next_out s ∷ [] } }
 
 abbrev pub puts_fence : Turn → Turn
-puts_fence turn = puts (TestRequest (fence_id (next_out turn.session))) (with_session (fenced turn.session) turn)
+puts_fence turn = puts (Session (TestRequest (fence_id (next_out turn.session)))) (with_session (fenced turn.session) turn)
 
 abbrev pub writes_fence : Turn → Turn
 writes_fence turn = if may_write turn.session then puts_fence turn else turn
@@ -77,12 +78,12 @@ asking s = record s { current = record s.current { requested = Some s.expected }
 abbrev pub asks : Turn → Turn
 asks turn =
     if may_write turn.session
-    then puts (ResendRequest turn.session.expected 0) (with_session (asking turn.session) turn)
+    then puts (Session (ResendRequest turn.session.expected 0)) (with_session (asking turn.session) turn)
     else turn
 
 -- a gap fill is written under the first number that it stands for, as a possible duplicate. It spends no number
 abbrev pub fills : GapFillParts → Turn → Turn
-fills fill turn = with_message (message_of turn.session.config fill.first true (GapFill fill.new_number)) turn
+fills fill turn = with_message (message_of turn.session.config fill.first true (Session (GapFill fill.new_number))) turn
 
 -- the legs in doubt below a number are taken, and those under it or above it withdrawn
 abbrev pub settling_at : ℕ → SessionParts → SessionParts
@@ -109,7 +110,7 @@ notes note s = record { step = record no_step { note = Some note }; session = wi
 
 -- the Logout is written, and from now on nothing but gap fills
 abbrev pub logs_out : SessionParts → Turn
-logs_out s = let turn = writes Logout (quietly s) in with_session (record turn.session { phase = LoggedOut }) turn
+logs_out s = let turn = writes (Session Logout) (quietly s) in with_session (record turn.session { phase = LoggedOut }) turn
 
 -- the phase after a connection: the session is over where the exchange logged out first, or where its own Logout was
 -- written

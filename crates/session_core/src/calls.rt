@@ -12,19 +12,18 @@ ghost use Rattle.session_core.specs.Given.{IsStep, Gives};
 
 use crate::draft::{Draft, Settling};
 use crate::ended::Ended;
-use crate::line::Said;
 use crate::phase::Phase;
 use crate::session::Session;
 use crate::session_fault::SessionFault;
 use crate::step::Step;
 use crate::write::{logon_frame, order_frame};
 use dialect::{Dialect, see};
-use fix_tags::{EnvelopeRef, Stamp};
+use fix_tags::{EnvelopeRef, SessionBody, Stamp};
 use leg::Leg;
 
 impl Session {
     /// What is done where nothing was written for a while.
-    fn on_quiet(&self) -> Result<Draft, SessionFault>
+    fn on_quiet<'a>(&self) -> Result<Draft<'a>, SessionFault>
         ensures { Decides self.now (quiet self.now) result }
     {
         let at = self.standing();
@@ -38,12 +37,12 @@ impl Session {
         if !draft.may_write(self) {
             return Err(SessionFault::NumbersSpent);
         }
-        draft.put(self, Said::Heartbeat);
+        draft.put(self, SessionBody::Heartbeat { id: None });
         Ok(draft)
     }
 
     /// What is done where nothing was received for a while.
-    fn on_silence(&self) -> Result<Draft, SessionFault>
+    fn on_silence<'a>(&self) -> Result<Draft<'a>, SessionFault>
         ensures { Decides self.now (silent self.now) result }
     {
         let mut at = self.standing();
@@ -68,7 +67,7 @@ impl Session {
     }
 
     /// What is done where the close is asked of a session that is up: its fence is written.
-    fn on_close_up(&self) -> Result<Draft, SessionFault>
+    fn on_close_up<'a>(&self) -> Result<Draft<'a>, SessionFault>
         requires { self.now.phase ≡ Phase.Up }
         ensures { Decides self.now (close self.now) result }
     {
@@ -85,7 +84,7 @@ impl Session {
     }
 
     /// What is done where the close is asked of a session that isn't up yet: it is remembered.
-    fn on_early_close(&self) -> Draft
+    fn on_early_close<'a>(&self) -> Draft<'a>
         ensures { drafted self.now result ≡ quietly (asked_to_close self.now) }
     {
         let mut at = self.standing();
@@ -94,7 +93,7 @@ impl Session {
     }
 
     /// What is done where the close is asked.
-    fn on_close(&self) -> Result<Draft, SessionFault>
+    fn on_close<'a>(&self) -> Result<Draft<'a>, SessionFault>
         ensures { Decides self.now (close self.now) result }
     {
         match self.phase() {

@@ -45,7 +45,7 @@ pub(crate) fn let_go(fences: &mut Vec<u64>, settling: Settling)
 }
 
 /// A number is spent on each message that is written for the first time.
-pub(crate) fn spend(log: &mut OutLog, lines: &[Line])
+pub(crate) fn spend(log: &mut OutLog, lines: &[Line<'_>])
     requires { length (logged log.old.entries lines.now) + 1 ≤ log.old.max_number }
     ensures { log.new ≡ record log.old { entries = logged log.old.entries lines.now } }
 {
@@ -57,12 +57,12 @@ pub(crate) fn spend(log: &mut OutLog, lines: &[Line])
 }
 
 /// The fences among the messages are kept, for which there is room.
-pub(crate) fn keep(fences: &mut Vec<u64>, lines: &[Line])
+pub(crate) fn keep(fences: &mut Vec<u64>, lines: &[Line<'_>])
     requires { vec_len fences.old + length lines.now ≤ vec_capacity fences.old }
     ensures { fences.new.items ≡ with_fences fences.old.items lines.now }
 {
     for line in lines {
-        if line.said.is_fence() {
+        if line.says.is_fence() {
             fences.push_reserved(line.number);
         }
     }

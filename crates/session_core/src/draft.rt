@@ -3,20 +3,21 @@
 ghost use Rattle.std.specs.Prelude.{◌≡◌, ◌≤◌, ◌<◌, ◌+◌, [], Some, None, true, false, not, length, count_by};
 ghost use Rattle.session_core.specs.Session.{next_out, may_write};
 ghost use Rattle.session_core.specs.Turn.{with_session, puts, writes, puts_fence, writes_fence, asks, fills, counts, ends_turn};
-ghost use Rattle.dialect.specs.declared.content.Content.TheVariants.{Logout};
+ghost use Rattle.dialect.specs.declared.content.Content.TheVariants as content;
+ghost use Rattle.fix_tags.specs.declared.session_body.SessionBody.TheVariants.{Logout};
 ghost use Rattle.session_core.specs.declared.line.Line.{Line as ALine};
 ghost use Rattle.session_core.specs.Session.{SessionParts};
 ghost use Rattle.session_core.specs.Receiving.{counts_if, asks_if, asks_missing};
-ghost use Rattle.session_core.specs.Draft.{content_in, is_fence, drafted};
+ghost use Rattle.session_core.specs.Draft.{drafted};
 
 use crate::ended::Ended;
-use crate::line::{Line, Said};
+use crate::line::{Line, Says};
 use crate::phase::Phase;
 use crate::session::Session;
 use crate::standing::Standing;
 use arrayvec::ArrayVec;
-use dialect::{FreeText, MAX_ID, Note};
-use fix_tags::MAX_MESSAGE_NUMBER;
+use dialect::Note;
+use fix_tags::{MAX_MESSAGE_NUMBER, SessionBody};
 use resend::GapFill;
 
 /// The most messages that a call writes.
@@ -34,21 +35,18 @@ pub(crate) enum Settling {
 
 /// What a call is to do: the messages that it writes, what it hands on, and where the session stands after it.
 #[derive(Drop)]
-pub(crate) struct Draft {
-    /// The id of the TestRequest that its Heartbeat answers, if it answers one.
-    pub answered: Option<FreeText<MAX_ID>>,
-    pub lines: ArrayVec<Line, MAX_LINES>,
+pub(crate) struct Draft<'a> {
+    pub lines: ArrayVec<Line<'a>, MAX_LINES>,
     pub note: Option<Note>,
     pub ended: Option<Ended>,
     pub settling: Settling,
     pub standing: Standing,
 }
 
-impl Draft {
+impl<'a> Draft<'a> {
     /// Nothing is written or handed on yet.
-    pub fn new(standing: Standing, settling: Settling) -> Draft
+    pub fn new(standing: Standing, settling: Settling) -> Draft<'a>
         ensures { result ≡ record {
-          answered = None;
           lines = record { items = [] };
           note = None;
           ended = None;
@@ -57,32 +55,10 @@ impl Draft {
         } }
     {
         Draft {
-            answered: None,
             lines: ArrayVec::new(),
             note: None,
             ended: None,
             settling,
-            standing,
-        }
-    }
-
-    /// The same, where a TestRequest of this id is received.
-    pub fn for_test(standing: Standing, id: FreeText<MAX_ID>) -> Draft
-        ensures { result ≡ record {
-          answered = Some id;
-          lines = record { items = [] };
-          note = None;
-          ended = None;
-          settling = Settling.Nothing;
-          standing = standing;
-        } }
-    {
-        Draft {
-            answered: Some(id),
-            lines: ArrayVec::new(),
-            note: None,
-            ended: None,
-            settling: Settling::Nothing,
             standing,
         }
     }
@@ -103,33 +79,27 @@ impl Draft {
     }
 
     /// A message under the next number.
-    pub fn put(&mut self, before: &Session, said: Said)
-        requires room { length self.old.lines.items < MAX_LINES }
-        requires no_fence { is_fence said ≡ false }
-        ensures turn { drafted before.now self.new
-            ≡ puts (content_in self.old.answered (next_out (drafted before.now self.old).session) said)
-            (drafted before.now self.old) }
+    pub fn put(&mut self, before: &Session, says: SessionBody<'a>)
+        requires { length self.old.lines.items < MAX_LINES }
+        ensures turn { drafted before.now self.new ≡ puts (content.Session says.entry) (drafted before.now self.old) }
         ensures room { length self.new.lines.items ≤ length self.old.lines.items + 1 }
     {
         let number = self.next_number(before);
         self.lines.push(Line {
             number,
             poss_dup: false,
-            said,
+            says: Says::Body(says),
         });
     }
 
     /// A message under the next number, where one is left.
-    pub fn write(&mut self, before: &Session, said: Said)
-        requires room { length self.old.lines.items < MAX_LINES }
-        requires no_fence { is_fence said ≡ false }
-        ensures turn { drafted before.now self.new
-            ≡ writes (content_in self.old.answered (next_out (drafted before.now self.old).session) said)
-            (drafted before.now self.old) }
+    pub fn write(&mut self, before: &Session, says: SessionBody<'a>)
+        requires { length self.old.lines.items < MAX_LINES }
+        ensures turn { drafted before.now self.new ≡ writes (content.Session says.entry) (drafted before.now self.old) }
         ensures room { length self.new.lines.items ≤ length self.old.lines.items + 1 }
     {
         if self.may_write(before) {
-            self.put(before, said);
+            self.put(before, says);
         }
     }
 
@@ -143,7 +113,7 @@ impl Draft {
         self.lines.push(Line {
             number,
             poss_dup: false,
-            said: Said::Fence,
+            says: Says::Fence,
         });
     }
 
@@ -167,7 +137,7 @@ impl Draft {
         if self.may_write(before) {
             let begin = self.standing.expected.expected();
             self.standing.requested = Some(begin);
-            self.put(before, Said::ResendRequest(begin));
+            self.put(before, SessionBody::ResendRequest { begin, last: 0 });
         }
     }
 
@@ -207,7 +177,9 @@ impl Draft {
         self.lines.push(Line {
             number: fill.first,
             poss_dup: true,
-            said: Said::GapFill(fill.new_number),
+            says: Says::Body(SessionBody::GapFill {
+                new_number: fill.new_number,
+            }),
         });
     }
 
@@ -260,17 +232,17 @@ impl Draft {
     /// The Logout is written, and from then on nothing but gap fills.
     pub fn log_out(&mut self, before: &Session)
         requires { length self.old.lines.items < MAX_LINES }
-        ensures turn { let turn = writes Logout (drafted before.now self.old) in drafted before.now self.new
-            ≡ with_session (record turn.session { phase = Phase.LoggedOut }) turn }
+        ensures turn { let turn = writes (content.Session Logout) (drafted before.now self.old) in
+            drafted before.now self.new ≡ with_session (record turn.session { phase = Phase.LoggedOut }) turn }
         ensures room { length self.new.lines.items ≤ length self.old.lines.items + 1 }
     {
-        self.write(before, Said::Logout);
+        self.write(before, SessionBody::Logout);
         self.standing.phase = Phase::LoggedOut;
     }
 }
 
 /// How many numbers these messages spend.
-fn spent_by(lines: &[Line]) -> usize
+fn spent_by(lines: &[Line<'_>]) -> usize
     ensures { result ≡ count_by (λ (line : ALine). not line.poss_dup) lines.now }
 {
     lines.iter().filter(|line| !line.poss_dup).count()

@@ -2,52 +2,45 @@
 
 ghost use Rattle.std.specs.Prelude.{◌≡◌};
 
+use fix_tags::SessionBody;
+
 /// What a message of the session's own says.
-#[derive(Clone, Copy)]
-pub(crate) enum Said {
-    /// With the id of the TestRequest that is answered, if one is.
-    Heartbeat,
-    /// A TestRequest whose id is `F` and the message's own number.
+#[derive(Drop)]
+pub(crate) enum Says<'a> {
+    /// A fence: a TestRequest whose id is `F` and the message's own number.
     Fence,
-    /// Everything from this number on.
-    ResendRequest(u64),
-    /// The number that comes next behind the gap.
-    GapFill(u64),
-    Logout,
+    Body(SessionBody<'a>),
 }
 
-impl Said {
+impl<'a> Says<'a> {
     ghost use Rattle.session_core.specs.Draft.{is_fence};
 
     /// Whether it is a fence.
-    pub fn is_fence(self) -> bool
-        ensures { result ≡ is_fence self }
+    pub fn is_fence(&self) -> bool
+        ensures { result ≡ is_fence self.now }
     {
         match self {
-            Said::Fence => true,
-            Said::Heartbeat => false,
-            Said::ResendRequest(_) => false,
-            Said::GapFill(_) => false,
-            Said::Logout => false,
+            Says::Fence => true,
+            Says::Body(_) => false,
         }
     }
 }
 
 /// A message of the session's own that is to be written.
-#[derive(Clone, Copy)]
-pub(crate) struct Line {
+#[derive(Drop)]
+pub(crate) struct Line<'a> {
     pub number: u64,
     /// It stands for numbers that were spent before, and spends none.
     pub poss_dup: bool,
-    pub said: Said,
+    pub says: Says<'a>,
 }
 
-impl Default for Line {
+impl<'a> Default for Line<'a> {
     fn default() -> Self {
         Line {
             number: 0,
             poss_dup: false,
-            said: Said::Logout,
+            says: Says::Body(SessionBody::Logout),
         }
     }
 }

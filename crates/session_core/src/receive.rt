@@ -2,8 +2,8 @@
 
 ghost use Rattle.std.specs.Prelude.{◌≡◌, ◌≤◌, true, length};
 ghost use Rattle.fix_tags.specs.Range.{is_range};
-ghost use Rattle.dialect.specs.FreeText.{IsFreeText};
 ghost use Rattle.dialect.specs.Message.{is_logon};
+ghost use Rattle.dialect.specs.declared.content.Content.TheVariants as content;
 ghost use Rattle.resend.specs.Judging.{judged};
 ghost use Rattle.session_core.specs.Turn.{quietly, counts, notes, ends};
 ghost use Rattle.session_core.specs.Receiving.{settles_told, logon_row, resend_while_settling, resend_later, resend_row, passes_fence, answers_test, in_turn, gap_fill_row, refused_row, logout_row, report_note, row, is_reset, by_number, received, receive};
@@ -14,16 +14,15 @@ ghost use Rattle.session_core.specs.Draft.{drafted};
 
 use crate::draft::{Draft, Settling};
 use crate::ended::Ended;
-use crate::line::Said;
 use crate::phase::Phase;
 use crate::session::Session;
 use crate::standing::Standing;
-use dialect::{Content, DialectFault, FreeText, MAX_ID, Message, Note, Report};
-use fix_tags::MAX_MESSAGE_NUMBER;
+use dialect::{Content, DialectFault, Message, Note, Report};
+use fix_tags::{MAX_MESSAGE_NUMBER, SessionBody, TextRef};
 use resend::{GapFill, Judged};
 
 /// Nothing is done.
-fn nothing(at: Standing) -> Draft
+fn nothing<'a>(at: Standing) -> Draft<'a>
     ensures turn { (s : SessionParts) → drafted s result ≡ quietly (standing_at s at) }
     ensures standing { result.standing ≡ at }
     ensures room { length result.lines.items ≤ 0 }
@@ -32,7 +31,7 @@ fn nothing(at: Standing) -> Draft
 }
 
 /// The connection ends, and nothing else is done.
-fn ending(at: Standing, why: Ended) -> Draft
+fn ending<'a>(at: Standing, why: Ended) -> Draft<'a>
     ensures turn { (s : SessionParts) → drafted s result ≡ ends why (standing_at s at) }
     ensures expected { result.standing.expected ≡ at.expected }
     ensures room { length result.lines.items ≤ 0 }
@@ -59,18 +58,10 @@ fn note_of(read: Result<Report, DialectFault>) -> Note
     }
 }
 
-/// The id of a TestRequest, to be kept until it is answered.
-fn test_id(id: &[u8]) -> FreeText<MAX_ID>
-    requires { IsFreeText 64 id.now }
-    ensures { result ≡ id.now }
-{
-    FreeText::new(id).unwrap()
-}
-
 impl Session {
     /// Every leg in doubt is settled by the number that the exchange expects next (789), if it told one, and what lies
     /// between it and the session's own Logon is filled.
-    fn settled_as_told(&self, at: Standing, next: Option<u64>) -> Draft
+    fn settled_as_told<'a>(&self, at: Standing, next: Option<u64>) -> Draft<'a>
         requires { at.logon_number ≤ 999999999 }
         ensures turn { drafted self.now result ≡ settles_told (standing_at self.now at) next }
         ensures standing { result.standing ≡ at }
@@ -94,7 +85,7 @@ impl Session {
     }
 
     /// A Logon.
-    fn logon(&self, at: Standing, due: bool, next: Option<u64>) -> Draft
+    fn logon<'a>(&self, at: Standing, due: bool, next: Option<u64>) -> Draft<'a>
         requires logon { at.logon_number ≤ 999999999 }
         requires due { due ≡ true → at.expected ≤ MAX_MESSAGE_NUMBER }
         ensures turn { drafted self.now result ≡ logon_row due (standing_at self.now at) next }
@@ -117,7 +108,7 @@ impl Session {
 
     /// A ResendRequest while legs of earlier connections aren't settled: every leg in doubt is, and the range is
     /// filled.
-    fn resend_settling(&self, at: Standing, begin: u64, last: u64) -> Draft
+    fn resend_settling<'a>(&self, at: Standing, begin: u64, last: u64) -> Draft<'a>
         ensures turn { drafted self.now result ≡ resend_while_settling (standing_at self.now at) begin last }
         ensures standing { result.standing ≡ at }
         ensures room { length result.lines.items ≤ 2 }
@@ -131,7 +122,7 @@ impl Session {
     }
 
     /// A ResendRequest later: what was settled is filled.
-    fn resend_settled(&self, at: Standing, fill: Option<GapFill>) -> Draft
+    fn resend_settled<'a>(&self, at: Standing, fill: Option<GapFill>) -> Draft<'a>
         ensures turn { drafted self.now result ≡ resend_later fill (standing_at self.now at) }
         ensures standing { result.standing.expected ≡ at.expected }
         ensures room { length result.lines.items ≤ 1 }
@@ -147,7 +138,7 @@ impl Session {
     }
 
     /// A ResendRequest.
-    fn resend(&self, at: Standing, due: bool, begin: u64, last: u64) -> Draft
+    fn resend<'a>(&self, at: Standing, due: bool, begin: u64, last: u64) -> Draft<'a>
         requires { due ≡ true → at.expected ≤ MAX_MESSAGE_NUMBER }
         ensures turn { drafted self.now result ≡ resend_row due (standing_at self.now at) begin last }
         ensures room { length result.lines.items ≤ 3 }
@@ -167,7 +158,7 @@ impl Session {
     }
 
     /// A Heartbeat, by the fence that it names.
-    fn fence_answered(&self, at: Standing, fence: Option<u64>) -> Draft
+    fn fence_answered<'a>(&self, at: Standing, fence: Option<u64>) -> Draft<'a>
         ensures turn { drafted self.now result ≡ passes_fence (standing_at self.now at) fence }
         ensures standing { result.standing.expected ≡ at.expected }
         ensures room { length result.lines.items ≤ 1 }
@@ -203,10 +194,9 @@ impl Session {
     }
 
     /// A TestRequest in its turn.
-    fn test(&self, at: Standing, id: &[u8]) -> Draft
-        requires low { at.expected ≤ MAX_MESSAGE_NUMBER }
-        requires id { IsFreeText 64 id.now }
-        ensures turn { drafted self.now result ≡ counts (answers_test (standing_at self.now at) id.now) }
+    fn test<'a>(&self, at: Standing, id: TextRef<'a>) -> Draft<'a>
+        requires { at.expected ≤ MAX_MESSAGE_NUMBER }
+        ensures turn { drafted self.now result ≡ counts (answers_test (standing_at self.now at) id.entry) }
         ensures room { length result.lines.items ≤ 1 }
     {
         if at.phase.is_logged_out() {
@@ -214,14 +204,14 @@ impl Session {
             draft.count();
             return draft;
         }
-        let mut draft = Draft::for_test(at, test_id(id));
-        draft.write(self, Said::Heartbeat);
+        let mut draft = nothing(at);
+        draft.write(self, SessionBody::Heartbeat { id: Some(id) });
         draft.count();
         draft
     }
 
     /// A gap fill in its turn, to the number that comes next behind it.
-    fn gap_fill(&self, at: Standing, number: u64, new_number: u64) -> Draft
+    fn gap_fill<'a>(&self, at: Standing, number: u64, new_number: u64) -> Draft<'a>
         requires due { number ≡ at.expected }
         requires reference { new_number ≤ 999999999 }
         ensures turn { drafted self.now result ≡ gap_fill_row (standing_at self.now at) number new_number }
@@ -236,7 +226,7 @@ impl Session {
     }
 
     /// A Reject or a BusinessReject in its turn, of the message under a number.
-    fn refused(&self, at: Standing, number: Option<u64>) -> Draft
+    fn refused<'a>(&self, at: Standing, number: Option<u64>) -> Draft<'a>
         requires { at.expected ≤ MAX_MESSAGE_NUMBER }
         ensures turn { drafted self.now result ≡ refused_row (standing_at self.now at) number }
         ensures room { length result.lines.items ≤ 0 }
@@ -250,7 +240,7 @@ impl Session {
     }
 
     /// A Logout.
-    fn logout(&self, at: Standing) -> Draft
+    fn logout<'a>(&self, at: Standing) -> Draft<'a>
         ensures turn { drafted self.now result ≡ logout_row (standing_at self.now at) }
         ensures room { length result.lines.items ≤ 1 }
     {
@@ -258,13 +248,13 @@ impl Session {
             return ending(at, Ended::LogoutDone);
         }
         let mut draft = Draft::new(at, Settling::Nothing);
-        draft.write(self, Said::Logout);
+        draft.write(self, SessionBody::Logout);
         draft.end(Ended::PeerLogout);
         draft
     }
 
     /// A message under the number that is expected, which is due, or ahead of it.
-    fn row(&self, at: Standing, due: bool, number: u64, content: Content<'_>) -> Draft
+    fn row<'a>(&self, at: Standing, due: bool, number: u64, content: Content<'a>) -> Draft<'a>
         requires logon { at.logon_number ≤ 999999999 }
         requires low { due ≡ true → at.expected ≤ MAX_MESSAGE_NUMBER }
         requires due { due ≡ true → number ≡ at.expected }
@@ -273,40 +263,54 @@ impl Session {
         ensures room { length result.lines.items ≤ 3 }
     {
         match content {
-            Content::Logon { next, .. } => self.logon(at, due, next),
-            Content::ResendRequest { begin, last } => self.resend(at, due, begin, last),
-            Content::Heartbeat { id } => {
+            Content::Session(says) => self.session_row(at, due, number, says),
+            Content::ExecutionReport(read) => reported_if(at, due, read),
+            Content::Order(_) => counted_if(at, due),
+            Content::Other => counted_if(at, due),
+        }
+    }
+
+    /// A message of the session.
+    fn session_row<'a>(
+        &self,
+        at: Standing,
+        due: bool,
+        number: u64,
+        says: SessionBody<'a>,
+    ) -> Draft<'a>
+        requires logon { at.logon_number ≤ 999999999 }
+        requires low { due ≡ true → at.expected ≤ MAX_MESSAGE_NUMBER }
+        requires due { due ≡ true → number ≡ at.expected }
+        requires read { IsReadContent (content.Session says) }
+        ensures turn { drafted self.now result ≡ row due (standing_at self.now at) number (content.Session says.entry) }
+        ensures room { length result.lines.items ≤ 3 }
+    {
+        match says {
+            SessionBody::Logon { next, .. } => self.logon(at, due, next),
+            SessionBody::ResendRequest { begin, last } => self.resend(at, due, begin, last),
+            SessionBody::Heartbeat { id } => {
                 let fence = self.fence_of(id);
                 let mut draft = self.fence_answered(at, fence);
                 draft.count_if(due);
                 draft
             }
-            Content::Logout => self.logout(at),
-            Content::TestRequest { id } => {
-                if due {
-                    self.test(at, id.as_bytes())
-                } else {
-                    nothing(at)
-                }
-            }
-            Content::GapFill { new_number } => {
+            SessionBody::Logout => self.logout(at),
+            SessionBody::TestRequest { id } => { if due { self.test(at, id) } else { nothing(at) } }
+            SessionBody::GapFill { new_number } => {
                 if due {
                     self.gap_fill(at, number, new_number)
                 } else {
                     nothing(at)
                 }
             }
-            Content::Reject { number: refused } => self.refused_if(at, due, Some(refused)),
-            Content::BusinessReject { number: refused } => self.refused_if(at, due, refused),
-            Content::ExecutionReport(read) => reported_if(at, due, read),
-            Content::Reset { .. } => counted_if(at, due),
-            Content::Order(_) => counted_if(at, due),
-            Content::Other => counted_if(at, due),
+            SessionBody::Reject { number: refused } => self.refused_if(at, due, Some(refused)),
+            SessionBody::BusinessReject { number: refused } => self.refused_if(at, due, refused),
+            SessionBody::Reset { .. } => counted_if(at, due),
         }
     }
 
     /// A Reject or a BusinessReject, of the message under a number.
-    fn refused_if(&self, at: Standing, due: bool, number: Option<u64>) -> Draft
+    fn refused_if<'a>(&self, at: Standing, due: bool, number: Option<u64>) -> Draft<'a>
         requires { due ≡ true → at.expected ≤ MAX_MESSAGE_NUMBER }
         ensures turn { drafted self.now result
             ≡ in_turn due (standing_at self.now at) (refused_row (standing_at self.now at) number) }
@@ -320,7 +324,7 @@ impl Session {
     }
 
     /// A message, by how its number stands to the expected one.
-    fn by_number(&self, at: Standing, message: Message<'_>) -> Draft
+    fn by_number<'a>(&self, at: Standing, message: Message<'a>) -> Draft<'a>
         requires logon { at.logon_number ≤ 999999999 }
         requires read { IsRead message }
         ensures { drafted self.now result
@@ -341,7 +345,7 @@ impl Session {
     }
 
     /// A message, by the checks before its number's, in order.
-    fn checked(&self, at: Standing, message: Message<'_>) -> Draft
+    fn checked<'a>(&self, at: Standing, message: Message<'a>) -> Draft<'a>
         requires logon { at.logon_number ≤ 999999999 }
         requires read { IsRead message }
         ensures { drafted self.now result ≡ received (standing_at self.now at) message.entry }
@@ -359,7 +363,7 @@ impl Session {
     }
 
     /// A message received. Whatever it is, a note that wasn't confirmed is given up.
-    pub(crate) fn on_message(&self, message: Message<'_>) -> Draft
+    pub(crate) fn on_message<'a>(&self, message: Message<'a>) -> Draft<'a>
         requires { IsRead message }
         ensures { drafted self.now result ≡ receive self.now message.entry }
     {
@@ -380,20 +384,7 @@ impl Session {
 fn is_first(content: &Content<'_>) -> bool
     ensures { result ≡ is_logon content.now }
 {
-    match content {
-        Content::Logon { .. } => true,
-        Content::Heartbeat { .. } => false,
-        Content::TestRequest { .. } => false,
-        Content::ResendRequest { .. } => false,
-        Content::Reject { .. } => false,
-        Content::GapFill { .. } => false,
-        Content::Reset { .. } => false,
-        Content::Logout => false,
-        Content::BusinessReject { .. } => false,
-        Content::Order(_) => false,
-        Content::ExecutionReport(_) => false,
-        Content::Other => false,
-    }
+    matches!(content, Content::Session(SessionBody::Logon { .. }))
 }
 
 /// Whether the exchange wants to begin its numbers anew.
@@ -401,23 +392,14 @@ fn resets(content: &Content<'_>) -> bool
     ensures { result ≡ is_reset content.now }
 {
     match content {
-        Content::Logon { reset, .. } => *reset,
-        Content::Reset { .. } => true,
-        Content::Heartbeat { .. } => false,
-        Content::TestRequest { .. } => false,
-        Content::ResendRequest { .. } => false,
-        Content::Reject { .. } => false,
-        Content::GapFill { .. } => false,
-        Content::Logout => false,
-        Content::BusinessReject { .. } => false,
-        Content::Order(_) => false,
-        Content::ExecutionReport(_) => false,
-        Content::Other => false,
+        Content::Session(SessionBody::Logon { reset, .. }) => *reset,
+        Content::Session(SessionBody::Reset { .. }) => true,
+        _ => false,
     }
 }
 
 /// A message of which nothing but its number counts.
-fn counted_if(at: Standing, due: bool) -> Draft
+fn counted_if<'a>(at: Standing, due: bool) -> Draft<'a>
     requires { due ≡ true → at.expected ≤ MAX_MESSAGE_NUMBER }
     ensures turn { (s : SessionParts) → drafted s result
         ≡ in_turn due (standing_at s at) (counts (quietly (standing_at s at))) }
@@ -431,7 +413,7 @@ fn counted_if(at: Standing, due: bool) -> Draft
 }
 
 /// A report, or why it can't be read.
-fn reported_if(at: Standing, due: bool, read: Result<Report, DialectFault>) -> Draft
+fn reported_if<'a>(at: Standing, due: bool, read: Result<Report, DialectFault>) -> Draft<'a>
     ensures turn { (s : SessionParts) → drafted s result
         ≡ in_turn due (standing_at s at) (notes (report_note read) (standing_at s at)) }
     ensures room { length result.lines.items ≤ 0 }

@@ -10,8 +10,8 @@ use crate::phase::Phase;
 use crate::session_fault::SessionFault;
 use crate::standing::Standing;
 use crate::step::LegIds;
-use dialect::{Message, TextRef};
-use fix_tags::Config;
+use dialect::Message;
+use fix_tags::{Config, TextRef};
 use leg::{Leg, LegId, LegState};
 use resend::{GapFill, InSeq, OutLog};
 use std::alloc::Global;
@@ -212,7 +212,7 @@ impl Session {
     }
 
     /// What was decided is put in place. A place for each fence is reserved first, and nothing else takes memory.
-    pub(crate) fn commit(&mut self, draft: &Draft) -> Result<(), SessionFault>
+    pub(crate) fn commit(&mut self, draft: &Draft<'_>) -> Result<(), SessionFault>
         requires { IsSound (drafted self.old draft.now).session }
         ensures ok { OnOk result (self.new ≡ (drafted self.old draft.now).session) }
         ensures err { OnErr result (self.new ≡ self.old) }

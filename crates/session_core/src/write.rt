@@ -2,7 +2,9 @@
 
 ghost use Rattle.std.specs.Prelude.{◌≡◌, false, Ok, IfOk, IsOkUnless, map};
 ghost use Rattle.dialect.specs.Addressed.{message_of};
-ghost use Rattle.dialect.specs.declared.content.Content.TheVariants.{Logon, Order};
+ghost use Rattle.dialect.specs.declared.content.Content.TheVariants as content;
+ghost use Rattle.dialect.specs.declared.content.Content.TheVariants.{Order};
+ghost use Rattle.fix_tags.specs.declared.session_body.SessionBody.TheVariants.{Logon};
 ghost use Rattle.dialect.specs.Framed.{IsFramed, AreFramed};
 ghost use Rattle.dialect.specs.Outgoing.{alone};
 ghost use Rattle.dialect.specs.Writable.{IsWritable};
@@ -13,12 +15,12 @@ ghost use Rattle.session_core.specs.Given.{IsStep, Gives};
 
 use crate::draft::{Draft, Settling};
 use crate::fence::fence_id_text;
-use crate::line::{Line, Said};
+use crate::line::{Line, Says};
 use crate::session::Session;
 use crate::session_fault::SessionFault;
 use crate::step::{Frames, LegIds, Step};
-use dialect::{Content, Dialect, FreeText, MAX_ID, Message, Outgoing, TextRef, write_message};
-use fix_tags::{Config, Stamp};
+use dialect::{Content, Dialect, Message, Outgoing, write_message};
+use fix_tags::{Config, SessionBody, Stamp, TextRef};
 use leg::Leg;
 use std::alloc::Global;
 
@@ -51,16 +53,18 @@ pub(crate) fn logon_frame<D: Dialect>(
     number: u64,
     next: Option<u64>,
 ) -> Result<Vec<u8>, SessionFault>
-    requires { IsWritable (alone (message_of config.now number false (Logon config.now.heart false next))) }
+    requires { IsWritable (alone (message_of config.now number false
+        (content.Session (Logon config.now.heart false next)))) }
     ensures ok { IfOk result (λ bytes. IsFramed (D.wording dialect.now).encoding stamp.now
-        (alone (message_of config.now number false (Logon config.now.heart false next))) bytes.items) }
+        (alone (message_of config.now number false
+        (content.Session (Logon config.now.heart false next)))) bytes.items) }
     ensures refusal { IsOkUnless result SessionFault.OutOfMemory }
 {
-    let content = Content::Logon {
+    let content = Content::Session(SessionBody::Logon {
         heart: config.heart(),
         reset: false,
         next,
-    };
+    });
     frame(alloc, dialect, stamp, config, number, false, content)
 }
 
@@ -82,59 +86,31 @@ pub(crate) fn order_frame<D: Dialect>(
     frame(alloc, dialect, stamp, config, number, false, content)
 }
 
-/// The frame of a message of the session's own. `answered` is the id of the TestRequest that it answers, if it is an
-/// answer.
+/// The frame of a message of the session's own.
 fn line_frame<D: Dialect>(
     alloc: Global,
     dialect: &D,
     stamp: &Stamp,
     config: &Config,
-    answered: &Option<FreeText<MAX_ID>>,
-    line: Line,
+    line: &Line<'_>,
 ) -> Result<Vec<u8>, SessionFault>
-    requires { IsWritable (alone (message_in config.now answered.now line)) }
+    requires { IsWritable (alone (message_in config.now line.now)) }
     ensures ok { IfOk result (λ bytes. IsFramed (D.wording dialect.now).encoding stamp.now
-        (alone (message_in config.now answered.now line)) bytes.items) }
+        (alone (message_in config.now line.now)) bytes.items) }
     ensures refusal { IsOkUnless result SessionFault.OutOfMemory }
 {
     let number = line.number;
     let poss_dup = line.poss_dup;
-    match line.said {
-        Said::Heartbeat => match answered {
-            None => {
-                let content = Content::Heartbeat { id: None };
-                frame(alloc, dialect, stamp, config, number, poss_dup, content)
-            }
-            Some(id) => {
-                let id = Some(TextRef::new(id.as_bytes()));
-                let content = Content::Heartbeat { id };
-                frame(alloc, dialect, stamp, config, number, poss_dup, content)
-            }
-        },
-        Said::Fence => {
+    match &line.says {
+        Says::Fence => {
             let text = fence_id_text(number);
             let id = TextRef::new(text.as_slice());
-            let content = Content::TestRequest { id };
+            let content = Content::Session(SessionBody::TestRequest { id });
             frame(alloc, dialect, stamp, config, number, poss_dup, content)
         }
-        Said::ResendRequest(begin) => {
-            let content = Content::ResendRequest { begin, last: 0 };
+        Says::Body(says) => {
+            let content = Content::Session(says.clone().unwrap());
             frame(alloc, dialect, stamp, config, number, poss_dup, content)
-        }
-        Said::GapFill(new_number) => {
-            let content = Content::GapFill { new_number };
-            frame(alloc, dialect, stamp, config, number, poss_dup, content)
-        }
-        Said::Logout => {
-            frame(
-                alloc,
-                dialect,
-                stamp,
-                config,
-                number,
-                poss_dup,
-                Content::Logout,
-            )
         }
     }
 }
@@ -145,17 +121,16 @@ fn frames<D: Dialect>(
     dialect: &D,
     stamp: &Stamp,
     config: &Config,
-    answered: &Option<FreeText<MAX_ID>>,
-    lines: &[Line],
+    lines: &[Line<'_>],
 ) -> Result<Vec<Vec<u8>>, SessionFault>
-    requires { AreWritable (map (message_in config.now answered.now) lines.now) }
+    requires { AreWritable (map (message_in config.now) lines.now) }
     ensures ok { IfOk result (λ frames. AreFramed (D.wording dialect.now).encoding stamp.now
-        (map alone (map (message_in config.now answered.now) lines.now)) (map (λ frame. frame.items) frames.items)) }
+        (map alone (map (message_in config.now) lines.now)) (map (λ frame. frame.items) frames.items)) }
     ensures refusal { IsOkUnless result SessionFault.OutOfMemory }
 {
     let mut frames = Vec::with_capacity(alloc, lines.len())?;
     for line in lines {
-        let frame = line_frame(alloc, dialect, stamp, config, answered, *line)?;
+        let frame = line_frame(alloc, dialect, stamp, config, line)?;
         frames.push(frame)?;
     }
     Ok(frames)
@@ -179,19 +154,18 @@ impl Session {
         &mut self,
         dialect: &D,
         stamp: &Stamp,
-        draft: Draft,
+        draft: Draft<'_>,
     ) -> Result<Step, SessionFault>
         requires sound { IsSound self.old → IsSound (drafted self.old draft).session }
         requires writable { IsSound self.old → AreWritable (drafted self.old draft).step.written }
-        ensures { Gives (IsStep (D.wording dialect.now).encoding stamp.now) self.old (answers (drafted self.old draft))
-            result self.new }
+        ensures { Gives (IsStep (D.wording dialect.now).encoding stamp.now) self.old
+            (answers (drafted self.old draft.entry)) result self.new }
     {
         let out = frames(
             self.alloc(),
             dialect,
             stamp,
             self.config(),
-            &draft.answered,
             draft.lines.as_slice(),
         )?;
         let withdrawn = self.withdrawn(draft.settling)?;

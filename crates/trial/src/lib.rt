@@ -16,7 +16,7 @@ mod shown;
 mod site;
 mod stopped_clock;
 
-pub use command_line::{Asked, asked_for, words};
+pub use command_line::words;
 pub use end_fault::{EndFault, status_of};
 pub use ends::{MAX_NUMBER, far_end, near_end};
 pub use envelope::envelope_in;

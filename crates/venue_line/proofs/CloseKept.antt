@@ -8,7 +8,8 @@ use Rattle.leg.specs.declared.leg.Leg.{Leg}
 use Rattle.leg.specs.declared.leg_state.LegState.TheVariants.{Taken}
 use Rattle.dialect.specs.declared.note.Note.{Note}
 use Rattle.dialect.specs.declared.content.Content.{Content}
-use Rattle.dialect.specs.declared.content.Content.TheVariants.{TestRequest, GapFill, Logout, Order}
+use Rattle.dialect.specs.declared.content.Content.TheVariants.{Session, Order}
+use Rattle.fix_tags.specs.declared.session_body.SessionBody.TheVariants.{TestRequest, GapFill, Logout}
 use Rattle.resend.specs.Log.{Entry, SentLeg, take_below}
 use Rattle.resend.specs.Log.Entry.{Admin, Sent}
 use Rattle.session_core.specs.declared.phase.Phase.{Phase}
@@ -39,7 +40,7 @@ IsBelowClosing s log =
 pub record Goes (b : Line) (s : SessionParts) (to : List Carried) : Type 0 where
   pub over : IsOver b.session.phase
       → IsOver s.phase × (s.connection ≡ b.session.connection) × (HasNoDoubt b.session.log → HasNoDoubt s.log)
-  pub frames : (m : Carried) → Contains to m → m.content ≡ Logout → Contains b.to_exchange m
+  pub frames : (m : Carried) → Contains to m → m.content ≡ (Session Logout) → Contains b.to_exchange m
   pub on : (m : Carried) → Contains b.to_exchange m → Contains to m
   pub above : (number fence : ℕ) (leg : SentLeg) → IsBeforeUp s.phase → IsLegAt s.log number leg
       → Contains s.current.fences fence → number < fence
@@ -99,7 +100,7 @@ unwritten b s over above closing out =
     }
 
 -- where a message is written that is no Logout
-one_written : (b : Line) (s : SessionParts) (number : ℕ) (content : Content) → (content ≡ Logout → ⊥)
+one_written : (b : Line) (s : SessionParts) (number : ℕ) (content : Content) → (content ≡ (Session Logout) → ⊥)
     → (IsOver b.session.phase
     → IsOver s.phase × (s.connection ≡ b.session.connection) × (HasNoDoubt b.session.log → HasNoDoubt s.log))
     → ((number fence : ℕ) (leg : SentLeg) → IsBeforeUp s.phase → IsLegAt s.log number leg
@@ -136,7 +137,7 @@ took_back : (least : ℕ) (log : List Entry) (number : ℕ) (leg : SentLeg) → 
 took_back least log number leg is = let was = was_settled (λ n. nat_lt n least) Taken number log leg is in
     (was.leg, was.there)
 
-spends : (b : Line) (s : SessionParts) (content : Content) → (content ≡ Logout → ⊥)
+spends : (b : Line) (s : SessionParts) (content : Content) → (content ≡ (Session Logout) → ⊥)
     → s.log ≡ b.session.log ++ Admin ∷ [] → s.phase ≡ b.session.phase → s.connection ≡ b.session.connection
     → s.current.closing_fence ≡ b.session.current.closing_fence
     → ((fence : ℕ) → Contains s.current.fences fence
@@ -162,10 +163,10 @@ spends b s content other log same connection closing fences c =
     (sym closing ∙ mark))
     (λ now number leg is doubt. c.out_no_doubt (sym same ∙ now) number leg (back number leg is) doubt)) c
 
-fills : (b : Line) (first new_number : ℕ) → Close b → Close (framed first (GapFill new_number) b.session b)
+fills : (b : Line) (first new_number : ℕ) → Close b → Close (framed first (Session (GapFill new_number)) b.session b)
 fills b first new_number c =
     close_goes b b.released b.left b.session _ b.given
-    (one_written b b.session first (GapFill new_number) (λ is. cc)
+    (one_written b b.session first (Session (GapFill new_number)) (λ is. cc)
     (λ over. (over, refl, λ none. none)) c.fence_above c.closing_above c.out_no_doubt) c
 
 -- the phase alone, or the mark of the close's fence with it
@@ -229,12 +230,12 @@ last_sure b fence is (inr closing) c number leg there doubt =
 -- the session's Logout
 logs_out : (b : Line) (s : SessionParts) → s.log ≡ b.session.log ++ Admin ∷ [] → s.connection ≡ b.session.connection
     → s.phase ≡ phase.LoggedOut → b.session.phase ≡ phase.LoggedOut → Close b
-    → Close (framed (next_out b.session) Logout s b)
+    → Close (framed (next_out b.session) (Session Logout) s b)
 logs_out b s log connection now was c =
     let none : HasNoDoubt s.log = λ number leg is doubt. c.out_no_doubt was number leg
     (goes_push b.session.log number leg (subst (λ l. IsLegAt l number leg) log is)) doubt in
     let over : IsOver s.phase = subst IsOver (sym now) tt in
-    let frame : Carried = record { connection = s.connection; number = next_out b.session; content = Logout } in
+    let frame : Carried = record { connection = s.connection; number = next_out b.session; content = (Session Logout) } in
     record {
       fence_above = λ number fence leg early is there. absurd (subst IsBeforeUp now early);
       closing_above = λ number wanted leg closing is mark. absurd (let e = sym now ∙ closing in cc);
@@ -287,7 +288,7 @@ not_over phase.Settling on going over = over
 not_over phase.Up on going over = over
 not_over phase.Closing on going over = over
 
-plain_no_logout : (content : Content) → IsPlainAdmin content → content ≡ Logout → ⊥
+plain_no_logout : (content : Content) → IsPlainAdmin content → content ≡ (Session Logout) → ⊥
 plain_no_logout content plain is = subst IsPlainAdmin is plain
 
 -- where no message is the session's Logout yet, since its phase isn't over
@@ -302,7 +303,7 @@ sends_kept b leg up c =
     (λ number wanted x closing is mark. absurd (let e = sym up ∙ closing in cc))
     (λ out. absurd (let e = sym up ∙ out in cc))) c
 
-connects_kept : (b : Line) (content : Content) → (content ≡ Logout → ⊥) → b.session.phase ≡ phase.Down → Close b
+connects_kept : (b : Line) (content : Content) → (content ≡ (Session Logout) → ⊥) → b.session.phase ≡ phase.Down → Close b
     → Close (framed (next_out b.session) content (connecting b.session) b)
 connects_kept b content other down c =
     close_goes b b.released b.left (connecting b.session) _ b.given
@@ -335,7 +336,7 @@ close_calls = record {
   admin = λ b content plain may j c. spends b (spending b.session) content
       (plain_no_logout content plain) refl refl refl refl (λ fence there. inl there) c;
   fence = λ b may j c.
-      spends b (spending (fenced b.session)) (TestRequest (fence_id (next_out b.session)))
+      spends b (spending (fenced b.session)) (Session (TestRequest (fence_id (next_out b.session))))
       (λ is. cc) refl refl refl refl
       (λ fence there. elim (Contains-push_cases b.session.current.fences (next_out b.session) fence there)
       [ inl old ↦ inl old | inr new ↦ inr (sym new) ]) c;
@@ -361,7 +362,7 @@ close_calls = record {
       (passes b (passed_into fence phase.LoggedOut b.session) fence refl refl (fewer_fences fence b) refl (λ over. tt)
       (λ early. absurd early) (λ closing. absurd cc) (λ out. last_sure b fence is last c) c);
   answers_logout = λ b heard on going may j c.
-      (let mark = c.logout_heard (record { connection = b.session.connection; number = heard.0; content = Logout })
+      (let mark = c.logout_heard (record { connection = b.session.connection; number = heard.0; content = (Session Logout) })
       heard.1 refl in
       let logout = c.marked mark.0 mark.1 in
       absurd (not_over b.session.phase on going (c.logout_is_last logout.logout logout.written logout.says).0));
@@ -403,7 +404,7 @@ module _ {taken : List Carried} (w : Line) (copies : Copies taken w) (c : Close 
   Marks t =
       ((count : ℕ) → t.closed_at ≡ Some count → (count ≡ length t.accepted) × (t.live ≡ None)
       × (t.last ≡ w.session.connection)
-      × ((logout : Carried) × Contains w.to_exchange logout × (logout.content ≡ Logout)))
+      × ((logout : Carried) × Contains w.to_exchange logout × (logout.content ≡ (Session Logout))))
       × ((count : ℕ) → w.exchange.intake.closed_at ≡ Some count → (now : ℕ) × (t.closed_at ≡ Some now))
 
   by_move : (t u : Intake) → t ≡ u → Marks u → Marks t
@@ -462,8 +463,8 @@ module _ {taken : List Carried} (w : Line) (copies : Copies taken w) (c : Close 
       (subst (λ o. IfSome o (Contains w.to_exchange)) came there) is
 
   says_logout : (coming : Option Carried) (t : RuleState) (number : ℕ) (content : Content)
-      → MaySay w.exchange coming t number content → content ≡ Logout → (count : ℕ) × (t.intake.closed_at ≡ Some count)
-  says_logout coming t number Logout closed says = closed
+      → MaySay w.exchange coming t number content → content ≡ (Session Logout) → (count : ℕ) × (t.intake.closed_at ≡ Some count)
+  says_logout coming t number (Session Logout) closed says = closed
   says_logout coming t number content closed says = absurd cc
 
   pub close_exchanged : (coming : Option Carried) (t : RuleState) (written : List Carried)

@@ -4,7 +4,8 @@ use Rattle.std.proofs.lemmas.List.Elements.{Contains-append_left, Contains-push_
 use Rattle.leg.proofs.Numbered.{numbered-append}
 use Rattle.leg.specs.declared.leg.Leg.{Leg}
 use Rattle.dialect.specs.declared.content.Content.{Content}
-use Rattle.dialect.specs.declared.content.Content.TheVariants.{GapFill, Logout, Order}
+use Rattle.dialect.specs.declared.content.Content.TheVariants.{Session, Order}
+use Rattle.fix_tags.specs.declared.session_body.SessionBody.TheVariants.{GapFill, Logout}
 use Rattle.resend.specs.Log.{Entry}
 use Rattle.session_core.specs.declared.phase.Phase.{Phase}
 use Rattle.session_core.specs.declared.phase.Phase.TheVariants as phase
@@ -146,9 +147,9 @@ copies_calls taken = record {
       (goes-admin b.session.log) (plain_is_no_order content plain) (omega arith) (λ early. inl early) c;
   fence = λ b may j c. copies_framed b (spending (fenced b.session)) (next_out b.session) _ (goes-admin b.session.log)
       (λ order. order) (omega arith) (λ early. inl early) c;
-  fill_settled = λ b first new_number from forward below j c. copies_framed b b.session first (GapFill new_number)
+  fill_settled = λ b first new_number from forward below j c. copies_framed b b.session first (Session (GapFill new_number))
       (goes-refl b.session.log) (λ order. order) (omega arith) (λ early. inl early) c;
-  fill_sure = λ b first new_number sure forward below j c. copies_framed b b.session first (GapFill new_number)
+  fill_sure = λ b first new_number sure forward below j c. copies_framed b b.session first (Session (GapFill new_number))
       (goes-refl b.session.log) (λ order. order) (omega arith) (λ early. inl early) c;
   settles = λ b content told early heard says j c. copies_settles b
       (record { connection = b.session.connection; number = heard.0; content = content }) told early heard.1 refl says
@@ -162,10 +163,10 @@ copies_calls taken = record {
   passes_out = λ b fence is last j c. copies_unwritten b (passed_into fence phase.LoggedOut b.session)
       (goes-take_below fence b.session.log) refl (λ early. absurd early) c;
   passes_out_written = λ b fence is last may j c.
-      copies_framed b (record (spending (passing fence b.session)) { phase = phase.LoggedOut }) _ Logout
+      copies_framed b (record (spending (passing fence b.session)) { phase = phase.LoggedOut }) _ (Session Logout)
       (goes-trans _ _ _ (goes-take_below fence b.session.log) (goes-admin _)) (λ order. order) (omega arith)
       (λ early. absurd early) c;
-  answers_logout = λ b heard on going may j c. copies_framed b (spending b.session) (next_out b.session) Logout
+  answers_logout = λ b heard on going may j c. copies_framed b (spending b.session) (next_out b.session) (Session Logout)
       (goes-admin b.session.log) (λ order. order) (omega arith) (λ early. inl early) c;
   ends = λ b is_over on j c. copies_unwritten b _ (goes-refl b.session.log) refl
       (λ early. absurd (ended_is_up is_over b.session.phase early)) c;

@@ -7,7 +7,8 @@ use Rattle.leg.specs.Numbered.{numbered}
 use Rattle.leg.proofs.Numbered.{numbered-append}
 use Rattle.leg.specs.declared.leg.Leg.{Leg}
 use Rattle.dialect.specs.declared.content.Content.{Content}
-use Rattle.dialect.specs.declared.content.Content.TheVariants.{Heartbeat, TestRequest, GapFill, Logout, Order}
+use Rattle.dialect.specs.declared.content.Content.TheVariants.{Session, Order}
+use Rattle.fix_tags.specs.declared.session_body.SessionBody.TheVariants.{Heartbeat, TestRequest, GapFill, Logout}
 use Rattle.resend.specs.Log.{SentLeg, take_below}
 use Rattle.resend.specs.Log.Entry.{Admin, Sent}
 use Rattle.session_core.specs.declared.phase.Phase.TheVariants as phase
@@ -111,10 +112,10 @@ module _ (taken : List Carried) (a : Line) (leg : Leg) (there : numbered (suc a.
             ];
       }
 
-plain_no_test : (content : Content) (id id' : List ℕ) → IsPlainAdmin content → content ≡ TestRequest id → id ≡ id'
+plain_no_test : (content : Content) (id id' : List ℕ) → IsPlainAdmin content → content ≡ Session (TestRequest id) → id ≡ id'
 plain_no_test content id id' plain is = absurd (subst IsPlainAdmin is plain)
 
-plain_no_fill : (content : Content) (new_number : ℕ) → IsPlainAdmin content → content ≡ GapFill new_number → ⊥
+plain_no_fill : (content : Content) (new_number : ℕ) → IsPlainAdmin content → content ≡ Session (GapFill new_number) → ⊥
 plain_no_fill content new_number plain is = subst IsPlainAdmin is plain
 
 -- the fences that are above one that was answered are fences of the same connection
@@ -141,7 +142,7 @@ module _ (taken : List Carried) where
       let small = f.next_small in
       let passed =
       f.answers_passed
-      (record { connection = b.session.connection; number = is.heard.0; content = Heartbeat (Some (fence_id fence)) })
+      (record { connection = b.session.connection; number = is.heard.0; content = Session (Heartbeat (Some (fence_id fence))) })
       fence is.heard.1 refl (omega arith) in
       fences_goes b s b.to_exchange b.given
       (goes_passes taken b s fence config log settled fences logon is.written passed f) f
@@ -151,8 +152,8 @@ module _ (taken : List Carried) where
       → s.log ≡ b.session.log ++ Admin ∷ [] → s.settled ≡ b.session.settled
       → ((fence : ℕ) → Contains s.current.fences fence → Contains b.session.current.fences fence)
       → s.current.logon_number ≡ b.session.current.logon_number → may_write b.session ≡ true
-      → ((id : List ℕ) → content ≡ TestRequest id → id ≡ fence_id (next_out b.session))
-      → ((new_number : ℕ) → content ≡ GapFill new_number → ⊥) → Fences taken b
+      → ((id : List ℕ) → content ≡ Session (TestRequest id) → id ≡ fence_id (next_out b.session))
+      → ((new_number : ℕ) → content ≡ Session (GapFill new_number) → ⊥) → Fences taken b
       → Fences taken (framed (next_out b.session) content s b)
   spends b s content config log settled fences logon may test no_fill f =
       fences_goes b s _ b.given
@@ -197,7 +198,7 @@ module _ (taken : List Carried) where
         (λ n is. plain_no_fill content n plain is) f;
     fence = λ b may j f.
         fences_goes b (spending (fenced b.session)) _ b.given
-        (goes_spends taken b (spending (fenced b.session)) (TestRequest (fence_id (next_out b.session))) refl refl refl
+        (goes_spends taken b (spending (fenced b.session)) (Session (TestRequest (fence_id (next_out b.session)))) refl refl refl
         (λ fence there. elim (Contains-push_cases b.session.current.fences (next_out b.session) fence there)
         [ inl old ↦ inl old | inr new ↦ inr (sym new) ])
         (let h = f.logon_below in omega arith) may (λ id is. cc) (λ n is. cc) f) f;
@@ -224,11 +225,11 @@ module _ (taken : List Carried) where
         (fewer_fences fence b) refl is f;
     passes_out_written = λ b fence is last may j f.
         spends (with_session (passed_into fence phase.LoggedOut b.session) b)
-        (record (spending (passing fence b.session)) { phase = phase.LoggedOut }) Logout refl refl refl
+        (record (spending (passing fence b.session)) { phase = phase.LoggedOut }) (Session Logout) refl refl refl
         (λ fence there. there) refl may (λ id is. absurd cc) (λ n is. cc)
         (passes_kept b (passed_into fence phase.LoggedOut b.session) fence refl refl refl
         (fewer_fences fence b) refl is f);
-    answers_logout = λ b heard on going may j f. spends b (spending b.session) Logout refl refl refl
+    answers_logout = λ b heard on going may j f. spends b (spending b.session) (Session Logout) refl refl refl
         (λ fence there. there) refl may (λ id is. absurd cc) (λ n is. cc) f;
     ends = λ b is_over on j f. stays b _ refl refl refl (λ fence there. there) refl f;
     abandons = λ b j f. stays b _ refl refl refl (λ fence there. there) refl f;

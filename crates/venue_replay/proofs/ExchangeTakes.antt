@@ -10,7 +10,8 @@ use Rattle.fix_text.specs.Reading.{NextFrame, next_read}
 use Rattle.leg.specs.Numbered.{numbered}
 use Rattle.dialect.specs.OrderView.{OrderViewParts}
 use Rattle.dialect.specs.declared.content.Content.{Content}
-use Rattle.dialect.specs.declared.content.Content.TheVariants.{Logon, Heartbeat, TestRequest, ResendRequest, Reject, GapFill, Reset, Logout, BusinessReject, Order, ExecutionReport, Other}
+use Rattle.dialect.specs.declared.content.Content.TheVariants.{Session, Order, ExecutionReport, Other}
+use Rattle.fix_tags.specs.declared.session_body.SessionBody.TheVariants.{Logon, Heartbeat, TestRequest, ResendRequest, Reject, GapFill, Reset, Logout, BusinessReject}
 use Rattle.dialect.specs.declared.message.Message.{Message}
 use Rattle.dialect.specs.declared.outgoing.Outgoing.{Outgoing}
 use Rattle.dialect.specs.Framed.{AreFramed}
@@ -68,45 +69,45 @@ is_frame w r agrees frame is =
 
 -- what was written and is read is in the ranges that the two ends ask for
 session_reads : (beside : Option OrderViewParts) (content : Content) → IsWritableContent beside content → session.IsReadContent content
-session_reads beside (Logon heart reset next) can = can.1
-session_reads beside (Heartbeat id) can = tt
-session_reads beside (TestRequest id) can = can
-session_reads beside (ResendRequest begin last) can = tt
-session_reads beside (Reject number) can = tt
-session_reads beside (GapFill new_number) can = can
-session_reads beside (Reset new_number) can = tt
-session_reads beside Logout can = tt
-session_reads beside (BusinessReject number) can = tt
+session_reads beside (Session (Logon heart reset next)) can = can.1
+session_reads beside (Session (Heartbeat id)) can = tt
+session_reads beside (Session (TestRequest id)) can = can
+session_reads beside (Session (ResendRequest begin last)) can = tt
+session_reads beside (Session (Reject number)) can = tt
+session_reads beside (Session (GapFill new_number)) can = can
+session_reads beside (Session (Reset new_number)) can = tt
+session_reads beside (Session Logout) can = tt
+session_reads beside (Session (BusinessReject number)) can = tt
 session_reads beside (Order (Ok leg)) can = tt
 session_reads beside (Order (Err fault)) can = tt
 session_reads beside (ExecutionReport read) can = tt
 session_reads beside Other can = tt
 
 exchange_reads : (beside : Option OrderViewParts) (content : Content) → IsWritableContent beside content → exchange.IsReadContent content
-exchange_reads beside (Logon heart reset next) can = can.0
-exchange_reads beside (Heartbeat id) can = tt
-exchange_reads beside (TestRequest id) can = can
-exchange_reads beside (ResendRequest begin last) can = tt
-exchange_reads beside (Reject number) can = tt
-exchange_reads beside (GapFill new_number) can = tt
-exchange_reads beside (Reset new_number) can = tt
-exchange_reads beside Logout can = tt
-exchange_reads beside (BusinessReject number) can = tt
+exchange_reads beside (Session (Logon heart reset next)) can = can.0
+exchange_reads beside (Session (Heartbeat id)) can = tt
+exchange_reads beside (Session (TestRequest id)) can = can
+exchange_reads beside (Session (ResendRequest begin last)) can = tt
+exchange_reads beside (Session (Reject number)) can = tt
+exchange_reads beside (Session (GapFill new_number)) can = tt
+exchange_reads beside (Session (Reset new_number)) can = tt
+exchange_reads beside (Session Logout) can = tt
+exchange_reads beside (Session (BusinessReject number)) can = tt
 exchange_reads beside (Order (Ok leg)) can = can
 exchange_reads beside (Order (Err fault)) can = tt
 exchange_reads beside (ExecutionReport read) can = tt
 exchange_reads beside Other can = tt
 
 fill_reads : (beside : Option OrderViewParts) (content : Content) → IsWritableContent beside content → IsFillInRange content
-fill_reads beside (Logon heart reset next) can = tt
-fill_reads beside (Heartbeat id) can = tt
-fill_reads beside (TestRequest id) can = tt
-fill_reads beside (ResendRequest begin last) can = tt
-fill_reads beside (Reject number) can = tt
-fill_reads beside (GapFill new_number) can = can
-fill_reads beside (Reset new_number) can = tt
-fill_reads beside Logout can = tt
-fill_reads beside (BusinessReject number) can = tt
+fill_reads beside (Session (Logon heart reset next)) can = tt
+fill_reads beside (Session (Heartbeat id)) can = tt
+fill_reads beside (Session (TestRequest id)) can = tt
+fill_reads beside (Session (ResendRequest begin last)) can = tt
+fill_reads beside (Session (Reject number)) can = tt
+fill_reads beside (Session (GapFill new_number)) can = can
+fill_reads beside (Session (Reset new_number)) can = tt
+fill_reads beside (Session Logout) can = tt
+fill_reads beside (Session (BusinessReject number)) can = tt
 fill_reads beside (Order (Ok leg)) can = tt
 fill_reads beside (Order (Err fault)) can = tt
 fill_reads beside (ExecutionReport read) can = tt
@@ -150,15 +151,15 @@ module _ (x : ExchangeParts) (connection : ℕ) (at : LiveConnection) (is_live :
       (was, sym (same_Some connection live (here ∙ was)))
 
   due_live : (content : Content) → Stays x connection (due_taken x content)
-  due_live (Logon heart reset next) = stays (due_taken x (Logon heart reset next)).1 refl
-  due_live (Heartbeat id) = stays (due_taken x (Heartbeat id)).1 refl
-  due_live (TestRequest id) = stays (due_taken x (TestRequest id)).1 refl
-  due_live (ResendRequest begin last) = stays (due_taken x (ResendRequest begin last)).1 refl
-  due_live (Reject number) = stays (due_taken x (Reject number)).1 refl
-  due_live (GapFill new_number) = stays (due_taken x (GapFill new_number)).1 refl
-  due_live (Reset new_number) = stays (due_taken x (Reset new_number)).1 refl
-  due_live Logout = λ live is. absurd cc
-  due_live (BusinessReject number) = stays (due_taken x (BusinessReject number)).1 refl
+  due_live (Session (Logon heart reset next)) = stays (due_taken x (Session (Logon heart reset next))).1 refl
+  due_live (Session (Heartbeat id)) = stays (due_taken x (Session (Heartbeat id))).1 refl
+  due_live (Session (TestRequest id)) = stays (due_taken x (Session (TestRequest id))).1 refl
+  due_live (Session (ResendRequest begin last)) = stays (due_taken x (Session (ResendRequest begin last))).1 refl
+  due_live (Session (Reject number)) = stays (due_taken x (Session (Reject number))).1 refl
+  due_live (Session (GapFill new_number)) = stays (due_taken x (Session (GapFill new_number))).1 refl
+  due_live (Session (Reset new_number)) = stays (due_taken x (Session (Reset new_number))).1 refl
+  due_live (Session Logout) = λ live is. absurd cc
+  due_live (Session (BusinessReject number)) = stays (due_taken x (Session (BusinessReject number))).1 refl
   due_live (Order (Ok leg)) = stays (due_taken x (Order (Ok leg))).1 refl
   due_live (Order (Err fault)) = stays (due_taken x (Order (Err fault))).1 refl
   due_live (ExecutionReport read) = stays (due_taken x (ExecutionReport read)).1 refl

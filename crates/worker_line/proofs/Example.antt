@@ -9,6 +9,7 @@ use Rattle.leg.specs.declared.leg.Leg.{Leg}
 use Rattle.dialect.specs.Wording.{Decoding}
 use Rattle.dialect.specs.declared.content.Content.{Content}
 use Rattle.dialect.specs.declared.content.Content.TheVariants as say
+use Rattle.fix_tags.specs.declared.session_body.SessionBody.TheVariants as say_said
 use Rattle.session_core.specs.Session.{new_session}
 use Rattle.session_core.specs.Example.{config}
 use Rattle.exchange_core.specs.Acceptance.{Carried, RuleState, rule_opening, MayMove, MayAnswer, MayRefuse, MayRefuseOther, MayKeep, MayWrite, IsDue, May}
@@ -87,10 +88,10 @@ first_logon =
 
 -- in a later turn a Logon is above the expected number, which is asked for
 next_logon : May (standing 1 4 (first ∷ []) 2) (Some (logon 2 5)) (standing 2 4 (first ∷ []) 4)
-    (logon 2 3 ∷ at 2 4 (say.ResendRequest 4 0) ∷ [])
+    (logon 2 3 ∷ at 2 4 (say.Session (say_said.ResendRequest 4 0)) ∷ [])
 next_logon =
     let s = standing 1 4 (first ∷ []) 2 in
-    let asks = at 2 4 (say.ResendRequest 4 0) in
+    let asks = at 2 4 (say.Session (say_said.ResendRequest 4 0)) in
     step s (logon 2 5) 2 4 4 (first ∷ []) (logon 2 3 ∷ asks ∷ []) 2
     (rules.takes (logon 2 5) refl
     (rules.new_logon
@@ -121,10 +122,10 @@ drops_order =
     step s (order 1 4 second) 2 4 4 (first ∷ []) [] 0 (rules.stays refl) refl
     (nothing s (order 1 4 second) 2 4 4 (first ∷ []))
 
-passes_fill : May (standing 2 4 (first ∷ []) 4) (Some (at 2 4 (say.GapFill 7))) (standing 2 7 (first ∷ []) 4) []
+passes_fill : May (standing 2 4 (first ∷ []) 4) (Some (at 2 4 (say.Session (say_said.GapFill 7)))) (standing 2 7 (first ∷ []) 4) []
 passes_fill =
     let s = standing 2 4 (first ∷ []) 4 in
-    let m = at 2 4 (say.GapFill 7) in
+    let m = at 2 4 (say.Session (say_said.GapFill 7)) in
     step s m 2 7 4 (first ∷ []) [] 0
     (rules.takes m refl (rules.fill (record { live = refl; number = refl }) 7 refl refl)) refl
     (nothing s m 2 7 4 (first ∷ []))

@@ -1,8 +1,9 @@
 -- A worked history: the connection breaks when two legs are on their way, and only the first one has come. In the next
 -- connection that is found out: the first leg is taken, the second one withdrawn, and its number filled over.
 use Rattle.std.specs.Prelude.{◌≡◌, ℕ, false, List, [], ◌∷◌, ◌++◌, codes, replicate, Some, None, Ok}
-use Rattle.fix_tags.specs.declared.body.Body.{Body}
+use Rattle.fix_tags.specs.Body.{Body}
 use Rattle.fix_tags.specs.declared.body.Body.TheVariants as body
+use Rattle.fix_tags.specs.declared.session_body.SessionBody.TheVariants as body_said
 use Rattle.leg.specs.declared.leg.Leg.{Leg}
 use Rattle.leg.specs.declared.leg_state.LegState.TheVariants.{Taken, Withdrawn}
 use Rattle.dialect.specs.declared.content.Content.{Content}
@@ -49,13 +50,13 @@ abbrev pub at : ℕ → ℕ → Content → Carried
 at connection number content = record { connection = connection; number = number; content = content }
 
 abbrev pub logon : ℕ → ℕ → Carried
-logon connection number = at connection number (say.Logon 30 false None)
+logon connection number = at connection number (say.Session (body_said.Logon 30 false None))
 
 abbrev pub fence : ℕ → ℕ → Carried
-fence connection number = at connection number (say.TestRequest (fence_id number))
+fence connection number = at connection number (say.Session (body_said.TestRequest (fence_id number)))
 
 abbrev pub answer : ℕ → ℕ → ℕ → Carried
-answer connection number asked = at connection number (say.Heartbeat (Some (fence_id asked)))
+answer connection number asked = at connection number (say.Session (body_said.Heartbeat (Some (fence_id asked))))
 
 abbrev pub order : ℕ → ℕ → Leg → Carried
 order connection number leg = at connection number (say.Order (Ok leg))
@@ -86,9 +87,9 @@ abbrev pub logging_on : List VenueEvent
 logging_on =
     calls call.Connect
     ∷ takes (logon 1 1) (standing 1 2 [] 1) (logon 1 1 ∷ [])
-    ∷ hears 1 (body.Logon 30 false None)
+    ∷ hears 1 (body.Session (body_said.Logon 30 false None))
     ∷ takes (fence 1 2) (standing 1 3 [] 2) (answer 1 2 2 ∷ [])
-    ∷ hears 2 (body.Heartbeat (Some (fence_id 2)))
+    ∷ hears 2 (body.Session (body_said.Heartbeat (Some (fence_id 2))))
     ∷ []
 
 -- two legs are released, and sent under the numbers 3 and 4; the first comes to the exchange, and the connection breaks
@@ -107,13 +108,13 @@ losing =
 abbrev pub settling : List VenueEvent
 settling =
     calls call.Connect
-    ∷ takes (logon 2 5) (standing 2 4 (first ∷ []) 4) (logon 2 3 ∷ at 2 4 (say.ResendRequest 4 0) ∷ [])
+    ∷ takes (logon 2 5) (standing 2 4 (first ∷ []) 4) (logon 2 3 ∷ at 2 4 (say.Session (body_said.ResendRequest 4 0)) ∷ [])
     ∷ takes (order 1 4 second) (standing 2 4 (first ∷ []) 4) []
-    ∷ hears 3 (body.Logon 30 false None)
-    ∷ hears 4 (body.ResendRequest 4 0)
-    ∷ takes (at 2 4 (say.GapFill 7)) (standing 2 7 (first ∷ []) 4) []
+    ∷ hears 3 (body.Session (body_said.Logon 30 false None))
+    ∷ hears 4 (body.Session (body_said.ResendRequest 4 0))
+    ∷ takes (at 2 4 (say.Session (body_said.GapFill 7))) (standing 2 7 (first ∷ []) 4) []
     ∷ takes (fence 2 7) (standing 2 8 (first ∷ []) 5) (answer 2 5 7 ∷ [])
-    ∷ hears 5 (body.Heartbeat (Some (fence_id 7)))
+    ∷ hears 5 (body.Session (body_said.Heartbeat (Some (fence_id 7))))
     ∷ []
 
 abbrev pub history : List VenueEvent

@@ -18,10 +18,8 @@ use crate::numbered_id::{id_of_order, id_of_report, id_of_test};
 use crate::own::Own;
 use crate::plan::{OrderStep, Plan};
 use crate::to_peer::{report_to_peer, to_peer};
-use dialect::{
-    Content, Dialect, LastPx, OrderView, Plain, Report, ReportKind, TextRef, write_message,
-};
-use fix_tags::Stamp;
+use dialect::{Content, Dialect, LastPx, OrderView, Plain, Report, ReportKind, write_message};
+use fix_tags::{SessionBody, Stamp, TextRef};
 use leg::Split;
 use std::alloc::{AllocError, Global};
 
@@ -114,9 +112,9 @@ impl Exchange {
         }
         let number = self.own.len() as u64 + 1;
         let id = id_of_test(number);
-        let content = Content::TestRequest {
+        let content = Content::Session(SessionBody::TestRequest {
             id: TextRef::new(id.as_bytes()),
-        };
+        });
         // Every dialect spells it the same.
         let outgoing = to_peer(&self.config, number, false, content);
         let frame = write_message(alloc, &Plain, stamp, &outgoing)?;

@@ -2,7 +2,8 @@
 
 ghost use Rattle.std.specs.Prelude.{◌≡◌, ◌&&◌, false, Some, None, [], nat_lt, nat_le, if◌then◌else◌};
 ghost use Rattle.dialect.specs.Addressed.{is_for};
-ghost use Rattle.dialect.specs.declared.content.Content.TheVariants.{Logon};
+ghost use Rattle.dialect.specs.declared.content.Content.TheVariants.{Session};
+ghost use Rattle.fix_tags.specs.declared.session_body.SessionBody.TheVariants.{Logon};
 ghost use Rattle.exchange_core.specs.Exchange.{ExchangeParts, passed_by, logon_taken, due_taken, has_asked, by_number, resends, heard, take};
 ghost use Rattle.exchange_core.specs.declared.turn.Deed.TheVariants.{Nothing, Turn as Turned};
 ghost use Rattle.exchange_core.specs.Sound.{IsSound};
@@ -12,6 +13,7 @@ use super::Exchange;
 use crate::live_connection::LiveConnection;
 use crate::turn::{Asked, Decision, Deed, Says, Turn};
 use dialect::{Content, Message};
+use fix_tags::SessionBody;
 
 impl Exchange {
     /// What is to be done with a message in a connection. With fewer than two own numbers left nothing is.
@@ -24,7 +26,7 @@ impl Exchange {
             return ignored();
         }
         match message.content {
-            Content::Logon { heart, next, .. } => {
+            Content::Session(SessionBody::Logon { heart, next, .. }) => {
                 self.decide_logon(connection, message.number, heart, next)
             }
             content => self.hear(connection, message.number, content),
@@ -160,10 +162,10 @@ impl Exchange {
         if number < self.expected || was_asked(live, self.expected) {
             return Deed::Nothing;
         }
-        let request = Content::ResendRequest {
+        let request = Content::Session(SessionBody::ResendRequest {
             begin: self.expected,
             last: 0,
-        };
+        });
         Deed::Turn(Turn {
             expected: self.expected,
             live: Some(LiveConnection {
@@ -185,29 +187,22 @@ impl Exchange {
             Content::Order(Ok(leg)) => Deed::Accept(leg),
             Content::Order(Err(_)) => {
                 let number = self.expected;
-                self.expects(next, Says::One(Content::Reject { number }))
+                self.expects(next, says(SessionBody::Reject { number }))
             }
-            Content::GapFill { new_number } => {
+            Content::Session(SessionBody::GapFill { new_number }) => {
                 self.expects(self.expected.max(new_number), Says::Nothing)
             }
-            Content::Logout => Deed::Turn(Turn {
+            Content::Session(SessionBody::Logout) => Deed::Turn(Turn {
                 expected: next,
                 live: None,
                 last: self.last,
                 closed_at: Some(self.orders.len()),
-                says: Says::One(Content::Logout),
+                says: says(SessionBody::Logout),
             }),
-            Content::TestRequest { id } => {
-                self.expects(next, Says::One(Content::Heartbeat { id: Some(id) }))
+            Content::Session(SessionBody::TestRequest { id }) => {
+                self.expects(next, says(SessionBody::Heartbeat { id: Some(id) }))
             }
-            Content::Logon { .. } => self.expects(next, Says::Nothing),
-            Content::Heartbeat { .. } => self.expects(next, Says::Nothing),
-            Content::ResendRequest { .. } => self.expects(next, Says::Nothing),
-            Content::Reject { .. } => self.expects(next, Says::Nothing),
-            Content::Reset { .. } => self.expects(next, Says::Nothing),
-            Content::BusinessReject { .. } => self.expects(next, Says::Nothing),
-            Content::ExecutionReport(_) => self.expects(next, Says::Nothing),
-            Content::Other => self.expects(next, Says::Nothing),
+            _ => self.expects(next, Says::Nothing),
         }
     }
 
@@ -231,6 +226,13 @@ impl Exchange {
     }
 }
 
+/// One message of the session.
+fn says<'a>(body: SessionBody<'a>) -> Says<'a>
+    ensures { result ≡ Says.One (Session body.entry) }
+{
+    Says::One(Content::Session(body))
+}
+
 /// Nothing is done.
 fn ignored<'a>() -> Decision<'a>
     ensures { result ≡ record { asked = None; deed = Nothing } }
@@ -243,13 +245,13 @@ fn ignored<'a>() -> Decision<'a>
 
 /// A Logon that answers one: the interval is echoed, and numbers aren't reset.
 fn logon<'a>(heart: u64, next: Option<u64>) -> Content<'a>
-    ensures { result ≡ Logon heart false next }
+    ensures { result ≡ Session (Logon heart false next) }
 {
-    Content::Logon {
+    Content::Session(SessionBody::Logon {
         heart,
         reset: false,
         next,
-    }
+    })
 }
 
 /// Whether the missing messages were asked for from a number on.
@@ -268,7 +270,7 @@ fn asked_by(content: &Content<'_>) -> Option<Asked>
     ensures { (x : ExchangeParts) → resends x content.now ≡ asked_answer x result }
 {
     match content {
-        Content::ResendRequest { begin, last } => Some(Asked {
+        Content::Session(SessionBody::ResendRequest { begin, last }) => Some(Asked {
             begin: *begin,
             last: *last,
         }),

@@ -21,7 +21,7 @@ use crate::to_peer::{report_to_peer, to_peer};
 use crate::turn::{Asked, Deed, Says, Turn, Used};
 use crate::write::write;
 use dialect::{Content, Dialect, Report, ReportKind, see};
-use fix_tags::{EnvelopeRef, Stamp};
+use fix_tags::{EnvelopeRef, SessionBody, Stamp};
 use leg::Leg;
 use std::alloc::{AllocError, Global};
 
@@ -205,10 +205,10 @@ impl Exchange {
             Says::OneAndRequest(content) => {
                 let outgoing = to_peer(&self.config, number, false, content);
                 write(alloc, dialect, stamp, &outgoing, frames)?;
-                let request = Content::ResendRequest {
+                let request = Content::Session(SessionBody::ResendRequest {
                     begin: expected,
                     last: 0,
-                };
+                });
                 let outgoing = to_peer(&self.config, number + 1, false, request);
                 write(alloc, dialect, stamp, &outgoing, frames)
             }
@@ -233,7 +233,7 @@ fn use_of(content: &Content<'_>) -> Own
     ensures { result ≡ used_for content.now }
 {
     match content {
-        Content::Reject { number } => Own::Refused { number: *number },
+        Content::Session(SessionBody::Reject { number }) => Own::Refused { number: *number },
         _ => Own::Admin,
     }
 }

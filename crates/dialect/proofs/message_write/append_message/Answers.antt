@@ -1,8 +1,18 @@
 use Rattle.std.proofs.Common.{◌≡◌, rules, Ok}
-use Rattle.dialect.specs.declared.content.Content.TheVariants.{Order, ExecutionReport}
+use Rattle.dialect.specs.declared.content.Content.TheVariants.{Session, Order, ExecutionReport}
 use Rattle.dialect.specs.Wording.{Encoding}
-use Rattle.dialect.proofs.StraightFrame.{framed_order, framed_report}
+use Rattle.dialect.proofs.StraightFrame.{framed_session, framed_order, framed_report}
 use Rattle.dialect.proofs.message_write.append_message.Goals as goal
+
+pub returns-in-Session-clause-ok : goal.returns-in-Session-clause-ok
+returns-in-Session-clause-ok g c =
+    let d = c.args.dialect.now in
+    let w : Encoding = (g.D.Dialect.wording d).encoding in
+    let out = c.args.outgoing.now in
+    let says = c.in-Session.says in
+    let said : out.message.content ≡ Session says = search rules in
+    framed_session w c.args.stamp.now out says c.args.out.now.items c.append_session.new.out.items
+    c.append_session.result said c.append_session.ensures.ok
 
 pub returns-in-Order-Ok-clause-ok : goal.returns-in-Order-Ok-clause-ok
 returns-in-Order-Ok-clause-ok g c =

@@ -7,4 +7,4 @@ use Rattle.session_core.proofs.write.frames.Given as goal
 abbrev pub invariant-loop-line : goal.invariant-loop-line
 invariant-loop-line g l =
     AreFramed (g.D.Dialect.wording l.dialect).encoding l.stamp
-    (map alone (map (message_in l.config l.answered) (take l.line-index l.lines))) (map (λ frame. frame.items) l.frames.items)
+    (map alone (map (message_in l.config) (take l.line-index l.lines))) (map (λ frame. frame.items) l.frames.items)

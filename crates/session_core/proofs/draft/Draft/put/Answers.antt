@@ -3,5 +3,4 @@ use Rattle.session_core.proofs.draft.Draft.put.Goals as goal
 
 pub returns-clause-turn : goal.returns-clause-turn
 returns-clause-turn c =
-    put-turn c.args.before.now c.args.self.now c.args.said _ _ c.push.ensures.items c.next_number-number.ensures.value
-    c.requires.no_fence
+    put-turn c.args.before.now c.args.self.now c.args.says _ _ c.push.ensures.items c.next_number-number.ensures.value
