@@ -20,7 +20,7 @@ use std::collections::VecDeque;
 use std::snapshot::Snapshot;
 use std::sync::Wait;
 use std::sync::ledger::Ledger;
-use std::thread::{JoinHandle, PromisedHandle, Threads, join, join_promised};
+use std::thread::{JoinHandle, PromisedHandle, Threads, join_promised};
 use std::{thread, time};
 
 /// Who takes part in a day.
@@ -38,8 +38,9 @@ pub struct Ended<K: Link, L: Run, M: Ledger> {
     pub callers: Vec<CallerEnd<L>>,
 }
 
-/// Runs a day: its exchanges, its callers and its workers, each in a thread of its own. Once the callers have ended the gates
-/// are shut, and once the workers have ended the exchanges are stopped.
+/// Runs a day: its exchanges, its callers and its workers, each in a thread of its own. Once the callers have ended the
+/// gates are shut, and once the workers have ended the exchanges are stopped. Where a thread is refused, those that run
+/// are told so at once.
 pub fn in_threads<X, D, K, C, L, M, R, P>(
     rt: &R,
     alloc: Global,
@@ -56,8 +57,12 @@ where
     M: Ledger + Send + Sync,
     R: Threads + Wait + time::Clock + Sync,
     P: Progress + Drop + Send,
-    ensures workers { IfOk result (λ ended. AllKeepPlace (map (λ w. parts_of w.post.linked.session w.post.takings w.post.seat (K.wire w.post.linked.link)) cast.workers.items) (map (λ e. parts_of e.session e.took e.seat (K.wire e.link)) ended.workers.items)) }
-    ensures callers { IfOk result (λ ended. AllCalled (map (λ s. caller_of floor.now.plan s) cast.callers.items) (map (λ e. left_of e.seat e.unplaced) ended.callers.items)) }
+    ensures workers { IfOk result (λ ended. AllKeepPlace
+        (map (λ w. parts_of w.post.linked.session w.post.takings w.post.seat (K.wire w.post.linked.link))
+        cast.workers.items)
+        (map (λ e. parts_of e.session e.took e.seat (K.wire e.link)) ended.workers.items)) }
+    ensures callers { IfOk result (λ ended. AllCalled (map (λ s. caller_of floor.now.plan s) cast.callers.items)
+        (map (λ e. left_of e.seat e.unplaced) ended.callers.items)) }
     ensures only { IfErr result IsNoMismatch }
 {
     let Cast {
@@ -65,66 +70,50 @@ where
         workers,
         callers,
     } = cast;
-    let (served, ended) = join(
-        rt,
-        || run_exchanges(rt, alloc, floor, exchanges),
-        || -> Result<Ended<K, L, M>, LiveFault>
-            ensures workers { IfOk result (λ ended. AllKeepPlace (map (λ w. parts_of w.post.linked.session w.post.takings w.post.seat (K.wire w.post.linked.link)) workers.items) (map (λ e. parts_of e.session e.took e.seat (K.wire e.link)) ended.workers.items)) }
-            ensures callers { IfOk result (λ ended. AllCalled (map (λ s. caller_of floor.entry.now.plan s) callers.items) (map (λ e. left_of e.seat e.unplaced) ended.callers.items)) }
-            ensures only { IfErr result IsNoMismatch }
-        { run_dispatcher(rt, alloc, floor, workers, callers, progress) },
-    );
-    served?;
-    ended
-}
-
-/// Runs the exchanges until they are stopped. The only refusals are want of memory and of threads.
-fn run_exchanges<X, L, M, R>(
-    rt: &R,
-    alloc: Global,
-    floor: &Floor<L, M>,
-    exchanges: Vec<X>,
-) -> Result<(), LiveFault>
-where
-    X: Serve + Drop + Send,
-    L: Run + Send + Sync,
-    M: Ledger + Send + Sync,
-    R: Threads + Wait + Sync,
-    ensures { IfErr result IsNoMismatch }
-{
     thread::scope(
         thread::scope_env(),
         rt,
-        |scope| -> Result<(), LiveFault>
-            ensures { IfErr result IsNoMismatch }
+        |scope| -> Result<Ended<K, L, M>, LiveFault>
+            ensures workers { IfOk result (λ ended. AllKeepPlace
+                (map (λ w. parts_of w.post.linked.session w.post.takings w.post.seat (K.wire w.post.linked.link))
+                workers.items)
+                (map (λ e. parts_of e.session e.took e.seat (K.wire e.link)) ended.workers.items)) }
+            ensures callers { IfOk result (λ ended. AllCalled
+                (map (λ s. caller_of floor.entry.now.plan s) callers.items)
+                (map (λ e. left_of e.seat e.unplaced) ended.callers.items)) }
+            ensures only { IfErr result IsNoMismatch }
         {
             let mut exchanges = VecDeque::from(exchanges);
             let mut handles = Vec::new(alloc);
             while let Some(exchange) = exchanges.pop_front() {
                 if handles.reserve(1).is_err() {
-                    floor.give_up(rt);
+                    floor.signals.stop();
                     return Err(LiveFault::OutOfMemory);
                 }
                 match scope.spawn(move || floor.serve(exchange)) {
                     Ok(handle) => handles.push_reserved(handle),
                     Err(_) => {
-                        floor.give_up(rt);
+                        floor.signals.stop();
                         return Err(LiveFault::NoThread);
                     }
                 }
             }
-            join_exchanges(rt, handles)
+            let ended = run_dispatcher(rt, alloc, floor, workers, callers, progress);
+            floor.signals.stop();
+            join_exchanges(rt, handles)?;
+            ended
         },
     )
 }
 
-/// Runs the dispatcher: its callers and its workers. Once all have ended the exchanges are stopped.
+/// Runs the dispatcher: its callers, what watches them, and its workers. Once the callers have ended the gates are
+/// shut.
 fn run_dispatcher<D, K, C, L, M, R, P>(
     rt: &R,
     alloc: Global,
     floor: &Floor<L, M>,
     workers: Vec<Worker<D, K, C, L, M>>,
-    callers: Vec<CallerSeat<L>>,
+    seats: Vec<CallerSeat<L>>,
     progress: P,
 ) -> Result<Ended<K, L, M>, LiveFault>
 where
@@ -135,43 +124,25 @@ where
     M: Ledger + Send + Sync,
     R: Threads + Wait + time::Clock + Sync,
     P: Progress + Drop + Send,
-    ensures workers { IfOk result (λ ended. AllKeepPlace (map (λ w. parts_of w.post.linked.session w.post.takings w.post.seat (K.wire w.post.linked.link)) workers.items) (map (λ e. parts_of e.session e.took e.seat (K.wire e.link)) ended.workers.items)) }
-    ensures callers { IfOk result (λ ended. AllCalled (map (λ s. caller_of floor.now.plan s) callers.items) (map (λ e. left_of e.seat e.unplaced) ended.callers.items)) }
-    ensures only { IfErr result IsNoMismatch }
-{
-    let (called, worked) = join(
-        rt,
-        || run_callers(rt, alloc, floor, callers, progress),
-        || run_workers(rt, alloc, floor, workers),
-    );
-    floor.signals.stop();
-    Ok(Ended {
-        workers: worked?,
-        callers: called?,
-    })
-}
-
-/// Runs the callers, and shuts the gates once they have ended. It ends when the workers have ended too.
-fn run_callers<L, M, R, P>(
-    rt: &R,
-    alloc: Global,
-    floor: &Floor<L, M>,
-    seats: Vec<CallerSeat<L>>,
-    progress: P,
-) -> Result<Vec<CallerEnd<L>>, LiveFault>
-where
-    L: Run + Send + Sync,
-    M: Ledger + Send + Sync,
-    R: Threads + Wait + time::Clock + Sync,
-    P: Progress + Drop,
-    ensures called { IfOk result (λ ends. AllCalled (map (λ s. caller_of floor.now.plan s) seats.items) (map (λ e. left_of e.seat e.unplaced) ends.items)) }
+    ensures workers { IfOk result (λ ended. AllKeepPlace
+        (map (λ w. parts_of w.post.linked.session w.post.takings w.post.seat (K.wire w.post.linked.link)) workers.items)
+        (map (λ e. parts_of e.session e.took e.seat (K.wire e.link)) ended.workers.items)) }
+    ensures callers { IfOk result (λ ended. AllCalled (map (λ s. caller_of floor.now.plan s) seats.items)
+        (map (λ e. left_of e.seat e.unplaced) ended.callers.items)) }
     ensures only { IfErr result IsNoMismatch }
 {
     thread::scope(
         thread::scope_env(),
         rt,
-        |scope| -> Result<Vec<CallerEnd<L>>, LiveFault>
-            ensures { IfOk result (λ ends. AllCalled (map (λ s. caller_of floor.entry.now.plan s) seats.items) (map (λ e. left_of e.seat e.unplaced) ends.items)) × IfErr result IsNoMismatch }
+        |scope| -> Result<Ended<K, L, M>, LiveFault>
+            ensures workers { IfOk result (λ ended. AllKeepPlace
+                (map (λ w. parts_of w.post.linked.session w.post.takings w.post.seat (K.wire w.post.linked.link))
+                workers.items)
+                (map (λ e. parts_of e.session e.took e.seat (K.wire e.link)) ended.workers.items)) }
+            ensures callers { IfOk result (λ ended. AllCalled
+                (map (λ s. caller_of floor.entry.now.plan s) seats.items)
+                (map (λ e. left_of e.seat e.unplaced) ended.callers.items)) }
+            ensures only { IfErr result IsNoMismatch }
         {
             let mut seats = VecDeque::from(seats);
             let mut handles = Vec::new(alloc);
@@ -189,8 +160,13 @@ where
                     }
                 }
             }
-            floor.keep(rt, progress);
-            join_callers(rt, handles)
+            if scope.spawn(move || floor.keep(rt, progress)).is_err() {
+                floor.give_up(rt);
+                return Err(LiveFault::NoThread);
+            }
+            let workers = run_workers(rt, alloc, floor, workers)?;
+            let callers = join_callers(rt, handles)?;
+            Ok(Ended { workers, callers })
         },
     )
 }
@@ -209,7 +185,9 @@ where
     L: Run + Send + Sync,
     M: Ledger + Send + Sync,
     R: Threads + Wait + Sync,
-    ensures kept { IfOk result (λ ends. AllKeepPlace (map (λ w. parts_of w.post.linked.session w.post.takings w.post.seat (K.wire w.post.linked.link)) workers.items) (map (λ e. parts_of e.session e.took e.seat (K.wire e.link)) ends.items)) }
+    ensures kept { IfOk result (λ ends. AllKeepPlace
+        (map (λ w. parts_of w.post.linked.session w.post.takings w.post.seat (K.wire w.post.linked.link)) workers.items)
+        (map (λ e. parts_of e.session e.took e.seat (K.wire e.link)) ends.items)) }
     ensures only { IfErr result IsNoMismatch }
 {
     let ends = run_all(
@@ -230,7 +208,9 @@ fn join_callers<L: Run, R: Threads>(
     rt: &R,
     handles: Vec<PromisedHandle<CallerEnd<L>, EndOf<L>>>,
 ) -> Result<Vec<CallerEnd<L>>, LiveFault>
-    ensures called { IfOk result (λ ends. AllCalled (map (λ h. caller_of h.promise.1 h.promise.0.value) handles.items) (map (λ e. left_of e.seat e.unplaced) ends.items)) }
+    ensures called { IfOk result (λ ends. AllCalled
+        (map (λ h. caller_of h.promise.1 h.promise.0.value) handles.items)
+        (map (λ e. left_of e.seat e.unplaced) ends.items)) }
     ensures only { IfErr result IsNoMismatch }
 {
     match join_promised(rt, handles) {

@@ -1,4 +1,5 @@
 pub mod Taking
+pub mod Timing
 pub mod Hearing
 pub mod Speaking
 pub mod Events

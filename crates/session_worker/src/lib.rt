@@ -12,9 +12,11 @@ mod open_shares;
 mod pace;
 mod post;
 mod reading;
+mod redial;
 mod run_fault;
 mod running;
 mod takings;
+mod timer;
 mod worker;
 mod worker_end;
 

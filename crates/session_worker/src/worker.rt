@@ -46,14 +46,15 @@ impl<D: Dialect + Drop, K: Link, C: Clock + Drop, L: Run, M: Ledger> Worker<D, K
         Worker {
             dialect,
             post: Post {
-                linked: Linked::new(alloc, link, clock, config, pace),
+                linked: Linked::new(alloc, link, clock, config, drain.venue(), pace),
                 takings: Takings::new(alloc, drain),
                 seat,
+                raised: true,
             },
         }
     }
 
-    /// Takes its turns, until one leaves the session closed or so many were taken; then the session is over, and what is
+    /// Takes its turns, until one leaves the session closed or it has rested so often; then the session is over, and what is
     /// placed at the venue is dropped. It may wait for the locks and for the link. Of a link that tells its traffic the
     /// contract says which bytes went over it.
     pub fn run(
@@ -75,6 +76,7 @@ impl<D: Dialect + Drop, K: Link, C: Clock + Drop, L: Run, M: Ledger> Worker<D, K
             linked,
             takings,
             seat,
+            raised: _,
         } = post;
         let (session, link) = linked.into_parts();
         WorkerEnd {

@@ -1,6 +1,0 @@
-use Rattle.std.proofs.Common.{append_assoc}
-use Rattle.sweep_text.proofs.news.NewsDisplay.fmt.Goals as goal
-
-pub returns-in-Unreachable-clause-writes : goal.returns-in-Unreachable-clause-writes
-returns-in-Unreachable-clause-writes g c =
-    λ plain written. rw c.in-Unreachable.is (simp append_assoc (c.write-in-Unreachable.ensures.writes plain written))
