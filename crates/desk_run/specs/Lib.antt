@@ -1,0 +1,5 @@
+pub mod Faults
+pub mod Sweeps
+pub mod Places
+pub mod Venues
+pub mod Release
