@@ -1,5 +1,6 @@
 //! How far a world had come when an event came.
 
+use crate::reason::Reason;
 use dialect::Dialect;
 use leg::{LegId, VenueId};
 use replay::{World, venue_of};
@@ -11,6 +12,8 @@ use session_core::Phase;
 pub struct Before {
     pub(crate) desk_entries: usize,
     pub(crate) book_entries: usize,
+    /// Why nothing comes of the event, if nothing does.
+    pub(crate) reason: Option<Reason>,
     pub(crate) at: Option<AtVenue>,
 }
 
@@ -21,6 +24,9 @@ pub(crate) struct AtVenue {
     pub(crate) phase: Option<Phase>,
     pub(crate) next_leg: Option<LegId>,
     pub(crate) notes: usize,
+    pub(crate) accepted: usize,
+    pub(crate) is_closed: bool,
+    pub(crate) made: usize,
     pub(crate) frames_to: usize,
     pub(crate) frames_from: usize,
 }
@@ -31,6 +37,7 @@ impl Before {
         Before {
             desk_entries: world.desk().history().len(),
             book_entries: world.book().history().len(),
+            reason: Reason::of(world, event),
             at: match venue_of(event) {
                 Some(venue) => Some(AtVenue::of(world, venue)),
                 None => None,
@@ -46,6 +53,9 @@ impl AtVenue {
             phase: world.phase(venue),
             next_leg: next_leg(world, venue),
             notes: world.given(venue).len(),
+            accepted: world.accepted(venue).len(),
+            is_closed: world.closed_at(venue).is_some(),
+            made: world.made(venue).len(),
             frames_to: world.frames_to(venue).len(),
             frames_from: world.frames_from(venue).len(),
         }

@@ -1,52 +1,61 @@
 //! What an event did.
 
 use crate::before::{AtVenue, Before};
-use crate::note_text::{answer_text, note_text};
+use crate::note_text::{answer_text, exec_text, kind_text, note_text};
+use crate::settled::Settled;
+use command_line::shown;
 use dialect::Dialect;
-use leg::Sweep;
+use leg::{LegState, Sweep, VenueId};
 use replay::{Told, World};
 use share_ledger::BookEntry;
 use std::alloc::{AllocError, Global};
 use sweep_release::DeskEntry;
+use venue_replay::Frame;
 use world_text::phase_name;
 
-/// What an event did, in words: what it wrote, sent, dropped, withdrew and booked, why it ended a connection, or
-/// `nothing`. It compares the world before the event with that after it; `told` is what the event told besides. The
-/// only refusal is want of memory.
+/// What an event did, in words, with the frames that it wrote: what it sent, dropped, withdrew, settled and booked, what
+/// an exchange accepted, why it ended a connection, why nothing came of it, or `nothing`. It compares the world before
+/// the event with that after it; `told` is what the event told besides, and `settled` which legs were told as settled.
+/// The only refusal is want of memory.
 pub fn print_deeds<D: Dialect + Drop>(
     alloc: Global,
     before: &Before,
     world: &World<D>,
     told: Told,
-) -> Result<String, AllocError> {
+    settled: &mut Settled,
+) -> Result<Vec<u8>, AllocError> {
     let mut deeds = Deeds {
         alloc,
-        text: String::new(alloc),
+        text: Vec::new(alloc),
     };
     deeds.add_desk(before, world)?;
+    if let Some(at) = &before.at {
+        deeds.add_settled(at, world, settled)?;
+    }
     deeds.add_book(before, world)?;
     if let Some(at) = &before.at {
         deeds.add_note(at, world, told)?;
+        deeds.add_exchange(at, world)?;
         deeds.add_frames(at, world)?;
         deeds.add_phase(at, world)?;
     }
     deeds.add_ending(told)?;
-    deeds.finish()
+    deeds.finish(before)
 }
 
 /// The words for what was done so far.
 #[derive(Drop)]
 struct Deeds {
     alloc: Global,
-    text: String,
+    text: Vec<u8>,
 }
 
 impl Deeds {
     fn add(&mut self, deed: &str) -> Result<(), AllocError> {
         if !self.text.is_empty() {
-            self.text.push_str("; ")?;
+            self.text.extend_from_slice(b"; ")?;
         }
-        self.text.push_str(deed)
+        self.text.extend_from_slice(deed.as_bytes())
     }
 
     /// The gates that moved, the sweep that was released and the leg that left.
@@ -61,7 +70,7 @@ impl Deeds {
                 DeskEntry::Up(_) => self.add("gate up")?,
                 DeskEntry::Down(_) => self.add("gate down")?,
                 DeskEntry::Shut(_) => self.add("gate shut")?,
-                DeskEntry::Taken(_) => self.add_leg(before, "taken")?,
+                DeskEntry::Taken(_) => self.add_taken(before, world)?,
                 DeskEntry::Dropped(_) => self.add_leg(before, "dropped")?,
             }
         }
@@ -92,6 +101,40 @@ impl Deeds {
             return Ok(());
         };
         self.add(&format!(in self.alloc; "{leg} {fate}")?)
+    }
+
+    /// The leg that left the desk to be sent. It is sent unless no number is left for it.
+    fn add_taken<D: Dialect + Drop>(
+        &mut self,
+        before: &Before,
+        world: &World<D>,
+    ) -> Result<(), AllocError> {
+        let fate = match &before.at {
+            Some(at) if world.frames_to(at.venue).len() == at.frames_to => {
+                "not sent: S03 numbers spent"
+            }
+            _ => "sent",
+        };
+        self.add_leg(before, fate)
+    }
+
+    /// The legs of which it is now known that the exchange has them.
+    fn add_settled<D: Dialect + Drop>(
+        &mut self,
+        at: &AtVenue,
+        world: &World<D>,
+        settled: &mut Settled,
+    ) -> Result<(), AllocError> {
+        for place in settled.next(world, at.venue) {
+            if world.state(at.venue, place as u64 + 1) != Some(LegState::Taken) {
+                continue;
+            }
+            if let Some(leg) = world.released(at.venue).get(place) {
+                let leg = leg.id;
+                self.add(&format!(in self.alloc; "{leg} taken")?)?;
+            }
+        }
+        Ok(())
     }
 
     /// The legs that were withdrawn.
@@ -126,17 +169,54 @@ impl Deeds {
         Ok(())
     }
 
+    /// What the exchange accepted, the report that it made and couldn't write, and whether it took the Logout.
+    fn add_exchange<D: Dialect + Drop>(
+        &mut self,
+        at: &AtVenue,
+        world: &World<D>,
+    ) -> Result<(), AllocError> {
+        for (place, order) in world.accepted(at.venue).iter().enumerate().skip(at.accepted) {
+            let number = place + 1;
+            let leg = order.id;
+            self.add(&format!(in self.alloc; "{leg} accepted as order {number}")?)?;
+        }
+        if world.frames_from(at.venue).len() == at.frames_from {
+            for report in world.made(at.venue).iter().skip(at.made) {
+                let id = exec_text(&report.exec);
+                let leg = report.id;
+                let kind = kind_text(self.alloc, &report.kind)?;
+                self.add(&format!(in self.alloc; "report {id} on {leg} kept: {kind}")?)?;
+            }
+        }
+        if world.closed_at(at.venue).is_some() && !at.is_closed {
+            self.add("exchange closed")?;
+        }
+        Ok(())
+    }
+
     /// The frames that were written.
     fn add_frames<D: Dialect + Drop>(
         &mut self,
         at: &AtVenue,
         world: &World<D>,
     ) -> Result<(), AllocError> {
-        for frame in at.frames_to..world.frames_to(at.venue).len() {
-            self.add(&format!(in self.alloc; "frame to {} {} written", at.venue, frame + 1)?)?;
-        }
-        for frame in at.frames_from..world.frames_from(at.venue).len() {
-            self.add(&format!(in self.alloc; "frame from {} {} written", at.venue, frame + 1)?)?;
+        self.add_direction("to", at.venue, at.frames_to, world.frames_to(at.venue))?;
+        self.add_direction("from", at.venue, at.frames_from, world.frames_from(at.venue))
+    }
+
+    /// The frames of one direction behind those that were there, each as `to 0 3 connection 1 8=FIX.4.4|..`.
+    fn add_direction(
+        &mut self,
+        direction: &str,
+        venue: VenueId,
+        before: usize,
+        frames: &[Frame],
+    ) -> Result<(), AllocError> {
+        for (place, frame) in frames.iter().enumerate().skip(before) {
+            let number = place + 1;
+            let connection = frame.connection;
+            self.add(&format!(in self.alloc; "{direction} {venue} {number} connection {connection} ")?)?;
+            self.text.extend_from_slice(&shown(self.alloc, &frame.bytes)?)?;
         }
         Ok(())
     }
@@ -166,9 +246,13 @@ impl Deeds {
         self.add(&format!(in self.alloc; "connection ended: {ended}")?)
     }
 
-    fn finish(mut self) -> Result<String, AllocError> {
+    /// The words, or why there are none.
+    fn finish(mut self, before: &Before) -> Result<Vec<u8>, AllocError> {
         if self.text.is_empty() {
-            self.text.push_str("nothing")?;
+            match before.reason {
+                Some(reason) => self.add(&format!(in self.alloc; "{reason}")?)?,
+                None => self.add("nothing")?,
+            }
         }
         Ok(self.text)
     }

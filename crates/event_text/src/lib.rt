@@ -4,6 +4,9 @@
 mod before;
 mod deeds;
 mod note_text;
+mod reason;
+mod settled;
 
 pub use before::Before;
 pub use deeds::print_deeds;
+pub use settled::Settled;

@@ -1,4 +1,4 @@
-use Rattle.std.proofs.Common.{◌≡◌, ℕ, refl, subst}
+use Rattle.std.proofs.Common.{◌≡◌, ℕ, Some, None, rules, refl, subst}
 use Rattle.std.specs.Global.{Vec}
 use Rattle.dialect.specs.Framed.{IsFramed}
 use Rattle.dialect.specs.Wording.{Decoding, Encoding}
@@ -30,8 +30,8 @@ invariant_of-self-in-Ok g c =
     (connect_sound s c.self.invariant.session) (connect_writable s c.self.invariant.session) c.connection-connection.ensures
     c.in_ok-push-in-Ok.ensures.items
 
-pub returns-in_ok-push-in-Ok : goal.returns-in_ok-push-in-Ok
-returns-in_ok-push-in-Ok g c =
+pub returns-in_ok-push-in-Ok-clause-now : goal.returns-in_ok-push-in-Ok-clause-now
+returns-in_ok-push-in-Ok-clause-now g c =
     let v = c.self.inside in
     let w : Encoding = (g.D.Dialect.wording v.dialect).encoding in
     let r : Decoding = (g.D.Dialect.wording v.dialect).decoding in
