@@ -18,7 +18,7 @@ use replay_command::replay_run;
 use std::alloc::Global;
 use std::convert::AsStr;
 use std::io::{Read, Write};
-use std::net::{Net, TcpListener, TcpStream};
+use std::net::Net;
 use std::process::ExitCode;
 use std::sync::Wait;
 use std::thread::Threads;
@@ -57,7 +57,7 @@ fn run<S, H, C, P, R, W, E>(
 ) -> u8
 where
     S: AsStr,
-    H: Net<Listener = TcpListener, Stream = TcpStream> + Threads + Wait + time::Clock + Sync,
+    H: Net + Threads + Wait + time::Clock + Sync,
     C: Clock,
     P: Progress + Drop + Send,
     R: Read,

@@ -1,6 +1,7 @@
 //! The book behind a lock, and the seats on which the venues' workers count the shares that they resolve.
 #![tactic(auto)]
 
+mod bookings;
 mod collector;
 mod counted_book;
 mod counting;

@@ -18,7 +18,7 @@ pub use progress::ProgressLines;
 use std::alloc::Global;
 use std::convert::AsStr;
 use std::io::Write;
-use std::net::{Net, TcpListener, TcpStream};
+use std::net::Net;
 use std::sync::Wait;
 use std::thread::Threads;
 use std::time::Clock;
@@ -39,7 +39,7 @@ pub fn live_run<S, R, P, W, E>(
 ) -> u8
 where
     S: AsStr,
-    R: Net<Listener = TcpListener, Stream = TcpStream> + Threads + Wait + Clock + Sync,
+    R: Net + Threads + Wait + Clock + Sync,
     P: Progress + Drop + Send,
     W: Write,
     E: Write,
@@ -56,7 +56,7 @@ fn live<S, R, P, W>(
 ) -> Result<(), CommandFault>
 where
     S: AsStr,
-    R: Net<Listener = TcpListener, Stream = TcpStream> + Threads + Wait + Clock + Sync,
+    R: Net + Threads + Wait + Clock + Sync,
     P: Progress + Drop + Send,
     W: Write,
 {

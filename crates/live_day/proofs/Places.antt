@@ -94,29 +94,29 @@ in_order parts venues ends kept at took e =
     sym (ap (λ (t : Took). t.venue) end.2) ∙ (start.2.0 ∙ (is_drain ∙ drain_at venues at drain.0 drain.1))
 
 parts_kept : {A : Type 0} (parts : A → WorkerParts) (seat : A → Seat)
-    → ((x : A) → (parts x).seat_parts ≡ (seat x).parts) → (starts : List WorkerParts) (ends : List A)
+    → ((x : A) → (parts x).seat.parts ≡ (seat x).parts) → (starts : List WorkerParts) (ends : List A)
     → AllKeepPlace starts (map parts ends)
-    → seat_parts (map seat ends) ≡ sum_by (λ (w : WorkerParts). w.seat_parts) starts
+    → seat_parts (map seat ends) ≡ sum_by (λ (w : WorkerParts). w.seat.parts) starts
 parts_kept parts seat same [] [] kept = refl
 parts_kept parts seat same [] (end ∷ ends) kept = absurd kept
 parts_kept parts seat same (start ∷ starts) [] kept = absurd kept
 parts_kept parts seat same (start ∷ starts) (end ∷ ends) kept =
-    let first : (seat end).parts ≡ start.seat_parts = sym (same end) ∙ kept.0.1 in
+    let first : (seat end).parts ≡ start.seat.parts = sym (same end) ∙ kept.0.1 in
     let rest = parts_kept parts seat same starts ends kept.1 in
     let seats = sum_by-cons (λ (s : Seat). s.parts) (seat end) (map seat ends) in
-    let befores = sum_by-cons (λ (w : WorkerParts). w.seat_parts) start starts in
+    let befores = sum_by-cons (λ (w : WorkerParts). w.seat.parts) start starts in
     omega (arith, first, rest, seats, befores)
 
-one_each : (drains : List DrainParts) → sum_by (λ (w : WorkerParts). w.seat_parts) (map new_worker drains) ≡ length drains
+one_each : (drains : List DrainParts) → sum_by (λ (w : WorkerParts). w.seat.parts) (map new_worker drains) ≡ length drains
 one_each [] = refl
 one_each (drain ∷ drains) =
     let rest = one_each drains in
-    let all = sum_by-cons (λ (w : WorkerParts). w.seat_parts) (new_worker drain) (map new_worker drains) in
+    let all = sum_by-cons (λ (w : WorkerParts). w.seat.parts) (new_worker drain) (map new_worker drains) in
     omega (arith, rest, all)
 
 -- and their seats have one part for each venue
 pub all_parts : {A : Type 0} (parts : A → WorkerParts) (seat : A → Seat)
-    → ((x : A) → (parts x).seat_parts ≡ (seat x).parts) → (venues : ℕ) (ends : List A)
+    → ((x : A) → (parts x).seat.parts ≡ (seat x).parts) → (venues : ℕ) (ends : List A)
     → AllKeepPlace (new_workers venues) (map parts ends) → seat_parts (map seat ends) ≡ venues
 all_parts parts seat same venues ends kept =
     parts_kept parts seat same (new_workers venues) ends kept ∙ (one_each (new_drains venues) ∙ drains_length venues)

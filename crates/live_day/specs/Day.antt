@@ -1,11 +1,11 @@
 -- A day: how large it is, and what its threads begin and end with.
 use Rattle.std.specs.Prelude.{◌≡◌, ℕ, zero, suc, ◌+◌, ◌*◌, ◌≤◌, false, List, [], ◌∷◌, ◌++◌, None, codes, map, sum_by}
 use Rattle.fix_tags.specs.Config.{ConfigParts}
-use Rattle.exec_collector.specs.Seats.{Seat}
+use Rattle.exec_collector.specs.Seats.{Seat, new_seat}
 use Rattle.exchange_sim.specs.declared.plan.Plan.{Plan}
 use Rattle.release_lock.specs.Queues.{DrainParts, new_drains}
 use Rattle.session_core.specs.Session.{new_session}
-use Rattle.session_worker.specs.Events.{WorkerParts}
+use Rattle.session_worker.specs.Events.{WorkerParts, told_of}
 use Rattle.live_day.specs.declared.live_plan.LivePlan.{LivePlan}
 
 -- each number of a plan is in its range
@@ -47,7 +47,7 @@ abbrev pub new_worker : DrainParts → WorkerParts
 new_worker drain = record {
   session = new_session dispatcher;
   took = record { venue = drain.venue; taken = [] };
-  seat_parts = 1;
+  seat = told_of new_seat;
   wire = None;
 }
 
@@ -56,7 +56,7 @@ new_workers venues = map new_worker (new_drains venues)
 
 -- a worker before its turns and after them: it is still that of its venue, and its seat has as many parts
 abbrev pub KeepsPlace : WorkerParts → WorkerParts → Type 0
-KeepsPlace before after = (after.took.venue ≡ before.took.venue) × (after.seat_parts ≡ before.seat_parts)
+KeepsPlace before after = (after.took.venue ≡ before.took.venue) × (after.seat.parts ≡ before.seat.parts)
 
 -- and so does each of these, in order
 abbrev pub AllKeepPlace : List WorkerParts → List WorkerParts → Type 0

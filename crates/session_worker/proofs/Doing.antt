@@ -1,7 +1,8 @@
 -- What a worker's events do, one after the other.
-use Rattle.std.proofs.Common.{◌≡◌, ◌⊎◌, true, List, [], ◌∷◌, ◌++◌, map, refl, sym, ap, subst, ◌∙◌, inl, inr, append_assoc}
+use Rattle.std.proofs.Common.{◌≡◌, ◌⊎◌, true, false, List, [], ◌∷◌, ◌++◌, map, refl, sym, ap, subst, ◌∙◌, inl, inr, append_assoc}
 use Rattle.std.specs.List.{concat}
 use Rattle.std.specs.Prelude.{Option, Some, None, MatchOption}
+use Rattle.dialect.specs.declared.note.Note.{Note}
 use Rattle.std.proofs.lemmas.List.{append-nil}
 use Rattle.leg.specs.declared.placed_leg.PlacedLeg.{PlacedLeg}
 use Rattle.dialect.specs.Wording.{Decoding, Encoding}
@@ -16,18 +17,19 @@ use Rattle.session_core.specs.Receiving.{confirm}
 use Rattle.session_core.specs.Calling.{broken, abandon}
 use Rattle.session_core.specs.Trial.{called, after_calls}
 use Rattle.session_core.proofs.CallsMade.{after-append}
-use Rattle.session_worker.specs.declared.end_reason.EndReason.TheVariants as reason
-use Rattle.session_worker.specs.Ends.{reason_of, last_calls}
+use Rattle.session_worker.specs.Ends.{is_over, last_calls}
 use Rattle.session_worker.specs.Taking.{with_taken}
+use Rattle.session_worker.specs.Booking.{waiting_in, booked_in, booked_by}
 use Rattle.session_worker.specs.Hearing.{Said, said_after}
 use Rattle.session_worker.specs.Speaking.{Wire, TakesFirst, Speak}
-use Rattle.session_worker.specs.Linking.{LinkedParts, SpeaksOn, PostParts, worker_in, linked_in, MayConfirm, Moves, Hands, Asks, CarriesOut, Does, Drains}
-use Rattle.session_worker.specs.Events.{WorkerEvent, calls_in, calls_of, leg_in, legs_in, taken_in, taken_of, IsIdle, IsAllowedCall, IsAllowed, AreAllowed, WorkerParts, Goes}
+use Rattle.session_worker.specs.Linking.{LinkedParts, SpeaksOn, PostParts, worker_in, linked_in, MayBook, Moves, Hands, Asks, CarriesOut, Does, Drains}
+use Rattle.session_worker.specs.Events.{WorkerEvent, ToldSeat, calls_in, calls_of, leg_in, legs_in, taken_in, taken_of, IsIdle, IsAllowedCall, IsAllowed, AreAllowed, WorkerParts, Goes}
 use Rattle.session_worker.specs.Events.WorkerEvent.{Calls, Drops, Fails}
+use Rattle.session_worker.proofs.Booking.{waiting_after, booked-append, note_waits, waiting_booked}
 use Rattle.session_worker.proofs.Spoken.{stays_here}
 use Rattle.session_worker.proofs.Speech.{stays_first, stays_same, speak_on, speak_none, speak_silent, speak_broken}
 use Rattle.session_worker.proofs.Connected.{gone, confirm_on, hearing_takes, hearing_gone}
-use Rattle.session_worker.proofs.Calling.{speaks_same, moves_same, moves_gave, speaks_then}
+use Rattle.session_worker.proofs.Calling.{Books, books_gave, speaks_same, moves_same, speaks_then}
 
 -- events and then others
 calls-append : (first more : List WorkerEvent) → calls_of (first ++ more) ≡ calls_of first ++ calls_of more
@@ -59,6 +61,21 @@ speak_events w read s said first more a b c one next =
     subst (λ (calls : List SessionCall). Speak w read s said calls a c) (sym (calls-append first more))
     (speak_on w read s said (calls_of first) (calls_of more) a b c one next)
 
+booked_on : (read : Decoding) (a b c : WorkerParts) (first more : List WorkerEvent) → Goes read a first b
+    → Goes read b more c → (waiting : Option Note)
+    → c.seat.booked ≡ a.seat.booked ++ booked_by read a.session waiting (calls_of (first ++ more))
+booked_on read a b c first more one next waiting =
+    let later : Option Note = waiting_after read a.session waiting (calls_of first) in
+    let now : List Note = booked_by read a.session waiting (calls_of first) in
+    let then : List Note = booked_by read b.session later (calls_of more) in
+    let all : now ++ then ≡ booked_by read a.session waiting (calls_of (first ++ more)) =
+    ap (λ s. now ++ booked_by read s later (calls_of more)) one.session
+    ∙ (sym (booked-append read a.session waiting (calls_of first) (calls_of more))
+    ∙ ap (booked_by read a.session waiting) (sym (calls-append first more))) in
+    next.booked later
+    ∙ (ap (λ l. l ++ then) (one.booked waiting)
+    ∙ (append_assoc a.seat.booked now then ∙ ap (λ l. a.seat.booked ++ l) all))
+
 pub goes_on : (read : Decoding) (a b c : WorkerParts) (first more : List WorkerEvent) → Goes read a first b
     → Goes read b more c → Goes read a (first ++ more) c
 goes_on read a b c first more one next = record {
@@ -72,6 +89,7 @@ goes_on read a b c first more one next = record {
       (subst (λ (s : SessionParts). AreAllowed read s more) one.session next.allowed);
   venue = next.venue ∙ one.venue;
   seat = next.seat ∙ one.seat;
+  booked = booked_on read a b c first more one next;
 }
 
 pub does_on : (w : Encoding) (read : Decoding) (a b c : PostParts) → Does w read a b → Does w read b c → Does w read a c
@@ -84,15 +102,21 @@ does_on w read a b c first next = record {
       first.goes.session first.speaks next.speaks);
 }
 
+-- the seat is as it was, so no note was booked
+same_booked : (a b : ToldSeat) (notes : List Note) → b ≡ a → notes ≡ [] → b.booked ≡ a.booked ++ notes
+same_booked a b notes same none =
+    ap (λ (seat : ToldSeat). seat.booked) same ∙ (sym (append-nil a.booked) ∙ ap (λ l. a.booked ++ l) (sym none))
+
 -- nothing
-pub goes_none : (read : Decoding) (a b : WorkerParts) → b.session ≡ a.session → b.took ≡ a.took
-    → b.seat_parts ≡ a.seat_parts → Goes read a [] b
+pub goes_none : (read : Decoding) (a b : WorkerParts) → b.session ≡ a.session → b.took ≡ a.took → b.seat ≡ a.seat
+    → Goes read a [] b
 goes_none read a b session took seat = record {
   session = session;
   taken = ap (λ t. t.taken) took ∙ sym (append-nil a.took.taken);
   allowed = tt;
   venue = ap (λ t. t.venue) took;
-  seat = seat;
+  seat = ap (λ (told : ToldSeat). told.parts) seat;
+  booked = λ waiting. same_booked a.seat b.seat [] seat refl;
 }
 
 -- calls of the session, none of which is to send a leg
@@ -130,29 +154,42 @@ allowed_calls read s (made ∷ calls) e =
     let none = both_empty (leg_in made) (legs_in calls) e in
     (allowed_call s made none.0, allowed_calls read (called read s made).1 calls none.1)
 
-pub goes_calls : (read : Decoding) (a b : WorkerParts) (calls : List SessionCall)
-    → b.session ≡ after_calls read a.session calls → legs_in calls ≡ [] → b.took ≡ a.took → b.seat_parts ≡ a.seat_parts
-    → Goes read a (calling calls) b
-goes_calls read a b calls session no_leg took seat = record {
+-- ones that book these notes
+goes_books : (read : Decoding) (a b : WorkerParts) (notes : List Note) (calls : List SessionCall)
+    → b.session ≡ after_calls read a.session calls → legs_in calls ≡ []
+    → ((waiting : Option Note) → booked_by read a.session waiting calls ≡ notes) → b.took ≡ a.took
+    → b.seat.parts ≡ a.seat.parts → b.seat.booked ≡ a.seat.booked ++ notes → Goes read a (calling calls) b
+goes_books read a b notes calls session no_leg books took parts booked = record {
   session = session ∙ ap (after_calls read a.session) (sym (calling-calls calls));
   taken = ap (λ t. t.taken) took ∙ (sym (append-nil a.took.taken)
       ∙ ap (λ l. a.took.taken ++ l) (sym (calling-taken calls ∙ no_leg)));
   allowed = allowed_calls read a.session calls no_leg;
   venue = ap (λ t. t.venue) took;
-  seat = seat;
+  seat = parts;
+  booked = λ waiting. booked ∙ ap (λ l. a.seat.booked ++ l)
+      (sym (ap (booked_by read a.session waiting) (calling-calls calls) ∙ books waiting));
 }
 
+-- ones that book none
+pub goes_calls : (read : Decoding) (a b : WorkerParts) (calls : List SessionCall)
+    → b.session ≡ after_calls read a.session calls → legs_in calls ≡ []
+    → ((waiting : Option Note) → booked_by read a.session waiting calls ≡ []) → b.took ≡ a.took → b.seat ≡ a.seat
+    → Goes read a (calling calls) b
+goes_calls read a b calls session no_leg no_note took seat =
+    goes_books read a b [] calls session no_leg no_note took (ap (λ (told : ToldSeat). told.parts) seat)
+    (same_booked a.seat b.seat [] seat refl)
+
 pub does_moves : (w : Encoding) (read : Decoding) (a b : PostParts) → Moves w read (linked_in a) (linked_in b) → b.took ≡ a.took
-    → b.seat_parts ≡ a.seat_parts → Does w read a b
+    → b.seat ≡ a.seat → Does w read a b
 does_moves w read a b moves took seat = record {
   events = calling moves.calls;
-  goes = goes_calls read (worker_in a) (worker_in b) moves.calls moves.session moves.no_leg took seat;
+  goes = goes_calls read (worker_in a) (worker_in b) moves.calls moves.session moves.no_leg moves.no_note took seat;
   speaks = subst (λ (calls : List SessionCall). SpeaksOn w read (linked_in a) calls (linked_in b))
       (sym (calling-calls moves.calls)) moves.speaks;
 }
 
 pub does_same : (w : Encoding) (read : Decoding) (a b : PostParts) → b.session ≡ a.session → b.took ≡ a.took
-    → b.seat_parts ≡ a.seat_parts → Tells a.wire b.wire Stays → b.stream ≡ a.stream → Does w read a b
+    → b.seat ≡ a.seat → Tells a.wire b.wire Stays → b.stream ≡ a.stream → Does w read a b
 does_same w read a b session took seat stays stream =
     does_moves w read a b (moves_same w read (linked_in a) (linked_in b) session stays stream) took seat
 
@@ -161,37 +198,55 @@ does_none w read a = does_same w read a a refl refl refl (stays_here a.wire) ref
 
 -- ---- what a step wanted
 
--- a call that gave a step, and then what the step wanted
-moves_carried : (w : Encoding) (read : Decoding) (x m y : LinkedParts) (step : Step) (noted : SessionParts) → Asks w read x step m
-    → MayConfirm m.session noted
+-- a call that gave a step, and then its frames
+books_silent : (w : Encoding) (read : Decoding) (x m y : LinkedParts) (step : Step) (noted : SessionParts)
+    → Asks w read x step m → noted ≡ m.session
     → ((y.session ≡ noted) × Tells m.wire y.wire (Takes (concat step.out)))
     ⊎ ((y.session ≡ broken noted) × Tells m.wire y.wire (TakesFirst (concat step.out))) → y.stream ≡ m.stream
-    → Moves w read x y
-moves_carried w read x m y step noted asks (inl same) (inl all) stream =
-    moves_gave w read x m y step asks [] y.wire (all.0 ∙ same) refl
+    → Books w read [] x y
+books_silent w read x m y step noted asks same (inl all) stream =
+    books_gave w read x m y step asks [] [] y.wire (all.0 ∙ same) refl (λ waiting. refl)
     (inl (stays_first (Takes (concat step.out)) x.wire m.wire y.wire asks.wire all.1))
     (λ said hearing. (
       speak_none w read m.session said y.wire y.wire (stays_here y.wire),
       hearing_takes said (concat step.out) m y (λ on. subst (λ (s : SessionParts). is_connected s.phase ≡ true) (all.0 ∙ same) on)
           all.1 stream hearing,
     ))
-moves_carried w read x m y step noted asks (inr confirmed) (inl all) stream =
-    moves_gave w read x m y step asks (call.Confirm ∷ []) y.wire (all.0 ∙ confirmed) refl
+books_silent w read x m y step noted asks same (inr part) stream =
+    books_gave w read x m y step asks [] (call.Broken ∷ []) y.wire (part.0 ∙ ap broken same) refl (λ waiting. refl)
+    (inr (tt, stays_first (TakesFirst (concat step.out)) x.wire m.wire y.wire asks.wire part.1))
+    (λ said hearing. (
+      speak_broken w read m.session said y.wire y.wire (stays_here y.wire),
+      hearing_gone said y (gone noted y.session part.0),
+    ))
+
+-- its note is the one that a Confirm books then
+confirm_books : (w : Encoding) (read : Decoding) (x m : LinkedParts) (step : Step) (asks : Asks w read x step m) (note : Note)
+    → step.note ≡ Some note → (waiting : Option Note)
+    → booked_in m.session (waiting_in read x.session waiting asks.made) call.Confirm ≡ note ∷ []
+confirm_books w read x m step asks note is waiting =
+    waiting_booked read x.session m.session waiting asks.made note
+    (note_waits read x.session m.session waiting asks.made asks.gave.said note asks.gave.plain asks.gave.adds
+    (sym asks.gave.is_step.note ∙ is))
+
+-- a call that gave a step with a note, which was confirmed, and then its frames
+books_note : (w : Encoding) (read : Decoding) (x m y : LinkedParts) (step : Step) (noted : SessionParts) (note : Note)
+    → Asks w read x step m → step.note ≡ Some note → noted ≡ confirm m.session
+    → ((y.session ≡ noted) × Tells m.wire y.wire (Takes (concat step.out)))
+    ⊎ ((y.session ≡ broken noted) × Tells m.wire y.wire (TakesFirst (concat step.out))) → y.stream ≡ m.stream
+    → Books w read (note ∷ []) x y
+books_note w read x m y step noted note asks is confirmed (inl all) stream =
+    books_gave w read x m y step asks (note ∷ []) (call.Confirm ∷ []) y.wire (all.0 ∙ confirmed) refl
+    (λ waiting. ap (λ l. l ++ []) (confirm_books w read x m step asks note is waiting))
     (inl (stays_first (Takes (concat step.out)) x.wire m.wire y.wire asks.wire all.1))
     (λ said hearing. (
       speak_silent w read m.session said call.Confirm [] y.wire y.wire y.wire tt (stays_here y.wire) refl
           (speak_none w read (confirm m.session) said y.wire y.wire (stays_here y.wire)),
       hearing_takes said (concat step.out) m y (confirm_on m.session y.session (all.0 ∙ confirmed)) all.1 stream hearing,
     ))
-moves_carried w read x m y step noted asks (inl same) (inr part) stream =
-    moves_gave w read x m y step asks (call.Broken ∷ []) y.wire (part.0 ∙ ap broken same) refl
-    (inr (tt, stays_first (TakesFirst (concat step.out)) x.wire m.wire y.wire asks.wire part.1))
-    (λ said hearing. (
-      speak_broken w read m.session said y.wire y.wire (stays_here y.wire),
-      hearing_gone said y (gone noted y.session part.0),
-    ))
-moves_carried w read x m y step noted asks (inr confirmed) (inr part) stream =
-    moves_gave w read x m y step asks (call.Confirm ∷ call.Broken ∷ []) y.wire (part.0 ∙ ap broken confirmed) refl
+books_note w read x m y step noted note asks is confirmed (inr part) stream =
+    books_gave w read x m y step asks (note ∷ []) (call.Confirm ∷ call.Broken ∷ []) y.wire (part.0 ∙ ap broken confirmed) refl
+    (λ waiting. ap (λ l. l ++ []) (confirm_books w read x m step asks note is waiting))
     (inr (tt, stays_first (TakesFirst (concat step.out)) x.wire m.wire y.wire asks.wire part.1))
     (λ said hearing. (
       speak_silent w read m.session said call.Confirm (call.Broken ∷ []) y.wire y.wire y.wire tt (stays_here y.wire) refl
@@ -199,12 +254,34 @@ moves_carried w read x m y step noted asks (inr confirmed) (inr part) stream =
       hearing_gone said y (gone noted y.session part.0),
     ))
 
+does_books : (w : Encoding) (read : Decoding) (a b : PostParts) (notes : List Note)
+    → Books w read notes (linked_in a) (linked_in b) → b.took ≡ a.took → b.seat.parts ≡ a.seat.parts
+    → b.seat.booked ≡ a.seat.booked ++ notes → Does w read a b
+does_books w read a b notes books took parts booked = record {
+  events = calling books.calls;
+  goes = goes_books read (worker_in a) (worker_in b) notes books.calls books.session books.no_leg books.booked took parts booked;
+  speaks = subst (λ (calls : List SessionCall). SpeaksOn w read (linked_in a) calls (linked_in b))
+      (sym (calling-calls books.calls)) books.speaks;
+}
+
+-- whether its note was booked or not
+carried : (w : Encoding) (read : Decoding) (a b d : PostParts) (step : Step) (carries : CarriesOut step.note (concat step.out) b d)
+    → Asks w read (linked_in a) step (linked_in b) → b.took ≡ a.took → b.seat ≡ a.seat
+    → MayBook step.note b.session b.seat.booked carries.noted d.seat.booked → Does w read a d
+carried w read a b d step carries asks took seat (inl none) =
+    does_books w read a d []
+    (books_silent w read (linked_in a) (linked_in b) (linked_in d) step carries.noted asks none.0 carries.writes carries.stream)
+    (carries.took ∙ took) (carries.seat ∙ ap (λ (told : ToldSeat). told.parts) seat)
+    (none.1 ∙ same_booked a.seat b.seat [] seat refl)
+carried w read a b d step carries asks took seat (inr one) =
+    does_books w read a d (one.0 ∷ [])
+    (books_note w read (linked_in a) (linked_in b) (linked_in d) step carries.noted one.0 asks one.1 one.2 carries.writes carries.stream)
+    (carries.took ∙ took) (carries.seat ∙ ap (λ (told : ToldSeat). told.parts) seat)
+    (one.3 ∙ ap (λ (told : ToldSeat). told.booked ++ one.0 ∷ []) seat)
+
 pub does_asked : (w : Encoding) (read : Decoding) (a b d : PostParts) (step : Step) → Asks w read (linked_in a) step (linked_in b)
-    → b.took ≡ a.took → b.seat_parts ≡ a.seat_parts → CarriesOut (concat step.out) b d → Does w read a d
-does_asked w read a b d step asks took seat carries =
-    does_moves w read a d
-    (moves_carried w read (linked_in a) (linked_in b) (linked_in d) step carries.noted asks carries.notes carries.writes carries.stream)
-    (carries.took ∙ took) (carries.seat ∙ seat)
+    → b.took ≡ a.took → b.seat ≡ a.seat → CarriesOut step.note (concat step.out) b d → Does w read a d
+does_asked w read a b d step asks took seat carries = carried w read a b d step carries asks took seat carries.notes
 
 -- legs that are dropped
 abbrev pub dropping : List PlacedLeg → List WorkerEvent
@@ -229,7 +306,9 @@ goes_drains read a b drains idle = record {
   taken = drains.taken ∙ ap (λ l. a.took.taken ++ l) (sym (dropping-taken drains.legs));
   allowed = allowed_drops read a.session drains.legs idle;
   venue = drains.venue;
-  seat = drains.seat;
+  seat = ap (λ (told : ToldSeat). told.parts) drains.seat;
+  booked = λ waiting. same_booked a.seat b.seat (booked_by read a.session waiting (calls_of (dropping drains.legs)))
+      drains.seat (ap (booked_by read a.session waiting) (dropping-calls drains.legs));
 }
 
 pub does_drains : (w : Encoding) (read : Decoding) (a b : PostParts) → Drains a b → IsIdle a.session → Does w read a b
@@ -241,7 +320,7 @@ does_drains w read a b drains idle = record {
       (speaks_same w read (linked_in a) (linked_in b) drains.session (stays_same a.wire b.wire drains.wire) drains.stream);
 }
 
-pub drains_none : (a b : PostParts) → b.session ≡ a.session → b.took ≡ a.took → b.seat_parts ≡ a.seat_parts
+pub drains_none : (a b : PostParts) → b.session ≡ a.session → b.took ≡ a.took → b.seat ≡ a.seat
     → b.wire ≡ a.wire → b.stream ≡ a.stream → Drains a b
 drains_none a b session took seat wire stream = record {
   legs = [];
@@ -254,7 +333,7 @@ drains_none a b session took seat wire stream = record {
 }
 
 pub drains_one : (a b : PostParts) (leg : PlacedLeg) → b.session ≡ a.session → b.took ≡ with_taken a.took leg
-    → b.seat_parts ≡ a.seat_parts → b.wire ≡ a.wire → b.stream ≡ a.stream → Drains a b
+    → b.seat ≡ a.seat → b.wire ≡ a.wire → b.stream ≡ a.stream → Drains a b
 drains_one a b leg session took seat wire stream = record {
   legs = leg ∷ [];
   session = session;
@@ -279,7 +358,7 @@ drains_on a b c first next = record {
 -- the next leg, if there was one
 pub drains_next : (a b : PostParts) (next : Option PlacedLeg)
     → MatchOption next (b.took ≡ a.took) (λ leg. b.took ≡ with_taken a.took leg) → b.session ≡ a.session
-    → b.seat_parts ≡ a.seat_parts → b.wire ≡ a.wire → b.stream ≡ a.stream → Drains a b
+    → b.seat ≡ a.seat → b.wire ≡ a.wire → b.stream ≡ a.stream → Drains a b
 drains_next a b None took session seat wire stream = drains_none a b session took seat wire stream
 drains_next a b (Some leg) took session seat wire stream = drains_one a b leg session took seat wire stream
 
@@ -294,38 +373,33 @@ handed read s leg event (inr e) up =
 
 pub does_hands : (w : Encoding) (read : Decoding) (a b : PostParts) (leg : PlacedLeg)
     → Hands w read leg (linked_in a) (linked_in b) → a.session.phase ≡ Up → b.took ≡ with_taken a.took leg
-    → b.seat_parts ≡ a.seat_parts → Does w read a b
+    → b.seat ≡ a.seat → Does w read a b
 does_hands w read a b leg hands up took seat =
-    let one = handed read a.session leg hands.event hands.of_leg up in
-    let middle : WorkerParts = record {
-      session = after_calls read a.session (calls_in hands.event);
-      took = b.took;
-      seat_parts = a.seat_parts;
-      wire = b.wire;
-    } in
-    let first : Goes read (worker_in a) (hands.event ∷ []) middle = record {
-      session = ap (after_calls read a.session) (sym (append-nil (calls_in hands.event)));
-      taken = ap (λ t. t.taken) took ∙ ap (λ l. a.took.taken ++ l) (sym (append-nil (taken_in hands.event) ∙ one.0));
-      allowed = (one.1, tt);
-      venue = ap (λ t. t.venue) took;
-      seat = refl;
-    } in
-    let later : b.session ≡ after_calls read middle.session hands.calls =
-    hands.session ∙ after-append read a.session (calls_in hands.event) hands.calls in
-    record {
+    let one = handed read a.session leg hands.event hands.of_leg up in record {
       events = hands.event ∷ calling hands.calls;
-      goes = goes_on read (worker_in a) middle (worker_in b) (hands.event ∷ []) (calling hands.calls) first
-          (goes_calls read middle (worker_in b) hands.calls later hands.no_leg refl seat);
+      goes = record {
+        session = hands.session ∙ ap (λ l. after_calls read a.session (calls_in hands.event ++ l)) (sym (calling-calls hands.calls));
+        taken = ap (λ t. t.taken) took ∙ ap (λ l. a.took.taken ++ l)
+            (sym (ap (λ l. l ++ taken_of (calling hands.calls)) one.0
+            ∙ ap (λ l. leg ∷ l) (calling-taken hands.calls ∙ hands.no_leg)));
+        allowed = (one.1, allowed_calls read (after_calls read a.session (calls_in hands.event)) hands.calls hands.no_leg);
+        venue = ap (λ t. t.venue) took;
+        seat = ap (λ (told : ToldSeat). told.parts) seat;
+        booked = λ waiting. same_booked a.seat b.seat
+            (booked_by read a.session waiting (calls_in hands.event ++ calls_of (calling hands.calls))) seat
+            (ap (λ l. booked_by read a.session waiting (calls_in hands.event ++ l)) (calling-calls hands.calls)
+            ∙ hands.no_note waiting);
+      };
       speaks = subst (λ (calls : List SessionCall). SpeaksOn w read (linked_in a) (calls_in hands.event ++ calls) (linked_in b))
           (sym (calling-calls hands.calls)) hands.speaks;
     }
 
 -- a leg that was taken, if one was, and what the session did with it
 pub does_sent : (w : Encoding) (read : Decoding) (a b d : PostParts) (next : Option PlacedLeg) → a.session.phase ≡ Up
-    → MatchOption next (b.took ≡ a.took) (λ leg. b.took ≡ with_taken a.took leg) → b.seat_parts ≡ a.seat_parts
+    → MatchOption next (b.took ≡ a.took) (λ leg. b.took ≡ with_taken a.took leg) → b.seat ≡ a.seat
     → linked_in b ≡ linked_in a
     → MatchOption next (linked_in d ≡ linked_in b) (λ leg. Hands w read leg (linked_in b) (linked_in d)) → d.took ≡ b.took
-    → d.seat_parts ≡ b.seat_parts → Does w read a d
+    → d.seat ≡ b.seat → Does w read a d
 does_sent w read a b d None up took parts linked sent same seat =
     let all : linked_in d ≡ linked_in a = sent ∙ linked in
     does_same w read a d (ap (λ (x : LinkedParts). x.session) all) (same ∙ took) (seat ∙ parts)
@@ -335,7 +409,7 @@ does_sent w read a b d (Some leg) up took parts linked sent same seat =
     (seat ∙ parts)
 
 -- a session that a turn left closed, and one that is abandoned
-pub closed_in : (phase : Phase) → reason_of phase ≡ reason.Closed → phase ≡ Closed
+pub closed_in : (phase : Phase) → is_over phase ≡ true → phase ≡ Closed
 closed_in Closed e = refl
 closed_in Down e = absurd cc
 closed_in LoggingOn e = absurd cc
@@ -344,7 +418,7 @@ closed_in Up e = absurd cc
 closed_in Closing e = absurd cc
 closed_in LoggedOut e = absurd cc
 
-no_call : (phase : Phase) → reason_of phase ≡ reason.Closed → last_calls phase ≡ []
+no_call : (phase : Phase) → is_over phase ≡ true → last_calls phase ≡ []
 no_call Closed e = refl
 no_call Down e = absurd cc
 no_call LoggingOn e = absurd cc
@@ -353,7 +427,7 @@ no_call Up e = absurd cc
 no_call Closing e = absurd cc
 no_call LoggedOut e = absurd cc
 
-one_call : (phase : Phase) → reason_of phase ≡ reason.TurnLimit → last_calls phase ≡ Calls call.Abandon ∷ []
+one_call : (phase : Phase) → is_over phase ≡ false → last_calls phase ≡ Calls call.Abandon ∷ []
 one_call Closed e = absurd cc
 one_call Down e = refl
 one_call LoggingOn e = refl
@@ -363,18 +437,18 @@ one_call Closing e = refl
 one_call LoggedOut e = refl
 
 pub finish_closed : (read : Decoding) (a b : WorkerParts) → b.session ≡ a.session → b.took ≡ a.took
-    → b.seat_parts ≡ a.seat_parts → reason_of a.session.phase ≡ reason.Closed
+    → b.seat ≡ a.seat → is_over a.session.phase ≡ true
     → Goes read a (last_calls a.session.phase) b
 finish_closed read a b session took seat e =
     subst (λ (events : List WorkerEvent). Goes read a events b) (sym (no_call a.session.phase e))
     (goes_none read a b session took seat)
 
 pub finish_abandoned : (read : Decoding) (a b : WorkerParts) → b.session ≡ abandon a.session → b.took ≡ a.took
-    → b.seat_parts ≡ a.seat_parts → reason_of a.session.phase ≡ reason.TurnLimit
+    → b.seat ≡ a.seat → is_over a.session.phase ≡ false
     → Goes read a (last_calls a.session.phase) b
 finish_abandoned read a b session took seat e =
     subst (λ (events : List WorkerEvent). Goes read a events b) (sym (one_call a.session.phase e))
-    (goes_calls read a b (call.Abandon ∷ []) session refl took seat)
+    (goes_calls read a b (call.Abandon ∷ []) session refl (λ waiting. refl) took seat)
 
 pub abandoned_closed : (s t : SessionParts) → t ≡ abandon s → t.phase ≡ Closed
 abandoned_closed s t e = ap (λ (u : SessionParts). u.phase) e

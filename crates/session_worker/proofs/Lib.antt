@@ -2,8 +2,10 @@ pub mod Hearing
 pub mod Spoken
 pub mod Speech
 pub mod Connected
+pub mod Booking
 pub mod Calling
 pub mod Carrying
 pub mod Doing
+pub mod Doubts
 pub mod Shares
 pub mod Ran

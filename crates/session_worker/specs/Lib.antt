@@ -1,7 +1,10 @@
 pub mod Taking
+pub mod Timing
 pub mod Hearing
 pub mod Speaking
+pub mod Booking
 pub mod Events
 pub mod Linking
 pub mod Ends
+pub mod Doubt
 pub mod Audit

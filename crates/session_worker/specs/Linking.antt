@@ -1,5 +1,5 @@
 -- What a worker does at its link in one step of a turn.
-use Rattle.std.specs.Prelude.{◌≡◌, ◌⊎◌, ℕ, true, List, [], ◌++◌, Some, None, Ok, Err}
+use Rattle.std.specs.Prelude.{◌≡◌, ◌⊎◌, ℕ, true, List, [], ◌∷◌, ◌++◌, Option, Some, None, Ok, Err}
 use Rattle.fix_text.specs.Tagged.{Tagged}
 use Rattle.fix_text.specs.Reading.{Stream, next_read, fed}
 use Rattle.fix_tags.specs.Reading.{envelope_read}
@@ -7,6 +7,7 @@ use Rattle.fix_tags.specs.Stamp.{StampParts}
 use Rattle.fix_tags.specs.declared.envelope.Envelope.{Envelope}
 use Rattle.fix_tags.specs.declared.tag_fault.TagFault.{TagFault}
 use Rattle.leg.specs.declared.placed_leg.PlacedLeg.{PlacedLeg}
+use Rattle.dialect.specs.declared.note.Note.{Note}
 use Rattle.dialect.specs.Wording.{Decoding, Encoding}
 use Rattle.link.specs.Traffic.{Tells, Takes, TakesPart, Stays}
 use Rattle.session_core.specs.declared.session_call.SessionCall.{SessionCall}
@@ -23,8 +24,9 @@ use Rattle.exec_collector.specs.Seats.{Seat}
 use Rattle.session_worker.specs.declared.reading.Heard.{Heard}
 use Rattle.session_worker.specs.declared.reading.Heard.TheVariants as heard
 use Rattle.session_worker.specs.Hearing.{Said, said_with, said_after, Hears, ReaderOn}
+use Rattle.session_worker.specs.Booking.{booked_by}
 use Rattle.session_worker.specs.Speaking.{Wire, Speak, TakesFirst}
-use Rattle.session_worker.specs.Events.{WorkerEvent, WorkerParts, calls_in, calls_of, legs_in, Goes}
+use Rattle.session_worker.specs.Events.{WorkerEvent, ToldSeat, told_of, WorkerParts, calls_in, calls_of, legs_in, Goes}
 use Rattle.session_worker.specs.Events.WorkerEvent.{Calls, Fails}
 
 -- a session, what its link tells, and what its reader has
@@ -49,9 +51,11 @@ SpeaksOn w read before calls after = (said : Said) → IsHearing said before
 abbrev pub MayBreak : SessionParts → SessionParts → Type 0
 MayBreak before after = (after ≡ before) ⊎ (after ≡ broken before)
 
--- a session as it was, or with its pending note confirmed
-abbrev pub MayConfirm : SessionParts → SessionParts → Type 0
-MayConfirm before after = (after ≡ before) ⊎ (after ≡ confirm before)
+-- a session as it was, and nothing was booked; or the note was booked, if there is one, and confirmed
+abbrev pub MayBook : Option Note → SessionParts → List Note → SessionParts → List Note → Type 0
+MayBook given before booked after booked_after =
+    ((after ≡ before) × (booked_after ≡ booked))
+    ⊎ ((note : Note) × (given ≡ Some note) × (after ≡ confirm before) × (booked_after ≡ booked ++ note ∷ []))
 
 -- these bytes were handed to the reader; or the connection was given up
 abbrev pub TakesIn : List ℕ → LinkedParts → LinkedParts → Type 0
@@ -65,11 +69,12 @@ Writes bytes before after =
     ((after.session ≡ before.session) × Tells before.wire after.wire (Takes bytes))
     ⊎ ((after.session ≡ broken before.session) × Tells before.wire after.wire (TakesPart bytes))
 
--- some calls, none of which is to send a leg
+-- some calls, none of which is to send a leg, or books a note
 pub record Moves (w : Encoding) (read : Decoding) (before after : LinkedParts) : Type 0 where
   pub calls : List SessionCall
   pub session : after.session ≡ after_calls read before.session calls
   pub no_leg : legs_in calls ≡ []
+  pub no_note : (waiting : Option Note) → booked_by read before.session waiting calls ≡ []
   pub speaks : SpeaksOn w read before calls after
 
 -- the session was to send a leg: that call and others, or the leg failed
@@ -79,10 +84,12 @@ pub record Hands (w : Encoding) (read : Decoding) (leg : PlacedLeg) (before afte
   pub calls : List SessionCall
   pub session : after.session ≡ after_calls read before.session (calls_in event ++ calls)
   pub no_leg : legs_in calls ≡ []
+  pub no_note : (waiting : Option Note) → booked_by read before.session waiting (calls_in event ++ calls) ≡ []
   pub speaks : SpeaksOn w read before (calls_in event ++ calls) after
 
--- a call that neither dials nor sends a leg
+-- a call that neither dials nor sends a leg, and books no note
 abbrev pub IsPlain : SessionCall → Type 0
+IsPlain call.Confirm = ⊥
 IsPlain call.Connect = ⊥
 IsPlain call.Broken = ⊥
 IsPlain (call.SendLeg ordinal leg) = ⊥
@@ -132,16 +139,16 @@ StandsBehind _ before after = after ≡ (next_read before).stream
 pub record PostParts : Type 0 where
   pub session : SessionParts
   pub took : Took
-  pub seat_parts : ℕ
+  pub seat : ToldSeat
   pub wire : Wire
   pub stream : Stream
 
 abbrev pub post_of : SessionParts → Took → Seat → Wire → Stream → PostParts
 post_of session took seat wire stream =
-    record { session = session; took = took; seat_parts = seat.parts; wire = wire; stream = stream }
+    record { session = session; took = took; seat = told_of seat; wire = wire; stream = stream }
 
 abbrev pub worker_in : PostParts → WorkerParts
-worker_in p = record { session = p.session; took = p.took; seat_parts = p.seat_parts; wire = p.wire }
+worker_in p = record { session = p.session; took = p.took; seat = p.seat; wire = p.wire }
 
 abbrev pub linked_in : PostParts → LinkedParts
 linked_in p = linked_of p.session p.wire p.stream
@@ -158,17 +165,17 @@ pub record Drains (before after : PostParts) : Type 0 where
   pub session : after.session ≡ before.session
   pub taken : after.took.taken ≡ before.took.taken ++ legs
   pub venue : after.took.venue ≡ before.took.venue
-  pub seat : after.seat_parts ≡ before.seat_parts
+  pub seat : after.seat ≡ before.seat
   pub wire : after.wire ≡ before.wire
   pub stream : after.stream ≡ before.stream
 
--- what a step wanted was done: its note, if it had one, was confirmed, and its frames were written; or the first bytes
--- of them, and the connection was given up
-pub record CarriesOut (bytes : List ℕ) (before after : PostParts) : Type 0 where
+-- what a step wanted was done: its note, if it had one, was booked and confirmed, and its frames were written; or the
+-- first bytes of them, and the connection was given up
+pub record CarriesOut (note : Option Note) (bytes : List ℕ) (before after : PostParts) : Type 0 where
   pub noted : SessionParts
-  pub notes : MayConfirm before.session noted
+  pub notes : MayBook note before.session before.seat.booked noted after.seat.booked
   pub writes : ((after.session ≡ noted) × Tells before.wire after.wire (Takes bytes))
       ⊎ ((after.session ≡ broken noted) × Tells before.wire after.wire (TakesFirst bytes))
   pub took : after.took ≡ before.took
-  pub seat : after.seat_parts ≡ before.seat_parts
+  pub seat : after.seat.parts ≡ before.seat.parts
   pub stream : after.stream ≡ before.stream

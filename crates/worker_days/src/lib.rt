@@ -26,7 +26,7 @@ use day_trial::{DayFault, memory_link};
 use exchange_sim::MemoryPlan;
 use std::alloc::Global;
 use std::io::Write;
-use std::net::{Net, TcpListener, TcpStream};
+use std::net::Net;
 use std::sync::Wait;
 use std::thread::Threads;
 use std::time::Clock;
@@ -58,7 +58,7 @@ pub fn tell_refused<W: Write>(rt: &impl Wait, alloc: Global, out: &mut W) -> Res
 }
 
 /// All other days.
-fn others_told<R: Net<Listener = TcpListener, Stream = TcpStream> + Threads + Wait + Clock + Sync>(
+fn others_told<R: Net + Threads + Wait + Clock + Sync>(
     rt: &R,
     alloc: Global,
 ) -> Result<String, DayFault> {
@@ -74,10 +74,11 @@ fn others_told<R: Net<Listener = TcpListener, Stream = TcpStream> + Threads + Wa
 }
 
 /// Tells all days.
-pub fn tell_all<
-    R: Net<Listener = TcpListener, Stream = TcpStream> + Threads + Wait + Clock + Sync,
-    W: Write,
->(rt: &R, alloc: Global, out: &mut W) -> Result<(), DayFault> {
+pub fn tell_all<R: Net + Threads + Wait + Clock + Sync, W: Write>(
+    rt: &R,
+    alloc: Global,
+    out: &mut W,
+) -> Result<(), DayFault> {
     tell_refused(rt, alloc, out)?;
     Ok(out.write_all(others_told(rt, alloc)?.as_bytes())?)
 }

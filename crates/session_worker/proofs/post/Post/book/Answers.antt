@@ -8,5 +8,5 @@ returns-in-Ok-clause-broken g c = λ e. absurd (true≢false e)
 pub returns-in-Ok-clause-wire : goal.returns-in-Ok-clause-wire
 returns-in-Ok-clause-wire g c = stays_same _ _ c.confirm.ensures.wire
 
-pub returns-in-Err-clause-confirmed : goal.returns-in-Err-clause-confirmed
-returns-in-Err-clause-confirmed g c = λ e. absurd (true≢false (sym e))
+pub returns-in-Err-clause-booked : goal.returns-in-Err-clause-booked
+returns-in-Err-clause-booked g c = λ e. absurd (true≢false (sym e))

@@ -1,4 +1,5 @@
 use Rattle.std.proofs.Common.{◌≡◌}
+use Rattle.session_worker.specs.Events.{told_of}
 use Rattle.session_worker.proofs.post.Post.withdraw_all.Given as goal
 
 abbrev pub invariant-loop-id : goal.invariant-loop-id
@@ -6,4 +7,4 @@ invariant-loop-id g l =
     (l.self.linked.session ≡ l.initial.self.linked.session)
     × (g.K.Link.wire l.self.linked.link ≡ g.K.Link.wire l.initial.self.linked.link)
     × (l.self.linked.reader ≡ l.initial.self.linked.reader)
-    × (l.self.takings ≡ l.initial.self.takings) × (l.self.seat.parts ≡ l.initial.self.seat.parts)
+    × (l.self.takings ≡ l.initial.self.takings) × (told_of l.self.seat ≡ told_of l.initial.self.seat)
