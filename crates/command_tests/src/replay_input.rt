@@ -28,6 +28,7 @@ fn an_input_that_cannot_be_read_is_told(rt: HostRuntime) {
     let mut out = Vec::new(alloc);
     let mut err = Vec::new(alloc);
     let status = replay_run(
+        &rt,
         alloc,
         &["replay"],
         &mut Broken { is_read: false },

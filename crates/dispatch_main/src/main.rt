@@ -17,6 +17,7 @@ use order_command::order_run;
 use replay_command::replay_run;
 use std::alloc::Global;
 use std::convert::AsStr;
+use std::fs::Files;
 use std::io::{Read, Write};
 use std::net::{Net, TcpListener, TcpStream};
 use std::process::ExitCode;
@@ -57,7 +58,12 @@ fn run<S, H, C, P, R, W, E>(
 ) -> u8
 where
     S: AsStr,
-    H: Net<Listener = TcpListener, Stream = TcpStream> + Threads + Wait + time::Clock + Sync,
+    H: Net<Listener = TcpListener, Stream = TcpStream>
+        + Files
+        + Threads
+        + Wait
+        + time::Clock
+        + Sync,
     C: Clock,
     P: Progress + Drop + Send,
     R: Read,
@@ -69,7 +75,7 @@ where
             order_run(alloc, &words[1..], clock, input, out, err)
         }
         [_, command, ..] if command.as_str() == "replay" => {
-            replay_run(alloc, &words[1..], input, out, err)
+            replay_run(rt, alloc, &words[1..], input, out, err)
         }
         [_, command, ..] if command.as_str() == "live" => {
             live_run(rt, alloc, &words[1..], progress, out, err)

@@ -3,7 +3,6 @@ use Rattle.std.proofs.Common.{◌≡◌, ◌++◌, ℕ, List, [], Option, Some, 
 use Rattle.std.proofs.lemmas.List.{append-nil, append_assoc}
 use Rattle.std.specs.Io.KnownBytes.{Appends}
 use Rattle.command_line.specs.Output.{Grows}
-use Rattle.replay_command.specs.Replay.{PrintsLast}
 
 pub grows-refl : (a : Option (List ℕ)) → Grows a a
 grows-refl None = ([], tt)
@@ -12,7 +11,7 @@ grows-refl (Some xs) = ([], sym (append-nil xs))
 pub grown : (a b : Option (List ℕ)) (more : List ℕ) → Appends a b more → Grows a b
 grown a b more appends = (more, appends)
 
-behind : (a b c : Option (List ℕ)) (more last : List ℕ) → Appends a b more → Appends b c last → Appends a c (more ++ last)
+pub behind : (a b c : Option (List ℕ)) (more last : List ℕ) → Appends a b more → Appends b c last → Appends a c (more ++ last)
 behind None b c more last first then = tt
 behind (Some xs) None c more last first then = absurd first
 behind (Some xs) (Some ys) None more last first then = absurd then
@@ -21,6 +20,3 @@ behind (Some xs) (Some ys) (Some zs) more last first then =
 
 pub grows-trans : (a b c : Option (List ℕ)) → Grows a b → Grows b c → Grows a c
 grows-trans a b c first then = (first.0 ++ then.0, behind a b c first.0 then.0 first.1 then.1)
-
-pub prints_last : (a b c : Option (List ℕ)) (lines : List ℕ) → Grows a b → Appends b c lines → PrintsLast a c lines
-prints_last a b c lines first then = (first.0, behind a b c first.0 lines first.1 then)

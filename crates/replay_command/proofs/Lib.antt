@@ -1,2 +1,5 @@
 pub mod Grown
-pub mod ShownEnds
+pub mod InputBegins
+pub mod InputLines
+pub mod InputRuns
+pub mod DayEnds

@@ -1,2 +1,4 @@
 pub mod Fault
-pub mod Replay
+pub mod Asked
+pub mod Stream
+pub mod Running

@@ -1,14 +1,25 @@
 //! The words of `dispatch replay`.
+ghost use Rattle.std.specs.Prelude.{MatchResult};
+ghost use Rattle.clap.specs.declared.parser.matches.ArgMatches.{ArgMatches};
+ghost use Rattle.replay_command.specs.Asked.{IsAsked, IsTask};
+ghost use Rattle.replay_command.specs.Fault.{IsOfCommandLine};
 
+use crate::asked::{Asked, Task};
 use crate::fault::CommandFault;
 use crate::shown::Shown;
-use clap::{Arg, ArgAction, Command};
+use clap::{Arg, ArgAction, ArgMatches, Command};
 use std::alloc::{AllocError, Global};
 use std::convert::AsStr;
 
 const STEPS: &str = "steps";
 
 const FRAMES: &str = "frames";
+
+const SUMMARY: &str = "summary";
+
+const CHECK: &str = "check";
+
+const FILE: &str = "FILE";
 
 /// The lines of a script, as its help has them.
 const SCRIPT: &str = "\
@@ -28,12 +39,16 @@ Lines of the script:
   test V                              it asks for a sign of life
   quiet V, silent V                   the session wrote, or heard, nothing for a while
   close V, abandon V                  the session logs out, or is given up
-V counts from 0, K, I and J from 1. Blank lines and lines that begin with # are passed over.";
+V counts from 0, K, I and J from 1. Blank lines and lines that begin with # are passed over.
+
+Examples:
+  dispatch replay --steps day.script
+  dispatch replay --check < day.script";
 
 /// The command `replay`, with its options.
 pub fn replay_command<'a>(alloc: Global) -> Result<Command<'a>, AllocError> {
     Command::new(alloc, "replay")
-        .about("Reads a day as a script from standard input, and prints what became of each leg")
+        .about("Reads a day as a script, and prints what became of each leg")
         .after_help(SCRIPT)
         .arg(flag(
             alloc,
@@ -44,7 +59,19 @@ pub fn replay_command<'a>(alloc: Global) -> Result<Command<'a>, AllocError> {
             alloc,
             FRAMES,
             "prints each frame that was written, with | for SOH, before the world",
-        ))
+        ))?
+        .arg(flag(
+            alloc,
+            SUMMARY,
+            "prints the sums of the world in the place of its lines",
+        ))?
+        .arg(
+            flag(alloc, CHECK, "reads the script to its end and runs nothing")
+                .conflicts_with(STEPS)?
+                .conflicts_with(FRAMES)?
+                .conflicts_with(SUMMARY)?,
+        )?
+        .arg(Arg::new(alloc, FILE).help("the file that has the script; else it is standard input"))
 }
 
 fn flag<'a>(alloc: Global, name: &'a str, help: &'a str) -> Arg<'a> {
@@ -54,12 +81,28 @@ fn flag<'a>(alloc: Global, name: &'a str, help: &'a str) -> Arg<'a> {
         .action(ArgAction::SetTrue)
 }
 
-/// What the words behind the command's name ask for.
-pub fn read_words<S: AsStr>(alloc: Global, words: &[S]) -> Result<Shown, CommandFault> {
-    let command = replay_command(alloc)?.bin_name("dispatch replay")?;
-    let matches = command.try_get_matches_from(words)?;
-    Ok(Shown {
+/// What the matched words ask to be done.
+fn task_of(matches: &ArgMatches<'_>) -> Task
+    ensures { IsTask matches.now result }
+{
+    if matches.get_flag(CHECK) {
+        return Task::Check;
+    }
+    Task::Run(Shown {
         steps: matches.get_flag(STEPS),
         frames: matches.get_flag(FRAMES),
+        summary: matches.get_flag(SUMMARY),
+    })
+}
+
+/// What the words behind the command's name ask for.
+pub fn read_words<'a, S: AsStr>(alloc: Global, words: &'a [S]) -> Result<Asked<'a>, CommandFault>
+    ensures { MatchResult result (λ asked. (matches : ArgMatches) × IsAsked matches asked) IsOfCommandLine }
+{
+    let command = replay_command(alloc)?.bin_name("dispatch replay")?;
+    let matches = command.try_get_matches_from(words)?;
+    Ok(Asked {
+        task: task_of(&matches),
+        file: matches.get_str(FILE),
     })
 }

@@ -1,95 +1,89 @@
 //! `dispatch replay`: a script is read, its day runs, and what became of each leg is printed.
 #![tactic(auto)]
 
-ghost use Rattle.std.specs.Prelude.{◌≡◌, IfOk};
-ghost use Rattle.schedule.specs.Happening.{run};
+ghost use Rattle.std.specs.Prelude.{IfSome};
 ghost use Rattle.schedule.specs.Script.{script_of};
-ghost use Rattle.script.specs.Limits.{IsWithinLimits};
-ghost use Rattle.script.specs.Parts.{parts_of};
-ghost use Rattle.replay_command.specs.Replay.{EndsReplay, replayed};
+ghost use Rattle.replay_command.specs.Running.{EndsReplay, EndsTask, ExitsSo};
 
+mod asked;
+mod begun;
+mod check;
 mod command;
+mod day;
+mod event_line;
 mod fault;
 mod frames;
 mod input;
-mod show;
+mod print_day;
 mod shown;
-mod steps;
 
+use crate::asked::Task;
 use crate::command::read_words;
-use crate::input::read_text;
-use crate::show::show_text;
-use crate::shown::Shown;
+use crate::print_day::{print_check, print_day};
 pub use command::replay_command;
-use command_line::{finish, print};
-use dialect::AnyDialect;
+use command_line::finish;
 pub use fault::CommandFault;
-use replay::{World, run};
-use script::{Parts, Script, read_script};
-use std::alloc::{AllocError, Global};
+use std::alloc::Global;
 use std::convert::AsStr;
-use std::io::{Read, Write};
-use world_text::print_world;
+use std::fs::{self, Files};
+use std::io::{self, Read, Write};
 
 /// Runs `dispatch replay` on its words, of which the first is the command's own name.
 ///
-/// It reads a script from `input` to its end, runs it, and writes the lines of the world to `out`, behind what its
-/// options ask for; faults go to `err`. Without options nothing is written before the whole script was read and run.
-/// The answer is the exit status: 0, or that of the fault.
-pub fn replay_run<S: AsStr, R: Read, W: Write, E: Write>(
+/// It reads a script from the file that the words name, or else from `input`, and runs it as it is read, so that a bad
+/// line ends it at once. It writes to `out` the lines of the world at the end, behind what the options ask for; with
+/// `--check` it runs nothing. Faults go to `err`. Without `--steps` nothing is written before the script's end. The
+/// answer is the exit status: 0, or that of the fault.
+pub fn replay_run<F: Files, S: AsStr, R: Read, W: Write, E: Write>(
+    files: &F,
     alloc: Global,
     words: &[S],
     input: &mut R,
     out: &mut W,
     err: &mut E,
-) -> u8 {
-    finish(replay(alloc, words, input, out), err)
+) -> u8
+    ensures { ExitsSo (R.remaining input.old) (W.contents out.old) (W.contents out.new) result }
+{
+    finish(replay(files, alloc, words, input, out), err)
 }
 
-fn replay<S: AsStr, R: Read, W: Write>(
+fn replay<F: Files, S: AsStr, R: Read, W: Write>(
+    files: &F,
     alloc: Global,
     words: &[S],
     input: &mut R,
     out: &mut W,
-) -> Result<(), CommandFault> {
-    let shown = read_words(alloc, words)?;
-    let text = read_text(alloc, input)?;
-    match shown {
-        Shown {
-            steps: false,
-            frames: false,
-        } => replay_text(alloc, &text, out),
-        shown => show_text(alloc, shown, &text, out),
+) -> Result<(), CommandFault>
+    ensures { EndsReplay (R.remaining input.old) (W.contents out.old) (W.contents out.new) result }
+{
+    let asked = read_words(alloc, words)?;
+    match asked.file {
+        None => perform(alloc, asked.task, input, out),
+        Some(path) => perform(alloc, asked.task, &mut open(files, path)?, out),
     }
 }
 
-/// Prints the world of a script's text, or nothing.
-fn replay_text<W: Write>(alloc: Global, text: &[u8], out: &mut W) -> Result<(), CommandFault>
-    ensures { EndsReplay (W.contents out.old) (W.contents out.new) (script_of text.now) result }
-{
-    let script = read_script(alloc, text)?;
-    let lines = world_lines(alloc, script)?;
-    Ok(print(&lines, out)?)
+/// Opens a file to be read.
+fn open<F: Files>(files: &F, path: &str) -> Result<F::File, CommandFault> {
+    match fs::open(files, path) {
+        Ok(file) => Ok(file),
+        Err(error) if error.kind() == io::ErrorKind::OutOfMemory => Err(CommandFault::OutOfMemory),
+        Err(_) => Err(CommandFault::ReadFailed),
+    }
 }
 
-/// The lines of the world that a script leads to. The only refusal is want of memory.
-fn world_lines(alloc: Global, script: Script) -> Result<Vec<u8>, AllocError>
-    ensures { IfOk result (λ lines. lines.items ≡ replayed script) }
+/// Does with the script of an input what is asked for.
+fn perform<R: Read, W: Write>(
+    alloc: Global,
+    task: Task,
+    input: &mut R,
+    out: &mut W,
+) -> Result<(), CommandFault>
+    ensures { IfSome (R.remaining input.old) (λ bytes.
+        EndsTask task (W.contents out.old) (W.contents out.new) (script_of bytes) result) }
 {
-    let world = run_parts(alloc, script.into_parts())?;
-    print_world(alloc, &world)
-}
-
-/// The world that the parts of a script lead to. The only refusal is want of memory.
-fn run_parts(alloc: Global, parts: Parts) -> Result<World<AnyDialect>, AllocError>
-    requires { IsWithinLimits (parts_of parts) }
-    ensures { IfOk result (λ world. world ≡ run parts.next.items parts.max_number parts.events.items) }
-{
-    let Parts {
-        max_number,
-        dialects,
-        next,
-        events,
-    } = parts;
-    run(alloc, dialects, &next, max_number, events)
+    match task {
+        Task::Check => print_check(alloc, input, out),
+        Task::Run(shown) => print_day(alloc, shown, input, out),
+    }
 }

@@ -1,10 +1,12 @@
-//! What is printed before the world.
+//! What is printed of a day.
 
-/// What `dispatch replay` prints before the world.
+/// What `dispatch replay` prints of a day.
 #[derive(Clone, Copy, Debug)]
 pub struct Shown {
     /// Each event with what it did, as it happens.
     pub steps: bool,
     /// Each frame that was written.
     pub frames: bool,
+    /// The sums of the world, in the place of its lines.
+    pub summary: bool,
 }

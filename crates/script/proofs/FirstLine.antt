@@ -17,7 +17,7 @@ before_end : (line : List ℕ) (later : List (List ℕ)) → without_empty_end (
 before_end [] later = refl
 before_end (first ∷ line) later = refl
 
-before_pieces : (text line : List ℕ) → without_empty_end (line ∷ pieces 10 text) ≡ line ∷ without_empty_end (pieces 10 text)
+pub before_pieces : (text line : List ℕ) → without_empty_end (line ∷ pieces 10 text) ≡ line ∷ without_empty_end (pieces 10 text)
 before_pieces [] [] = refl
 before_pieces [] (first ∷ line) = refl
 before_pieces (byte ∷ bytes) line =

@@ -1,9 +1,9 @@
 mod FirstPiece
-mod FirstLine
+pub mod FirstLine
 mod Legs
 mod SoFar
 mod LegsSoFar
-mod EventsSoFar
+pub mod EventsSoFar
 mod Venues
 mod Names
 mod Printable

@@ -4,4 +4,3 @@ pub mod Reading
 pub mod Head
 pub mod Limits
 pub mod Parts
-pub mod EventLines

@@ -13,7 +13,7 @@ use std::alloc::Global;
 use std::str;
 
 /// Whether a line is blank or a remark.
-pub(crate) fn is_passed_over(line: &[u8]) -> bool
+pub fn is_passed_over(line: &[u8]) -> bool
     ensures { result ≡ is_passed_over line.now }
 {
     match line {
@@ -22,9 +22,10 @@ pub(crate) fn is_passed_over(line: &[u8]) -> bool
     }
 }
 
-/// The event of a line.
+/// The event of a line behind the first, for so many venues. `Bad`: it is none. `OutOfMemory`: it is one, and no memory
+/// is left.
 #[tactic(auto, using(crate::proofs::Names::no_event))]
-pub(crate) fn read_event(alloc: Global, venues: u8, line: &[u8]) -> Result<Event, LineFault>
+pub fn read_event(alloc: Global, venues: u8, line: &[u8]) -> Result<Event, LineFault>
     requires low { 1 ≤ venues }
     requires high { venues ≤ 16 }
     ensures { ReadsLine (event_of_words venues (words_of line.now)) result }

@@ -1,14 +1,16 @@
 //! The first line of a script.
 
-ghost use Rattle.std.specs.Prelude.{◌≡◌, ◌≤◌, length, IfSome};
+ghost use Rattle.std.specs.Prelude.{◌≡◌, ◌≤◌, length, map, IfOk, IfSome};
 ghost use Rattle.std.specs.Option.{option_map};
-ghost use Rattle.schedule.specs.Script.{head_of_words, words_of};
+ghost use Rattle.schedule.specs.Script.{ScriptVenue, head_of_words, words_of};
 ghost use Rattle.script.specs.Head.{few_venues};
 
 use crate::pieces::Pieces;
 use crate::venue_choice::VenueChoice;
 use crate::word::{is_named, number_within, words_of};
 use arrayvec::ArrayVec;
+use dialect::AnyDialect;
+use std::alloc::{AllocError, Global};
 use std::marker::Model;
 
 /// The most venues of a script.
@@ -20,9 +22,9 @@ const MIN_NUMBER: u64 = 16;
 /// The greatest number that may be the one that no message has.
 const MAX_NUMBER: u64 = 999_999_999;
 
-/// What the first line says.
+/// What the first line says: with what a world is made.
 #[derive(Drop)]
-pub(crate) struct Head {
+pub struct Head {
     max_number: u64,
     venues: ArrayVec<VenueChoice, MAX_VENUES>,
 }
@@ -57,9 +59,9 @@ fn read_venues(words: &mut Pieces<'_>) -> Option<ArrayVec<VenueChoice, MAX_VENUE
 }
 
 impl Head {
-    /// What a first line says.
+    /// What a first line says, if it is one.
     #[tactic(auto, using(crate::proofs::Venues::head_by_venues, crate::proofs::Venues::other_head))]
-    pub(crate) fn read(line: &[u8]) -> Option<Head>
+    pub fn read(line: &[u8]) -> Option<Head>
         ensures { result ≡ head_of_words (words_of line.now) }
     {
         let mut words = words_of(line);
@@ -73,7 +75,8 @@ impl Head {
         Some(Head { max_number, venues })
     }
 
-    pub(crate) fn max_number(&self) -> u64
+    /// The number that no message of a session has.
+    pub fn max_number(&self) -> u64
         ensures number { result ≡ self.now.max_number }
         ensures least { 16 ≤ result }
         ensures most { result ≤ 999999999 }
@@ -81,16 +84,30 @@ impl Head {
         self.max_number
     }
 
-    pub(crate) fn venues(&self) -> &[VenueChoice]
-        ensures venues { result.now ≡ self.now.venues }
-        ensures low { 1 ≤ length result.now }
-        ensures high { length result.now ≤ 16 }
+    /// The dialect of each venue. The only refusal is want of memory.
+    pub fn dialects(&self, alloc: Global) -> Result<Vec<AnyDialect>, AllocError>
+        ensures dialects { IfOk result (λ dialects. dialects.items
+            ≡ map (λ (venue : ScriptVenue). venue.dialect) self.now.venues) }
+        ensures each { IfOk result (λ dialects. length dialects.items ≡ length self.now.venues) }
     {
-        self.venues.as_slice()
+        self.venues
+            .iter()
+            .map(|venue| venue.dialect())
+            .collect(alloc)
     }
 
-    /// How many venues there are.
-    pub(crate) fn venue_count(&self) -> u8
+    /// Of each venue, whether its Logons say which number is expected next (789). The only refusal is want of memory.
+    pub fn next(&self, alloc: Global) -> Result<Vec<bool>, AllocError>
+        ensures next { IfOk result (λ next. next.items ≡ map (λ (venue : ScriptVenue). venue.next) self.now.venues) }
+        ensures each { IfOk result (λ next. length next.items ≡ length self.now.venues) }
+        ensures low { 1 ≤ length self.now.venues }
+        ensures high { length self.now.venues ≤ 16 }
+    {
+        self.venues.iter().map(|venue| venue.next()).collect(alloc)
+    }
+
+    /// How many venues there are, 1 to 16.
+    pub fn venue_count(&self) -> u8
         ensures count { result ≡ length self.now.venues }
         ensures low { 1 ≤ result }
         ensures high { result ≤ 16 }

@@ -2,7 +2,7 @@
 
 /// Why a line gives no event.
 #[derive(Clone, Copy, Debug, PartialEq, Eq)]
-pub(crate) enum LineFault {
+pub enum LineFault {
     /// It isn't of the form.
     Bad,
     /// It is of the form, and no memory is left.

@@ -36,9 +36,9 @@ impl<'a> Model for Lines<'a> {
     ghost invariant = { λ l. l.number + length l.rest.now < 2 ^ 64 };
 }
 
-/// The first line of a text that isn't empty, and what stands behind it.
+/// The first line of a text that isn't empty, without its end, and what stands behind it.
 #[tactic(auto, using(crate::proofs::FirstLine::line_found, crate::proofs::FirstLine::line_whole))]
-fn first_line(text: &[u8]) -> (&[u8], &[u8])
+pub fn first_line(text: &[u8]) -> (&[u8], &[u8])
     requires { 0 < length text.now }
     ensures lines { lines_of text.now ≡ result.0.now ∷ lines_of result.1.now }
     ensures fewer { length result.1.now < length text.now }

@@ -1,13 +1,12 @@
 //! A replay script.
 
-ghost use Rattle.std.specs.Prelude.{◌≡◌, IfOk, Ok, map};
-ghost use Rattle.schedule.specs.Script.{ScriptVenue, with_events};
+ghost use Rattle.std.specs.Prelude.{◌≡◌, IfOk, Ok};
+ghost use Rattle.schedule.specs.Script.{with_events};
 ghost use Rattle.script.specs.Limits.{IsWithinLimits};
 ghost use Rattle.script.specs.Parts.{parts_of};
 
 use crate::head::Head;
 use crate::parts::Parts;
-use crate::venue_choice::VenueChoice;
 use dialect::AnyDialect;
 use schedule::Event;
 use std::alloc::{AllocError, Global};
@@ -43,27 +42,14 @@ impl Model for Script {
     }) };
 }
 
-fn dialects_of(alloc: Global, venues: &[VenueChoice]) -> Result<Vec<AnyDialect>, AllocError>
-    ensures { IfOk result (λ dialects. dialects.items ≡ map (λ (venue : ScriptVenue). venue.dialect) venues.now) }
-{
-    venues.iter().map(|venue| venue.dialect()).collect(alloc)
-}
-
-fn next_of(alloc: Global, venues: &[VenueChoice]) -> Result<Vec<bool>, AllocError>
-    ensures { IfOk result (λ next. next.items ≡ map (λ (venue : ScriptVenue). venue.next) venues.now) }
-{
-    venues.iter().map(|venue| venue.next()).collect(alloc)
-}
-
 impl Script {
     pub(crate) fn new(alloc: Global, head: &Head, events: Vec<Event>) -> Result<Script, AllocError>
         ensures { IfOk result (λ script. Ok script ≡ with_events head.now (Ok events.items)) }
     {
-        let venues = head.venues();
         Ok(Script {
             max_number: head.max_number(),
-            dialects: dialects_of(alloc, venues)?,
-            next: next_of(alloc, venues)?,
+            dialects: head.dialects(alloc)?,
+            next: head.next(alloc)?,
             events,
         })
     }

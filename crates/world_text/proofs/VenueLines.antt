@@ -13,7 +13,7 @@ use Rattle.schedule.specs.World.{World, VenueParts, venue_in, of_venue, accepted
 use Rattle.schedule.specs.Printed.{legs_text, phase_text, closed_text, venue_line, venue_lines}
 
 -- a venue that has a phase is there
-there_in : (found : Option VenueParts) (phase : Phase) → Some phase ≡ option_map_or (λ v. Some v.session.phase) found None
+pub there_in : (found : Option VenueParts) (phase : Phase) → Some phase ≡ option_map_or (λ v. Some v.session.phase) found None
     → (venue : VenueParts) × (found ≡ Some venue) × (phase ≡ venue.session.phase)
 there_in (Some venue) phase is = (venue, refl, (let same : phase ≡ venue.session.phase = cc in same))
 there_in None phase is = absurd cc

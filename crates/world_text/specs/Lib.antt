@@ -1,1 +1,2 @@
 pub mod SweepLine
+pub mod Summary

@@ -45,9 +45,16 @@ pub fn write_sweep_line(
 fn write_parts(text: &mut String, parts: Option<Totals>) -> Result<(), AllocError>
     ensures { OnOk result (string_bytes text.new ≡ string_bytes text.old ++ option_map_or parts_text parts []) }
 {
-    let Some(parts) = parts else {
-        return Ok(());
-    };
+    match parts {
+        Some(parts) => write_known_parts(text, parts),
+        None => Ok(()),
+    }
+}
+
+/// Appends the parts of shares.
+pub fn write_known_parts(text: &mut String, parts: Totals) -> Result<(), AllocError>
+    ensures { OnOk result (string_bytes text.new ≡ string_bytes text.old ++ parts_text parts) }
+{
     let filled = parts.filled;
     let busted = parts.busted;
     let cancelled = parts.cancelled;

@@ -65,7 +65,7 @@ pub fn phase_name(phase: Phase) -> &'static str
 }
 
 /// Whether the exchange took the session's Logout.
-fn closed_word(closed_at: Option<usize>) -> &'static str
+pub fn closed_word(closed_at: Option<usize>) -> &'static str
     ensures { result.now ≡ closed_text closed_at }
 {
     match closed_at {

@@ -1,0 +1,42 @@
+-- How `dispatch replay` ends, by what its words ask for.
+use Rattle.std.specs.Prelude.{◌≡◌, ◌⊎◌, ℕ, List, true, Option, IfSome, is_none, Result, Ok, Err}
+use Rattle.std.specs.Io.KnownBytes.{Keeps}
+use Rattle.clap.specs.declared.parser.matches.ArgMatches.{ArgMatches}
+use Rattle.schedule.specs.Script.{ScriptParts, script_of}
+use Rattle.command_line.specs.ExitStatus.{exit_status}
+use Rattle.replay_command.specs.declared.asked.Asked.{Asked}
+use Rattle.replay_command.specs.declared.asked.Task.{Task}
+use Rattle.replay_command.specs.declared.asked.Task.TheVariants.{Check, Run}
+use Rattle.replay_command.specs.declared.fault.CommandFault.{CommandFault}
+use Rattle.replay_command.specs.Asked.{IsAsked}
+use Rattle.replay_command.specs.Fault.{IsOfCommandLine, fault_status}
+use Rattle.replay_command.specs.Stream.{EndsCheck, EndsRun}
+
+-- how what is asked for ends on a text that says this script, or has this first bad line
+abbrev pub EndsTask : Task → Option (List ℕ) → Option (List ℕ) → Result ScriptParts ℕ → {A : Type 0}
+    → Result A CommandFault → Type 0
+EndsTask Check before after said done = EndsCheck before after said done
+EndsTask (Run shown) before after said done = EndsRun shown before after said done
+
+-- the words are refused, and nothing is printed
+abbrev pub IsRefused : Option (List ℕ) → Option (List ℕ) → {A : Type 0} → Result A CommandFault → Type 0
+IsRefused before after (Ok done) = ⊥
+IsRefused before after (Err fault) = IsOfCommandLine fault × Keeps before after
+
+-- what is asked for ends so on the bytes of the input, unless a file is named, of whose bytes nothing is known
+abbrev pub EndsAsked : Option (List ℕ) → Option (List ℕ) → Option (List ℕ) → Asked → {A : Type 0}
+    → Result A CommandFault → Type 0
+EndsAsked input before after asked done =
+    is_none asked.file ≡ true → IfSome input (λ bytes. EndsTask asked.task before after (script_of bytes) done)
+
+-- how a run ends: its words are refused, or it does what they ask for
+abbrev pub EndsReplay : Option (List ℕ) → Option (List ℕ) → Option (List ℕ) → {A : Type 0} → Result A CommandFault
+    → Type 0
+EndsReplay input before after done =
+    IsRefused before after done
+    ⊎ ((matches : ArgMatches) × (asked : Asked) × IsAsked matches asked × EndsAsked input before after asked done)
+
+-- a run that ends so has this exit status
+abbrev pub ExitsSo : Option (List ℕ) → Option (List ℕ) → Option (List ℕ) → ℕ → Type 0
+ExitsSo input before after status =
+    (done : Result (Unit {0}) CommandFault) × (status ≡ exit_status fault_status done) × EndsReplay input before after done

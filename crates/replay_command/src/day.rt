@@ -1,0 +1,152 @@
+//! A day that runs, line by line.
+ghost use Rattle.std.specs.Prelude.{◌≡◌, ◌≤◌, false, true, IfErr, IfSome, OnOk};
+ghost use Rattle.schedule.specs.Happening.{happens};
+ghost use Rattle.schedule.specs.Script.{events_of_lines, lines_of, script_of};
+ghost use Rattle.script.specs.Reading.{said_by};
+ghost use Rattle.command_line.specs.Output.{Grows};
+ghost use Rattle.replay_command.specs.Stream.{IsOfRun, RunsLine, RunsLines, RunsScript};
+
+use crate::begun::{Begun, begin};
+use crate::event_line::event_of_line;
+use crate::fault::CommandFault;
+use crate::input::read_line;
+use command_line::print;
+use dialect::AnyDialect;
+use event_text::{Before, print_deeds};
+use replay::World;
+use schedule::Event;
+use script::{Line, first_line};
+use std::alloc::Global;
+use std::io::{BufRead, Write};
+
+/// A day that runs: its world, and how many events it had.
+#[derive(Drop)]
+struct Day {
+    world: World<AnyDialect>,
+    events: u64,
+}
+
+/// Prints an event, as `3 line 7 take 0: S1L1 taken`.
+fn print_step<W: Write>(
+    alloc: Global,
+    number: u64,
+    line: &Line<'_>,
+    deeds: &str,
+    out: &mut W,
+) -> Result<(), CommandFault>
+    ensures out { OnOk result (Grows (W.contents out.old) (W.contents out.new)) }
+    ensures only { IfErr result (IsOfRun true) }
+{
+    let place = line.number;
+    let mut text = format!(in alloc; "{number} line {place} ")?.into_bytes();
+    text.extend_from_slice(line.text)?;
+    text.extend_from_slice(format!(in alloc; ": {deeds}\n")?.as_bytes())?;
+    Ok(print(&text, out)?)
+}
+
+/// An event happens, and is printed with what it did.
+fn run_step<W: Write>(
+    alloc: Global,
+    line: &Line<'_>,
+    event: Event,
+    day: &mut Day,
+    out: &mut W,
+) -> Result<(), CommandFault>
+    ensures world { OnOk result (day.new.world ≡ happens day.old.world event) }
+    ensures out { OnOk result (Grows (W.contents out.old) (W.contents out.new)) }
+    ensures only { IfErr result (IsOfRun true) }
+{
+    day.events = day.events.saturating_add(1);
+    let before = Before::of(&day.world, &event);
+    let told = day.world.happen(event)?;
+    let deeds = print_deeds(alloc, &before, &day.world, told)?;
+    print_step(alloc, day.events, line, &deeds, out)
+}
+
+/// The event of a line happens, if it has one, and is printed where each step is.
+fn run_line<W: Write>(
+    alloc: Global,
+    steps: bool,
+    venues: u8,
+    line: &Line<'_>,
+    day: &mut Day,
+    out: &mut W,
+) -> Result<(), CommandFault>
+    requires low { 1 ≤ venues }
+    requires high { venues ≤ 16 }
+    ensures runs { RunsLine steps result line.now.number day.old.world day.new.world
+        (said_by venues line.now.text.now) }
+    ensures out { OnOk result (Grows (W.contents out.old) (W.contents out.new)) }
+    ensures kept { steps ≡ false → out.new ≡ out.old }
+{
+    let Some(event) = event_of_line(alloc, venues, line.number, line.text)? else {
+        return Ok(());
+    };
+    if steps {
+        return run_step(alloc, line, event, day, out);
+    }
+    day.world.happen(event)?;
+    Ok(())
+}
+
+/// Runs the events of the lines that an input has left, of which the first has this number, and prints each where each
+/// step is.
+fn run_lines<R: BufRead, W: Write>(
+    alloc: Global,
+    steps: bool,
+    venues: u8,
+    first: u64,
+    input: &mut R,
+    buffer: &mut Vec<u8>,
+    world: World<AnyDialect>,
+    out: &mut W,
+) -> Result<World<AnyDialect>, CommandFault>
+    requires low { 1 ≤ venues }
+    requires high { venues ≤ 16 }
+    ensures world { IfSome (R.remaining input.old) (λ bytes.
+        RunsLines steps result world (events_of_lines venues first (lines_of bytes))) }
+    ensures out { OnOk result (Grows (W.contents out.old) (W.contents out.new)) }
+    ensures kept { steps ≡ false → out.new ≡ out.old }
+{
+    let mut day = Day { world, events: 0 };
+    for number in first..u64::MAX {
+        if !read_line(input, buffer)? {
+            return Ok(day.world);
+        }
+        let (text, _) = first_line(buffer);
+        run_line(alloc, steps, venues, &Line { number, text }, &mut day, out)?;
+    }
+    Err(CommandFault::ReadFailed)
+}
+
+/// The world that the script of an input leads to. It keeps no more of the text than a line, and prints each event
+/// where each step is, as it happens.
+///
+/// `BadLine`: the first line that isn't of its form, or one above the last where the first is missing. It is told as
+/// soon as it is read.
+pub fn run_input<R: BufRead, W: Write>(
+    alloc: Global,
+    steps: bool,
+    input: &mut R,
+    out: &mut W,
+) -> Result<World<AnyDialect>, CommandFault>
+    ensures world { IfSome (R.remaining input.old) (λ bytes. RunsScript steps result (script_of bytes)) }
+    ensures out { OnOk result (Grows (W.contents out.old) (W.contents out.new)) }
+    ensures kept { steps ≡ false → out.new ≡ out.old }
+{
+    let mut buffer = Vec::new(alloc);
+    let Begun { head, number } = begin(input, &mut buffer)?;
+    let dialects = head.dialects(alloc)?;
+    let next = head.next(alloc)?;
+    let world = World::new(alloc, dialects, &next, head.max_number())?;
+    run_lines(
+        alloc,
+        steps,
+        head.venue_count(),
+        number,
+        input,
+        &mut buffer,
+        world,
+        out,
+    )
+}
