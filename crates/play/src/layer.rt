@@ -1,6 +1,7 @@
 //! A layer that cases are on.
 
 use play_desk::DeskPlayer;
+use play_desk_texts::DeskTextsPlayer;
 use play_dialects::DialectsPlayer;
 use play_exchange::ExchangePlayer;
 use play_frames::FramesPlayer;
@@ -19,10 +20,12 @@ pub enum Layer {
     Session(SessionPlayer),
     Exchange(ExchangePlayer),
     Desk(DeskPlayer),
+    DeskTexts(DeskTextsPlayer),
 }
 
 impl Layer {
-    /// The layer of this name, with nothing of a case yet. Cases on the book are played as those on the desk.
+    /// The layer of this name, with nothing of a case yet. Cases on the book are played as those on the desk, and one
+    /// player plays those on the file of a desk, its lines, its news and its logs.
     pub fn named(alloc: Global, name: &str) -> Option<Layer> {
         match name {
             "frames" => Some(Layer::Frames(FramesPlayer::new(alloc))),
@@ -32,6 +35,9 @@ impl Layer {
             "session" => Some(Layer::Session(SessionPlayer::new(alloc))),
             "exchange" => Some(Layer::Exchange(ExchangePlayer::new(alloc))),
             "desk" | "book" => Some(Layer::Desk(DeskPlayer::new(alloc))),
+            "config" | "lines" | "news" | "logs" => {
+                Some(Layer::DeskTexts(DeskTextsPlayer::new(alloc)))
+            }
             _ => None,
         }
     }

@@ -28,6 +28,7 @@ fn begin(layer: &mut Layer) -> Result<(), PlayFault> {
         Layer::Session(player) => player.begin(),
         Layer::Exchange(player) => player.begin(),
         Layer::Desk(player) => player.begin(),
+        Layer::DeskTexts(player) => player.begin(),
     }
 }
 
@@ -41,6 +42,7 @@ fn command(layer: &mut Layer, line: &str, answers: &mut Answers) -> Result<(), P
         Layer::Session(player) => player.command(line, answers),
         Layer::Exchange(player) => player.command(line, answers),
         Layer::Desk(player) => player.command(line, answers),
+        Layer::DeskTexts(player) => player.command(line, answers),
     }
 }
 

@@ -4,4 +4,3 @@ pub mod Legs
 pub mod Line
 pub mod Written
 pub mod Answer
-pub mod News

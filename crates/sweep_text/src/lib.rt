@@ -1,4 +1,4 @@
-//! The lines of a desk: what its standard input asks for, and what is answered and told.
+//! The lines of a desk: what its standard input asks for, and what is answered.
 #![tactic(auto)]
 
 mod answer;
@@ -6,7 +6,6 @@ mod command;
 mod laws;
 mod leg_words;
 mod line_fault;
-mod news;
 mod pieces;
 mod read;
 mod words;
@@ -16,6 +15,5 @@ pub use answer::{Answer, Refusal};
 pub use command::Command;
 pub use laws::written_sweeps_read_back;
 pub use line_fault::{LineFault, MAX_LINE, Word};
-pub use news::News;
 pub use read::read_line;
 pub use write::write_sweep;

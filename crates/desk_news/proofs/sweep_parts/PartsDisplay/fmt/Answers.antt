@@ -1,5 +1,5 @@
 use Rattle.std.proofs.Common.{append_assoc}
-use Rattle.sweep_text.proofs.news.SweepPartsDisplay.fmt.Goals as goal
+use Rattle.desk_news.proofs.sweep_parts.PartsDisplay.fmt.Goals as goal
 
 pub returns-clause-writes : goal.returns-clause-writes
 returns-clause-writes g c = λ plain written. simp append_assoc (c.write.ensures.writes plain written)

@@ -1,5 +1,5 @@
 use Rattle.std.proofs.Common.{append_assoc}
-use Rattle.sweep_text.proofs.news.NewsDisplay.fmt.Goals as goal
+use Rattle.desk_news.proofs.venue_state.VenueStateDisplay.fmt.Goals as goal
 
 pub returns-in-Unreachable-clause-writes : goal.returns-in-Unreachable-clause-writes
 returns-in-Unreachable-clause-writes g c =

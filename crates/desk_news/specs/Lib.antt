@@ -1,0 +1,7 @@
+pub mod Cause
+pub mod Venue
+pub mod Sweep
+pub mod News
+pub mod Status
+pub mod Doubt
+pub mod Day

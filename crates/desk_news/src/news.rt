@@ -1,0 +1,29 @@
+//! What a desk is told while its day goes on.
+
+ghost use Rattle.std.specs.Prelude.{Some};
+ghost use Rattle.desk_news.specs.News.{news_text};
+
+use crate::sweep_parts::SweepParts;
+use crate::venue_state::VenueState;
+use desk_words::VenueName;
+use std::fmt;
+
+/// A change, in one line.
+#[derive(Debug, PartialEq, Eq, Drop)]
+pub enum News {
+    /// The parts of a sweep changed.
+    Sweep(SweepParts),
+    /// A venue stands otherwise than before; so it is never told that one is dialled, with which each day begins.
+    Venue { venue: VenueName, state: VenueState },
+}
+
+impl fmt::Display for News {
+    ghost output = { λ news. Some (news_text news) };
+
+    fn fmt<W: fmt::Write>(&self, f: &mut fmt::Formatter<W>) -> fmt::Result {
+        match self {
+            News::Sweep(parts) => write!(f, "{parts}"),
+            News::Venue { venue, state } => write!(f, "venue {venue} {state}"),
+        }
+    }
+}

@@ -1,0 +1,58 @@
+//! How venues and sweeps stand, as `status` asks.
+
+ghost use Rattle.std.specs.Prelude.{Some};
+ghost use Rattle.desk_news.specs.Status.{status_text, venue_status_text};
+
+use crate::sweep_parts::SweepParts;
+use crate::venue_state::VenueState;
+use desk_words::VenueName;
+use std::fmt;
+
+/// How a venue stands.
+#[derive(Debug, PartialEq, Eq, Drop)]
+pub struct VenueStatus {
+    pub venue: VenueName,
+    /// How many legs were released to it and aren't sent yet.
+    pub unsent: u64,
+    /// How many legs were sent of which it isn't known whether the exchange has them.
+    pub doubt: u64,
+    /// How many lines of its log were lost.
+    pub lost: u64,
+    pub state: VenueState,
+}
+
+/// A line of what `status` is answered.
+#[derive(Debug, PartialEq, Eq, Drop)]
+pub enum Status {
+    Venue(VenueStatus),
+    Sweep(SweepParts),
+}
+
+impl fmt::Display for VenueStatus {
+    ghost output = { λ status. Some (venue_status_text status) };
+
+    fn fmt<W: fmt::Write>(&self, f: &mut fmt::Formatter<W>) -> fmt::Result {
+        let VenueStatus {
+            venue,
+            unsent,
+            doubt,
+            lost,
+            state,
+        } = self;
+        write!(
+            f,
+            "venue {venue} unsent {unsent} doubt {doubt} lost {lost} {state}"
+        )
+    }
+}
+
+impl fmt::Display for Status {
+    ghost output = { λ status. Some (status_text status) };
+
+    fn fmt<W: fmt::Write>(&self, f: &mut fmt::Formatter<W>) -> fmt::Result {
+        match self {
+            Status::Venue(venue) => write!(f, "status {venue}"),
+            Status::Sweep(parts) => write!(f, "status {parts}"),
+        }
+    }
+}

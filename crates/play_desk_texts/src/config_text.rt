@@ -1,0 +1,96 @@
+//! A configuration as a case shows it.
+
+use case_text::{Answers, PlayFault};
+use desk_config::{ConfigFault, DeskConfig, Endpoint, Venue};
+use dialect::AnyDialect;
+use std::alloc::{AllocError, Global};
+use std::str;
+
+/// What the desk does, but for its venues.
+fn desk_text(alloc: Global, config: &DeskConfig) -> Result<String, AllocError> {
+    let callers = config.callers;
+    let mut text = format!(in alloc; "desk callers {callers}")?;
+    if let Some(log) = &config.log {
+        write!(text, " log {log}")?;
+    }
+    if let Some(page) = &config.page {
+        write!(text, " page {page}")?;
+    }
+    if let Some(token) = &config.token {
+        write!(text, " token {token}")?;
+    }
+    Ok(text)
+}
+
+/// Where a venue's exchange is.
+fn endpoint_text(alloc: Global, endpoint: &Endpoint) -> Result<String, AllocError> {
+    match endpoint {
+        Endpoint::At(address) => format!(in alloc; "at {address}"),
+        Endpoint::Simulated(fill) => format!(in alloc; "simulated fill {fill}"),
+    }
+}
+
+fn dialect_name(dialect: AnyDialect) -> &'static str {
+    match dialect {
+        AnyDialect::Plain => "plain",
+        AnyDialect::Split4 => "split",
+        AnyDialect::Coded => "coded",
+    }
+}
+
+/// The two ends of a session.
+fn ends_text(alloc: Global, venue: &Venue) -> Result<String, AllocError> {
+    let sender = str::from_utf8(venue.sender.as_bytes()).unwrap_or("?");
+    let target = str::from_utf8(venue.target.as_bytes()).unwrap_or("?");
+    format!(in alloc; "{sender} to {target}")
+}
+
+/// How a venue's session is held.
+fn session_text(alloc: Global, venue: &Venue) -> Result<String, AllocError> {
+    let dialect = dialect_name(venue.session.dialect);
+    let heartbeat = venue.session.heartbeat;
+    let next = if venue.session.next_expected {
+        " next_expected"
+    } else {
+        ""
+    };
+    let max = venue.session.max_number;
+    format!(in alloc; "{dialect} heartbeat {heartbeat}{next} max_number {max}")
+}
+
+fn venue_text(alloc: Global, venue: &Venue) -> Result<String, AllocError> {
+    let name = &venue.name;
+    let endpoint = endpoint_text(alloc, &venue.endpoint)?;
+    let ends = ends_text(alloc, venue)?;
+    let session = session_text(alloc, venue)?;
+    format!(in alloc; "venue {name} {endpoint} {ends} {session}")
+}
+
+/// The desk in a line, and each venue in a line of its own.
+pub fn say_config(
+    alloc: Global,
+    config: &DeskConfig,
+    answers: &mut Answers,
+) -> Result<(), PlayFault> {
+    let desk = desk_text(alloc, config)?;
+    answers.say(desk.as_str())?;
+    for venue in config.venues.iter() {
+        let text = venue_text(alloc, venue)?;
+        answers.say(text.as_str())?;
+    }
+    Ok(())
+}
+
+/// A fault, of which TOML's own take several lines.
+pub fn say_fault(
+    alloc: Global,
+    fault: &ConfigFault,
+    answers: &mut Answers,
+) -> Result<(), PlayFault> {
+    let text = format!(in alloc; "{fault}")?;
+    for line in text.as_str().lines() {
+        let said = format!(in alloc; "fault {line}")?;
+        answers.say(said.as_str())?;
+    }
+    Ok(())
+}

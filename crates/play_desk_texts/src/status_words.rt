@@ -1,0 +1,55 @@
+//! How venues and sweeps stand, and what a day came to, from the words of a case.
+
+use crate::answer_words::venue_named;
+use crate::news_words::{sweep_parts, venue_state};
+use case_text::{PlayFault, number};
+use desk_news::{DayTotals, Status, VenueStatus};
+use std::alloc::Global;
+
+/// A venue's name, its legs unsent and in doubt, the lines lost of its log, and how it stands.
+fn venue_status(alloc: Global, text: &str) -> Result<VenueStatus, PlayFault> {
+    let mut words = text.splitn(5, ' ');
+    let (Some(name), Some(unsent), Some(doubt), Some(lost), Some(state)) = (
+        words.next(),
+        words.next(),
+        words.next(),
+        words.next(),
+        words.next(),
+    ) else {
+        return Err(PlayFault::NotUnderstood);
+    };
+    let unsent = number(unsent)?;
+    let doubt = number(doubt)?;
+    let lost = number(lost)?;
+    let venue = venue_named(name)?;
+    let state = venue_state(alloc, state)?;
+    Ok(VenueStatus {
+        venue,
+        unsent,
+        doubt,
+        lost,
+        state,
+    })
+}
+
+/// The status of `sweep NUMBER SHARES PARTS` or `venue NAME UNSENT DOUBT LOST STATE`.
+pub fn status(alloc: Global, text: &str) -> Result<Status, PlayFault> {
+    match text.split_once(' ') {
+        Some(("sweep", text)) => sweep_parts(alloc, text).map(Status::Sweep),
+        Some(("venue", text)) => venue_status(alloc, text).map(Status::Venue),
+        _ => Err(PlayFault::NotUnderstood),
+    }
+}
+
+/// What a day came to, of `PLACED RESOLVED OPEN`.
+pub fn day_totals(text: &str) -> Result<DayTotals, PlayFault> {
+    let mut words = text.split(' ');
+    match (words.next(), words.next(), words.next(), words.next()) {
+        (Some(placed), Some(resolved), Some(still_open), None) => Ok(DayTotals {
+            placed: number(placed)?,
+            resolved: number(resolved)?,
+            still_open: number(still_open)?,
+        }),
+        _ => Err(PlayFault::NotUnderstood),
+    }
+}
