@@ -7,7 +7,7 @@ use trial::{EndFault, TrialFault};
 /// What the words of the command line were expected to be.
 #[derive(Clone, Copy, Debug, PartialEq, Eq, Error)]
 pub enum Expected {
-    #[error("codec COUNT PART, day PART BEFORE COUNT, replay PART EVENTS, threads PART CALLERS SWEEPS or turn TURNS")]
+    #[error("codec COUNT PART, day PART BEFORE COUNT, replay PART EVENTS, threads PART CALLERS SWEEPS, turn TURNS or wire PORT VENUES SWEEPS PAUSE REST")]
     Request,
     #[error("write, read, report, stream1, stream64, stream4096 or all")]
     CodecPart,
@@ -31,6 +31,16 @@ pub enum Expected {
     Sweeps,
     #[error("1 to 1000000 turns")]
     Turns,
+    #[error("a port from 1 to 65520")]
+    Port,
+    #[error("1 to 16 venues")]
+    Venues,
+    #[error("1 to 1000000 sweeps")]
+    WireSweeps,
+    #[error("a pause of 1 to 1000000 microseconds")]
+    Pause,
+    #[error("sleep or spin")]
+    Rest,
 }
 
 /// Why a run stopped.

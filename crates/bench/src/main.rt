@@ -1,6 +1,6 @@
 //! The program `bench`: it does the work that the scripts of `bench/` count or time, as often as it is asked to, and
-//! prints what shows that it was done. Its first word says which part of it: `codec`, `day`, `replay`, `threads` or
-//! `turn`; with no word each of them does a little.
+//! prints what shows that it was done. Its first word says which part of it: `codec`, `day`, `replay`, `threads`,
+//! `turn` or `wire`; with no word each of them but `wire` does a little.
 #![tactic(auto)]
 
 mod fault;

@@ -1,11 +1,16 @@
 //! What a run is asked to do.
 
+ghost use Rattle.std.specs.Prelude.{◌≤◌, IfOk};
+
 use crate::fault::{BenchFault, Expected};
 use crate::number::number_to;
 use bench_core::{CodecPart, DayPart, MAX_DAY, ReplayPart, run_codec, run_day, run_replay};
 use bench_threads::{Load, ThreadsPart, run_threads, run_turns};
+use bench_wire::{WireLoad, run_wire};
+use link::Rest;
 use std::alloc::Global;
 use std::io::Write;
+use std::net::{Net, TcpListener, TcpStream};
 use std::sync::Wait;
 use std::thread::Threads;
 use std::time::Clock;
@@ -20,8 +25,16 @@ const MAX_EVENTS: u64 = 10_000_000;
 /// The most callers.
 const MAX_CALLERS: u64 = 64;
 
+/// The greatest port with fifteen more behind it.
+const MAX_PORT: u64 = 65_520;
+
+/// The most venues.
+const MAX_VENUES: u64 = 16;
+
 /// A number of the command line, up to this one.
-fn count_of(most: u64, text: &str, expected: Expected) -> Result<u64, BenchFault> {
+fn count_of(most: u64, text: &str, expected: Expected) -> Result<u64, BenchFault>
+    ensures { IfOk result (λ number. number ≤ most) }
+{
     number_to(most, text).ok_or(BenchFault::Usage(expected))
 }
 
@@ -79,6 +92,36 @@ fn turns<R: Wait + Clock, W: Write>(
     Ok(run_turns(rt, alloc, turns, out)?)
 }
 
+/// How a worker waits.
+fn rest_of(text: &str) -> Result<Rest, BenchFault> {
+    match text {
+        "sleep" => Ok(Rest::Sleep),
+        "spin" => Ok(Rest::Spin),
+        _ => Err(BenchFault::Usage(Expected::Rest)),
+    }
+}
+
+fn wire<
+    R: Net<Listener = TcpListener, Stream = TcpStream> + Threads + Wait + Clock + Sync,
+    W: Write,
+>(
+    rt: &R,
+    alloc: Global,
+    port: &str,
+    words: (&str, &str, &str, &str),
+    out: &mut W,
+) -> Result<(), BenchFault> {
+    let (venues, sweeps, pause, how) = words;
+    let load = WireLoad {
+        port: count_of(MAX_PORT, port, Expected::Port)? as u16,
+        venues: count_of(MAX_VENUES, venues, Expected::Venues)? as u8,
+        sweeps: count_of(MILLION, sweeps, Expected::WireSweeps)?,
+        pause: count_of(MILLION, pause, Expected::Pause)?,
+        how: rest_of(how)?,
+    };
+    Ok(run_wire(rt, alloc, load, out)?)
+}
+
 /// A little of each part.
 fn run_each<R: Threads + Wait + Clock + Sync, W: Write>(
     rt: &R,
@@ -97,12 +140,10 @@ fn run_each<R: Threads + Wait + Clock + Sync, W: Write>(
 }
 
 /// Does what the words of the command line ask for, of which the first is the program's own name.
-pub fn run<R: Threads + Wait + Clock + Sync, W: Write>(
-    rt: &R,
-    alloc: Global,
-    words: &[String],
-    out: &mut W,
-) -> Result<(), BenchFault> {
+pub fn run<
+    R: Net<Listener = TcpListener, Stream = TcpStream> + Threads + Wait + Clock + Sync,
+    W: Write,
+>(rt: &R, alloc: Global, words: &[String], out: &mut W) -> Result<(), BenchFault> {
     match words {
         [_] => Ok(run_each(rt, alloc, out)?),
         [_, name, a] if name.as_str() == "turn" => turns(rt, alloc, a.as_str(), out),
@@ -113,6 +154,10 @@ pub fn run<R: Threads + Wait + Clock + Sync, W: Write>(
         }
         [_, name, a, b, c] if name.as_str() == "threads" => {
             threads(rt, alloc, (a.as_str(), b.as_str(), c.as_str()), out)
+        }
+        [_, name, a, b, c, d, e] if name.as_str() == "wire" => {
+            let words = (b.as_str(), c.as_str(), d.as_str(), e.as_str());
+            wire(rt, alloc, a.as_str(), words, out)
         }
         _ => Err(BenchFault::Usage(Expected::Request)),
     }

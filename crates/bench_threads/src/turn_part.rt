@@ -13,7 +13,7 @@ use std::time::Clock;
 use trial::{Floor, MAX_NUMBER, Post, Trial, TrialFault, far_end, near_end, on_floor};
 
 /// A worker that writes no Heartbeat and no fence of its own accord.
-const PACE: Pace = Pace {
+const PACE: Pace = Pace::Turns {
     quiet_turns: u64::MAX,
     silent_turns: u64::MAX,
 };

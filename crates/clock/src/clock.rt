@@ -14,4 +14,8 @@ pub trait Clock {
     /// The moment, or the last stamp again where the clock can't tell it.
     fn now(&mut self) -> Stamp
         ensures { result ≡ last self.new };
+
+    /// The milliseconds since some moment, to tell how much time has passed between two answers. No answer is less than
+    /// one before, as long as the system's clock can be read; it is 0 where it can't.
+    fn millis(&self) -> u64;
 }

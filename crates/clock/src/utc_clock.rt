@@ -9,8 +9,8 @@ use fix_tags::Stamp;
 use jiff::{Error, Timestamp};
 use std::time;
 
-/// The clock of the system that `time` stands for. Where it can't be read, or its moment has no stamp, it tells its last
-/// stamp again, which at first is 19700101-00:00:00.000.
+/// The clock of the system that `time` stands for. Where it can't be read, or its moment has no stamp, it tells its
+/// last stamp again, which at first is 19700101-00:00:00.000.
 #[derive(Drop)]
 pub struct UtcClock<'a, T: time::Clock> {
     time: &'a T,
@@ -31,7 +31,8 @@ impl<'a, T: time::Clock> UtcClock<'a, T> {
     /// What it tells of a moment that was read, or wasn't.
     fn tell(&mut self, moment: Result<Timestamp, Error>) -> Stamp
         ensures answer { result ≡ self.new.last }
-        ensures last { MatchResult moment (λ m. IsToldOf m.nanosecond self.old.last self.new.last) (λ _. self.new.last ≡ self.old.last) }
+        ensures last { MatchResult moment (λ m. IsToldOf m.nanosecond self.old.last self.new.last)
+            (λ _. self.new.last ≡ self.old.last) }
     {
         let Ok(moment) = moment else {
             return self.last;
@@ -46,5 +47,12 @@ impl<'a, T: time::Clock> Clock for UtcClock<'a, T> {
 
     fn now(&mut self) -> Stamp {
         self.tell(Timestamp::now(self.time))
+    }
+
+    fn millis(&self) -> u64 {
+        match self.time.monotonic() {
+            Ok(passed) => u64::try_from(passed.as_millis()).unwrap_or(u64::MAX),
+            Err(_) => 0,
+        }
     }
 }

@@ -25,4 +25,8 @@ impl Clock for FakeClock {
         self.asked = self.asked.saturating_add(1);
         self.stamp
     }
+
+    fn millis(&self) -> u64 {
+        0
+    }
 }

@@ -1,6 +1,7 @@
 //! What a day begins with.
 
 use crate::DayFault;
+use clock::StoppedClock;
 use dialect::Plain;
 use exchange_sim::{MemoryLink, MemoryPlan, Plan};
 use link::Link;
@@ -8,7 +9,7 @@ use release_lock::Run;
 use session_worker::{Pace, Worker};
 use std::alloc::Global;
 use std::sync::ledger::Ledger;
-use trial::{MAX_NUMBER, Post, StoppedClock, TrialFault, far_end, near_end};
+use trial::{MAX_NUMBER, Post, TrialFault, far_end, near_end, stopped_clock};
 
 /// Of each order six shares are traded, and nothing is lost or cut.
 pub const TRADES_SIX: Plan = Plan {
@@ -22,7 +23,7 @@ pub fn memory_link(
     alloc: Global,
     plan: MemoryPlan,
 ) -> Result<MemoryLink<Plain, StoppedClock>, TrialFault> {
-    let clock = StoppedClock::new()?;
+    let clock = stopped_clock()?;
     Ok(MemoryLink::new(alloc, Plain, clock, far_end(MAX_NUMBER)?, plan))
 }
 
@@ -39,6 +40,6 @@ pub fn worker_of<K: Link, L: Run, M: Ledger>(
         return Err(DayFault::Trial(TrialFault::Missing));
     }
     let config = near_end(max_number)?;
-    let clock = StoppedClock::new()?;
+    let clock = stopped_clock()?;
     Ok(Worker::new(alloc, Plain, link, clock, config, seat, drain, pace))
 }

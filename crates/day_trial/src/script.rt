@@ -6,6 +6,7 @@ use crate::said::{Said, frames_of};
 use link::{Got, Link, LinkFault};
 use std::alloc::{AllocError, Global};
 use std::collections::VecDeque;
+use std::time::Duration;
 use trial::TrialFault;
 
 /// Where the pieces are over, or a piece is empty, a read gives nothing.
@@ -90,6 +91,8 @@ impl Link for Script {
             Err(_) => Err(LinkFault::counted(&mut self.faults)),
         }
     }
+
+    fn rest(&mut self, _most: Duration) {}
 
     fn shut(&mut self) -> Result<(), LinkFault> {
         Ok(())

@@ -1,12 +1,13 @@
 //! Links that may be looked at, and behind which an exchange may be.
 
 use crate::Script;
+use clock::StoppedClock;
 use dialect::Plain;
 use exchange_core::Exchange;
 use exchange_sim::MemoryLink;
 use link::{Link, TcpLink};
 use std::net::Net;
-use trial::StoppedClock;
+use std::time::Clock;
 
 /// A link that may be looked at.
 pub trait Shown: Link {
@@ -37,7 +38,7 @@ impl Shown for Script {
     }
 }
 
-impl<'a, N: Net> Shown for TcpLink<'a, N> {
+impl<'a, N: Net + Clock> Shown for TcpLink<'a, N> {
     fn exchange(&self) -> Option<&Exchange> {
         None
     }

@@ -1,6 +1,6 @@
 //! A link in memory that takes and gives one byte a call, and a link over loopback.
 
-use link::{Got, Link, LinkFault, TcpLink, write_whole};
+use link::{Got, Link, LinkFault, Poller, Rest, TcpLink, write_whole};
 use std::alloc::{AllocError, Global};
 use std::collections::VecDeque;
 use std::io::{ErrorKind, Read, Write};
@@ -99,6 +99,8 @@ impl Link for Trickle {
         }
     }
 
+    fn rest(&mut self, _most: Duration) {}
+
     fn shut(&mut self) -> Result<(), LinkFault> {
         Ok(())
     }
@@ -184,8 +186,13 @@ struct Seen {
 }
 
 // Dials, writes five bytes, and reads up to the end, in five thousand reads at most.
-fn ask<N: Net>(net: &N, addr: SocketAddr) -> Result<Seen, LinkFault> {
-    let mut link = TcpLink::new(net, addr);
+fn ask<N: Net + Clock>(
+    rt: &N,
+    addr: SocketAddr,
+    poller: Poller,
+    how: Rest,
+) -> Result<Seen, LinkFault> {
+    let mut link = TcpLink::new(rt, addr, poller, how);
     link.dial()?;
     let mut buf = [0; 1];
     let first = link.read(&mut buf);
@@ -202,7 +209,7 @@ fn ask<N: Net>(net: &N, addr: SocketAddr) -> Result<Seen, LinkFault> {
                     at += 1;
                 }
             }
-            Ok(Got::Nothing) => {}
+            Ok(Got::Nothing) => link.rest(Duration::from_secs(5)),
             Ok(Got::End) | Err(_) => break,
         }
     }
@@ -223,16 +230,23 @@ fn ask<N: Net>(net: &N, addr: SocketAddr) -> Result<Seen, LinkFault> {
 fn a_client_over_loopback(rt: HostRuntime) -> Result<(), Fail> {
     let listener = TcpListener::bind(&rt, "127.0.0.1:0")?;
     let addr = listener.local_addr()?;
-    let (served, seen) = thread::join(&rt, || echo_once(&rt, &listener), || ask(&rt, addr));
-    served?;
-    let seen = seen.ok().ok_or("a connection")?;
-    assert_eq!(rt; seen.first, Ok(Got::Nothing));
-    assert_eq!(rt; seen.sent, Ok(()));
-    assert_eq!(rt; seen.answer.as_slice(), b"hello".as_slice());
-    assert_eq!(rt; seen.last, Ok(Got::End));
-    assert_eq!(rt; seen.shut, Ok(()));
-    assert_eq!(rt; seen.behind, Ok(Got::End));
-    assert_eq!(rt; seen.faults, 0);
+    for how in [Rest::Sleep, Rest::Spin] {
+        let poller = Poller::new(&rt, rt.alloc())?;
+        let (served, seen) = thread::join(
+            &rt,
+            || echo_once(&rt, &listener),
+            || ask(&rt, addr, poller, how),
+        );
+        served?;
+        let seen = seen.ok().ok_or("a connection")?;
+        assert_eq!(rt; seen.first, Ok(Got::Nothing));
+        assert_eq!(rt; seen.sent, Ok(()));
+        assert_eq!(rt; seen.answer.as_slice(), b"hello".as_slice());
+        assert_eq!(rt; seen.last, Ok(Got::End));
+        assert_eq!(rt; seen.shut, Ok(()));
+        assert_eq!(rt; seen.behind, Ok(Got::End));
+        assert_eq!(rt; seen.faults, 0);
+    }
     Ok(())
 }
 
@@ -241,7 +255,8 @@ fn with_no_connection(rt: HostRuntime) -> Result<(), Fail> {
     let listener = TcpListener::bind(&rt, "127.0.0.1:0")?;
     let addr = listener.local_addr()?;
     drop(listener);
-    let mut link = TcpLink::new(&rt, addr);
+    let poller = Poller::new(&rt, rt.alloc())?;
+    let mut link = TcpLink::new(&rt, addr, poller, Rest::Sleep);
     let mut buf = [0; 1];
     assert_eq!(rt; link.read(&mut buf), Ok(Got::End));
     assert_eq!(rt; link.shut(), Ok(()));

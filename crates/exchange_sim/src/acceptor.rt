@@ -88,13 +88,30 @@ impl<D: Dialect, C: Clock> Acceptor<D, C> {
         self.is_connected = false;
     }
 
-    /// Takes the bytes that come: each frame that they complete, in order. Where the plan cuts the connection behind one of
-    /// them it ends. Where there is no connection they are dropped. Want of memory may come when some of them were taken.
+    /// Takes the bytes that come: each frame that they complete, in order. Where the plan cuts the connection behind
+    /// one of them it ends. Where there is no connection they are dropped. Want of memory may come when some of them
+    /// were taken.
     pub fn receive(&mut self, bytes: &[u8]) -> Result<(), AllocError>
         ensures dropped { self.old.is_connected ≡ false → self.new ≡ self.old }
-        ensures hears { self.old.is_connected ≡ true → OnOk result (Hears (record { readers = (D.wording self.old.engine.dialect).decoding; fill = self.old.engine.fill; lose = self.old.plan.lose; connection = self.old.connection }) self.old.plan.cut_after
-            (record { stream = fed self.old.reader bytes.now; messages = self.old.messages; exchange = self.old.engine.exchange }) self.new.is_connected
-            (record { stream = self.new.reader; messages = self.new.messages; exchange = self.new.engine.exchange })) }
+        ensures hears { self.old.is_connected ≡ true → OnOk result (Hears
+            (record {
+              readers = (D.wording self.old.engine.dialect).decoding;
+              fill = self.old.engine.fill;
+              lose = self.old.plan.lose;
+              connection = self.old.connection;
+            })
+            self.old.plan.cut_after
+            (record {
+              stream = fed self.old.reader bytes.now;
+              messages = self.old.messages;
+              exchange = self.old.engine.exchange;
+            })
+            self.new.is_connected
+            (record {
+              stream = self.new.reader;
+              messages = self.new.messages;
+              exchange = self.new.engine.exchange;
+            })) }
     {
         if !self.is_connected {
             return Ok(());
@@ -112,16 +129,34 @@ impl<D: Dialect, C: Clock> Acceptor<D, C> {
         Ok(())
     }
 
-    /// Takes the next frame that was read, and gives its number, if there is one. The message that the plan loses is passed
-    /// over.
+    /// Takes the next frame that was read, and gives its number, if there is one. The message that the plan loses is
+    /// passed over.
     fn take_next(&mut self) -> Result<Option<u64>, AllocError>
-        ensures heard { OnOk result (record { stream = self.new.reader; messages = self.new.messages; exchange = self.new.engine.exchange }
-            ≡ next_heard (record { readers = (D.wording self.old.engine.dialect).decoding; fill = self.old.engine.fill; lose = self.old.plan.lose; connection = self.old.connection })
-            (record { stream = self.old.reader; messages = self.old.messages; exchange = self.old.engine.exchange })) }
-        ensures number { IfOk result (λ number. number ≡ option_map (λ _. self.new.messages) (next_read self.old.reader).frame) }
-        ensures same { (self.new.engine.dialect ≡ self.old.engine.dialect) × (self.new.engine.fill ≡ self.old.engine.fill)
-            × (self.new.plan ≡ self.old.plan) × (self.new.connection ≡ self.old.connection) × (self.new.is_connected ≡ self.old.is_connected) }
-        ensures shorter { IfOk result (λ number. IfSome number (λ _. length self.new.reader.rest < length self.old.reader.rest)) }
+        ensures heard { OnOk result (record {
+          stream = self.new.reader;
+          messages = self.new.messages;
+          exchange = self.new.engine.exchange;
+        }
+            ≡ next_heard
+            (record {
+              readers = (D.wording self.old.engine.dialect).decoding;
+              fill = self.old.engine.fill;
+              lose = self.old.plan.lose;
+              connection = self.old.connection;
+            })
+            (record {
+              stream = self.old.reader;
+              messages = self.old.messages;
+              exchange = self.old.engine.exchange;
+            })) }
+        ensures number { IfOk result (λ number.
+            number ≡ option_map (λ _. self.new.messages) (next_read self.old.reader).frame) }
+        ensures same { (self.new.engine.dialect ≡ self.old.engine.dialect)
+            × (self.new.engine.fill ≡ self.old.engine.fill)
+            × (self.new.plan ≡ self.old.plan) × (self.new.connection ≡ self.old.connection)
+            × (self.new.is_connected ≡ self.old.is_connected) }
+        ensures shorter { IfOk result (λ number.
+            IfSome number (λ _. length self.new.reader.rest < length self.old.reader.rest)) }
     {
         match self.reader.next() {
             Ok(Some(frame)) => {
@@ -142,8 +177,8 @@ impl<D: Dialect, C: Clock> Acceptor<D, C> {
         self.engine.outbox.waiting()
     }
 
-    /// Puts the first of the bytes that wait into a buffer, as many as it has room for and at most so many, and says how
-    /// many. They still wait.
+    /// Puts the first of the bytes that wait into a buffer, as many as it has room for and at most so many, and says
+    /// how many. They still wait.
     pub fn copy_waiting(&self, most: usize, buf: &mut [u8]) -> usize
         ensures { result ≤ length buf.new }
     {
@@ -158,12 +193,5 @@ impl<D: Dialect, C: Clock> Acceptor<D, C> {
         ensures { self.new.engine.outbox ≡ drop count self.old.engine.outbox }
     {
         self.engine.outbox.pass(count);
-    }
-
-    /// All bytes that wait were sent.
-    pub fn pass_all(&mut self)
-        ensures { self.new.engine.outbox ≡ [] }
-    {
-        self.engine.outbox.clear();
     }
 }

@@ -54,8 +54,8 @@ impl<D: Dialect, C: Clock> MatchingEngine<D, C> {
         }
     }
 
-    /// What a frame says is taken, as a message of this connection; a frame that says no message is passed over. Want of
-    /// memory may come when the message was taken in part.
+    /// What a frame says is taken, as a message of this connection; a frame that says no message is passed over. Want
+    /// of memory may come when the message was taken in part.
     fn take_frame(&mut self, connection: u64, frame: &Frame<'_>) -> Result<(), AllocError>
         ensures exchange { OnOk result (self.new.exchange ≡ takes_frame
             (D.wording self.old.dialect).decoding
@@ -93,8 +93,9 @@ impl<D: Dialect, C: Clock> MatchingEngine<D, C> {
     fn take(&mut self, connection: u64, envelope: &EnvelopeRef<'_>) -> Result<(), AllocError>
         ensures exchange { OnOk result (self.new.exchange ≡ takes self.old.fill connection self.old.exchange
             (seen (D.wording self.old.dialect).decoding envelope.now)) }
-        ensures answers { OnOk result (Answers (D.wording self.old.dialect).encoding self.old.fill connection self.old.exchange
-            (seen (D.wording self.old.dialect).decoding envelope.now) self.old.outbox self.new.outbox) }
+        ensures answers { OnOk result (Answers (D.wording self.old.dialect).encoding self.old.fill connection
+            self.old.exchange (seen (D.wording self.old.dialect).decoding envelope.now)
+            self.old.outbox self.new.outbox) }
         ensures dialect { self.new.dialect ≡ self.old.dialect }
         ensures fill { self.new.fill ≡ self.old.fill }
     {
@@ -115,7 +116,8 @@ impl<D: Dialect, C: Clock> MatchingEngine<D, C> {
         ensures exchange { OnOk result (self.new.exchange ≡ (take self.old.exchange connection
             (seen (D.wording self.old.dialect).decoding envelope.now)).1) }
         ensures sends { OnOk result (Sends (D.wording self.old.dialect).encoding (C.last self.new.clock)
-            (take self.old.exchange connection (seen (D.wording self.old.dialect).decoding envelope.now)).0 self.old.outbox self.new.outbox) }
+            (take self.old.exchange connection (seen (D.wording self.old.dialect).decoding envelope.now)).0
+            self.old.outbox self.new.outbox) }
         ensures dialect { self.new.dialect ≡ self.old.dialect }
         ensures fill { self.new.fill ≡ self.old.fill }
     {
@@ -133,7 +135,8 @@ impl<D: Dialect, C: Clock> MatchingEngine<D, C> {
     #[tactic(auto, unfolding(crate::specs::Dealing::dealt))]
     fn deal(&mut self, place: usize, shares: u64, px: LastPx) -> Result<(), AllocError>
         ensures exchange { OnOk result (self.new.exchange ≡ dealt place shares px self.old.exchange) }
-        ensures reports { OnOk result (Reports (D.wording self.old.dialect).encoding place shares px self.old.exchange self.old.outbox self.new.outbox) }
+        ensures reports { OnOk result (Reports (D.wording self.old.dialect).encoding place shares px self.old.exchange
+            self.old.outbox self.new.outbox) }
         ensures dialect { self.new.dialect ≡ self.old.dialect }
         ensures fill { self.new.fill ≡ self.old.fill }
     {

@@ -12,9 +12,10 @@ use exchange_core::Exchange;
 use fix_tags::Config;
 use link::{Got, Link, LinkFault};
 use std::alloc::Global;
+use std::time::Duration;
 
-/// A link in memory round an exchange, which takes each byte as it is written. The link tells its bytes, and carries them
-/// as it is planned. A call also fails where memory is refused.
+/// A link in memory round an exchange, which takes each byte as it is written. The link tells its bytes, and carries
+/// them as it is planned. A call also fails where memory is refused.
 #[derive(Drop)]
 pub struct MemoryLink<D: Dialect, C: Clock> {
     plan: MemoryPlan,
@@ -118,6 +119,9 @@ impl<D: Dialect + Drop, C: Clock + Drop> Link for MemoryLink<D, C> {
         self.recording.wrote(taken)?;
         Ok(count)
     }
+
+    // The exchange has answered already: whatever comes is there to read.
+    fn rest(&mut self, _most: Duration) {}
 
     fn shut(&mut self) -> Result<(), LinkFault> {
         self.acceptor.disconnect();

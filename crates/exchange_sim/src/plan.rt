@@ -1,7 +1,7 @@
 //! What a simulated exchange does with its orders and messages.
 
-/// What a simulated exchange does with its orders and messages, which are counted from 1 over all its connections. Where
-/// a number of a message is 0 there is none.
+/// What a simulated exchange does with its orders and messages, which are counted from 1 over all its connections.
+/// Where a number of a message is 0 there is none.
 #[derive(Clone, Copy, Debug)]
 pub struct Plan {
     /// How many shares of each accepted order are traded, if it has as many; the rest is cancelled.

@@ -55,7 +55,8 @@ impl Recording {
 
     /// A new connection was dialled. It fails only for want of memory.
     pub fn dialled(&mut self) -> Result<(), LinkFault>
-        ensures traffic { MatchResult result (λ _. Dials self.old.traffic self.new.traffic) (λ _. Stays self.old.traffic self.new.traffic) }
+        ensures traffic { MatchResult result (λ _. Dials self.old.traffic self.new.traffic)
+            (λ _. Stays self.old.traffic self.new.traffic) }
         ensures faults { Rises result self.old.faults self.new.faults }
     {
         let Some(last) = self.last.take() else {
@@ -76,7 +77,8 @@ impl Recording {
 
     /// A write took these bytes. It fails where nothing was dialled yet, and for want of memory.
     pub fn wrote(&mut self, bytes: &[u8]) -> Result<(), LinkFault>
-        ensures traffic { MatchResult result (λ _. Takes bytes.now self.old.traffic self.new.traffic) (λ _. Stays self.old.traffic self.new.traffic) }
+        ensures traffic { MatchResult result (λ _. Takes bytes.now self.old.traffic self.new.traffic)
+            (λ _. Stays self.old.traffic self.new.traffic) }
         ensures faults { Rises result self.old.faults self.new.faults }
     {
         let Some(last) = &mut self.last else {
@@ -90,7 +92,8 @@ impl Recording {
 
     /// A read gave these bytes. It fails where nothing was dialled yet, and for want of memory.
     pub fn gave(&mut self, bytes: &[u8]) -> Result<(), LinkFault>
-        ensures traffic { MatchResult result (λ _. GivesBytes bytes.now self.old.traffic self.new.traffic) (λ _. Stays self.old.traffic self.new.traffic) }
+        ensures traffic { MatchResult result (λ _. GivesBytes bytes.now self.old.traffic self.new.traffic)
+            (λ _. Stays self.old.traffic self.new.traffic) }
         ensures faults { Rises result self.old.faults self.new.faults }
     {
         let Some(last) = &mut self.last else {

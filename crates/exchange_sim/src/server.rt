@@ -3,24 +3,22 @@
 ghost use Rattle.std.specs.Prelude.{◌≡◌, false, OnOk};
 
 use crate::acceptor::Acceptor;
-use crate::stream::{Heard, hear, wait_for_client};
+use crate::port::Port;
+use crate::stream::{Heard, hear, say};
 use clock::Clock;
 use dialect::Dialect;
 use std::alloc::AllocError;
 use std::io::{Read, Write};
-use std::net::Net;
 use std::sync::atomic::{AtomicBool, Ordering};
-use std::time;
 
 /// How many bytes a turn reads at most.
 const MOST_READ: usize = 1_024;
 
-/// Serves one client after another until `is_over`, or for so many turns, each of which waits a millisecond for a client or
-/// its bytes. Where a connection fails, or the plan cuts it, the next client is waited for. The only refusal is want of
-/// memory.
-pub fn serve<N: Net + time::Clock, D: Dialect, C: Clock>(
-    net: &N,
-    listener: &N::Listener,
+/// Serves one client after another until `is_over`, or for so many turns, each of which waits ten milliseconds at most
+/// for a client or its bytes. Where a connection fails, or the plan cuts it, the next client is waited for. The only
+/// refusal is want of memory.
+pub fn serve<D: Dialect, C: Clock>(
+    port: &mut Port,
     acceptor: &mut Acceptor<D, C>,
     is_over: &AtomicBool,
     turn_limit: u64,
@@ -33,8 +31,8 @@ pub fn serve<N: Net + time::Clock, D: Dialect, C: Clock>(
             break;
         }
         client = match client {
-            Some(stream) => served(stream, acceptor)?,
-            None => greeted(wait_for_client(net, listener), acceptor),
+            Some(stream) => served(stream, port, acceptor)?,
+            None => greeted(port.next_client(), acceptor),
         };
     }
     acceptor.disconnect();
@@ -52,9 +50,10 @@ fn greeted<S, D: Dialect, C: Clock>(client: Option<S>, acceptor: &mut Acceptor<D
 /// Serves a client for a turn, and gives it back unless its connection ended.
 fn served<S: Read + Write + Drop, D: Dialect, C: Clock>(
     mut stream: S,
+    port: &mut Port,
     acceptor: &mut Acceptor<D, C>,
 ) -> Result<Option<S>, AllocError> {
-    if goes_on(&mut stream, acceptor)? {
+    if goes_on(&mut stream, port, acceptor)? {
         Ok(Some(stream))
     } else {
         acceptor.disconnect();
@@ -62,13 +61,16 @@ fn served<S: Read + Write + Drop, D: Dialect, C: Clock>(
     }
 }
 
-/// Reads once, takes what came and writes what is answered. It says whether the connection goes on.
+/// Reads once, takes what came and writes what is answered; where nothing came it then waits. It says whether the
+/// connection goes on.
 fn goes_on<S: Read + Write, D: Dialect, C: Clock>(
     stream: &mut S,
+    port: &mut Port,
     acceptor: &mut Acceptor<D, C>,
 ) -> Result<bool, AllocError> {
     let mut buf = [0; MOST_READ];
-    match hear(stream, &mut buf) {
+    let heard = hear(stream, &mut buf);
+    match heard {
         Heard::Bytes(count) => acceptor.receive(&buf[..count])?,
         Heard::Nothing => {}
         Heard::Gone => return Ok(false),
@@ -76,11 +78,12 @@ fn goes_on<S: Read + Write, D: Dialect, C: Clock>(
     if !acceptor.is_connected() {
         return Ok(false);
     }
-    match stream.write_all(acceptor.waiting()) {
-        Ok(()) => {
-            acceptor.pass_all();
-            Ok(true)
-        }
-        Err(_) => Ok(false),
+    let Some(count) = say(stream, acceptor.waiting()) else {
+        return Ok(false);
+    };
+    acceptor.pass(count);
+    if heard == Heard::Nothing {
+        port.rest();
     }
+    Ok(true)
 }

@@ -1,41 +1,12 @@
 //! A client of a server, as a turn meets it.
 
+ghost use Rattle.std.specs.Prelude.{◌≤◌, length, IfSome};
 ghost use Rattle.exchange_sim.specs.Heard.{FitsIn};
 
-use std::io::{ErrorKind, Read};
-use std::net::{Net, OpenListener, OpenStream};
-use std::time::Duration;
-use std::{io, thread, time};
-
-/// How many milliseconds a turn waits: for a client, and for a byte of it.
-const TURN_MILLIS: u64 = 1;
-
-/// How many milliseconds a write waits while the other side takes nothing.
-const WRITE_MILLIS: u64 = 1_000;
-
-/// The next client, if one connects in this turn.
-pub fn wait_for_client<N: Net + time::Clock>(net: &N, listener: &N::Listener) -> Option<N::Stream> {
-    match accept::<N>(listener) {
-        Ok(stream) => Some(stream),
-        Err(_) => {
-            thread::sleep(net, Duration::from_millis(TURN_MILLIS));
-            None
-        }
-    }
-}
-
-/// A client that waits to be accepted. Its reads wait a millisecond, and its writes a second at most.
-fn accept<N: Net>(listener: &N::Listener) -> io::Result<N::Stream> {
-    listener.set_nonblocking(true)?;
-    let (stream, _) = listener.accept()?;
-    stream.set_read_timeout(Some(Duration::from_millis(TURN_MILLIS)))?;
-    stream.set_write_timeout(Some(Duration::from_millis(WRITE_MILLIS)))?;
-    stream.set_nodelay(true)?;
-    Ok(stream)
-}
+use std::io::{ErrorKind, Read, Write};
 
 /// What a client said in a turn.
-#[derive(Clone, Copy)]
+#[derive(Clone, Copy, PartialEq, Eq)]
 pub enum Heard {
     /// So many bytes, at the front of the buffer.
     Bytes(usize),
@@ -45,7 +16,7 @@ pub enum Heard {
     Gone,
 }
 
-/// Reads once.
+/// Reads once, without waiting.
 pub fn hear<S: Read>(stream: &mut S, buf: &mut [u8]) -> Heard
     ensures { FitsIn buf.new result }
 {
@@ -56,5 +27,20 @@ pub fn hear<S: Read>(stream: &mut S, buf: &mut [u8]) -> Heard
             Heard::Nothing
         }
         Err(_) => Heard::Gone,
+    }
+}
+
+/// Writes once, without waiting, and says how many of the bytes the client took. None where it takes none any more.
+pub fn say<S: Write>(stream: &mut S, bytes: &[u8]) -> Option<usize>
+    ensures { IfSome result (λ count. count ≤ length bytes.now) }
+{
+    if bytes.is_empty() {
+        return Some(0);
+    }
+    match stream.write(bytes) {
+        Ok(0) => None,
+        Ok(count) => Some(count),
+        Err(e) if matches!(e.kind(), ErrorKind::WouldBlock | ErrorKind::Interrupted) => Some(0),
+        Err(_) => None,
     }
 }

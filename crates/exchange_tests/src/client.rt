@@ -9,6 +9,7 @@ use link::{Got, Link, write_whole};
 use session_core::{Phase, Session, Step};
 use std::alloc::Global;
 use std::test::Fail;
+use std::time::Duration;
 
 /// What a session was told of its leg.
 #[derive(Clone, Copy, Debug, PartialEq, Eq)]
@@ -121,7 +122,7 @@ impl<K: Link> Client<K> {
         let mut buf = [0; 256];
         match self.link.read(&mut buf) {
             Ok(Got::Bytes(count)) => self.reader.feed(&buf[..count])?,
-            Ok(Got::Nothing) => {}
+            Ok(Got::Nothing) => self.link.rest(Duration::from_millis(1)),
             Ok(Got::End) | Err(_) => self.hang_up(),
         }
         for _frame in 0..16 {

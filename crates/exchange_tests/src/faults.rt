@@ -1,7 +1,8 @@
 //! What each fault of a plan does to a session in memory that sends one leg of 10 shares.
 
 use crate::client::{Client, Told};
-use crate::support::{Stopped, TRADES_6, end, faultless, stopped_clock, worked_leg};
+use crate::support::{TRADES_6, end, faultless, stopped_clock, worked_leg};
+use clock::StoppedClock;
 use dialect::Plain;
 use exchange_sim::{MemoryLink, MemoryPlan, Plan};
 use link::{Got, Link, LinkFault};
@@ -10,7 +11,7 @@ use std::alloc::Global;
 use std::test::Fail;
 
 /// A link of this plan.
-fn link_of(alloc: Global, plan: MemoryPlan) -> Result<MemoryLink<Plain, Stopped>, Fail> {
+fn link_of(alloc: Global, plan: MemoryPlan) -> Result<MemoryLink<Plain, StoppedClock>, Fail> {
     Ok(MemoryLink::new(alloc, Plain, stopped_clock()?, end(b"B", b"A")?, plan))
 }
 
@@ -56,7 +57,7 @@ const LOST: Told = Told {
 /// A session logs on, sends its leg, and shows a sign of life after a while. Each part takes so many turns, and as many
 /// as `again` are left for it to be up once more.
 fn play(
-    client: &mut Client<MemoryLink<Plain, Stopped>>,
+    client: &mut Client<MemoryLink<Plain, StoppedClock>>,
     turns: u64,
     again: u64,
 ) -> Result<(), Fail> {

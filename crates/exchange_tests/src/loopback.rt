@@ -1,37 +1,40 @@
 //! Servers over loopback, and a session over TCP.
 
 use crate::client::{Client, Told};
-use crate::support::{Stopped, TRADES_6, end, stopped_clock, worked_leg};
+use crate::support::{TRADES_6, end, stopped_clock, worked_leg};
+use clock::StoppedClock;
 use dialect::Plain;
-use exchange_sim::{Acceptor, Plan, serve, serve_raw};
-use link::{Got, Link, LinkFault, TcpLink};
+use exchange_sim::{Acceptor, Plan, Port, serve, serve_raw};
+use link::{Got, Link, LinkFault, Poller, Rest, TcpLink};
 use std::alloc::{AllocError, Global};
 use std::net::{Net, SocketAddr, TcpListener, TcpStream};
 use std::sync::atomic::{AtomicBool, Ordering};
 use std::test::Fail;
 use std::thread;
 use std::thread::Threads;
-use std::time::Clock;
+use std::time::{Clock, Duration};
 
 /// An exchange of this plan.
-fn exchange_of(alloc: Global, plan: Plan) -> Result<Acceptor<Plain, Stopped>, Fail> {
+fn exchange_of(alloc: Global, plan: Plan) -> Result<Acceptor<Plain, StoppedClock>, Fail> {
     Ok(Acceptor::new(alloc, Plain, stopped_clock()?, end(b"B", b"A")?, plan))
 }
 
 /// What a session over TCP is told of its leg. Then the day is over.
-fn told<N: Net>(
+fn told<N: Net + Clock>(
+    rt: &N,
     alloc: Global,
-    net: &N,
     addr: SocketAddr,
     is_over: &AtomicBool,
 ) -> Result<Told, Fail> {
-    let told = played(alloc, net, addr);
+    let told = played(rt, alloc, addr);
     is_over.store(true, Ordering::SeqCst);
     told
 }
 
-fn played<N: Net>(alloc: Global, net: &N, addr: SocketAddr) -> Result<Told, Fail> {
-    let mut client = Client::new(alloc, TcpLink::new(net, addr))?;
+fn played<N: Net + Clock>(rt: &N, alloc: Global, addr: SocketAddr) -> Result<Told, Fail> {
+    let poller = Poller::new(rt, alloc)?;
+    let link = TcpLink::new(rt, addr, poller, Rest::Sleep);
+    let mut client = Client::new(alloc, link)?;
     client.log_on(1_000)?;
     client.send(&worked_leg()?)?;
     client.finish(1_000)?;
@@ -46,8 +49,8 @@ fn over_tcp<R: Net<Listener = TcpListener, Stream = TcpStream> + Clock + Threads
     alloc: Global,
     cut_after: u64,
 ) -> Result<Told, Fail> {
-    let listener = TcpListener::bind(rt, "127.0.0.1:0")?;
-    let addr = listener.local_addr()?;
+    let mut port = Port::open(rt, alloc)?;
+    let addr = port.addr()?;
     let plan = Plan {
         cut_after,
         ..TRADES_6
@@ -56,8 +59,8 @@ fn over_tcp<R: Net<Listener = TcpListener, Stream = TcpStream> + Clock + Threads
     let is_over = AtomicBool::new(false);
     let (served, told) = thread::join(
         rt,
-        || serve(rt, &listener, &mut exchange, &is_over, u64::MAX),
-        || told(alloc, rt, addr, &is_over),
+        || serve(&mut port, &mut exchange, &is_over, u64::MAX),
+        || told(rt, alloc, addr, &is_over),
     );
     let told = told?;
     served?;
@@ -80,25 +83,26 @@ fn a_leg_over_tcp(rt: HostRuntime) -> Result<(), Fail> {
 
 #[test]
 fn a_server_with_no_client(rt: HostRuntime) -> Result<(), Fail> {
-    let listener = TcpListener::bind(&rt, "127.0.0.1:0")?;
+    let mut port = Port::open(&rt, rt.alloc())?;
     let mut exchange = exchange_of(rt.alloc(), TRADES_6)?;
     for (is_over, turn_limit) in [(false, 5), (true, u64::MAX)] {
         let is_over = AtomicBool::new(is_over);
-        let served = serve(&rt, &listener, &mut exchange, &is_over, turn_limit);
+        let served = serve(&mut port, &mut exchange, &is_over, turn_limit);
         assert_eq!(rt; served, Ok(()));
     }
-    assert!(rt; !serve_raw(&rt, &listener, &[], 5));
+    assert!(rt; !serve_raw(&mut port, &[], 5));
     Ok(())
 }
 
 /// What a client is sent that writes one byte, and leaves once it has so many.
-fn sent<N: Net>(
+fn sent<N: Net + Clock>(
+    rt: &N,
     alloc: Global,
-    net: &N,
     addr: SocketAddr,
+    poller: Poller,
     count: usize,
 ) -> Result<Vec<u8>, AllocError> {
-    let mut link = TcpLink::new(net, addr);
+    let mut link = TcpLink::new(rt, addr, poller, Rest::Sleep);
     let mut bytes = Vec::new(alloc);
     let mut buf = [0; 3];
     if link.dial().is_err() || link.write(b"x").is_err() {
@@ -110,7 +114,7 @@ fn sent<N: Net>(
         }
         match link.read(&mut buf) {
             Ok(Got::Bytes(count)) => bytes.extend_from_slice(&buf[..count])?,
-            Ok(Got::Nothing) => {}
+            Ok(Got::Nothing) => link.rest(Duration::from_secs(5)),
             Ok(Got::End) | Err(_) => break,
         }
     }
@@ -120,8 +124,9 @@ fn sent<N: Net>(
 #[test]
 fn a_server_that_keeps_no_rules(rt: HostRuntime) -> Result<(), Fail> {
     let alloc = rt.alloc();
-    let listener = TcpListener::bind(&rt, "127.0.0.1:0")?;
-    let addr = listener.local_addr()?;
+    let mut port = Port::open(&rt, alloc)?;
+    let addr = port.addr()?;
+    let poller = Poller::new(&rt, alloc)?;
     let frames = vec![in alloc;
         Vec::from_slice(alloc, b"8=FIX")?,
         Vec::new(alloc),
@@ -129,8 +134,8 @@ fn a_server_that_keeps_no_rules(rt: HostRuntime) -> Result<(), Fail> {
     ]?;
     let (served, sent) = thread::join(
         &rt,
-        || serve_raw(&rt, &listener, &frames, 1_000),
-        || sent(alloc, &rt, addr, 9),
+        || serve_raw(&mut port, &frames, 1_000),
+        || sent(&rt, alloc, addr, poller, 9),
     );
     assert!(rt; served);
     assert_eq!(rt; sent?.as_slice(), b"8=FIX.4.4".as_slice());

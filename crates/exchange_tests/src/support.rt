@@ -1,22 +1,10 @@
 //! What the tests of the crate share.
 
-use clock::Clock;
+use clock::StoppedClock;
 use exchange_sim::{MemoryPlan, Plan};
 use fix_tags::{CompId, Config, Stamp};
 use leg::{Leg, LegId, Side, Symbol, Terms};
 use std::test::Fail;
-
-/// A clock that always tells one stamp.
-#[derive(Clone, Copy)]
-pub(crate) struct Stopped(Stamp);
-
-impl Clock for Stopped {
-    ghost last = { λ clock. clock.0 };
-
-    fn now(&mut self) -> Stamp {
-        self.0
-    }
-}
 
 /// The moment of every message.
 pub(crate) fn moment() -> Result<Stamp, Fail> {
@@ -24,8 +12,8 @@ pub(crate) fn moment() -> Result<Stamp, Fail> {
 }
 
 /// A clock that stands at this moment.
-pub(crate) fn stopped_clock() -> Result<Stopped, Fail> {
-    Ok(Stopped(moment()?))
+pub(crate) fn stopped_clock() -> Result<StoppedClock, Fail> {
+    Ok(StoppedClock::new(moment()?))
 }
 
 /// One end of a session, whose numbers go as far as may be.

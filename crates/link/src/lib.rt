@@ -1,14 +1,20 @@
-//! What a worker needs of a connection, and a connection over TCP.
+//! What a worker needs of a connection, a connection over TCP, and the bell that ends its rests.
 #![tactic(auto)]
 
+mod bell;
 mod got;
 mod link;
 mod link_fault;
+mod poller;
+mod rest;
 mod tcp_link;
 mod whole;
 
+pub use bell::Bell;
 pub use got::Got;
 pub use link::Link;
 pub use link_fault::LinkFault;
+pub use poller::Poller;
+pub use rest::Rest;
 pub use tcp_link::TcpLink;
 pub use whole::write_whole;

@@ -1,58 +1,150 @@
 //! A link over TCP.
 
-ghost use Rattle.std.specs.Prelude.{◌≡◌};
+ghost use Rattle.std.specs.Prelude.{◌≡◌, length, IfOk};
+ghost use Rattle.link.specs.Counts.{Fits};
 
 use crate::got::Got;
 use crate::link::Link;
 use crate::link_fault::LinkFault;
+use crate::poller::Poller;
+use crate::rest::Rest;
+use mio::net::TcpStream;
 use std::io;
 use std::io::{ErrorKind, Read, Write};
-use std::net::{Net, OpenStream, Shutdown, SocketAddr, TcpStream};
-use std::time::Duration;
+use std::net::{Net, Shutdown, SocketAddr};
+use std::time::{Clock, Duration, Instant};
 
-/// How many milliseconds a dial waits for an answer.
-const DIAL_MILLIS: u64 = 1_000;
+/// How many seconds a dial waits for an answer.
+const DIAL_SECONDS: u64 = 1;
 
-/// How many milliseconds a read waits for a byte.
-const READ_MILLIS: u64 = 1;
+/// How many seconds a whole write waits while the other side takes nothing.
+const WRITE_SECONDS: u64 = 5;
 
-/// How many milliseconds a write waits while the other side takes nothing.
-const WRITE_MILLIS: u64 = 1_000;
+/// How many reads empty a connection that is shut, at most.
+const LAST_READS: u32 = 64;
 
-/// A link over TCP to one address. A dial and a write wait a second at most, a read a millisecond. It tells no traffic:
-/// what a socket took may still be lost.
+/// How many bytes such a read takes at most.
+const LAST_BYTES: usize = 4_096;
+
+/// A link over TCP to one address. A dial waits a second at most, and a write five for all of its bytes; a read never
+/// waits. It tells no traffic: what a socket took may still be lost.
 #[derive(Drop)]
-pub struct TcpLink<'a, N: Net> {
-    net: &'a N,
+pub struct TcpLink<'a, N: Net + Clock> {
+    rt: &'a N,
     addr: SocketAddr,
-    stream: Option<N::Stream>,
+    poller: Poller,
+    how: Rest,
+    stream: Option<TcpStream>,
+    // Whether a byte may be there that the poller won't tell of again.
+    may_read: bool,
     faults: u64,
 }
 
-impl<'a, N: Net> TcpLink<'a, N> {
-    /// A link that isn't dialled yet.
-    pub fn new(net: &'a N, addr: SocketAddr) -> TcpLink<'a, N>
+impl<'a, N: Net + Clock> TcpLink<'a, N> {
+    /// A link that isn't dialled yet. It waits with this poller, which watches nothing yet.
+    pub fn new(rt: &'a N, addr: SocketAddr, poller: Poller, how: Rest) -> TcpLink<'a, N>
         ensures { result.faults ≡ 0 }
     {
         TcpLink {
-            net,
+            rt,
             addr,
+            poller,
+            how,
             stream: None,
+            may_read: false,
             faults: 0,
+        }
+    }
+
+    /// Reads what is there.
+    fn read_now(&mut self, buf: &mut [u8]) -> io::Result<Got>
+        ensures bound { IfOk result (λ got. Fits got (length buf.new)) }
+        ensures faults { self.new.faults ≡ self.old.faults }
+    {
+        let Some(stream) = &mut self.stream else {
+            return Ok(Got::End);
+        };
+        match stream.read(buf) {
+            Ok(0) => Ok(Got::End),
+            Ok(n) => Ok(Got::Bytes(n)),
+            Err(e) if e.kind() == ErrorKind::WouldBlock => {
+                self.may_read = false;
+                Ok(Got::Nothing)
+            }
+            Err(e) if e.kind() == ErrorKind::Interrupted => Ok(Got::Nothing),
+            Err(e) => Err(e),
         }
     }
 }
 
-/// Connects, with the times that reads and writes wait.
-fn connect<N: Net>(net: &N, addr: SocketAddr) -> io::Result<N::Stream> {
-    let stream = TcpStream::connect_timeout(net, &addr, Duration::from_millis(DIAL_MILLIS))?;
-    stream.set_read_timeout(Some(Duration::from_millis(READ_MILLIS)))?;
-    stream.set_write_timeout(Some(Duration::from_millis(WRITE_MILLIS)))?;
+/// Connects, and lets the poller watch the connection.
+fn connect<N: Net + Clock>(rt: &N, addr: SocketAddr, poller: &mut Poller) -> io::Result<TcpStream> {
+    let mut stream = TcpStream::connect(rt, addr)?;
     stream.set_nodelay(true)?;
-    Ok(stream)
+    poller.watch(&mut stream)?;
+    let begun = Instant::now(rt)?;
+    for _ in 0..u64::MAX {
+        if let Some(error) = stream.take_error()? {
+            return Err(error);
+        }
+        if stream.peer_addr().is_ok() {
+            return Ok(stream);
+        }
+        let left = Duration::from_secs(DIAL_SECONDS).saturating_sub(begun.elapsed(rt)?);
+        if left.is_zero() {
+            break;
+        }
+        poller.wait_for_room(&mut stream, left)?;
+    }
+    Err(io::Error::from(ErrorKind::TimedOut))
 }
 
-impl<'a, N: Net> Link for TcpLink<'a, N> {
+/// Writes all of these bytes, in five seconds at most.
+fn write_all(
+    clock: &impl Clock,
+    poller: &mut Poller,
+    stream: &mut TcpStream,
+    bytes: &[u8],
+) -> io::Result<()> {
+    let mut rest = bytes;
+    let mut begun = None;
+    for _ in 0..u64::MAX {
+        if rest.is_empty() {
+            return Ok(());
+        }
+        match stream.write(rest) {
+            Ok(0) => break,
+            Ok(n) => rest = rest.split_at(n).1,
+            Err(e) if e.kind() == ErrorKind::Interrupted => {}
+            Err(e) if e.kind() == ErrorKind::WouldBlock => {
+                let now = Instant::now(clock)?;
+                let passed = now.duration_since(*begun.get_or_insert(now));
+                let left = Duration::from_secs(WRITE_SECONDS).saturating_sub(passed);
+                if left.is_zero() {
+                    break;
+                }
+                poller.wait_for_room(stream, left)?;
+            }
+            Err(e) => return Err(e),
+        }
+    }
+    Err(io::Error::from(ErrorKind::TimedOut))
+}
+
+/// Takes what is unread, so that closing doesn't take back what was written last.
+fn empty(stream: &mut TcpStream) {
+    let mut buf = [0; LAST_BYTES];
+    for _ in 0..LAST_READS {
+        match stream.read(&mut buf) {
+            Ok(0) => return,
+            Ok(_) => {}
+            Err(e) if e.kind() == ErrorKind::Interrupted => {}
+            Err(_) => return,
+        }
+    }
+}
+
+impl<'a, N: Net + Clock> Link for TcpLink<'a, N> {
     ghost use Rattle.std.specs.Prelude.{None};
 
     ghost wire = { λ link. None };
@@ -61,9 +153,11 @@ impl<'a, N: Net> Link for TcpLink<'a, N> {
 
     fn dial(&mut self) -> Result<(), LinkFault> {
         self.stream = None;
-        match connect(self.net, self.addr) {
+        self.may_read = false;
+        match connect(self.rt, self.addr, &mut self.poller) {
             Ok(stream) => {
                 self.stream = Some(stream);
+                self.may_read = true;
                 Ok(())
             }
             Err(_) => Err(LinkFault::counted(&mut self.faults)),
@@ -71,18 +165,11 @@ impl<'a, N: Net> Link for TcpLink<'a, N> {
     }
 
     fn read(&mut self, buf: &mut [u8]) -> Result<Got, LinkFault> {
-        let Some(stream) = &mut self.stream else {
-            return Ok(Got::End);
-        };
-        if buf.is_empty() {
+        if buf.is_empty() && self.stream.is_some() {
             return Ok(Got::Nothing);
         }
-        match stream.read(buf) {
-            Ok(0) => Ok(Got::End),
-            Ok(n) => Ok(Got::Bytes(n)),
-            Err(e) if matches!(e.kind(), ErrorKind::WouldBlock | ErrorKind::Interrupted) => {
-                Ok(Got::Nothing)
-            }
+        match self.read_now(buf) {
+            Ok(got) => Ok(got),
             Err(_) => Err(LinkFault::counted(&mut self.faults)),
         }
     }
@@ -91,20 +178,29 @@ impl<'a, N: Net> Link for TcpLink<'a, N> {
         let Some(stream) = &mut self.stream else {
             return Err(LinkFault::counted(&mut self.faults));
         };
-        if bytes.is_empty() {
-            return Ok(0);
-        }
-        match stream.write(bytes) {
-            Ok(0) => Err(LinkFault::counted(&mut self.faults)),
-            Ok(n) => Ok(n),
+        match write_all(self.rt, &mut self.poller, stream, bytes) {
+            Ok(()) => Ok(bytes.len()),
             Err(_) => Err(LinkFault::counted(&mut self.faults)),
         }
     }
 
+    fn rest(&mut self, most: Duration) {
+        if self.may_read {
+            return;
+        }
+        let is_ready = match self.how {
+            Rest::Sleep => self.poller.sleep(most),
+            Rest::Spin => self.poller.spin(self.rt, most),
+        };
+        self.may_read = is_ready && self.stream.is_some();
+    }
+
     fn shut(&mut self) -> Result<(), LinkFault> {
-        let Some(stream) = self.stream.take() else {
+        self.may_read = false;
+        let Some(mut stream) = self.stream.take() else {
             return Ok(());
         };
+        empty(&mut stream);
         match stream.shutdown(Shutdown::Both) {
             Ok(()) => Ok(()),
             Err(_) => Err(LinkFault::counted(&mut self.faults)),

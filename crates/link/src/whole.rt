@@ -9,7 +9,8 @@ use crate::link_fault::LinkFault;
 
 /// Writes all the bytes, by as many writes as it takes. Where a write fails, the link took those before it.
 pub fn write_whole<L: Link>(link: &mut L, bytes: &[u8]) -> Result<(), LinkFault>
-    ensures wire { MatchResult result (λ _. Tells (L.wire link.old) (L.wire link.new) (Takes bytes.now)) (λ _. Tells (L.wire link.old) (L.wire link.new) (TakesPart bytes.now)) }
+    ensures wire { MatchResult result (λ _. Tells (L.wire link.old) (L.wire link.new) (Takes bytes.now))
+        (λ _. Tells (L.wire link.old) (L.wire link.new) (TakesPart bytes.now)) }
     ensures faults { Rises result (L.fault_count link.old) (L.fault_count link.new) }
 {
     let mut rest = bytes;

@@ -25,8 +25,8 @@ pub struct CallerEnd<L: Run> {
     pub unplaced: u64,
 }
 
-/// A caller releases its sweeps, one after the other. Each is tried again while it is refused, as often as the plan says;
-/// then it is given up.
+/// A caller releases its sweeps, one after the other. Each is tried again while it is refused, as often as the plan
+/// says; then it is given up.
 pub fn call<L: Run, M: Ledger>(
     rt: &(impl Wait + Clock),
     alloc: Global,
@@ -54,7 +54,8 @@ fn places<L: Run, M: Ledger>(
     seat: &mut CallerSeat<L>,
 ) -> bool
     ensures parts { seat.new.parts ≡ seat.old.parts }
-    ensures shares { seat.new.shares ≡ (if result then seat.old.shares + shares_each floor.now.plan else seat.old.shares) }
+    ensures shares { seat.new.shares
+        ≡ (if result then seat.old.shares + shares_each floor.now.plan else seat.old.shares) }
 {
     for _ in 0..floor.plan.turns {
         if floor.signals.is_ending() {
@@ -69,7 +70,7 @@ fn places<L: Run, M: Ledger>(
     false
 }
 
-/// Tries a sweep once, and says whether it was placed.
+/// Tries a sweep once, and says whether it was placed. If it was, the workers are woken once no lock is held.
 #[tactic(auto, using(crate::proofs::Orders::orders_shares))]
 fn releases<L: Run, M: Ledger>(
     rt: &impl Wait,
@@ -78,13 +79,17 @@ fn releases<L: Run, M: Ledger>(
     seat: &mut CallerSeat<L>,
 ) -> bool
     ensures parts { seat.new.parts ≡ seat.old.parts }
-    ensures shares { seat.new.shares ≡ (if result then seat.old.shares + shares_each floor.now.plan else seat.old.shares) }
+    ensures shares { seat.new.shares
+        ≡ (if result then seat.old.shares + shares_each floor.now.plan else seat.old.shares) }
 {
     let Some(sweep) = one_sweep(alloc, floor.plan.venues) else {
         return false;
     };
     match floor.lock.release(rt, &floor.collector, sweep, seat) {
-        Ok(_) => true,
+        Ok(_) => {
+            floor.bells.ring_all();
+            true
+        }
         Err(_) => false,
     }
 }
@@ -97,7 +102,8 @@ pub fn split_seats<L: Run>(
 ) -> Result<Vec<CallerSeat<L>>, AllocError>
     requires first { seat ≡ first_seat }
     requires callers { (1 ≤ callers) × (callers ≤ 64) }
-    ensures { IfOk result (λ seats. (length seats.items ≡ callers) × (parts_of seats.items ≡ 1024) × All (λ s. s.shares ≡ 0) seats.items) }
+    ensures { IfOk result (λ seats. (length seats.items ≡ callers) × (parts_of seats.items ≡ 1024)
+        × All (λ s. s.shares ≡ 0) seats.items) }
 {
     let mut seat = seat;
     let mut seats = Vec::new(alloc);

@@ -8,9 +8,9 @@ use crate::LiveFault;
 use crate::ends::exchange_end;
 use clock::UtcClock;
 use dialect::Plain;
-use exchange_sim::{Acceptor, Plan, serve};
+use exchange_sim::{Acceptor, Plan, Port, serve};
 use std::alloc::{AllocError, Global};
-use std::net::{Net, SocketAddr, TcpListener, TcpStream};
+use std::net::{Net, SocketAddr};
 use std::sync::atomic::AtomicBool;
 use std::time::Clock;
 
@@ -23,25 +23,24 @@ pub trait Serve {
     fn serve(self, is_over: &AtomicBool) -> Result<(), AllocError>;
 }
 
-/// A simulated exchange, and the socket that it listens on.
+/// A simulated exchange, and the port that it listens on.
 #[derive(Drop)]
 pub struct Exchange<'a, R: Clock> {
     pub addr: SocketAddr,
-    net: &'a R,
-    listener: TcpListener,
+    port: Port,
     acceptor: Acceptor<Plain, UtcClock<'a, R>>,
 }
 
-impl<'a, R: Net<Listener = TcpListener, Stream = TcpStream> + Clock> Exchange<'a, R> {
+impl<'a, R: Net + Clock> Exchange<'a, R> {
     /// An exchange that listens on a free port of this machine, and cuts its connection once, behind message `cut`.
     fn open(rt: &'a R, alloc: Global, cut: u64) -> Result<Exchange<'a, R>, LiveFault>
         ensures plan { IfOk result (λ exchange. exchange.acceptor.plan ≡ plan_of cut) }
         ensures only { IfErr result (λ fault. fault ≡ LiveFault.NoSocket) }
     {
-        let Ok(listener) = TcpListener::bind(rt, "127.0.0.1:0") else {
+        let Ok(port) = Port::open(rt, alloc) else {
             return Err(LiveFault::NoSocket);
         };
-        let Ok(addr) = listener.local_addr() else {
+        let Ok(addr) = port.addr() else {
             return Err(LiveFault::NoSocket);
         };
         let plan = Plan {
@@ -52,22 +51,25 @@ impl<'a, R: Net<Listener = TcpListener, Stream = TcpStream> + Clock> Exchange<'a
         let acceptor = Acceptor::new(alloc, Plain, UtcClock::new(rt), exchange_end(), plan);
         Ok(Exchange {
             addr,
-            net: rt,
-            listener,
+            port,
             acceptor,
         })
     }
 }
 
-impl<'a, R: Net<Listener = TcpListener, Stream = TcpStream> + Clock> Serve for Exchange<'a, R> {
+impl<'a, R: Net + Clock> Serve for Exchange<'a, R> {
     fn serve(self, is_over: &AtomicBool) -> Result<(), AllocError> {
-        let mut acceptor = self.acceptor;
-        serve(self.net, &self.listener, &mut acceptor, is_over, u64::MAX)
+        let Exchange {
+            addr: _,
+            mut port,
+            mut acceptor,
+        } = self;
+        serve(&mut port, &mut acceptor, is_over, u64::MAX)
     }
 }
 
 /// The exchanges of so many venues, of which the first cuts its connection.
-pub fn open_exchanges<'a, R: Net<Listener = TcpListener, Stream = TcpStream> + Clock>(
+pub fn open_exchanges<'a, R: Net + Clock>(
     rt: &'a R,
     alloc: Global,
     venues: u8,

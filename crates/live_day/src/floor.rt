@@ -1,5 +1,6 @@
 //! What the threads of a day share.
 
+use crate::bells::Bells;
 use crate::exchange::Serve;
 use crate::signals::{Running, Signals};
 use crate::{LivePlan, Progress, SoFar};
@@ -26,6 +27,7 @@ pub struct Floor<L: Run, M: Ledger> {
     pub lock: ReleaseLock<L>,
     pub collector: Collector<M>,
     pub signals: Signals,
+    pub bells: Bells,
 }
 
 impl<L: Run, M: Ledger> Floor<L, M> {
@@ -73,12 +75,13 @@ impl<L: Run, M: Ledger> Floor<L, M> {
         self.shut_gates(rt);
     }
 
-    /// Shuts the gate of each venue.
+    /// Shuts the gate of each venue, and wakes the workers.
     fn shut_gates(&self, rt: &impl Wait) {
         for number in 0..self.plan.venues {
             if let Ok(venue) = VenueId::new(number) {
                 shut_gate(rt, &self.lock, venue);
             }
         }
+        self.bells.ring_all();
     }
 }

@@ -1,7 +1,8 @@
-//! A day of the whole dispatcher over loopback: simulated exchanges, a worker for each, and callers that release sweeps, all
-//! in threads of their own; and the audit of it.
+//! A day of the whole dispatcher over loopback: simulated exchanges, a worker for each, and callers that release
+//! sweeps, all in threads of their own; and the audit of it.
 #![tactic(auto)]
 
+mod bells;
 mod caller;
 mod day;
 mod ends;

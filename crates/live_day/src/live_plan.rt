@@ -9,9 +9,10 @@ pub struct LivePlan {
     pub callers: u8,
     /// How many sweeps each caller releases: 1 to 1,000,000.
     pub sweeps: u64,
-    /// The message behind which exchange 0 cuts its connection, counted from 1 over all that it reads: up to 1,000,000. It
-    /// does so once, and at 0 never.
+    /// The message behind which exchange 0 cuts its connection, counted from 1 over all that it reads: up to 1,000,000.
+    /// It does so once, and at 0 never.
     pub cut: u64,
-    /// How many turns a worker takes at most, and how many times a caller tries a sweep: 1 to 1,000,000.
+    /// How many turns a worker takes at most in which there is nothing to do, and how many times a caller tries a
+    /// sweep: 1 to 1,000,000.
     pub turns: u64,
 }

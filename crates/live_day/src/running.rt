@@ -10,6 +10,7 @@ ghost use Rattle.live_day.specs.Faults.{IsNoMismatch};
 ghost use Rattle.live_day.specs.Day.{IsLivePlan, AreCalled, left_of, shares_each};
 ghost use Rattle.live_day.specs.Sweeps.{sweeps_in};
 
+use crate::bells::Bells;
 use crate::caller::{CallerEnd, split_seats};
 use crate::exchange::open_exchanges;
 use crate::floor::Floor;
@@ -96,7 +97,8 @@ where
         return Err(LiveFault::OutOfMemory);
     };
     let exchanges = open_exchanges(rt, alloc, plan.venues, plan.cut)?;
-    let workers = new_workers(rt, alloc, &exchanges, drains, seats)?;
+    let mut bells = Bells::new(alloc);
+    let workers = new_workers(rt, alloc, &exchanges, drains, seats, &mut bells)?;
     let callers = split_seats(alloc, seat, plan.callers)?;
     let cast = Cast {
         exchanges,
@@ -108,6 +110,7 @@ where
         lock,
         collector,
         signals: Signals::new(plan.callers),
+        bells,
     };
     let ended = in_threads(rt, alloc, &floor, cast, progress)?;
     told(rt, alloc, floor, ended)
@@ -135,6 +138,7 @@ fn told<K: Link, L: Run, M: Ledger>(
         lock,
         collector,
         signals: _,
+        bells: _,
     } = floor;
     let Ended { workers, callers } = ended;
     let (seats, unplaced) = parted(alloc, callers)?;
@@ -153,7 +157,8 @@ fn parted<L: Run>(
     ends: Vec<CallerEnd<L>>,
 ) -> Result<(Vec<CallerSeat<L>>, u64), AllocError>
     requires { sum_by (λ e. e.unplaced) ends.items ≤ 64000000 }
-    ensures { IfOk result (λ parts. (parts.0.items ≡ map (λ e. e.seat) ends.items) × (parts.1 ≡ sum_by (λ e. e.unplaced) ends.items)) }
+    ensures { IfOk result (λ parts. (parts.0.items ≡ map (λ e. e.seat) ends.items)
+        × (parts.1 ≡ sum_by (λ e. e.unplaced) ends.items)) }
 {
     let mut ends = VecDeque::from(ends);
     let mut seats = Vec::new(alloc);

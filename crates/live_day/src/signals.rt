@@ -1,6 +1,11 @@
 //! What the threads of a day tell one another.
 
 use std::sync::atomic::{AtomicBool, AtomicU64, Ordering};
+use std::thread;
+use std::time::{Clock, Duration};
+
+/// How many milliseconds one thread waits for another one to begin.
+const MOST_MILLIS: u64 = 10_000;
 
 /// How many threads of one kind still run.
 #[derive(Drop)]
@@ -22,9 +27,24 @@ impl Running {
     }
 }
 
+/// Whether threads that others rest on have begun.
+#[derive(Drop)]
+pub struct Begun(AtomicBool);
+
+impl Begun {
+    /// They have begun.
+    pub fn tell(&self) {
+        self.0.store(true, Ordering::SeqCst);
+    }
+}
+
 /// What the threads of a day tell one another.
 #[derive(Drop)]
 pub struct Signals {
+    /// The threads of the exchanges.
+    pub exchanges: Begun,
+    /// The thread that starts the callers.
+    pub dispatcher: Begun,
     /// The threads of the callers.
     pub callers: Running,
     /// The thread that runs the workers.
@@ -41,12 +61,29 @@ impl Signals {
     /// Of a day with so many callers, before its first thread is started.
     pub fn new(callers: u8) -> Signals {
         Signals {
+            exchanges: Begun(AtomicBool::new(false)),
+            dispatcher: Begun(AtomicBool::new(false)),
             callers: Running::new(u64::from(callers)),
             workers: Running::new(1),
             placed: AtomicU64::new(0),
             is_ending: AtomicBool::new(false),
             is_over: AtomicBool::new(false),
         }
+    }
+
+    /// Waits until these threads have begun, and says whether they have: not where the day is to end, or the system
+    /// gave them no thread, which shows by nothing but their silence.
+    pub fn awaits(&self, clock: &impl Clock, begun: &Begun) -> bool {
+        for _ in 0..MOST_MILLIS {
+            if begun.0.load(Ordering::SeqCst) {
+                return true;
+            }
+            if self.is_ending() {
+                return false;
+            }
+            thread::sleep(clock, Duration::from_millis(1));
+        }
+        false
     }
 
     /// One more sweep was placed.

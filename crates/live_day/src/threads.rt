@@ -38,8 +38,9 @@ pub struct Ended<K: Link, L: Run, M: Ledger> {
     pub callers: Vec<CallerEnd<L>>,
 }
 
-/// Runs a day: its exchanges, its callers and its workers, each in a thread of its own. Once the callers have ended the gates
-/// are shut, and once the workers have ended the exchanges are stopped.
+/// Runs a day: its exchanges, its callers and its workers, each in a thread of its own. Once the callers have ended the
+/// gates are shut, and once the workers have ended the exchanges are stopped. Where a thread is refused, those that run
+/// are told so.
 pub fn in_threads<X, D, K, C, L, M, R, P>(
     rt: &R,
     alloc: Global,
@@ -56,8 +57,12 @@ where
     M: Ledger + Send + Sync,
     R: Threads + Wait + time::Clock + Sync,
     P: Progress + Drop + Send,
-    ensures workers { IfOk result (λ ended. AllKeepPlace (map (λ w. parts_of w.post.linked.session w.post.takings w.post.seat (K.wire w.post.linked.link)) cast.workers.items) (map (λ e. parts_of e.session e.took e.seat (K.wire e.link)) ended.workers.items)) }
-    ensures callers { IfOk result (λ ended. AllCalled (map (λ s. caller_of floor.now.plan s) cast.callers.items) (map (λ e. left_of e.seat e.unplaced) ended.callers.items)) }
+    ensures workers { IfOk result (λ ended. AllKeepPlace
+        (map (λ w. parts_of w.post.linked.session w.post.takings w.post.seat (K.wire w.post.linked.link))
+        cast.workers.items)
+        (map (λ e. parts_of e.session e.took e.seat (K.wire e.link)) ended.workers.items)) }
+    ensures callers { IfOk result (λ ended. AllCalled (map (λ s. caller_of floor.now.plan s) cast.callers.items)
+        (map (λ e. left_of e.seat e.unplaced) ended.callers.items)) }
     ensures only { IfErr result IsNoMismatch }
 {
     let Cast {
@@ -69,8 +74,13 @@ where
         rt,
         || run_exchanges(rt, alloc, floor, exchanges),
         || -> Result<Ended<K, L, M>, LiveFault>
-            ensures workers { IfOk result (λ ended. AllKeepPlace (map (λ w. parts_of w.post.linked.session w.post.takings w.post.seat (K.wire w.post.linked.link)) workers.items) (map (λ e. parts_of e.session e.took e.seat (K.wire e.link)) ended.workers.items)) }
-            ensures callers { IfOk result (λ ended. AllCalled (map (λ s. caller_of floor.entry.now.plan s) callers.items) (map (λ e. left_of e.seat e.unplaced) ended.callers.items)) }
+            ensures workers { IfOk result (λ ended. AllKeepPlace
+                (map (λ w. parts_of w.post.linked.session w.post.takings w.post.seat (K.wire w.post.linked.link))
+                workers.items)
+                (map (λ e. parts_of e.session e.took e.seat (K.wire e.link)) ended.workers.items)) }
+            ensures callers { IfOk result (λ ended. AllCalled
+                (map (λ s. caller_of floor.entry.now.plan s) callers.items)
+                (map (λ e. left_of e.seat e.unplaced) ended.callers.items)) }
             ensures only { IfErr result IsNoMismatch }
         { run_dispatcher(rt, alloc, floor, workers, callers, progress) },
     );
@@ -113,12 +123,14 @@ where
                     }
                 }
             }
+            floor.signals.exchanges.tell();
             join_exchanges(rt, handles)
         },
     )
 }
 
-/// Runs the dispatcher: its callers and its workers. Once all have ended the exchanges are stopped.
+/// Runs the dispatcher once the exchanges are served: its callers and its workers. Once all have ended the exchanges
+/// are stopped.
 fn run_dispatcher<D, K, C, L, M, R, P>(
     rt: &R,
     alloc: Global,
@@ -135,10 +147,17 @@ where
     M: Ledger + Send + Sync,
     R: Threads + Wait + time::Clock + Sync,
     P: Progress + Drop + Send,
-    ensures workers { IfOk result (λ ended. AllKeepPlace (map (λ w. parts_of w.post.linked.session w.post.takings w.post.seat (K.wire w.post.linked.link)) workers.items) (map (λ e. parts_of e.session e.took e.seat (K.wire e.link)) ended.workers.items)) }
-    ensures callers { IfOk result (λ ended. AllCalled (map (λ s. caller_of floor.now.plan s) callers.items) (map (λ e. left_of e.seat e.unplaced) ended.callers.items)) }
+    ensures workers { IfOk result (λ ended. AllKeepPlace
+        (map (λ w. parts_of w.post.linked.session w.post.takings w.post.seat (K.wire w.post.linked.link)) workers.items)
+        (map (λ e. parts_of e.session e.took e.seat (K.wire e.link)) ended.workers.items)) }
+    ensures callers { IfOk result (λ ended. AllCalled (map (λ s. caller_of floor.now.plan s) callers.items)
+        (map (λ e. left_of e.seat e.unplaced) ended.callers.items)) }
     ensures only { IfErr result IsNoMismatch }
 {
+    if !floor.signals.awaits(rt, &floor.signals.exchanges) {
+        floor.signals.stop();
+        return Err(LiveFault::NoThread);
+    }
     let (called, worked) = join(
         rt,
         || run_callers(rt, alloc, floor, callers, progress),
@@ -164,15 +183,18 @@ where
     M: Ledger + Send + Sync,
     R: Threads + Wait + time::Clock + Sync,
     P: Progress + Drop,
-    ensures called { IfOk result (λ ends. AllCalled (map (λ s. caller_of floor.now.plan s) seats.items) (map (λ e. left_of e.seat e.unplaced) ends.items)) }
+    ensures called { IfOk result (λ ends. AllCalled (map (λ s. caller_of floor.now.plan s) seats.items)
+        (map (λ e. left_of e.seat e.unplaced) ends.items)) }
     ensures only { IfErr result IsNoMismatch }
 {
     thread::scope(
         thread::scope_env(),
         rt,
         |scope| -> Result<Vec<CallerEnd<L>>, LiveFault>
-            ensures { IfOk result (λ ends. AllCalled (map (λ s. caller_of floor.entry.now.plan s) seats.items) (map (λ e. left_of e.seat e.unplaced) ends.items)) × IfErr result IsNoMismatch }
+            ensures { IfOk result (λ ends. AllCalled (map (λ s. caller_of floor.entry.now.plan s) seats.items)
+                (map (λ e. left_of e.seat e.unplaced) ends.items)) × IfErr result IsNoMismatch }
         {
+            floor.signals.dispatcher.tell();
             let mut seats = VecDeque::from(seats);
             let mut handles = Vec::new(alloc);
             while let Some(seat) = seats.pop_front() {
@@ -195,7 +217,7 @@ where
     )
 }
 
-/// Runs the workers. Once they have ended callers are to give up what isn't placed.
+/// Runs the workers, once the callers are started. Once they have ended callers are to give up what isn't placed.
 fn run_workers<D, K, C, L, M, R>(
     rt: &R,
     alloc: Global,
@@ -208,10 +230,17 @@ where
     C: Clock + Drop + Send,
     L: Run + Send + Sync,
     M: Ledger + Send + Sync,
-    R: Threads + Wait + Sync,
-    ensures kept { IfOk result (λ ends. AllKeepPlace (map (λ w. parts_of w.post.linked.session w.post.takings w.post.seat (K.wire w.post.linked.link)) workers.items) (map (λ e. parts_of e.session e.took e.seat (K.wire e.link)) ends.items)) }
+    R: Threads + Wait + time::Clock + Sync,
+    ensures kept { IfOk result (λ ends. AllKeepPlace
+        (map (λ w. parts_of w.post.linked.session w.post.takings w.post.seat (K.wire w.post.linked.link)) workers.items)
+        (map (λ e. parts_of e.session e.took e.seat (K.wire e.link)) ends.items)) }
     ensures only { IfErr result IsNoMismatch }
 {
+    if !floor.signals.awaits(rt, &floor.signals.dispatcher) {
+        floor.signals.end();
+        floor.signals.workers.end_one();
+        return Err(LiveFault::NoThread);
+    }
     let ends = run_all(
         rt,
         alloc,
@@ -230,7 +259,9 @@ fn join_callers<L: Run, R: Threads>(
     rt: &R,
     handles: Vec<PromisedHandle<CallerEnd<L>, EndOf<L>>>,
 ) -> Result<Vec<CallerEnd<L>>, LiveFault>
-    ensures called { IfOk result (λ ends. AllCalled (map (λ h. caller_of h.promise.1 h.promise.0.value) handles.items) (map (λ e. left_of e.seat e.unplaced) ends.items)) }
+    ensures called { IfOk result (λ ends. AllCalled
+        (map (λ h. caller_of h.promise.1 h.promise.0.value) handles.items)
+        (map (λ e. left_of e.seat e.unplaced) ends.items)) }
     ensures only { IfErr result IsNoMismatch }
 {
     match join_promised(rt, handles) {

@@ -12,6 +12,7 @@ mod run;
 mod sweep_venues;
 mod venue_drain;
 mod venue_end;
+mod venue_note;
 mod venue_rings;
 
 pub use caller_seat::CallerSeat;

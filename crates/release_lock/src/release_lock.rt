@@ -13,10 +13,11 @@ ghost use Rattle.release_lock.specs.Locked.{Replays, Releases, OnlyTurns};
 ghost use Rattle.release_lock.specs.Queues.{IsFresh, new_drains, left_to, Pumps, raise};
 ghost use Rattle.release_lock.specs.Seats.{first_seat};
 
+use crate::venue_note::VenueNote;
 use crate::{CallerSeat, LockedDesk, Run, VenueDrain};
 use exec_collector::Collector;
 use leg::{Sweep, VenueId};
-use std::alloc::Global;
+use std::alloc::{AllocError, Global};
 use std::collections::VecDeque;
 use std::marker::PhantomData;
 use std::sync::ledger::{Blank, Ledger};
@@ -28,6 +29,7 @@ use venue_queue::{Drain, Feed};
 #[derive(Drop)]
 pub struct ReleaseLock<L: Run> {
     locked: Mutex<LockedDesk<L>>,
+    notes: Vec<VenueNote>,
 }
 
 /// A new lock, the seat of its first caller, and the drains of the venues, in the order of their numbers.
@@ -58,6 +60,7 @@ impl<L: Run> ReleaseLock<L> {
         ensures drains { IfOk result (λ opened. opened.drains.items ≡ new_drains venues) }
         ensures only { IsOkUnless result ReleaseFault.OutOfMemory }
     {
+        let notes = notes_of(alloc, venues)?;
         let desk = Desk::new(alloc, venues)?;
         let mut feeds = Vec::with_capacity(alloc, usize::from(venues))?;
         let mut drains = Vec::with_capacity(alloc, usize::from(venues))?;
@@ -80,6 +83,7 @@ impl<L: Run> ReleaseLock<L> {
         let locked = LockedDesk { desk, total, feeds };
         let lock = ReleaseLock {
             locked: Mutex::new(locked),
+            notes,
         };
         let seat = CallerSeat {
             parts: 1024,
@@ -90,8 +94,8 @@ impl<L: Run> ReleaseLock<L> {
     }
 
     /// Releases a sweep under both locks, the desk's first: at the desk and in the collector's book, under one number,
-    /// or in neither; the seat gains its shares. Before it gives up the lock, each venue of the sweep's legs is pumped, so
-    /// that a worker finds them without it. R01 to R08 in the order of `place`, and no venue is pumped.
+    /// or in neither; the seat gains its shares. Before it gives up the lock, each venue of the sweep's legs is pumped,
+    /// so that a worker finds them without it. R01 to R08 in the order of `place`, and no venue is pumped.
     pub fn release<M: Ledger>(
         &self,
         rt: &impl Wait,
@@ -105,22 +109,28 @@ impl<L: Run> ReleaseLock<L> {
             × (seat.new.shares ≡ seat.old.shares + receipt.shares)) (λ _. seat.new ≡ seat.old) }
         ensures parts { seat.new.parts ≡ seat.old.parts }
     {
-        self.locked.lock(rt).release(rt, collector, sweep, seat)
+        let mut locked = self.locked.lock(rt);
+        let answer = locked.release(rt, collector, sweep, seat);
+        self.take_notes(locked.desk());
+        answer
     }
 
-    /// Moves placed legs of a venue into its ring, in order, until none is placed or the ring was full at some moment of
-    /// the call, and gives how many were pushed to it in all.
+    /// Moves placed legs of a venue into its ring, in order, until none is placed or the ring was full at some moment
+    /// of the call, and gives how many were pushed to it in all.
     pub fn pump(&self, rt: &impl Wait, venue: VenueId) -> u64
         requires { venue < length L.queues }
         ensures { (before : ADesk) × (after : ADesk) × Replays before × Replays after × Pumps venue before after
             × ((placed after.desk venue ≡ 0) ⊎ Held 64 (EndsWith (left_to after.desk venue)))
             × (result ≡ min (length (left_to after.desk venue)) 18446744073709551615) }
     {
-        self.locked.lock(rt).pump(rt, venue)
+        let mut locked = self.locked.lock(rt);
+        let pushed = locked.pump(rt, venue);
+        self.take_notes(locked.desk());
+        pushed
     }
 
-    /// Puts the gate of a drain's venue up, once every leg released to it was popped: an open gate stays so, G02 where it
-    /// was shut, G01 where legs are still placed or in the ring, G03.
+    /// Puts the gate of a drain's venue up, once every leg released to it was popped: an open gate stays so, G02 where
+    /// it was shut, G01 where legs are still placed or in the ring, G03.
     pub fn raise(&self, rt: &impl Wait, drain: &VenueDrain<L>) -> Result<(), GateFault>
         ensures { (before : ADesk) × (after : ADesk) × Replays before × Replays after
             × Answers GateFault.OutOfMemory (without_room before) (raise (without_room before) drain.now.venue (length drain.now.popped)) result (without_room after) }
@@ -128,18 +138,57 @@ impl<L: Run> ReleaseLock<L> {
         self.locked.lock(rt).raise(drain)
     }
 
-    /// Lends the desk to a closure that only puts gates up or down or shuts them. It may ask the desk anything; it may not
-    /// release, take or drop, nor ask for this lock.
+    /// Lends the desk to a closure that only puts gates up or down or shuts them. It may ask the desk anything; it may
+    /// not release, take or drop, nor ask for this lock.
     pub fn with<T, F: FnOnce(&mut Desk) -> T>(&self, rt: &impl Wait, f: F) -> T
         requires call { F.IsAlwaysCallable f }
         requires turns { (d : ADesk) (r : T) (e : ADesk) → FnOnceReturnsAtMut F.FnOnce f d r e → OnlyTurns d e }
         ensures { (d : ADesk) × (e : ADesk) × Replays d × Replays e × FnOnceReturnsAtMut F.FnOnce f d result e }
     {
-        self.locked.lock(rt).lend(f)
+        let mut locked = self.locked.lock(rt);
+        let given = locked.lend(f);
+        self.take_notes(locked.desk());
+        given
+    }
+
+    /// Whether the gate of a venue is shut, as the last call said that had the lock. It doesn't wait for the lock. Of a
+    /// venue that the desk hasn't got it is false.
+    pub fn is_shut(&self, venue: VenueId) -> bool {
+        match self.notes.get(usize::from(venue.number())) {
+            Some(note) => note.is_shut(),
+            None => false,
+        }
+    }
+
+    /// Whether legs are placed at a venue for which its ring had no room, as the last call said that had the lock: only
+    /// then does a pump find any. It doesn't wait for the lock.
+    pub fn is_behind(&self, venue: VenueId) -> bool {
+        match self.notes.get(usize::from(venue.number())) {
+            Some(note) => note.is_behind(),
+            None => false,
+        }
+    }
+
+    /// Takes note of each venue, for those who don't take the lock.
+    fn take_notes(&self, desk: &Desk) {
+        for note in &self.notes {
+            note.take(desk);
+        }
     }
 
     /// The desk and its count, once no thread shares the lock any more.
     pub fn into_locked(self) -> LockedDesk<L> {
         self.locked.into_inner()
     }
+}
+
+/// A note of each venue, in the order of their numbers.
+fn notes_of(alloc: Global, venues: u8) -> Result<Vec<VenueNote>, AllocError> {
+    let mut notes = Vec::with_capacity(alloc, usize::from(venues))?;
+    for number in 0..venues {
+        if let Ok(venue) = VenueId::new(number) {
+            notes.push(VenueNote::new(venue))?;
+        }
+    }
+    Ok(notes)
 }

@@ -1,5 +1,5 @@
 -- What a worker's events do, one after the other.
-use Rattle.std.proofs.Common.{◌≡◌, ◌⊎◌, true, List, [], ◌∷◌, ◌++◌, map, refl, sym, ap, subst, ◌∙◌, inl, inr, append_assoc}
+use Rattle.std.proofs.Common.{◌≡◌, ◌⊎◌, true, false, List, [], ◌∷◌, ◌++◌, map, refl, sym, ap, subst, ◌∙◌, inl, inr, append_assoc}
 use Rattle.std.specs.List.{concat}
 use Rattle.std.specs.Prelude.{Option, Some, None, MatchOption}
 use Rattle.std.proofs.lemmas.List.{append-nil}
@@ -16,8 +16,7 @@ use Rattle.session_core.specs.Receiving.{confirm}
 use Rattle.session_core.specs.Calling.{broken, abandon}
 use Rattle.session_core.specs.Trial.{called, after_calls}
 use Rattle.session_core.proofs.CallsMade.{after-append}
-use Rattle.session_worker.specs.declared.end_reason.EndReason.TheVariants as reason
-use Rattle.session_worker.specs.Ends.{reason_of, last_calls}
+use Rattle.session_worker.specs.Ends.{is_over, last_calls}
 use Rattle.session_worker.specs.Taking.{with_taken}
 use Rattle.session_worker.specs.Hearing.{Said, said_after}
 use Rattle.session_worker.specs.Speaking.{Wire, TakesFirst, Speak}
@@ -335,7 +334,7 @@ does_sent w read a b d (Some leg) up took parts linked sent same seat =
     (seat ∙ parts)
 
 -- a session that a turn left closed, and one that is abandoned
-pub closed_in : (phase : Phase) → reason_of phase ≡ reason.Closed → phase ≡ Closed
+pub closed_in : (phase : Phase) → is_over phase ≡ true → phase ≡ Closed
 closed_in Closed e = refl
 closed_in Down e = absurd cc
 closed_in LoggingOn e = absurd cc
@@ -344,7 +343,7 @@ closed_in Up e = absurd cc
 closed_in Closing e = absurd cc
 closed_in LoggedOut e = absurd cc
 
-no_call : (phase : Phase) → reason_of phase ≡ reason.Closed → last_calls phase ≡ []
+no_call : (phase : Phase) → is_over phase ≡ true → last_calls phase ≡ []
 no_call Closed e = refl
 no_call Down e = absurd cc
 no_call LoggingOn e = absurd cc
@@ -353,7 +352,7 @@ no_call Up e = absurd cc
 no_call Closing e = absurd cc
 no_call LoggedOut e = absurd cc
 
-one_call : (phase : Phase) → reason_of phase ≡ reason.TurnLimit → last_calls phase ≡ Calls call.Abandon ∷ []
+one_call : (phase : Phase) → is_over phase ≡ false → last_calls phase ≡ Calls call.Abandon ∷ []
 one_call Closed e = absurd cc
 one_call Down e = refl
 one_call LoggingOn e = refl
@@ -363,14 +362,14 @@ one_call Closing e = refl
 one_call LoggedOut e = refl
 
 pub finish_closed : (read : Decoding) (a b : WorkerParts) → b.session ≡ a.session → b.took ≡ a.took
-    → b.seat_parts ≡ a.seat_parts → reason_of a.session.phase ≡ reason.Closed
+    → b.seat_parts ≡ a.seat_parts → is_over a.session.phase ≡ true
     → Goes read a (last_calls a.session.phase) b
 finish_closed read a b session took seat e =
     subst (λ (events : List WorkerEvent). Goes read a events b) (sym (no_call a.session.phase e))
     (goes_none read a b session took seat)
 
 pub finish_abandoned : (read : Decoding) (a b : WorkerParts) → b.session ≡ abandon a.session → b.took ≡ a.took
-    → b.seat_parts ≡ a.seat_parts → reason_of a.session.phase ≡ reason.TurnLimit
+    → b.seat_parts ≡ a.seat_parts → is_over a.session.phase ≡ false
     → Goes read a (last_calls a.session.phase) b
 finish_abandoned read a b session took seat e =
     subst (λ (events : List WorkerEvent). Goes read a events b) (sym (one_call a.session.phase e))

@@ -5,5 +5,6 @@ pub mod Connected
 pub mod Calling
 pub mod Carrying
 pub mod Doing
+pub mod Doubts
 pub mod Shares
 pub mod Ran

@@ -1,5 +1,5 @@
 -- How a worker ends.
-use Rattle.std.specs.Prelude.{◌≡◌, false, List, [], ◌∷◌, ◌++◌, map}
+use Rattle.std.specs.Prelude.{◌≡◌, Bool, true, false, List, [], ◌∷◌, ◌++◌, map}
 use Rattle.leg.specs.declared.placed_leg.PlacedLeg.{PlacedLeg}
 use Rattle.dialect.specs.Wording.{Decoding, Encoding}
 use Rattle.session_core.specs.declared.phase.Phase.{Phase}
@@ -12,10 +12,16 @@ use Rattle.session_worker.specs.Events.{WorkerEvent, WorkerParts, calls_of, Goes
 use Rattle.session_worker.specs.Events.WorkerEvent.{Calls, Drops}
 use Rattle.session_worker.specs.Speaking.{Speak}
 
--- why a worker ends whose last turn left its session in this phase
-abbrev pub reason_of : Phase → EndReason
-reason_of Closed = reason.Closed
-reason_of _ = reason.TurnLimit
+-- a session that is over
+abbrev pub is_over : Phase → Bool
+is_over Closed = true
+is_over _ = false
+
+-- a worker ends as closed exactly where its last turn left its session so
+abbrev pub IsReason : EndReason → Phase → Type 0
+IsReason reason.Closed phase = is_over phase ≡ true
+IsReason reason.TurnLimit phase = is_over phase ≡ false
+IsReason reason.Stopped phase = is_over phase ≡ false
 
 -- what is done with the session then: unless it is closed it is abandoned
 abbrev pub last_calls : Phase → List WorkerEvent
@@ -29,7 +35,7 @@ pub record Runs (w : Encoding) (read : Decoding) (before after : WorkerParts) (w
   pub turns : List WorkerEvent
   pub at : WorkerParts
   pub goes : Goes read before turns at
-  pub reason_is : why ≡ reason_of at.session.phase
+  pub reason_is : IsReason why at.session.phase
   pub dropped : List PlacedLeg
   pub last : Goes read at (last_calls at.session.phase ++ map (λ leg. Drops leg) dropped) after
   pub over : after.session.phase ≡ Closed

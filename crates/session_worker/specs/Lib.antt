@@ -1,7 +1,9 @@
 pub mod Taking
+pub mod Timing
 pub mod Hearing
 pub mod Speaking
 pub mod Events
 pub mod Linking
 pub mod Ends
+pub mod Doubt
 pub mod Audit

@@ -20,10 +20,10 @@ use std::alloc::{AllocError, Global};
 use std::collections::VecDeque;
 use std::sync::ledger::Ledger;
 
-/// Compares what is left of a day: what the workers took with the sweeps released, the workers' seats with the book, and
-/// the callers' seats with the desk. A01, A02, A03 in this order; A04 where there is no memory to take the ends apart. With
-/// the seats of all callers, and one end for each venue, in order, it is none of the first three, whatever the threads
-/// did.
+/// Compares what is left of a day: what the workers took with the sweeps released, the workers' seats with the book,
+/// and the callers' seats with the desk. A01, A02, A03 in this order; A04 where there is no memory to take the ends
+/// apart. With the seats of all callers, and one end for each venue, in order, it is none of the first three, whatever
+/// the threads did.
 pub fn audit<K: Link, L: Run, M: Ledger>(
     alloc: Global,
     lock: ReleaseLock<L>,

@@ -5,6 +5,8 @@
 pub enum EndReason {
     /// A turn left its session closed.
     Closed,
-    /// Its turns were over, and the session was abandoned.
+    /// It had rested as often as it may, and the session was abandoned.
     TurnLimit,
+    /// It was told to stop, and didn't close in order: the session was abandoned.
+    Stopped,
 }

@@ -8,25 +8,20 @@ ghost use Rattle.release_lock.specs.Locked.{Replays, OnlyTurns};
 use leg::VenueId;
 use release_lock::{ReleaseLock, Run};
 use std::sync::Wait;
-use sweep_release::{Desk, Gate};
+use sweep_release::Desk;
 
 /// Puts the gate of a venue down, if it is up.
 pub(crate) fn lower<L: Run>(rt: &impl Wait, lock: &ReleaseLock<L>, venue: VenueId) {
     lock.with(rt, |desk: &mut Desk| let_down(desk, venue));
 }
 
-/// Shuts the gate of a venue, for good: no sweep for it is released any more, and its worker ends its session. Of a venue
-/// that the desk hasn't got nothing changes. It may wait for the lock.
+/// Shuts the gate of a venue, for good: no sweep for it is released any more, and its worker ends its session. Of a
+/// venue that the desk hasn't got nothing changes. It may wait for the lock.
 pub fn shut_gate<L: Run>(rt: &impl Wait, lock: &ReleaseLock<L>, venue: VenueId)
     ensures { (before : ADesk) × (after : ADesk) × Replays before × Replays after
         × (after.desk ≡ shut before.desk venue) }
 {
     lock.with(rt, |desk: &mut Desk| let_shut(desk, venue));
-}
-
-/// Whether the gate of a venue was shut.
-pub(crate) fn is_closed<L: Run>(rt: &impl Wait, lock: &ReleaseLock<L>, venue: VenueId) -> bool {
-    lock.with(rt, |desk: &mut Desk| finds_shut(desk, venue))
 }
 
 fn let_down(desk: &mut Desk, venue: VenueId)
@@ -44,10 +39,4 @@ fn let_shut(desk: &mut Desk, venue: VenueId)
     if usize::from(venue.number()) < desk.venues() {
         desk.shut(venue);
     }
-}
-
-fn finds_shut(desk: &mut Desk, venue: VenueId) -> bool
-    ensures { OnlyTurns desk.old desk.new }
-{
-    usize::from(venue.number()) < desk.venues() && desk.gate(venue) == Gate::Shut
 }

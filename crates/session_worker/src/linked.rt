@@ -1,7 +1,8 @@
 //! A session and the link over which it speaks.
 
-ghost use Rattle.std.specs.Prelude.{◌≡◌, false, MatchOption};
+ghost use Rattle.std.specs.Prelude.{◌≡◌, ◌↔◌, false, IsTrue, MatchOption};
 ghost use Rattle.std.specs.List.{concat};
+ghost use Rattle.session_core.specs.declared.phase.Phase.TheVariants as phase;
 ghost use Rattle.session_core.specs.Session.{new_session, is_connected, has_doubt};
 ghost use Rattle.session_core.specs.Receiving.{confirm};
 ghost use Rattle.session_core.specs.Calling.{broken, abandon};
@@ -14,19 +15,29 @@ ghost use Rattle.session_worker.specs.Events.{IsIdle};
 
 use crate::Pace;
 use crate::reading::{Heard, hear};
+use crate::redial::Redial;
+use crate::timer::Timer;
 use clock::Clock;
 use dialect::Dialect;
 use fix_tags::Config;
 use fix_text::FrameReader;
-use leg::PlacedLeg;
+use leg::{PlacedLeg, VenueId};
 use link::{Got, Link, write_whole};
 use session_core::{Frames, Phase, Session, SessionFault, Step};
 use std::alloc::Global;
+use std::time::Duration;
 
 /// How many bytes a read takes at most.
 const READ_SIZE: usize = 4096;
 
-/// A session, the link over which it speaks, and for how many turns nothing was written and nothing read.
+/// How many milliseconds a rest lasts at least, unless the link has something to tell.
+const LEAST_REST: u64 = 1;
+
+/// How many it lasts at most, so that a worker whose bell nobody rings comes back to its gate.
+const LONGEST_REST: u64 = 1_000;
+
+/// A session, the link over which it speaks, since when nothing was written and nothing heard, and when it is dialled
+/// again.
 #[derive(Drop)]
 pub(crate) struct Linked<K: Link, C: Clock + Drop> {
     alloc: Global,
@@ -34,26 +45,32 @@ pub(crate) struct Linked<K: Link, C: Clock + Drop> {
     clock: C,
     session: Session,
     reader: FrameReader,
-    pace: Pace,
-    unwritten: u64,
-    unread: u64,
+    timer: Timer,
+    redial: Redial,
 }
 
 impl<K: Link, C: Clock + Drop> Linked<K, C> {
-    /// A session that is down, over a link that isn't dialled yet.
-    pub(crate) fn new(alloc: Global, link: K, clock: C, config: Config, pace: Pace) -> Linked<K, C>
+    /// The session of a venue, which is down, over a link that isn't dialled yet.
+    pub(crate) fn new(
+        alloc: Global,
+        link: K,
+        clock: C,
+        config: Config,
+        venue: VenueId,
+        pace: Pace,
+    ) -> Linked<K, C>
         ensures session { result.session ≡ new_session config }
         ensures wire { K.wire result.link ≡ K.wire link }
     {
+        let timer = Timer::new(pace, config.heart());
         Linked {
             alloc,
             link,
             clock,
             session: Session::new(alloc, config),
             reader: FrameReader::new(alloc),
-            pace,
-            unwritten: 0,
-            unread: 0,
+            timer,
+            redial: Redial::new(pace, u64::from(venue.number())),
         }
     }
 
@@ -68,9 +85,8 @@ impl<K: Link, C: Clock + Drop> Linked<K, C> {
             clock: _,
             session,
             reader: _,
-            pace: _,
-            unwritten: _,
-            unread: _,
+            timer: _,
+            redial: _,
         } = self;
         (session, link)
     }
@@ -79,6 +95,12 @@ impl<K: Link, C: Clock + Drop> Linked<K, C> {
         ensures { result ≡ self.now.session.phase }
     {
         self.session.phase()
+    }
+
+    pub(crate) fn is_up(&self) -> bool
+        ensures { IsTrue result ↔ (self.now.session.phase ≡ phase.Up) }
+    {
+        self.session.phase() == Phase::Up
     }
 
     pub(crate) fn is_connected(&self) -> bool
@@ -135,7 +157,7 @@ impl<K: Link, C: Clock + Drop> Linked<K, C> {
         ensures reader { self.new.reader ≡ self.old.reader }
     {
         match write_whole(&mut self.link, frame) {
-            Ok(()) => self.unwritten = 0,
+            Ok(()) => self.timer.wrote(),
             Err(_) => self.break_off(),
         }
     }
@@ -148,18 +170,19 @@ impl<K: Link, C: Clock + Drop> Linked<K, C> {
         let frames = frames.into_vec();
         for frame in &frames {
             match write_whole(&mut self.link, frame.as_slice()) {
-                Ok(()) => self.unwritten = 0,
+                Ok(()) => self.timer.wrote(),
                 Err(_) => return self.break_off(),
             }
         }
     }
 
-    /// Dials, and logs on where that succeeds; a failed dial is no fault of the session. It says whether the session may
-    /// go on: it may not where no number is left for the Logon.
+    /// Dials, and logs on where that succeeds; a failed dial is no fault of the session. It says whether the session
+    /// may go on: it may not where no number is left for the Logon.
     pub(crate) fn connect<D: Dialect>(&mut self, dialect: &D) -> bool
         ensures moves { Moves (D.wording dialect.now).encoding (D.wording dialect.now).decoding (linked_of self.old.session (K.wire self.old.link) self.old.reader) (linked_of self.new.session (K.wire self.new.link) self.new.reader) }
         ensures spent { result ≡ false → self.new.session ≡ self.old.session }
     {
+        self.redial.dialled();
         match self.link.dial() {
             Ok(()) => self.log_on(dialect),
             Err(_) => true,
@@ -172,8 +195,7 @@ impl<K: Link, C: Clock + Drop> Linked<K, C> {
         ensures spent { result ≡ false → self.new.session ≡ self.old.session }
     {
         self.reader = FrameReader::new(self.alloc);
-        self.unwritten = 0;
-        self.unread = 0;
+        self.timer.dialled();
         let stamp = self.clock.now();
         match self.session.connect(dialect, &stamp) {
             Ok(frame) => {
@@ -191,8 +213,8 @@ impl<K: Link, C: Clock + Drop> Linked<K, C> {
         }
     }
 
-    /// Sends a leg, and says whether the session took it. Where it wanted memory for that, or the order can't be written,
-    /// the connection is given up.
+    /// Sends a leg, and says whether the session took it. Where it wanted memory for that, or the order can't be
+    /// written, the connection is given up.
     pub(crate) fn send<D: Dialect>(&mut self, dialect: &D, placed: &PlacedLeg) -> bool
         ensures { Hands (D.wording dialect.now).encoding (D.wording dialect.now).decoding placed.now (linked_of self.old.session (K.wire self.old.link) self.old.reader) (linked_of self.new.session (K.wire self.new.link) self.new.reader) }
     {
@@ -231,7 +253,7 @@ impl<K: Link, C: Clock + Drop> Linked<K, C> {
         ensures fed { TakesIn bytes.now (linked_of self.old.session (K.wire self.old.link) self.old.reader) (linked_of self.new.session (K.wire self.new.link) self.new.reader) }
         ensures wire { Tells (K.wire self.old.link) (K.wire self.new.link) Stays }
     {
-        self.unread = 0;
+        self.timer.read();
         match self.reader.feed(bytes) {
             Ok(()) => {}
             Err(_) => self.break_off(),
@@ -253,8 +275,8 @@ impl<K: Link, C: Clock + Drop> Linked<K, C> {
         }
     }
 
-    /// The next message that was read is handed to the session, while there is a connection and a message. It gives what
-    /// is to be done for it.
+    /// The next message that was read is handed to the session, while there is a connection and a message. It gives
+    /// what is to be done for it.
     pub(crate) fn hear<D: Dialect>(&mut self, dialect: &D) -> Option<Step>
         ensures { MatchOption result (Moves (D.wording dialect.now).encoding (D.wording dialect.now).decoding (linked_of self.old.session (K.wire self.old.link) self.old.reader) (linked_of self.new.session (K.wire self.new.link) self.new.reader)) (λ step. Asks (D.wording dialect.now).encoding (D.wording dialect.now).decoding (linked_of self.old.session (K.wire self.old.link) self.old.reader) step (linked_of self.new.session (K.wire self.new.link) self.new.reader)) }
     {
@@ -264,7 +286,10 @@ impl<K: Link, C: Clock + Drop> Linked<K, C> {
         let stamp = self.clock.now();
         match hear(dialect, &mut self.reader, &mut self.session, &stamp) {
             Heard::Nothing => None,
-            Heard::Step(step) => Some(step),
+            Heard::Step(step) => {
+                self.timer.heard();
+                Some(step)
+            }
             Heard::Malformed => {
                 self.hang_up();
                 None
@@ -276,24 +301,73 @@ impl<K: Link, C: Clock + Drop> Linked<K, C> {
         }
     }
 
-    /// Counts a turn as one without a write and without a read, until there is one.
-    pub(crate) fn count_turn(&mut self)
+    /// A turn begins. Where the session is found down after a dial, the pause before the next one begins.
+    pub(crate) fn begin_turn(&mut self)
         ensures session { self.new.session ≡ self.old.session }
         ensures wire { K.wire self.new.link ≡ K.wire self.old.link }
         ensures reader { self.new.reader ≡ self.old.reader }
     {
-        self.unwritten = self.unwritten.saturating_add(1);
-        self.unread = self.unread.saturating_add(1);
+        self.timer.begin_turn(self.clock.millis());
+        if self.session.phase() == Phase::Down {
+            self.redial.found_down(self.timer.now());
+        }
     }
 
-    /// After so many turns without a write the session is told, and gives what is to be written.
+    /// The session came up: where the connection ends it is dialled again at once.
+    pub(crate) fn came_up(&mut self)
+        ensures session { self.new.session ≡ self.old.session }
+        ensures wire { K.wire self.new.link ≡ K.wire self.old.link }
+        ensures reader { self.new.reader ≡ self.old.reader }
+    {
+        self.redial.came_up();
+    }
+
+    /// The milliseconds that the clock tells.
+    pub(crate) fn millis(&self) -> u64 {
+        self.clock.millis()
+    }
+
+    /// Whether the pause before the next dial is over.
+    pub(crate) fn may_dial(&self) -> bool {
+        self.redial.is_due(self.timer.now())
+    }
+
+    /// Whether nothing was written in this turn and no message heard. A session that the turn leaves down is idle too,
+    /// so that no connection is dialled without a rest before; one that is over isn't.
+    pub(crate) fn is_idle(&self) -> bool {
+        match self.session.phase() {
+            Phase::Down => true,
+            Phase::Closed => false,
+            Phase::LoggingOn => !self.timer.has_acted(),
+            Phase::Settling => !self.timer.has_acted(),
+            Phase::Up => !self.timer.has_acted(),
+            Phase::Closing => !self.timer.has_acted(),
+            Phase::LoggedOut => !self.timer.has_acted(),
+        }
+    }
+
+    /// Rests until the link has something to tell, or something is due.
+    pub(crate) fn rest(&mut self)
+        ensures session { self.new.session ≡ self.old.session }
+        ensures wire { Tells (K.wire self.old.link) (K.wire self.new.link) Stays }
+        ensures reader { self.new.reader ≡ self.old.reader }
+    {
+        let left = if self.session.phase().is_connected() {
+            self.timer.millis_left()
+        } else {
+            self.redial.millis_left(self.timer.now())
+        };
+        self.link.rest(Duration::from_millis(left.clamp(LEAST_REST, LONGEST_REST)));
+    }
+
+    /// After so long without a write the session is told, and gives what is to be written.
     pub(crate) fn on_quiet<D: Dialect>(&mut self, dialect: &D) -> Option<Step>
         ensures { MatchOption result (Moves (D.wording dialect.now).encoding (D.wording dialect.now).decoding (linked_of self.old.session (K.wire self.old.link) self.old.reader) (linked_of self.new.session (K.wire self.new.link) self.new.reader)) (λ step. Asks (D.wording dialect.now).encoding (D.wording dialect.now).decoding (linked_of self.old.session (K.wire self.old.link) self.old.reader) step (linked_of self.new.session (K.wire self.new.link) self.new.reader)) }
     {
-        if self.unwritten < self.pace.quiet_turns {
+        if !self.timer.is_quiet() {
             return None;
         }
-        self.unwritten = 0;
+        self.timer.restart_quiet();
         let stamp = self.clock.now();
         match self.session.quiet(dialect, &stamp) {
             Ok(step) => Some(step),
@@ -305,14 +379,14 @@ impl<K: Link, C: Clock + Drop> Linked<K, C> {
         }
     }
 
-    /// After so many turns without a read the session is told, and gives what is to be done.
+    /// After so long without a message the session is told, and gives what is to be done.
     pub(crate) fn on_silence<D: Dialect>(&mut self, dialect: &D) -> Option<Step>
         ensures { MatchOption result (Moves (D.wording dialect.now).encoding (D.wording dialect.now).decoding (linked_of self.old.session (K.wire self.old.link) self.old.reader) (linked_of self.new.session (K.wire self.new.link) self.new.reader)) (λ step. Asks (D.wording dialect.now).encoding (D.wording dialect.now).decoding (linked_of self.old.session (K.wire self.old.link) self.old.reader) step (linked_of self.new.session (K.wire self.new.link) self.new.reader)) }
     {
-        if self.unread < self.pace.silent_turns {
+        if !self.timer.is_silent() {
             return None;
         }
-        self.unread = 0;
+        self.timer.restart_silent();
         let stamp = self.clock.now();
         match self.session.silent(dialect, &stamp) {
             Ok(step) => Some(step),

@@ -9,13 +9,14 @@ ghost use Rattle.session_core.specs.Receiving.{confirm};
 ghost use Rattle.session_core.specs.Calling.{broken};
 ghost use Rattle.session_worker.specs.Events.{Goes, parts_of};
 ghost use Rattle.session_worker.specs.Linking.{linked_of, post_of, MayConfirm, Hands, Does, Drains, CarriesOut};
-ghost use Rattle.session_worker.specs.Ends.{reason_of, last_calls};
+ghost use Rattle.session_worker.specs.Ends.{is_over, IsReason, last_calls};
 ghost use Rattle.session_worker.specs.Taking.{with_taken};
 
-use crate::EndReason;
-use crate::gates::{is_closed, lower, shut_gate};
+use crate::gates::{lower, shut_gate};
 use crate::linked::Linked;
+use crate::patience::Patience;
 use crate::takings::Takings;
+use crate::{EndReason, Stop};
 use clock::Clock;
 use dialect::{Dialect, Note};
 use exec_collector::{Collector, WorkerSeat};
@@ -33,6 +34,9 @@ const DRAIN_ROUNDS: usize = 8;
 /// How many messages a turn takes at most; the others are taken in the next one.
 const MESSAGES_A_TURN: usize = 512;
 
+/// How many legs a turn sends at most.
+const LEGS_A_TURN: usize = 32;
+
 /// How far a ring was drained.
 #[derive(Clone, Copy)]
 pub(crate) enum Drained {
@@ -44,34 +48,61 @@ pub(crate) enum Drained {
     NoRoom,
 }
 
-/// What a worker works with: its session over its link, what it took from the ring, and its seat.
+/// What a worker works with: its session over its link, what it took from the ring, its seat, and whether its gate may
+/// be up.
 #[derive(Drop)]
 pub(crate) struct Post<K: Link, C: Clock + Drop, L: Run, M: Ledger> {
     pub(crate) linked: Linked<K, C>,
     pub(crate) takings: Takings<L>,
     pub(crate) seat: WorkerSeat<M>,
+    pub(crate) raised: bool,
 }
 
 impl<K: Link, C: Clock + Drop, L: Run, M: Ledger> Post<K, C, L, M> {
-    /// Takes its turns, until one leaves the session closed or so many were taken.
+    /// Takes its turns, until one leaves the session closed, it has rested so often, or it is told to stop and its
+    /// patience is over. A turn in which it had something to do doesn't count.
     pub(crate) fn turns<D: Dialect>(
         &mut self,
         rt: &impl Wait,
         dialect: &D,
         lock: &ReleaseLock<L>,
         collector: &Collector<M>,
+        stop: &Stop,
         turn_limit: u64,
     ) -> EndReason
         ensures does { Does (D.wording dialect.now).encoding (D.wording dialect.now).decoding (post_of self.old.linked.session self.old.takings self.old.seat (K.wire self.old.linked.link) self.old.linked.reader) (post_of self.new.linked.session self.new.takings self.new.seat (K.wire self.new.linked.link) self.new.linked.reader) }
-        ensures reason { result ≡ reason_of self.new.linked.session.phase }
+        ensures reason { IsReason result self.new.linked.session.phase }
     {
-        for _ in 0..turn_limit {
-            match reason_in(self.linked.phase()) {
-                EndReason::Closed => return EndReason::Closed,
-                EndReason::TurnLimit => self.turn(rt, dialect, lock, collector),
+        let mut rests = 0;
+        let mut patience = Patience::new();
+        for _ in rt.forever() {
+            if has_ended(self.linked.phase())
+                || rests >= turn_limit
+                || patience.is_over(stop, self.linked.millis())
+            {
+                break;
+            }
+            self.heed(rt, lock, stop);
+            if self.turn(rt, dialect, lock, collector) {
+                rests += 1;
             }
         }
-        reason_in(self.linked.phase())
+        if has_ended(self.linked.phase()) {
+            return EndReason::Closed;
+        }
+        if rests >= turn_limit {
+            EndReason::TurnLimit
+        } else {
+            EndReason::Stopped
+        }
+    }
+
+    /// Where the worker was told to stop its gate is shut.
+    fn heed(&self, rt: &impl Wait, lock: &ReleaseLock<L>, stop: &Stop) {
+        let venue = self.takings.venue();
+        if stop.is_told() && !lock.is_shut(venue) {
+            shut_gate(rt, lock, venue);
+        }
     }
 
     /// The session is over, also where no turn has left it so.
@@ -80,28 +111,46 @@ impl<K: Link, C: Clock + Drop, L: Run, M: Ledger> Post<K, C, L, M> {
         ensures wire { K.wire self.new.linked.link ≡ K.wire self.old.linked.link }
         ensures over { self.new.linked.session.phase ≡ phase.Closed }
     {
-        match reason_in(self.linked.phase()) {
-            EndReason::Closed => {}
-            EndReason::TurnLimit => self.linked.abandon(),
+        if has_ended(self.linked.phase()) {
+            return;
         }
+        self.linked.abandon();
     }
 
-    /// One turn.
+    /// One turn, and whether the worker rested at its end, since it had nothing to do.
     pub(crate) fn turn<D: Dialect>(
         &mut self,
         rt: &impl Wait,
         dialect: &D,
         lock: &ReleaseLock<L>,
         collector: &Collector<M>,
-    )
+    ) -> bool
         ensures { Does (D.wording dialect.now).encoding (D.wording dialect.now).decoding (post_of self.old.linked.session self.old.takings self.old.seat (K.wire self.old.linked.link) self.old.linked.reader) (post_of self.new.linked.session self.new.takings self.new.seat (K.wire self.new.linked.link) self.new.linked.reader) }
     {
-        self.linked.count_turn();
+        let taken = self.takings.count();
+        self.linked.begin_turn();
         self.begin(rt, dialect, lock, collector);
         self.close_if_shut(rt, dialect, lock, collector);
         self.listen(rt, dialect, collector);
         self.write_if_quiet(rt, dialect, collector);
         self.ask_if_silent(rt, dialect, collector);
+        self.rest_if_idle(taken)
+    }
+
+    /// At the end of a turn in which no leg was taken since there were this many, nothing written and nothing heard,
+    /// the worker rests. It says whether it did.
+    fn rest_if_idle(&mut self, taken: u64) -> bool
+        ensures session { self.new.linked.session ≡ self.old.linked.session }
+        ensures wire { Tells (K.wire self.old.linked.link) (K.wire self.new.linked.link) Stays }
+        ensures reader { self.new.linked.reader ≡ self.old.linked.reader }
+        ensures takings { self.new.takings ≡ self.old.takings }
+        ensures seat { self.new.seat.parts ≡ self.old.seat.parts }
+    {
+        if self.takings.count() != taken || !self.linked.is_idle() {
+            return false;
+        }
+        self.linked.rest();
+        true
     }
 
     /// What a turn begins with, by how far the session has come.
@@ -116,7 +165,7 @@ impl<K: Link, C: Clock + Drop, L: Run, M: Ledger> Post<K, C, L, M> {
     {
         match self.linked.phase() {
             Phase::Down => self.start(rt, dialect, lock, collector),
-            Phase::Up => self.send_next(rt, dialect, lock, collector),
+            Phase::Up => self.send_waiting(rt, dialect, lock, collector),
             Phase::LoggingOn => {}
             Phase::Settling => {}
             Phase::Closing => {}
@@ -136,7 +185,7 @@ impl<K: Link, C: Clock + Drop, L: Run, M: Ledger> Post<K, C, L, M> {
         requires { self.old.linked.session.phase ≡ phase.Down }
         ensures { Does (D.wording dialect.now).encoding (D.wording dialect.now).decoding (post_of self.old.linked.session self.old.takings self.old.seat (K.wire self.old.linked.link) self.old.linked.reader) (post_of self.new.linked.session self.new.takings self.new.seat (K.wire self.new.linked.link) self.new.linked.reader) }
     {
-        lower(rt, lock, self.takings.venue());
+        self.put_down(rt, lock);
         match self.drain(rt, lock, collector) {
             Drained::Everything => self.connect(rt, dialect, lock, collector),
             Drained::SomeLeft => {}
@@ -144,8 +193,22 @@ impl<K: Link, C: Clock + Drop, L: Run, M: Ledger> Post<K, C, L, M> {
         }
     }
 
-    /// The session connects. It is over where the gate was shut and no leg is in doubt, or where no number is left for a
-    /// Logon.
+    /// The gate goes down, if it may be up.
+    fn put_down(&mut self, rt: &impl Wait, lock: &ReleaseLock<L>)
+        ensures session { self.new.linked.session ≡ self.old.linked.session }
+        ensures wire { K.wire self.new.linked.link ≡ K.wire self.old.linked.link }
+        ensures reader { self.new.linked.reader ≡ self.old.linked.reader }
+        ensures takings { self.new.takings ≡ self.old.takings }
+        ensures seat { self.new.seat.parts ≡ self.old.seat.parts }
+    {
+        if self.raised {
+            lower(rt, lock, self.takings.venue());
+            self.raised = false;
+        }
+    }
+
+    /// The session connects, once the pause after the last dial is over. It is over where the gate was shut and no leg
+    /// is in doubt, or where no number is left for a Logon.
     fn connect<D: Dialect>(
         &mut self,
         rt: &impl Wait,
@@ -157,8 +220,11 @@ impl<K: Link, C: Clock + Drop, L: Run, M: Ledger> Post<K, C, L, M> {
         ensures { Does (D.wording dialect.now).encoding (D.wording dialect.now).decoding (post_of self.old.linked.session self.old.takings self.old.seat (K.wire self.old.linked.link) self.old.linked.reader) (post_of self.new.linked.session self.new.takings self.new.seat (K.wire self.new.linked.link) self.new.linked.reader) }
     {
         let venue = self.takings.venue();
-        if is_closed(rt, lock, venue) && !self.linked.in_doubt() {
+        if lock.is_shut(venue) && !self.linked.in_doubt() {
             return self.linked.abandon();
+        }
+        if !self.linked.may_dial() {
+            return;
         }
         if self.linked.connect(dialect) {
             return;
@@ -168,49 +234,91 @@ impl<K: Link, C: Clock + Drop, L: Run, M: Ledger> Post<K, C, L, M> {
         self.linked.abandon();
     }
 
-    /// In `Up`: the gate is put up, and the next leg is sent. Where that is refused the next turn tries again.
-    fn send_next<D: Dialect>(
+    /// In `Up`: the gate is put up, and the legs that wait are sent, so many at most.
+    fn send_waiting<D: Dialect>(
         &mut self,
         rt: &impl Wait,
         dialect: &D,
         lock: &ReleaseLock<L>,
         collector: &Collector<M>,
     )
-        requires { self.old.linked.session.phase ≡ phase.Up }
         ensures { Does (D.wording dialect.now).encoding (D.wording dialect.now).decoding (post_of self.old.linked.session self.old.takings self.old.seat (K.wire self.old.linked.link) self.old.linked.reader) (post_of self.new.linked.session self.new.takings self.new.seat (K.wire self.new.linked.link) self.new.linked.reader) }
     {
-        if self.takings.raise(rt, lock).is_err() {
+        if !self.put_up(rt, lock) {
             return;
         }
-        match next_leg(rt, lock, &mut self.takings) {
-            Ok(next) => self.send(rt, dialect, collector, next),
-            Err(_) => self.linked.break_off(),
+        for _ in 0..LEGS_A_TURN {
+            if lock.is_shut(self.takings.venue()) || !self.linked.is_up() {
+                return;
+            }
+            if !self.send_next(rt, dialect, lock, collector) {
+                return;
+            }
         }
     }
 
-    /// Sends the leg that was taken, if one was. One that the session doesn't take is withdrawn in the book.
+    /// The gate goes up, unless the worker has put it up since the session came up, and it says whether it is. Where
+    /// that is refused the next turn tries again.
+    fn put_up(&mut self, rt: &impl Wait, lock: &ReleaseLock<L>) -> bool
+        ensures session { self.new.linked.session ≡ self.old.linked.session }
+        ensures wire { K.wire self.new.linked.link ≡ K.wire self.old.linked.link }
+        ensures reader { self.new.linked.reader ≡ self.old.linked.reader }
+        ensures takings { self.new.takings ≡ self.old.takings }
+        ensures seat { self.new.seat.parts ≡ self.old.seat.parts }
+    {
+        if self.raised {
+            return true;
+        }
+        self.linked.came_up();
+        self.raised = self.takings.raise(rt, lock).is_ok();
+        self.raised
+    }
+
+    /// The next leg is sent, and it says whether there was one.
+    fn send_next<D: Dialect>(
+        &mut self,
+        rt: &impl Wait,
+        dialect: &D,
+        lock: &ReleaseLock<L>,
+        collector: &Collector<M>,
+    ) -> bool
+        requires { self.old.linked.session.phase ≡ phase.Up }
+        ensures { Does (D.wording dialect.now).encoding (D.wording dialect.now).decoding (post_of self.old.linked.session self.old.takings self.old.seat (K.wire self.old.linked.link) self.old.linked.reader) (post_of self.new.linked.session self.new.takings self.new.seat (K.wire self.new.linked.link) self.new.linked.reader) }
+    {
+        match next_leg(rt, lock, &mut self.takings) {
+            Ok(next) => self.send(rt, dialect, collector, next),
+            Err(_) => {
+                self.linked.break_off();
+                false
+            }
+        }
+    }
+
+    /// Sends the leg that was taken, if one was, and says whether one was. One that the session doesn't take is
+    /// withdrawn in the book.
     fn send<D: Dialect>(
         &mut self,
         rt: &impl Wait,
         dialect: &D,
         collector: &Collector<M>,
         next: Option<PlacedLeg>,
-    )
+    ) -> bool
         ensures linked { MatchOption next ((linked_of self.new.linked.session (K.wire self.new.linked.link) self.new.linked.reader) ≡ (linked_of self.old.linked.session (K.wire self.old.linked.link) self.old.linked.reader)) (λ leg. Hands (D.wording dialect.now).encoding (D.wording dialect.now).decoding leg (linked_of self.old.linked.session (K.wire self.old.linked.link) self.old.linked.reader) (linked_of self.new.linked.session (K.wire self.new.linked.link) self.new.linked.reader)) }
         ensures takings { self.new.takings ≡ self.old.takings }
         ensures seat { self.new.seat.parts ≡ self.old.seat.parts }
     {
         let Some(leg) = next else {
-            return;
+            return false;
         };
         if self.linked.send(dialect, &leg) {
-            return;
+            return true;
         }
         self.withdraw(rt, collector, leg.leg.id);
+        true
     }
 
-    /// With the gate shut the session is to close while it is connected, and what is placed is dropped. Where there is no
-    /// room for a leg the connection is given up.
+    /// With the gate shut the session is to close while it is connected, and what is placed is dropped. Where there is
+    /// no room for a leg the connection is given up.
     fn close_if_shut<D: Dialect>(
         &mut self,
         rt: &impl Wait,
@@ -220,7 +328,7 @@ impl<K: Link, C: Clock + Drop, L: Run, M: Ledger> Post<K, C, L, M> {
     )
         ensures { Does (D.wording dialect.now).encoding (D.wording dialect.now).decoding (post_of self.old.linked.session self.old.takings self.old.seat (K.wire self.old.linked.link) self.old.linked.reader) (post_of self.new.linked.session self.new.takings self.new.seat (K.wire self.new.linked.link) self.new.linked.reader) }
     {
-        if !self.linked.is_connected() || !is_closed(rt, lock, self.takings.venue()) {
+        if !self.linked.is_connected() || !lock.is_shut(self.takings.venue()) {
             return;
         }
         self.linked.close(dialect);
@@ -247,7 +355,7 @@ impl<K: Link, C: Clock + Drop, L: Run, M: Ledger> Post<K, C, L, M> {
         }
     }
 
-    /// After so many turns without a write the session writes a Heartbeat.
+    /// After so long without a write the session writes a Heartbeat.
     fn write_if_quiet<D: Dialect>(&mut self, rt: &impl Wait, dialect: &D, collector: &Collector<M>)
         ensures { Does (D.wording dialect.now).encoding (D.wording dialect.now).decoding (post_of self.old.linked.session self.old.takings self.old.seat (K.wire self.old.linked.link) self.old.linked.reader) (post_of self.new.linked.session self.new.takings self.new.seat (K.wire self.new.linked.link) self.new.linked.reader) }
     {
@@ -257,7 +365,7 @@ impl<K: Link, C: Clock + Drop, L: Run, M: Ledger> Post<K, C, L, M> {
         }
     }
 
-    /// After so many turns without a read the session writes a fence, and the second time the connection ends.
+    /// After so long without a message the session writes a fence, and the second time the connection ends.
     fn ask_if_silent<D: Dialect>(&mut self, rt: &impl Wait, dialect: &D, collector: &Collector<M>)
         ensures { Does (D.wording dialect.now).encoding (D.wording dialect.now).decoding (post_of self.old.linked.session self.old.takings self.old.seat (K.wire self.old.linked.link) self.old.linked.reader) (post_of self.new.linked.session self.new.takings self.new.seat (K.wire self.new.linked.link) self.new.linked.reader) }
     {
@@ -385,22 +493,23 @@ impl<K: Link, C: Clock + Drop, L: Run, M: Ledger> Post<K, C, L, M> {
     }
 }
 
-/// Why a worker ends whose last turn left its session in this phase.
-fn reason_in(phase: Phase) -> EndReason
-    ensures { result ≡ reason_of phase }
+/// Whether a session in this phase is over.
+fn has_ended(phase: Phase) -> bool
+    ensures { result ≡ is_over phase }
 {
     match phase {
-        Phase::Closed => EndReason::Closed,
-        Phase::Down => EndReason::TurnLimit,
-        Phase::LoggingOn => EndReason::TurnLimit,
-        Phase::Settling => EndReason::TurnLimit,
-        Phase::Up => EndReason::TurnLimit,
-        Phase::Closing => EndReason::TurnLimit,
-        Phase::LoggedOut => EndReason::TurnLimit,
+        Phase::Closed => true,
+        Phase::Down => false,
+        Phase::LoggingOn => false,
+        Phase::Settling => false,
+        Phase::Up => false,
+        Phase::Closing => false,
+        Phase::LoggedOut => false,
     }
 }
 
-/// The next leg of a ring, if there is one once the placed legs were moved into it.
+/// The next leg of a ring. Where it is empty, and legs are placed for which it had no room, they are moved into it
+/// first.
 fn next_leg<L: Run>(
     rt: &impl Wait,
     lock: &ReleaseLock<L>,
@@ -410,6 +519,9 @@ fn next_leg<L: Run>(
 {
     if let Some(leg) = takings.next(rt)? {
         return Ok(Some(leg));
+    }
+    if !lock.is_behind(takings.venue()) {
+        return Ok(None);
     }
     lock.pump(rt, takings.venue());
     takings.next(rt)

@@ -4,7 +4,7 @@ ghost use Rattle.std.specs.Prelude.{IfOk, map};
 ghost use Rattle.session_worker.specs.Events.{parts_of};
 ghost use Rattle.session_worker.specs.Ends.{Runs, AllRan};
 
-use crate::{RunFault, Worker, WorkerEnd};
+use crate::{RunFault, Stop, Worker, WorkerEnd};
 use clock::Clock;
 use dialect::Dialect;
 use exec_collector::Collector;
@@ -29,13 +29,43 @@ impl<D: Dialect + Drop, K: Link, C: Clock + Drop, L: Run, M: Ledger> Promise<Wor
     ghost kept_by = { λ p e. Runs (D.wording p.0.value.dialect).encoding (D.wording p.0.value.dialect).decoding (parts_of p.0.value.post.linked.session p.0.value.post.takings p.0.value.post.seat (K.wire p.0.value.post.linked.link)) (parts_of e.session e.took e.seat (K.wire e.link)) e.reason };
 }
 
-/// Runs each worker in a thread of its own, and gives their ends in order. Where memory is wanted or no thread can be made,
-/// it gives none, once those that were started have ended.
+/// Runs each worker in a thread of its own, and gives their ends in order. Where memory is wanted or no thread can be
+/// made, it tells those that were started to give up, and gives none once they have ended.
 pub fn run_all<D, K, C, L, M, R>(
     rt: &R,
     alloc: Global,
     lock: &ReleaseLock<L>,
     collector: &Collector<M>,
+    workers: Vec<Worker<D, K, C, L, M>>,
+    turn_limit: u64,
+) -> Result<Vec<WorkerEnd<K, L, M>>, RunFault>
+where
+    D: Dialect + Drop + Send,
+    K: Link + Send,
+    C: Clock + Drop + Send,
+    L: Run + Send + Sync,
+    M: Ledger + Send + Sync,
+    R: Threads + Wait + Sync,
+    ensures { IfOk result (λ ends. AllRan (λ w. (D.wording w.dialect).encoding) (λ w. record { read = (D.wording w.dialect).decoding; parts = parts_of w.post.linked.session w.post.takings w.post.seat (K.wire w.post.linked.link) }) workers.items (map (λ e. record { parts = parts_of e.session e.took e.seat (K.wire e.link); reason = e.reason }) ends.items)) }
+{
+    run_all_until(
+        rt,
+        alloc,
+        lock,
+        collector,
+        &Stop::new(),
+        workers,
+        turn_limit,
+    )
+}
+
+/// The same, until they are told to stop.
+pub fn run_all_until<D, K, C, L, M, R>(
+    rt: &R,
+    alloc: Global,
+    lock: &ReleaseLock<L>,
+    collector: &Collector<M>,
+    stop: &Stop,
     workers: Vec<Worker<D, K, C, L, M>>,
     turn_limit: u64,
 ) -> Result<Vec<WorkerEnd<K, L, M>>, RunFault>
@@ -58,17 +88,17 @@ where
             let mut handles = Vec::new(alloc);
             while let Some(worker) = workers.pop_front() {
                 if handles.reserve(1).is_err() {
-                    join_each(rt, handles);
+                    give_up(rt, stop, handles);
                     return Err(RunFault::OutOfMemory);
                 }
                 let promise = EndOf(Snapshot::of(&worker));
                 match scope.spawn_with(
                     promise,
-                    move || worker.run(rt, lock, collector, turn_limit),
+                    move || worker.run_until(rt, lock, collector, stop, turn_limit),
                 ) {
                     Ok(handle) => handles.push_reserved(handle),
                     Err(_) => {
-                        join_each(rt, handles);
+                        give_up(rt, stop, handles);
                         return Err(RunFault::NoThread);
                     }
                 }
@@ -92,4 +122,15 @@ fn join_each<T: Drop, P: Promise<T> + Drop, R: Threads>(
     for handle in handles {
         drop(handle.join(rt));
     }
+}
+
+/// Tells the workers to give up, and waits for their threads.
+fn give_up<T: Drop, P: Promise<T> + Drop, R: Threads>(
+    rt: &R,
+    stop: &Stop,
+    handles: Vec<PromisedHandle<T, P>>,
+) {
+    stop.tell();
+    stop.tell();
+    join_each(rt, handles);
 }

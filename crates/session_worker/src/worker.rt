@@ -9,7 +9,7 @@ use crate::gates::shut_gate;
 use crate::linked::Linked;
 use crate::post::Post;
 use crate::takings::Takings;
-use crate::{Pace, WorkerEnd};
+use crate::{Pace, Stop, WorkerEnd};
 use clock::Clock;
 use dialect::Dialect;
 use exec_collector::{Collector, WorkerSeat};
@@ -46,16 +46,17 @@ impl<D: Dialect + Drop, K: Link, C: Clock + Drop, L: Run, M: Ledger> Worker<D, K
         Worker {
             dialect,
             post: Post {
-                linked: Linked::new(alloc, link, clock, config, pace),
+                linked: Linked::new(alloc, link, clock, config, drain.venue(), pace),
                 takings: Takings::new(alloc, drain),
                 seat,
+                raised: true,
             },
         }
     }
 
-    /// Takes its turns, until one leaves the session closed or so many were taken; then the session is over, and what is
-    /// placed at the venue is dropped. It may wait for the locks and for the link. Of a link that tells its traffic the
-    /// contract says which bytes went over it.
+    /// Takes its turns, until one leaves the session closed or it has rested so often; then the session is over, the
+    /// gate is shut, and what is placed at the venue is dropped. It may wait for the locks and for the link. Of a link
+    /// that tells its traffic the contract says which bytes went over it.
     pub fn run(
         self,
         rt: &impl Wait,
@@ -65,9 +66,23 @@ impl<D: Dialect + Drop, K: Link, C: Clock + Drop, L: Run, M: Ledger> Worker<D, K
     ) -> WorkerEnd<K, L, M>
         ensures { Runs (D.wording self.dialect).encoding (D.wording self.dialect).decoding (parts_of self.post.linked.session self.post.takings self.post.seat (K.wire self.post.linked.link)) (parts_of result.session result.took result.seat (K.wire result.link)) result.reason }
     {
+        self.run_until(rt, lock, collector, &Stop::new(), turn_limit)
+    }
+
+    /// The same, until it is told to stop: then it closes its session in order, or gives it up.
+    pub fn run_until(
+        self,
+        rt: &impl Wait,
+        lock: &ReleaseLock<L>,
+        collector: &Collector<M>,
+        stop: &Stop,
+        turn_limit: u64,
+    ) -> WorkerEnd<K, L, M>
+        ensures { Runs (D.wording self.dialect).encoding (D.wording self.dialect).decoding (parts_of self.post.linked.session self.post.takings self.post.seat (K.wire self.post.linked.link)) (parts_of result.session result.took result.seat (K.wire result.link)) result.reason }
+    {
         let Worker { dialect, post } = self;
         let mut post = post;
-        let reason = post.turns(rt, &dialect, lock, collector, turn_limit);
+        let reason = post.turns(rt, &dialect, lock, collector, stop, turn_limit);
         post.finish();
         shut_gate(rt, lock, post.takings.venue());
         post.drain(rt, lock, collector);
@@ -75,6 +90,7 @@ impl<D: Dialect + Drop, K: Link, C: Clock + Drop, L: Run, M: Ledger> Worker<D, K
             linked,
             takings,
             seat,
+            raised: _,
         } = post;
         let (session, link) = linked.into_parts();
         WorkerEnd {

@@ -1,14 +1,19 @@
 //! What a worker gives back.
 
+ghost use Rattle.std.specs.Prelude.{◌≡◌, ◌++◌, option_to_list, IfOk, OnOk};
+ghost use Rattle.session_worker.specs.Doubt.{if_doubt, in_doubt_of};
+
 use crate::EndReason;
 use exec_collector::WorkerSeat;
+use leg::LegState;
 use link::Link;
 use release_lock::{Run, VenueEnd};
 use session_core::Session;
+use std::alloc::{AllocError, Global};
 use std::sync::ledger::Ledger;
 
-/// What a worker gives back: its session, the drain of its venue with all legs taken from it, its seat, its link, and why
-/// it ended.
+/// What a worker gives back: its session, the drain of its venue with all legs taken from it, its seat, its link, and
+/// why it ended.
 #[derive(Drop)]
 pub struct WorkerEnd<K: Link, L: Run, M: Ledger> {
     pub session: Session,
@@ -16,4 +21,38 @@ pub struct WorkerEnd<K: Link, L: Run, M: Ledger> {
     pub seat: WorkerSeat<M>,
     pub link: K,
     pub reason: EndReason,
+}
+
+impl<K: Link, L: Run, M: Ledger> WorkerEnd<K, L, M> {
+    /// The ordinals of the legs that it sent and that aren't settled, in order: the exchange may have them or not. The
+    /// only refusal is want of memory.
+    pub fn in_doubt(&self, alloc: Global) -> Result<Vec<u64>, AllocError>
+        ensures { IfOk result (λ ordinals. ordinals.items ≡ in_doubt_of self.now.session self.now.took.taken) }
+    {
+        let mut ordinals = Vec::new(alloc);
+        let taken = self.took.taken();
+        for placed in taken {
+            let state = self.session.leg_state(placed.ordinal);
+            push_if_doubt(&mut ordinals, state, placed.ordinal)?;
+        }
+        Ok(ordinals)
+    }
+}
+
+/// Pushes the ordinal of a leg in this state, if that is doubt.
+fn push_if_doubt(
+    ordinals: &mut Vec<u64>,
+    state: Option<LegState>,
+    ordinal: u64,
+) -> Result<(), AllocError>
+    ensures { OnOk result (ordinals.new.items ≡ ordinals.old.items ++ option_to_list (if_doubt state ordinal)) }
+{
+    match state {
+        Some(LegState::Doubt) => ordinals.push(ordinal)?,
+        Some(LegState::Queued) => {}
+        Some(LegState::Taken) => {}
+        Some(LegState::Withdrawn) => {}
+        None => {}
+    }
+    Ok(())
 }

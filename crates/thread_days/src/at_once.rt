@@ -2,6 +2,7 @@
 
 ghost use Rattle.std.specs.Prelude.{◌≡◌, map};
 
+use clock::StoppedClock;
 use day_trial::{
     Caller, CallerEnd, DayFault, Outcome, TRADES_SIX, day_outcome, memory_link, worker_of,
 };
@@ -20,7 +21,7 @@ use std::thread;
 use std::thread::{Threads, join, map_vec};
 use std::time::{Clock, Duration};
 use sweep_release::Receipt;
-use trial::{Floor, MAX_NUMBER, Order, Post, Site, StoppedClock, TEN, seats_of};
+use trial::{Floor, MAX_NUMBER, Order, Post, Site, TEN, seats_of};
 
 /// How many turns a worker takes at most: its gate is shut long before.
 const MOST_TURNS: u64 = 20_000_000;
@@ -32,7 +33,7 @@ const MOST_TRIES: u64 = 10_000;
 const SWEEPS: u64 = 3;
 
 /// A worker that writes and asks for nothing by itself.
-const PACE: Pace = Pace {
+const PACE: Pace = Pace::Turns {
     quiet_turns: MOST_TURNS,
     silent_turns: MOST_TURNS,
 };

@@ -23,7 +23,7 @@ const LOGOUT: Said = ("5", "49=B|34=3|");
 /// What each exchange says, read by read.
 const READS: &[&[Said]] = &[&[LOGON], &[FENCE], &[LOGOUT]];
 
-const PACE: Pace = Pace {
+const PACE: Pace = Pace::Turns {
     quiet_turns: 5,
     silent_turns: 20,
 };
@@ -76,6 +76,10 @@ impl<'a, T: Clock> Link for Meeting<'a, T> {
         } else {
             Err(LinkFault::counted(&mut self.script.faults))
         }
+    }
+
+    fn rest(&mut self, most: Duration) {
+        self.script.rest(most)
     }
 
     fn shut(&mut self) -> Result<(), LinkFault> {

@@ -9,6 +9,7 @@ use link::{Got, Link, LinkFault};
 use release_lock::Run;
 use std::sync::Wait;
 use std::sync::ledger::Ledger;
+use std::time::Duration;
 
 /// A link to a venue's exchange, and a caller that makes its calls while the link is read. So one thread plays a day in
 /// which sweeps are released while the worker takes its turns.
@@ -103,6 +104,10 @@ impl<'a, 'c, R: Wait, K: Link, L: Run, M: Ledger> Link for CalledLink<'a, 'c, R,
 
     fn write(&mut self, bytes: &[u8]) -> Result<usize, LinkFault> {
         self.link.write(bytes)
+    }
+
+    fn rest(&mut self, most: Duration) {
+        self.link.rest(most)
     }
 
     fn shut(&mut self) -> Result<(), LinkFault> {

@@ -4,8 +4,8 @@ use crate::course::{Course, Shuts};
 use crate::day::play;
 use crate::worked::COURSE;
 use day_trial::{DayFault, FENCE, LOGON, Outcome, Said, Shown, frames_of};
-use exchange_sim::serve_raw;
-use link::TcpLink;
+use exchange_sim::{Port, serve_raw};
+use link::{Poller, Rest, TcpLink};
 use session_worker::Pace;
 use std::alloc::Global;
 use std::fmt::Write;
@@ -43,14 +43,14 @@ const DAYS: [&[Said]; 13] = [
     ],
 ];
 
-/// How many turns the worker takes at most, each of which waits a millisecond for a byte.
+/// How many turns the worker takes at most in which there is nothing to do: each of them waits a millisecond.
 const MOST_TURNS: u64 = 2_000;
 
 /// A sweep is placed before the worker's first turn, and the gate is shut once the connection is given up.
 const ONE_CONNECTION: Course<'static> = Course {
     sweeps: &[],
     shuts: Shuts::AfterConnection,
-    pace: Pace {
+    pace: Pace::Turns {
         quiet_turns: MOST_TURNS,
         silent_turns: MOST_TURNS,
     },
@@ -67,8 +67,13 @@ fn played<K: Shown>(rt: &impl Wait, alloc: Global, link: K) -> Result<Outcome, D
 }
 
 /// The day of a worker over a socket.
-fn worker_day<R: Net + Wait>(rt: &R, alloc: Global, addr: SocketAddr) -> Result<Outcome, DayFault> {
-    played(rt, alloc, TcpLink::new(rt, addr))
+fn worker_day<R: Net + Wait + Clock>(
+    rt: &R,
+    alloc: Global,
+    addr: SocketAddr,
+) -> Result<Outcome, DayFault> {
+    let poller = Poller::new(rt, alloc)?;
+    played(rt, alloc, TcpLink::new(rt, addr, poller, Rest::Sleep))
 }
 
 /// The day of a worker whose exchange says this, over a socket.
@@ -78,11 +83,11 @@ fn hostile_day<R: Net<Listener = TcpListener, Stream = TcpStream> + Threads + Wa
     says: &[Said],
 ) -> Result<Outcome, DayFault> {
     let frames = frames_of(alloc, says)?;
-    let listener = TcpListener::bind(rt, "127.0.0.1:0")?;
-    let addr = listener.local_addr()?;
+    let mut port = Port::open(rt, alloc)?;
+    let addr = port.addr()?;
     let (served, outcome) = join(
         rt,
-        || serve_raw(rt, &listener, frames.as_slice(), MOST_SERVED),
+        || serve_raw(&mut port, frames.as_slice(), MOST_SERVED),
         || worker_day(rt, alloc, addr),
     );
     if !served {

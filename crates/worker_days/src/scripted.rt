@@ -39,7 +39,7 @@ const PACED: Course<'static> = Course {
     sweeps: &[],
     shuts: Shuts::Never,
     max_number: 1_000,
-    pace: Pace {
+    pace: Pace::Turns {
         quiet_turns: 5,
         silent_turns: 20,
     },

@@ -26,7 +26,7 @@ pub const COURSE: Course<'static> = Course {
     pause: 6,
     shuts: Shuts::AfterSweeps,
     max_number: MAX_NUMBER,
-    pace: Pace {
+    pace: Pace::Turns {
         quiet_turns: 20,
         silent_turns: 80,
     },

@@ -21,7 +21,7 @@ new_workers-requires-clause-seats g c =
 pub told-requires-clause-order : goal.told-requires-clause-order
 told-requires-clause-order g c =
     let many = as_many _ c.in_ok-exchanges.exchanges.items c.args.plan.cut c.args.plan.venues c.in_ok-exchanges.ensures.plans in
-    let begun = c.in_ok-workers.ensures ∙ ap new_workers (ap length c.deref.ensures.value ∙ many) in
+    let begun = c.in_ok-workers.ensures.new ∙ ap new_workers (ap length c.deref.ensures.value ∙ many) in
     in_order (λ e. parts_of e.session e.took e.seat None) c.args.plan.venues c.in_ok-ended.ended.workers.items
     (subst (λ (starts : List WorkerParts). AllKeepPlace starts (map (λ e. parts_of e.session e.took e.seat None) c.in_ok-ended.ended.workers.items))
     begun c.in_ok-ended.ensures.workers)
@@ -29,7 +29,7 @@ told-requires-clause-order g c =
 pub told-requires-clause-shared : goal.told-requires-clause-shared
 told-requires-clause-shared g c =
     let many = as_many _ c.in_ok-exchanges.exchanges.items c.args.plan.cut c.args.plan.venues c.in_ok-exchanges.ensures.plans in
-    let begun = c.in_ok-workers.ensures ∙ ap new_workers (ap length c.deref.ensures.value ∙ many) in
+    let begun = c.in_ok-workers.ensures.new ∙ ap new_workers (ap length c.deref.ensures.value ∙ many) in
     all_parts (λ e. parts_of e.session e.took e.seat None) (λ e. e.seat) (λ e. refl) c.args.plan.venues c.in_ok-ended.ended.workers.items
     (subst (λ (starts : List WorkerParts). AllKeepPlace starts (map (λ e. parts_of e.session e.took e.seat None) c.in_ok-ended.ended.workers.items))
     begun c.in_ok-ended.ensures.workers)

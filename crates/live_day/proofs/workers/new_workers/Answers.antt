@@ -48,8 +48,8 @@ loop-exchange-preserved g c =
       seats_left = omega (arith, seats_were, seats_left);
     }
 
-pub returns : goal.returns
-returns g c =
+pub returns-clause-new : goal.returns-clause-new
+returns-clause-new g c =
     let venues = length c.args.exchanges.now in
     let drains : c.from-drains.result.items ≡ new_drains venues = search rules in
     let so_far = c.loop-exchange.invariant in

@@ -9,8 +9,8 @@ use Rattle.session_worker.proofs.Connected.{quiet_on}
 use Rattle.session_worker.proofs.Calling.{moves_none, moves_on, moves_refused, asks_step, moves_broken}
 use Rattle.session_worker.proofs.linked.Linked.on_quiet.Goals as goal
 
-pub returns-then-self : goal.returns-then-self
-returns-then-self g c = moves_none _ _ _
+pub returns-then-not-is_quiet : goal.returns-then-not-is_quiet
+returns-then-not-is_quiet g c = moves_none _ _ _
 
 pub returns-in-Ok : goal.returns-in-Ok
 returns-in-Ok g c =

@@ -5,12 +5,15 @@ use Rattle.session_worker.specs.Linking.{PostParts, post_of}
 use Rattle.session_core.specs.declared.phase.Phase.TheVariants.{Down}
 use Rattle.session_worker.proofs.Speech.{stays_same}
 use Rattle.session_worker.proofs.Calling.{moves_abandon, idle_in}
-use Rattle.session_worker.proofs.Doing.{does_on, does_moves, does_drains}
+use Rattle.session_worker.proofs.Doing.{does_none, does_on, does_moves, does_drains}
 use Rattle.session_worker.proofs.post.Post.connect.Goals as goal
 
 pub returns-then-not-in_doubt : goal.returns-then-not-in_doubt
 returns-then-not-in_doubt g c =
     does_moves _ _ _ _ (moves_abandon _ _ _ _ c.abandon.ensures.session (stays_same _ _ c.abandon.ensures.wire)) refl refl
+
+pub returns-then-not-may_dial : goal.returns-then-not-may_dial
+returns-then-not-may_dial g c = does_none _ _ _
 
 pub returns-then-connect : goal.returns-then-connect
 returns-then-connect g c = does_moves _ _ _ _ c.connect.ensures.moves refl refl

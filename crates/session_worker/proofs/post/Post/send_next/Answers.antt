@@ -2,11 +2,8 @@ use Rattle.std.proofs.Common.{refl}
 use Rattle.dialect.specs.Wording.{Decoding, Encoding}
 use Rattle.session_worker.specs.Linking.{PostParts, post_of}
 use Rattle.session_worker.proofs.Calling.{moves_broken}
-use Rattle.session_worker.proofs.Doing.{does_none, does_moves, does_sent}
+use Rattle.session_worker.proofs.Doing.{does_moves, does_sent}
 use Rattle.session_worker.proofs.post.Post.send_next.Goals as goal
-
-pub returns-then-is_err : goal.returns-then-is_err
-returns-then-is_err g c = does_none _ _ _
 
 pub returns-in-Ok : goal.returns-in-Ok
 returns-in-Ok g c =

@@ -14,3 +14,12 @@ loop-preserved g c =
     let b : PostParts = post_of c.loop.self.linked.session c.loop.self.takings c.loop.self.seat (g.K.Link.wire c.loop.self.linked.link) c.loop.self.linked.reader in
     let d : PostParts = post_of c.turn.new.self.linked.session c.turn.new.self.takings c.turn.new.self.seat (g.K.Link.wire c.turn.new.self.linked.link) c.turn.new.self.linked.reader in
     does_on w read a b d c.loop.invariant c.turn.ensures
+
+pub loop-preserved-then-turn : goal.loop-preserved-then-turn
+loop-preserved-then-turn g c =
+    let w : Encoding = (g.D.Dialect.wording c.args.dialect.now).encoding in
+    let read : Decoding = (g.D.Dialect.wording c.args.dialect.now).decoding in
+    let a : PostParts = post_of c.args.self.now.linked.session c.args.self.now.takings c.args.self.now.seat (g.K.Link.wire c.args.self.now.linked.link) c.args.self.now.linked.reader in
+    let b : PostParts = post_of c.loop.self.linked.session c.loop.self.takings c.loop.self.seat (g.K.Link.wire c.loop.self.linked.link) c.loop.self.linked.reader in
+    let d : PostParts = post_of c.turn.new.self.linked.session c.turn.new.self.takings c.turn.new.self.seat (g.K.Link.wire c.turn.new.self.linked.link) c.turn.new.self.linked.reader in
+    does_on w read a b d c.loop.invariant c.turn.ensures

@@ -2,7 +2,7 @@ use Rattle.std.proofs.Common.{◌≡◌, rules, List, length, map, subst, arith}
 use Rattle.session_worker.specs.Events.{parts_of}
 use Rattle.session_worker.specs.Ends.{WorkerLeft, AllRan}
 use Rattle.session_worker.proofs.Ran.{all_ran, all_started, nothing_left}
-use Rattle.session_worker.proofs.running.fn.run_all.scope.Goals as goal
+use Rattle.session_worker.proofs.running.fn.run_all_until.scope.Goals as goal
 
 pub returns-in-Ok-join_promised : goal.returns-in-Ok-join_promised
 returns-in-Ok-join_promised g c =

@@ -9,7 +9,7 @@ use Rattle.session_worker.specs.Ends.{last_calls}
 use Rattle.session_worker.specs.Linking.{PostParts, post_of, worker_in}
 use Rattle.session_worker.proofs.Calling.{idle_in}
 use Rattle.session_worker.proofs.Doing.{dropping, goes_on, goes_drains, speak_events, speak_last}
-use Rattle.session_worker.proofs.worker.Worker.run.Goals as goal
+use Rattle.session_worker.proofs.worker.Worker.run_until.Goals as goal
 
 pub returns : goal.returns
 returns g c =

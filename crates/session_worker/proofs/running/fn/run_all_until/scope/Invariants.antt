@@ -1,5 +1,5 @@
 use Rattle.std.proofs.Common.{◌≡◌, ◌++◌, length, map}
-use Rattle.session_worker.proofs.running.fn.run_all.scope.Given as goal
+use Rattle.session_worker.proofs.running.fn.run_all_until.scope.Given as goal
 
 abbrev pub invariant-loop-worker : goal.invariant-loop-worker
 invariant-loop-worker g l =

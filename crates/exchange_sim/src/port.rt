@@ -1,0 +1,57 @@
+//! A port on which a simulated exchange listens.
+
+use link::Poller;
+use mio::net::{TcpListener, TcpStream};
+use std::alloc::Global;
+use std::io;
+use std::net::{Net, SocketAddr};
+use std::time::Duration;
+
+/// How many milliseconds a turn waits at most: for a client, or for its bytes.
+const TURN_MILLIS: u64 = 10;
+
+/// A port of this machine on which a simulated exchange listens, and what it waits with.
+#[derive(Drop)]
+pub struct Port {
+    listener: TcpListener,
+    poller: Poller,
+}
+
+impl Port {
+    /// A free port of the loopback address. Refused where the system gives none, or memory is refused.
+    pub fn open(net: &impl Net, alloc: Global) -> io::Result<Port> {
+        let mut listener = TcpListener::bind(net, SocketAddr::from(([127, 0, 0, 1], 0)))?;
+        let poller = Poller::new(net, alloc)?;
+        poller.watch(&mut listener)?;
+        Ok(Port { listener, poller })
+    }
+
+    /// The address that clients dial.
+    pub fn addr(&self) -> io::Result<SocketAddr> {
+        self.listener.local_addr()
+    }
+
+    /// Waits for a turn at most, until a client or bytes of one come.
+    pub(crate) fn rest(&mut self) {
+        self.poller.sleep(Duration::from_millis(TURN_MILLIS));
+    }
+
+    /// The next client. Where none is there it waits for a turn.
+    pub(crate) fn next_client(&mut self) -> Option<TcpStream> {
+        match self.accept() {
+            Ok(stream) => Some(stream),
+            Err(_) => {
+                self.rest();
+                None
+            }
+        }
+    }
+
+    /// A client that waits to be accepted. Its bytes end a wait from now on.
+    fn accept(&mut self) -> io::Result<TcpStream> {
+        let (mut stream, _) = self.listener.accept()?;
+        stream.set_nodelay(true)?;
+        self.poller.watch(&mut stream)?;
+        Ok(stream)
+    }
+}
