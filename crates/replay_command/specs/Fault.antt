@@ -1,11 +1,10 @@
 -- The faults of `dispatch replay`.
 use Rattle.std.specs.Prelude.{ℕ}
-use Rattle.schedule.specs.declared.script_fault.ScriptFault.{ScriptFault}
-use Rattle.schedule.specs.declared.script_fault.ScriptFault.TheVariants as script
 use Rattle.replay_command.specs.declared.fault.CommandFault.{CommandFault}
 use Rattle.replay_command.specs.declared.fault.CommandFault.TheVariants.{
   CommandLine,
   BadLine,
+  NoFile,
   ReadFailed,
   WriteFailed,
   OutOfMemory,
@@ -15,6 +14,7 @@ use Rattle.replay_command.specs.declared.fault.CommandFault.TheVariants.{
 abbrev pub fault_status : CommandFault → ℕ
 fault_status (CommandLine error) = 2
 fault_status (BadLine number) = 3
+fault_status NoFile = 4
 fault_status ReadFailed = 4
 fault_status WriteFailed = 4
 fault_status OutOfMemory = 5
@@ -24,8 +24,3 @@ abbrev pub IsOfCommandLine : CommandFault → Type 0
 IsOfCommandLine (CommandLine error) = Unit {0}
 IsOfCommandLine OutOfMemory = Unit {0}
 IsOfCommandLine other = ⊥
-
--- the fault of a text that is no script
-abbrev pub script_fault : ScriptFault → CommandFault
-script_fault (script.Line number) = BadLine number
-script_fault script.OutOfMemory = OutOfMemory

@@ -1,11 +1,10 @@
 //! Why `dispatch replay` failed.
 ghost use Rattle.std.specs.Prelude.{◌≡◌};
 ghost use Rattle.replay_command.specs.declared.fault.CommandFault.TheVariants.{OutOfMemory, WriteFailed};
-ghost use Rattle.replay_command.specs.Fault.{IsOfCommandLine, fault_status, script_fault};
+ghost use Rattle.replay_command.specs.Fault.{IsOfCommandLine, fault_status};
 
 use clap::error::ErrorKind;
 use command_line::Fault;
-use schedule::ScriptFault;
 use std::alloc::AllocError;
 use thiserror::Error;
 
@@ -19,6 +18,9 @@ pub enum CommandFault {
     /// last.
     #[error("line {0}")]
     BadLine(u64),
+    /// The file that the words name can't be opened.
+    #[error("read failed")]
+    NoFile,
     #[error("read failed")]
     ReadFailed,
     #[error("write failed")]
@@ -34,13 +36,16 @@ impl Fault for CommandFault {
         match self {
             CommandFault::CommandLine(_) => 2,
             CommandFault::BadLine(_) => 3,
-            CommandFault::ReadFailed | CommandFault::WriteFailed => 4,
+            CommandFault::NoFile | CommandFault::ReadFailed | CommandFault::WriteFailed => 4,
             CommandFault::OutOfMemory => 5,
         }
     }
 
     fn reason(&self) -> Option<&'static str> {
-        None
+        match self {
+            CommandFault::NoFile => Some("the file can't be opened"),
+            _ => None,
+        }
     }
 
     fn ends_line(&self) -> bool {
@@ -71,17 +76,6 @@ impl From<clap::Error> for CommandFault {
         match error.kind() {
             ErrorKind::OutOfMemory => CommandFault::OutOfMemory,
             _ => CommandFault::CommandLine(error),
-        }
-    }
-}
-
-impl From<ScriptFault> for CommandFault {
-    ghost from_gives = { λ fault given. given ≡ script_fault fault };
-
-    fn from(fault: ScriptFault) -> CommandFault {
-        match fault {
-            ScriptFault::Line(number) => CommandFault::BadLine(number),
-            ScriptFault::OutOfMemory => CommandFault::OutOfMemory,
         }
     }
 }

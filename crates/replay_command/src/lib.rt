@@ -17,12 +17,13 @@ mod input;
 mod print_day;
 mod shown;
 
-use crate::asked::Task;
+pub use asked::Task;
 use crate::command::read_words;
 use crate::print_day::{print_check, print_day};
 pub use command::replay_command;
 use command_line::finish;
 pub use fault::CommandFault;
+pub use shown::Shown;
 use std::alloc::Global;
 use std::convert::AsStr;
 use std::fs::{self, Files};
@@ -58,8 +59,8 @@ fn replay<F: Files, S: AsStr, R: Read, W: Write>(
 {
     let asked = read_words(alloc, words)?;
     match asked.file {
-        None => perform(alloc, asked.task, input, out),
-        Some(path) => perform(alloc, asked.task, &mut open(files, path)?, out),
+        None => replay_input(alloc, asked.task, input, out),
+        Some(path) => replay_input(alloc, asked.task, &mut open(files, path)?, out),
     }
 }
 
@@ -68,12 +69,14 @@ fn open<F: Files>(files: &F, path: &str) -> Result<F::File, CommandFault> {
     match fs::open(files, path) {
         Ok(file) => Ok(file),
         Err(error) if error.kind() == io::ErrorKind::OutOfMemory => Err(CommandFault::OutOfMemory),
-        Err(_) => Err(CommandFault::ReadFailed),
+        Err(_) => Err(CommandFault::NoFile),
     }
 }
 
-/// Does with the script of an input what is asked for.
-fn perform<R: Read, W: Write>(
+/// Does with the script of an input what is asked for, and writes to `out` what is asked to be shown.
+///
+/// A line that isn't of its form ends it, and what follows isn't read.
+pub fn replay_input<R: Read, W: Write>(
     alloc: Global,
     task: Task,
     input: &mut R,
