@@ -2,7 +2,7 @@
 
 ghost use Rattle.std.specs.Prelude.{◌≡◌};
 
-use crate::course::{Course, Shuts};
+use crate::course::{Beside, Course, Shuts};
 use day_trial::Caller;
 use leg::VenueId;
 use link::{Got, Link, LinkFault};
@@ -11,8 +11,8 @@ use std::sync::Wait;
 use std::sync::ledger::Ledger;
 use std::time::Duration;
 
-/// A link to a venue's exchange, and a caller that makes its calls while the link is read. So one thread plays a day in
-/// which sweeps are released while the worker takes its turns.
+/// A link to a venue's exchange, and a caller that makes its calls while the link is read or written to. So one thread
+/// plays a day in which sweeps are released while the worker takes its turns.
 #[derive(Drop)]
 pub struct CalledLink<'a, 'c, R: Wait, K: Link, L: Run, M: Ledger> {
     link: K,
@@ -21,8 +21,10 @@ pub struct CalledLink<'a, 'c, R: Wait, K: Link, L: Run, M: Ledger> {
     course: Course<'c>,
     // How many of the sweeps were placed.
     placed: usize,
-    // How many reads pass before the next call.
+    // How many calls of the link pass before the next one of the caller.
     waits: u64,
+    // How many calls of the link were made that may fail.
+    calls: u64,
 }
 
 impl<'a, 'c, R: Wait, K: Link, L: Run, M: Ledger> CalledLink<'a, 'c, R, K, L, M> {
@@ -40,11 +42,12 @@ impl<'a, 'c, R: Wait, K: Link, L: Run, M: Ledger> CalledLink<'a, 'c, R, K, L, M>
             course,
             placed: 0,
             waits: 0,
+            calls: 0,
         }
     }
 
-    /// The link and the caller, at the end.
-    pub fn into_parts(self) -> (K, Caller<'a, R, L, M>) {
+    /// The link and the caller, at the end, and how many calls of the link were made that may fail.
+    pub fn into_parts(self) -> (K, Caller<'a, R, L, M>, u64) {
         let CalledLink {
             link,
             caller,
@@ -52,11 +55,28 @@ impl<'a, 'c, R: Wait, K: Link, L: Run, M: Ledger> CalledLink<'a, 'c, R, K, L, M>
             course: _,
             placed: _,
             waits: _,
+            calls,
         } = self;
-        (link, caller)
+        (link, caller, calls)
     }
 
-    /// The caller makes its next call, if one is due. A sweep that is refused is left for the next read.
+    /// Counts a call of the link.
+    fn count(&mut self)
+        ensures { self.new.link ≡ self.old.link }
+    {
+        self.calls = self.calls.saturating_add(1);
+    }
+
+    /// The caller makes its next call, if it makes its calls beside such ones of the link.
+    fn call_beside(&mut self, now: Beside)
+        ensures { self.new.link ≡ self.old.link }
+    {
+        if self.course.beside == now {
+            self.call();
+        }
+    }
+
+    /// The caller makes its next call, if one is due. A sweep that is refused is left for the next time.
     fn call(&mut self)
         ensures { self.new.link ≡ self.old.link }
     {
@@ -94,15 +114,19 @@ impl<'a, 'c, R: Wait, K: Link, L: Run, M: Ledger> Link for CalledLink<'a, 'c, R,
     ghost fault_count = { λ called. K.fault_count called.link };
 
     fn dial(&mut self) -> Result<(), LinkFault> {
+        self.count();
         self.link.dial()
     }
 
     fn read(&mut self, buf: &mut [u8]) -> Result<Got, LinkFault> {
-        self.call();
+        self.count();
+        self.call_beside(Beside::Reads);
         self.link.read(buf)
     }
 
     fn write(&mut self, bytes: &[u8]) -> Result<usize, LinkFault> {
+        self.count();
+        self.call_beside(Beside::Writes);
         self.link.write(bytes)
     }
 
@@ -111,6 +135,7 @@ impl<'a, 'c, R: Wait, K: Link, L: Run, M: Ledger> Link for CalledLink<'a, 'c, R,
     }
 
     fn shut(&mut self) -> Result<(), LinkFault> {
+        self.count();
         self.shut_if(Shuts::AfterConnection);
         self.link.shut()
     }

@@ -10,13 +10,23 @@ pub struct Course<'c> {
     pub early: &'c [Order],
     /// The sweeps that are released while the worker takes its turns.
     pub sweeps: &'c [&'c [Order]],
-    /// How many reads of the link pass between two of them, and before the gate is shut.
+    /// Beside which calls of the link they are released.
+    pub beside: Beside,
+    /// How many such calls pass between two of them, and before the gate is shut.
     pub pause: u64,
     pub shuts: Shuts,
     /// The number that none of the session's messages has.
     pub max_number: u64,
     pub pace: Pace,
     pub turn_limit: u64,
+}
+
+/// Beside which calls of the link the caller makes its own.
+#[derive(Clone, Copy, Debug, PartialEq, Eq)]
+pub enum Beside {
+    Reads,
+    /// In the middle of a turn, between two legs.
+    Writes,
 }
 
 /// When the caller shuts the gate.

@@ -13,11 +13,13 @@ use std::sync::Wait;
 use std::sync::ledger::Ledger;
 use trial::{Floor, Order, Post, Trial, TrialFault, on_floor};
 
-/// What became of a day, and what had become of the sweep before the last when that was released.
+/// What became of a day, what had become of the sweep before the last when that was released, and how many calls of the
+/// link were made that may fail.
 #[derive(Drop)]
 pub struct Played {
     pub outcome: Outcome,
     pub before_last: Option<Totals>,
+    pub calls: u64,
 }
 
 /// A caller that has placed the early sweep of a course, if it has orders: the gate is up for that.
@@ -40,10 +42,10 @@ fn early_caller<'a, R: Wait, L: Run, M: Ledger>(
     Ok(caller)
 }
 
-/// The end of a worker over its own link, and that of the caller.
+/// The end of a worker over its own link, that of the caller, and how many calls of the link were made that may fail.
 fn parted<R: Wait, K: Link, L: Run, M: Ledger>(
     end: WorkerEnd<CalledLink<'_, '_, R, K, L, M>, L, M>,
-) -> (WorkerEnd<K, L, M>, CallerEnd<L>) {
+) -> (WorkerEnd<K, L, M>, CallerEnd<L>, u64) {
     let WorkerEnd {
         session,
         took,
@@ -51,7 +53,7 @@ fn parted<R: Wait, K: Link, L: Run, M: Ledger>(
         link,
         reason,
     } = end;
-    let (link, caller) = link.into_parts();
+    let (link, caller, calls) = link.into_parts();
     let end = WorkerEnd {
         session,
         took,
@@ -59,7 +61,7 @@ fn parted<R: Wait, K: Link, L: Run, M: Ledger>(
         link,
         reason,
     };
-    (end, caller.into_end())
+    (end, caller.into_end(), calls)
 }
 
 /// A list of one thing.
@@ -77,6 +79,7 @@ fn day_end<K: Shown, L: Run, M: Ledger>(
     collector: Collector<M>,
     caller: CallerEnd<L>,
     end: WorkerEnd<K, L, M>,
+    calls: u64,
 ) -> Result<Played, DayFault> {
     let CallerEnd {
         seat,
@@ -89,6 +92,7 @@ fn day_end<K: Shown, L: Run, M: Ledger>(
     Ok(Played {
         outcome,
         before_last,
+        calls,
     })
 }
 
@@ -119,8 +123,8 @@ impl<'c, R: Wait, K: Shown> Trial<R> for Playing<'c, K> {
         let caller = early_caller(rt, alloc, &lock, &collector, seat, &post, course.early)?;
         let link = CalledLink::new(link, caller, post.drain.venue(), course);
         let worker = worker_of(alloc, link, course.max_number, course.pace, post)?;
-        let (end, caller) = parted(worker.run(rt, &lock, &collector, course.turn_limit));
-        day_end(rt, alloc, lock, collector, caller, end)
+        let (end, caller, calls) = parted(worker.run(rt, &lock, &collector, course.turn_limit));
+        day_end(rt, alloc, lock, collector, caller, end, calls)
     }
 }
 

@@ -1,8 +1,8 @@
 //! Days over links in memory: links that fail, that carry a byte a call, and that bring nothing but noise; sessions
 //! that close while legs are placed, and whose numbers are spent.
 
-use crate::course::{Course, Shuts};
-use crate::day::play;
+use crate::course::{Beside, Course, Shuts};
+use crate::day::{Played, play, play_noted};
 use crate::worked::{COURSE, LEGS, LOSES};
 use day_trial::{DayFault, Outcome, TRADES_SIX, memory_link};
 use exchange_sim::{MemoryPlan, Plan};
@@ -51,11 +51,11 @@ const BY_THE_BYTE: MemoryPlan = MemoryPlan {
     ..FAULTLESS
 };
 
-/// Message 15 is the last that a session may write. So of fourteen legs thirteen are sent; once the connection ends
-/// there is no number for a Logon, and the session is over with the legs sent still in doubt.
+/// Message 15 is the last that a session may write. So of fourteen legs thirteen are sent, twelve of them first; once the
+/// connection ends there is no number for a Logon, and the session is over with the legs sent still in doubt.
 const SPENT: Course<'static> = Course {
     early: &[],
-    sweeps: &[&[ONE; 14]],
+    sweeps: &[&[ONE; 12], &[ONE; 2]],
     shuts: Shuts::Never,
     max_number: 16,
     ..COURSE
@@ -114,14 +114,15 @@ pub const ROWS: [Row; 8] = [
         },
         shows: Shows::Everything,
     },
-    // Three sweeps of 32 legs are released in turn after turn, and then the gate is shut: three legs are sent by then,
-    // and the others are withdrawn, of which the ring has room for 64.
+    // Three sweeps of 32 legs are released, the first beside a Heartbeat, the others each beside a leg of the first, and
+    // then the gate is shut: three legs are sent by then, and the others are withdrawn, of which the ring has room for 64.
     Row {
         name: "a close while legs are placed",
         plan: FAULTLESS,
         course: Course {
             early: &[],
             sweeps: &[&[ONE; 32], &[ONE; 32], &[ONE; 32]],
+            beside: Beside::Writes,
             pause: 0,
             ..COURSE
         },
@@ -198,11 +199,16 @@ fn fails_once(
         fails_at,
         ..FAULTLESS
     };
-    let end = play(rt, alloc, memory_link(alloc, plan)?, COURSE)?.only()?;
+    let Played {
+        outcome,
+        before_last: _,
+        calls,
+    } = play_noted(rt, alloc, memory_link(alloc, plan)?, COURSE)?;
+    let end = outcome.only()?;
     if end.reason != EndReason::Closed || end.taken != LEGS {
         return Err(DayFault::Call(fails_at));
     }
-    Ok(end.faults > 0)
+    Ok(calls >= fails_at)
 }
 
 /// How many calls of the link fail in turn, each in a day of its own.

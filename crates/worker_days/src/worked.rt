@@ -1,6 +1,6 @@
 //! The worked day.
 
-use crate::course::{Course, Shuts};
+use crate::course::{Beside, Course, Shuts};
 use exchange_sim::Plan;
 use session_worker::Pace;
 use trial::{MAX_NUMBER, Order, TEN};
@@ -23,6 +23,7 @@ const SWEEPS: &[&[Order]] = &[
 pub const COURSE: Course<'static> = Course {
     early: EARLY,
     sweeps: SWEEPS,
+    beside: Beside::Reads,
     pause: 6,
     shuts: Shuts::AfterSweeps,
     max_number: MAX_NUMBER,
