@@ -17,9 +17,9 @@ mod input;
 mod print_day;
 mod shown;
 
-pub use asked::Task;
 use crate::command::read_words;
 use crate::print_day::{print_check, print_day};
+pub use asked::Task;
 pub use command::replay_command;
 use command_line::finish;
 pub use fault::CommandFault;
