@@ -10,7 +10,7 @@ use Rattle.schedule.specs.Script.{events_of_lines, lines_of, script_of_lines}
 use Rattle.script.specs.Reading.{said_by}
 use Rattle.script.proofs.EventsSoFar.{by_line, events_by_line, onto}
 use Rattle.replay_command.specs.declared.fault.CommandFault.{CommandFault}
-use Rattle.replay_command.specs.declared.fault.CommandFault.TheVariants.{CommandLine, BadLine, ReadFailed, WriteFailed, OutOfMemory}
+use Rattle.replay_command.specs.declared.fault.CommandFault.TheVariants.{CommandLine, BadLine, NoFile, ReadFailed, WriteFailed, OutOfMemory}
 use Rattle.replay_command.specs.Stream.{IsOfInput, IsOfRun, ReadsLine, Checks, GivesEvent, RunsLine, RunsLines, IsFaultOf}
 use Rattle.replay_command.proofs.InputLines.{next_line}
 
@@ -31,6 +31,7 @@ all_left steps venues first world (Some bytes) = (bytes, refl, λ result runs. r
 pub of_input : {X : Type 0} (steps : Bool) (fault : CommandFault) (said : Result X ℕ) → IsOfInput fault → IsFaultOf steps fault said
 of_input steps (CommandLine error) said is = absurd is
 of_input steps (BadLine number) said is = absurd is
+of_input steps NoFile said is = absurd is
 of_input steps ReadFailed said is = tt
 of_input steps WriteFailed said is = absurd is
 of_input steps OutOfMemory said is = tt
@@ -57,6 +58,7 @@ same_fault : (steps : Bool) (fault : CommandFault) (events more : List Event) �
     → IsFaultOf steps fault (Ok more)
 same_fault steps (CommandLine error) events more is = absurd is
 same_fault steps (BadLine number) events more is = absurd is
+same_fault steps NoFile events more is = absurd is
 same_fault steps ReadFailed events more is = tt
 same_fault steps WriteFailed events more is = is
 same_fault steps OutOfMemory events more is = tt
@@ -103,6 +105,7 @@ of_run : {X : Type 0} (steps : Bool) (fault : CommandFault) (said : Result X ℕ
     → IsFaultOf steps fault said
 of_run steps (CommandLine error) said is = absurd is
 of_run steps (BadLine number) said is = absurd is
+of_run steps NoFile said is = absurd is
 of_run steps ReadFailed said is = absurd is
 of_run steps WriteFailed said is = is
 of_run steps OutOfMemory said is = tt
