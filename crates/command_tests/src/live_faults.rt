@@ -6,9 +6,14 @@ use std::test::Fail;
 
 #[test]
 fn each_fault_of_a_day_has_its_text_and_status(rt: HostRuntime) -> Result<(), Fail> {
-    let cases: [(CommandFault, u8, &[u8]); 6] = [
+    let cases: [(CommandFault, u8, &[u8]); 7] = [
         (CommandFault::NoSocket, 4, b"dispatch: no socket\n"),
         (CommandFault::NoThread, 4, b"dispatch: no thread\n"),
+        (
+            CommandFault::NoAnswer,
+            4,
+            b"dispatch: no exchange answered\n",
+        ),
         (CommandFault::OutOfMemory, 5, b"dispatch: out of memory\n"),
         (CommandFault::MismatchQueue, 6, b"dispatch: audit A01\n"),
         (CommandFault::MismatchShares, 6, b"dispatch: audit A02\n"),

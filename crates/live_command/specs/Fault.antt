@@ -10,6 +10,7 @@ use Rattle.live_command.specs.declared.fault.CommandFault.TheVariants.{
   WriteFailed,
   NoSocket,
   NoThread,
+  NoAnswer,
   OutOfMemory,
   MismatchQueue,
   MismatchShares,
@@ -24,6 +25,7 @@ fault_status (BadNumber option) = 3
 fault_status WriteFailed = 4
 fault_status NoSocket = 4
 fault_status NoThread = 4
+fault_status NoAnswer = 4
 fault_status OutOfMemory = 5
 fault_status MismatchQueue = 6
 fault_status MismatchShares = 6

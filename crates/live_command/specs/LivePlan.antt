@@ -30,4 +30,11 @@ plan_of options = do
   sweeps ← given Of.Sweeps (number_in 1 1000000 options.sweeps.now)
   cut ← given Of.Cut (number_in 0 1000000 options.cut.now)
   turns ← given Of.Turns (number_in 1 1000000 options.turns.now)
-  Ok (record { venues = venues; callers = callers; sweeps = sweeps; cut = cut; turns = turns })
+  Ok (record {
+    venues = venues;
+    callers = callers;
+    sweeps = sweeps;
+    cut = cut;
+    turns = turns;
+    cuts_short = options.cuts_short;
+  })

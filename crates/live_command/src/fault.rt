@@ -30,6 +30,9 @@ pub enum CommandFault {
     /// The system made no more threads.
     #[error("no thread")]
     NoThread,
+    /// The day ran, and no exchange answered a Logon in it.
+    #[error("no exchange answered")]
+    NoAnswer,
     #[error("out of memory")]
     OutOfMemory,
     /// A worker didn't take the first legs released to its venue.
@@ -50,7 +53,10 @@ impl Fault for CommandFault {
         match self {
             CommandFault::CommandLine(_) | CommandFault::NoNumber(_) => 2,
             CommandFault::BadNumber(_) => 3,
-            CommandFault::WriteFailed | CommandFault::NoSocket | CommandFault::NoThread => 4,
+            CommandFault::WriteFailed
+            | CommandFault::NoSocket
+            | CommandFault::NoThread
+            | CommandFault::NoAnswer => 4,
             CommandFault::OutOfMemory => 5,
             CommandFault::MismatchQueue
             | CommandFault::MismatchShares

@@ -37,6 +37,16 @@ impl LiveOption {
         }
     }
 
+    /// The value that it has where the command line gives none.
+    pub fn default_value<'a>(self) -> &'a str {
+        match self {
+            LiveOption::Venues | LiveOption::Callers => "2",
+            LiveOption::Sweeps => "5",
+            LiveOption::Cut => "0",
+            LiveOption::Turns => "10000",
+        }
+    }
+
     /// What the help says of it.
     pub fn help<'a>(self) -> &'a str {
         match self {
@@ -49,7 +59,7 @@ impl LiveOption {
                 "the message behind which exchange 0 cuts its connection, up to 1000000; 0 for never"
             }
             LiveOption::Turns => {
-                "how many turns a worker takes, and how often a sweep is tried, 1 to 1000000"
+                "how often a worker rests, and a sweep is tried, at most, 1 to 1000000"
             }
         }
     }

@@ -4,21 +4,25 @@ ghost use Rattle.live_command.specs.LiveOption.{matched, AreOptions};
 
 use crate::fault::CommandFault;
 use crate::option::{LIVE_OPTIONS, LiveOption};
-use clap::{Arg, ArgMatches, Command};
+use clap::{Arg, ArgAction, ArgMatches, Command};
 use std::alloc::{AllocError, Global};
 use std::convert::AsStr;
 
+/// The flag that has the gates shut while orders are under way.
+const CUT_SHORT: &str = "cut-short";
+
 /// What stands behind the options in the help.
 const EXAMPLES: &str = "\
-Each sweep is an order of 10 shares for each venue. In a turn a worker reads what its exchange sent, sends what callers
-placed, and books what was reported. A line is printed for each sweep, with its shares filled, busted, cancelled,
-withdrawn
-and open, and then how many sweeps were given up, and what the audit says. A leg takes 3 to 4 KB of memory.
+Each sweep is an order of 10 shares for each venue, of which the exchange trades 6 and cancels 4. A worker reads what
+its exchange sent, sends what callers placed, books what was reported, and rests where there is nothing to do. A line
+is printed for each sweep, with its shares filled, busted, cancelled, withdrawn and open, and then how many sweeps were
+given up, and what the audit says. A leg takes 3 to 4 KB of memory.
 
-Example:
-  dispatch live --venues 2 --callers 2 --sweeps 5 --cut 3 --turns 10000";
+Examples:
+  dispatch live
+  dispatch live --venues 16 --callers 8 --sweeps 100 --cut 40 --cut-short";
 
-/// The values of the options, each as it was written. All are required.
+/// The values of the options, each as it was written.
 #[derive(Drop)]
 pub struct Options<'a> {
     pub venues: &'a str,
@@ -26,6 +30,7 @@ pub struct Options<'a> {
     pub sweeps: &'a str,
     pub cut: &'a str,
     pub turns: &'a str,
+    pub cuts_short: bool,
 }
 
 /// The command `live`, with its options.
@@ -38,10 +43,15 @@ pub fn live_command<'a>(alloc: Global) -> Result<Command<'a>, AllocError> {
             .long(option.name())
             .value_name("N")
             .help(option.help())
-            .required(true);
+            .default_value(option.default_value());
         command = command.arg(arg)?;
     }
-    Ok(command.after_help(EXAMPLES))
+    command.after_help(EXAMPLES).arg(
+        Arg::new(alloc, CUT_SHORT)
+            .long(CUT_SHORT)
+            .help("shuts the gates once all sweeps are placed, and doesn't wait for what is open")
+            .action(ArgAction::SetTrue),
+    )
 }
 
 fn value<'a>(matches: &ArgMatches<'a>, option: LiveOption) -> Result<&'a str, CommandFault>
@@ -64,10 +74,11 @@ fn options_of<'a>(matches: &ArgMatches<'a>) -> Result<Options<'a>, CommandFault>
         sweeps: value(matches, LiveOption::Sweeps)?,
         cut: value(matches, LiveOption::Cut)?,
         turns: value(matches, LiveOption::Turns)?,
+        cuts_short: matches.get_flag(CUT_SHORT),
     })
 }
 
-/// The options in these words. A missing, unknown or repeated option is a fault of the command line.
+/// The options in these words. An unknown or repeated option is a fault of the command line.
 pub fn read_options<'a, S: AsStr>(
     alloc: Global,
     words: &'a [S],

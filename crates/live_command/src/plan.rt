@@ -46,5 +46,6 @@ pub fn plan_of(options: &Options<'_>) -> Result<LivePlan, CommandFault>
         sweeps,
         cut,
         turns,
+        cuts_short: options.cuts_short,
     })
 }

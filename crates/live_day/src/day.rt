@@ -21,6 +21,8 @@ pub struct LiveDay {
     pub sweeps: Vec<LiveSweep>,
     /// How many sweeps were given up, since each try of them was refused.
     pub unplaced: u64,
+    /// Whether some exchange answered a Logon.
+    pub is_answered: bool,
     /// What the audit tells.
     pub report: DayReport,
 }

@@ -2,6 +2,7 @@
 
 use crate::bells::Bells;
 use crate::exchange::Serve;
+use crate::order::SHARES;
 use crate::signals::{Running, Signals};
 use crate::{LivePlan, Progress, SoFar};
 use exec_collector::Collector;
@@ -19,6 +20,9 @@ const LOOK_MILLIS: u64 = 1;
 
 /// How many looks are a second at least.
 const LOOKS: u64 = 1_000;
+
+/// How many looks pass in which nothing is resolved, until what is open is given up.
+const MOST_IDLE_LOOKS: u64 = 10_000;
 
 /// What the threads of a day share.
 #[derive(Drop)]
@@ -52,10 +56,44 @@ impl<L: Run, M: Ledger> Floor<L, M> {
         }
     }
 
-    /// Tells how far the day is until it ends; once the callers have ended it shuts the gates, so that the workers end.
+    /// The shares that were placed.
+    fn placed_shares(&self) -> u64 {
+        self.signals
+            .placed()
+            .saturating_mul(SHARES * u64::from(self.plan.venues))
+    }
+
+    /// Waits until no share is open, the workers have ended, the day is to end, or nothing was resolved for ten seconds;
+    /// and tells how far the day is once a second.
+    fn finish<R: Wait + Clock, P: Progress>(&self, rt: &R, progress: &mut P) {
+        let mut resolved = 0;
+        let mut idle_looks = 0;
+        for look in 0..u64::MAX {
+            let now = self.collector.resolved(rt);
+            if now >= self.placed_shares()
+                || idle_looks >= MOST_IDLE_LOOKS
+                || self.signals.workers.is_over()
+                || self.signals.is_ending()
+            {
+                return;
+            }
+            idle_looks = if now == resolved { idle_looks + 1 } else { 0 };
+            resolved = now;
+            thread::sleep(rt, Duration::from_millis(LOOK_MILLIS));
+            if look % LOOKS == LOOKS - 1 {
+                progress.tell(self.so_far(rt));
+            }
+        }
+    }
+
+    /// Tells how far the day is until it ends. Once the callers have ended and, unless the day is to be cut short, no
+    /// share is open, it shuts the gates, so that the workers end.
     pub fn keep<R: Wait + Clock, P: Progress + Drop>(&self, rt: &R, progress: P) {
         let mut progress = progress;
         self.watch(rt, &self.signals.callers, &mut progress);
+        if !self.plan.cuts_short {
+            self.finish(rt, &mut progress);
+        }
         self.shut_gates(rt);
         self.watch(rt, &self.signals.workers, &mut progress);
     }

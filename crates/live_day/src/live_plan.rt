@@ -15,4 +15,6 @@ pub struct LivePlan {
     /// How many turns a worker takes at most in which there is nothing to do, and how many times a caller tries a
     /// sweep: 1 to 1,000,000.
     pub turns: u64,
+    /// Whether the gates are shut as soon as the callers have ended; else once no share is open.
+    pub cuts_short: bool,
 }

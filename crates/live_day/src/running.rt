@@ -143,10 +143,12 @@ fn told<K: Link, L: Run, M: Ledger>(
     let Ended { workers, callers } = ended;
     let (seats, unplaced) = parted(alloc, callers)?;
     let sweeps = collector.read(rt, |book: &Book| booked_sweeps(alloc, book))?;
+    let is_answered = workers.iter().any(|end| end.session.next_in() > 1);
     let report = audited(alloc, lock, collector, seats, workers)?;
     Ok(LiveDay {
         sweeps,
         unplaced,
+        is_answered,
         report,
     })
 }

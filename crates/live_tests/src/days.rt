@@ -61,6 +61,7 @@ fn days_of_few_and_many(rt: HostRuntime) -> Result<(), Fail> {
             sweeps,
             cut,
             turns: 10_000,
+            cuts_short: false,
         };
         let day = run_live(&rt, rt.alloc(), plan, Untold)?;
         is_whole(&rt, plan, &day);
