@@ -63,8 +63,8 @@ impl<L: Run, M: Ledger> Floor<L, M> {
             .saturating_mul(SHARES * u64::from(self.plan.venues))
     }
 
-    /// Waits until no share is open, the workers have ended, the day is to end, or nothing was resolved for ten seconds;
-    /// and tells how far the day is once a second.
+    /// Waits until no share is open, the workers have ended, the day is to end, or nothing was resolved for ten
+    /// seconds; and tells how far the day is once a second.
     fn finish<R: Wait + Clock, P: Progress>(&self, rt: &R, progress: &mut P) {
         let mut resolved = 0;
         let mut idle_looks = 0;

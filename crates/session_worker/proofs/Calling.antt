@@ -13,7 +13,7 @@ use Rattle.fix_tags.specs.declared.envelope.Envelope.{Envelope}
 use Rattle.fix_tags.specs.declared.tag_fault.TagFault.{TagFault}
 use Rattle.dialect.specs.declared.message.Message.{Message}
 use Rattle.dialect.specs.Framed.{IsFramed, AreFramed}
-use Rattle.dialect.specs.Wording.{Decoding, Encoding}
+use Rattle.dialect.specs.Wording.{Wording}
 use Rattle.dialect.specs.Outgoing.{alone}
 use Rattle.link.specs.Traffic.{Tells, Dials, Takes, Stays}
 use Rattle.session_core.specs.declared.phase.Phase.{Phase}
@@ -34,7 +34,7 @@ use Rattle.session_core.proofs.Called.{connect_keeps, send_leg_keeps}
 use Rattle.session_core.proofs.CallsMade.{after-append}
 use Rattle.session_worker.specs.Hearing.{Said, said_with, said_after, Hears, ReaderOn}
 use Rattle.session_worker.specs.Speaking.{Wire, Reads, TakesFirst, Puts, Begins, messages_in, Speak}
-use Rattle.session_worker.specs.Linking.{LinkedParts, linked_of, IsHearing, SpeaksOn, MayBreak, Writes, Moves, Hands, IsPlain, Gave, Asks, Receives}
+use Rattle.session_worker.specs.Linking.{SessionIoParts, io_of, IsHearing, SpeaksOn, MayBreak, Writes, Moves, Hands, IsPlain, Gave, Asks, Receives}
 use Rattle.session_worker.specs.Events.{leg_in, legs_in, IsIdle}
 use Rattle.session_worker.specs.Events.WorkerEvent.{Calls, Fails}
 use Rattle.session_worker.proofs.Spoken.{stays_last, stays_here}
@@ -51,101 +51,101 @@ legs-append (made ∷ first) more =
 
 -- ---- no call, and calls after others
 
-pub speaks_same : (w : Encoding) (read : Decoding) (x y : LinkedParts) → y.session ≡ x.session → Tells x.wire y.wire Stays
-    → y.stream ≡ x.stream → SpeaksOn w read x [] y
-speaks_same w read x y same stays stream = λ (said : Said) (hearing : IsHearing said x). (
-  speak_none w read x.session said x.wire y.wire stays,
+pub speaks_same : (w : Wording) (x y : SessionIoParts) → y.session ≡ x.session → Tells x.wire y.wire Stays
+    → y.stream ≡ x.stream → SpeaksOn w x [] y
+speaks_same w x y same stays stream = λ (said : Said) (hearing : IsHearing said x). (
+  speak_none w x.session said x.wire y.wire stays,
   hearing_same said x y (λ on. subst (λ (s : SessionParts). is_connected s.phase ≡ true) same on) stays stream hearing,
 )
 
-pub moves_same : (w : Encoding) (read : Decoding) (x y : LinkedParts) → y.session ≡ x.session → Tells x.wire y.wire Stays
-    → y.stream ≡ x.stream → Moves w read x y
-moves_same w read x y same stays stream = record {
+pub moves_same : (w : Wording) (x y : SessionIoParts) → y.session ≡ x.session → Tells x.wire y.wire Stays
+    → y.stream ≡ x.stream → Moves w x y
+moves_same w x y same stays stream = record {
   calls = [];
   session = same;
   no_leg = refl;
-  speaks = speaks_same w read x y same stays stream;
+  speaks = speaks_same w x y same stays stream;
 }
 
-pub moves_none : (w : Encoding) (read : Decoding) (x : LinkedParts) → Moves w read x x
-moves_none w read x = moves_same w read x x refl (stays_here x.wire) refl
+pub moves_none : (w : Wording) (x : SessionIoParts) → Moves w x x
+moves_none w x = moves_same w x x refl (stays_here x.wire) refl
 
 said-append : (said : Said) (first more : List SessionCall) → said_after said (first ++ more) ≡ said_after (said_after said first) more
 said-append said [] more = refl
 said-append said (made ∷ first) more = said-append (said_with said made) first more
 
-pub speaks_then : (w : Encoding) (read : Decoding) (x y z : LinkedParts) (first more : List SessionCall)
-    → y.session ≡ after_calls read x.session first → SpeaksOn w read x first y → SpeaksOn w read y more z
-    → SpeaksOn w read x (first ++ more) z
-speaks_then w read x y z first more session one next = λ (said : Said) (hearing : IsHearing said x).
+pub speaks_then : (w : Wording) (x y z : SessionIoParts) (first more : List SessionCall)
+    → y.session ≡ after_calls w.decoding x.session first → SpeaksOn w x first y → SpeaksOn w y more z
+    → SpeaksOn w x (first ++ more) z
+speaks_then w x y z first more session one next = λ (said : Said) (hearing : IsHearing said x).
     let here = one said hearing in
     let later = next (said_after said first) here.1 in (
-      speak_on w read x.session said first more x.wire y.wire z.wire here.0
-          (subst (λ (s : SessionParts). Speak w read s (said_after said first) more y.wire z.wire) session later.0),
+      speak_on w x.session said first more x.wire y.wire z.wire here.0
+          (subst (λ (s : SessionParts). Speak w s (said_after said first) more y.wire z.wire) session later.0),
       subst (λ (l : Said). IsHearing l z) (sym (said-append said first more)) later.1,
     )
 
-pub moves_on : (w : Encoding) (read : Decoding) (x y z : LinkedParts) → Moves w read x y → Moves w read y z → Moves w read x z
-moves_on w read x y z first next = record {
+pub moves_on : (w : Wording) (x y z : SessionIoParts) → Moves w x y → Moves w y z → Moves w x z
+moves_on w x y z first next = record {
   calls = first.calls ++ next.calls;
-  session = next.session ∙ (ap (λ s. after_calls read s next.calls) first.session
-      ∙ sym (after-append read x.session first.calls next.calls));
+  session = next.session ∙ (ap (λ s. after_calls w.decoding s next.calls) first.session
+      ∙ sym (after-append w.decoding x.session first.calls next.calls));
   no_leg = legs-append first.calls next.calls ∙ (ap (λ l. l ++ legs_in next.calls) first.no_leg ∙ next.no_leg);
-  speaks = speaks_then w read x y z first.calls next.calls first.session first.speaks next.speaks;
+  speaks = speaks_then w x y z first.calls next.calls first.session first.speaks next.speaks;
 }
 
 -- ---- one call
 
 -- it has no message, and isn't to send a leg
-moves_call : (w : Encoding) (read : Decoding) (x y : LinkedParts) (made : SessionCall) → leg_in made ≡ []
-    → messages_in (called read x.session made).0 ≡ [] → ((said : Said) → IsHearing said x → Hears said made x.wire)
-    → Begins x.session made x.wire y.wire → y.session ≡ (called read x.session made).1
-    → ((said : Said) → IsHearing said x → IsHearing (said_with said made) y) → Moves w read x y
-moves_call w read x y made no_leg none hears begins is next = record {
+moves_call : (w : Wording) (x y : SessionIoParts) (made : SessionCall) → leg_in made ≡ []
+    → messages_in (called w.decoding x.session made).0 ≡ [] → ((said : Said) → IsHearing said x → Hears said made x.wire)
+    → Begins x.session made x.wire y.wire → y.session ≡ (called w.decoding x.session made).1
+    → ((said : Said) → IsHearing said x → IsHearing (said_with said made) y) → Moves w x y
+moves_call w x y made no_leg none hears begins is next = record {
   calls = made ∷ [];
   session = is;
   no_leg = ap (λ l. l ++ []) no_leg;
   speaks = λ (said : Said) (hearing : IsHearing said x). (
-    speak_silent w read x.session said made [] x.wire y.wire y.wire (hears said hearing) begins none
-        (speak_none w read (called read x.session made).1 (said_with said made) y.wire y.wire (stays_here y.wire)),
+    speak_silent w x.session said made [] x.wire y.wire y.wire (hears said hearing) begins none
+        (speak_none w (called w.decoding x.session made).1 (said_with said made) y.wire y.wire (stays_here y.wire)),
     next said hearing,
   );
 }
 
-pub moves_broken : (w : Encoding) (read : Decoding) (x y : LinkedParts) → y.session ≡ broken x.session
-    → Tells x.wire y.wire Stays → Moves w read x y
-moves_broken w read x y is stays =
-    moves_call w read x y call.Broken refl refl (λ said hearing. tt) (inl stays) is
+pub moves_broken : (w : Wording) (x y : SessionIoParts) → y.session ≡ broken x.session
+    → Tells x.wire y.wire Stays → Moves w x y
+moves_broken w x y is stays =
+    moves_call w x y call.Broken refl refl (λ said hearing. tt) (inl stays) is
     (λ said hearing. hearing_gone said y (gone x.session y.session is))
 
-pub moves_malformed : (w : Encoding) (read : Decoding) (x y : LinkedParts) → y.session ≡ (malformed x.session).1
-    → Tells x.wire y.wire Stays → ((said : Said) → IsHearing said x → Hears said call.Malformed x.wire) → Moves w read x y
-moves_malformed w read x y is stays hears =
-    moves_call w read x y call.Malformed refl refl hears stays is
+pub moves_malformed : (w : Wording) (x y : SessionIoParts) → y.session ≡ (malformed x.session).1
+    → Tells x.wire y.wire Stays → ((said : Said) → IsHearing said x → Hears said call.Malformed x.wire) → Moves w x y
+moves_malformed w x y is stays hears =
+    moves_call w x y call.Malformed refl refl hears stays is
     (λ said hearing. hearing_gone said y (gone_malformed x.session y.session is))
 
-pub moves_abandon : (w : Encoding) (read : Decoding) (x y : LinkedParts) → y.session ≡ abandon x.session
-    → Tells x.wire y.wire Stays → Moves w read x y
-moves_abandon w read x y is stays =
-    moves_call w read x y call.Abandon refl refl (λ said hearing. tt) stays is
+pub moves_abandon : (w : Wording) (x y : SessionIoParts) → y.session ≡ abandon x.session
+    → Tells x.wire y.wire Stays → Moves w x y
+moves_abandon w x y is stays =
+    moves_call w x y call.Abandon refl refl (λ said hearing. tt) stays is
     (λ said hearing. hearing_gone said y (gone_abandoned x.session y.session is))
 
 -- bytes were read, and then the connection may have been given up
-pub moves_read : (w : Encoding) (read : Decoding) (x y : LinkedParts) → MayBreak x.session y.session → Reads x.wire y.wire
-    → ((said : Said) → IsHearing said x → IsHearing said y) → Moves w read x y
-moves_read w read x y (inl same) reads hears = record {
+pub moves_read : (w : Wording) (x y : SessionIoParts) → MayBreak x.session y.session → Reads x.wire y.wire
+    → ((said : Said) → IsHearing said x → IsHearing said y) → Moves w x y
+moves_read w x y (inl same) reads hears = record {
   calls = [];
   session = same;
   no_leg = refl;
   speaks = λ (said : Said) (hearing : IsHearing said x). (reads, hears said hearing);
 }
-moves_read w read x y (inr is) reads hears = record {
+moves_read w x y (inr is) reads hears = record {
   calls = call.Broken ∷ [];
   session = is;
   no_leg = refl;
   speaks = λ (said : Said) (hearing : IsHearing said x). (
-    speak_read w read x.session said (call.Broken ∷ []) x.wire y.wire y.wire reads
-        (speak_broken w read x.session said y.wire y.wire (stays_here y.wire)),
+    speak_read w x.session said (call.Broken ∷ []) x.wire y.wire y.wire reads
+        (speak_broken w x.session said y.wire y.wire (stays_here y.wire)),
     hears said hearing,
   );
 }
@@ -171,132 +171,132 @@ took_answer Is s now (Ok said, after) y gives = gives.1
 took_answer Is s now (Err refused, after) y gives = gives.1
 
 -- it gave one
-pub gave_step : (w : Encoding) (read : Decoding) (s now : SessionParts) (made : SessionCall) (answer : SessionAnswer StepParts)
-    (stamp : StampParts) (step : Step) → IsPlain made → called read s made ≡ added answer
-    → Gives (IsStep w stamp) s answer (Ok step) now → Gave w read made s step now
-gave_step w read s now made (Ok said, after) stamp step plain is gives = record {
+pub gave_step : (w : Wording) (s now : SessionParts) (made : SessionCall) (answer : SessionAnswer StepParts)
+    (stamp : StampParts) (step : Step) → IsPlain made → called w.decoding s made ≡ added answer
+    → Gives (IsStep w.encoding stamp) s answer (Ok step) now → Gave w made s step now
+gave_step w s now made (Ok said, after) stamp step plain is gives = record {
   plain = plain;
   said = said;
   adds = is ∙ ap (λ (t : SessionParts). (Some said, t)) (sym gives.1);
   stamp = stamp;
   is_step = gives.0;
 }
-gave_step w read s now made (Err refused, after) stamp step plain is gives = absurd (let e = gives.0 in cc)
+gave_step w s now made (Err refused, after) stamp step plain is gives = absurd (let e = gives.0 in cc)
 
 -- it did by itself, with no message received
-pub asks_step : (w : Encoding) (read : Decoding) (s now : SessionParts) (made : SessionCall) (answer : SessionAnswer StepParts)
-    (stamp : StampParts) (step : Step) (a : Wire) (x : Stream) → IsPlain made → called read s made ≡ added answer
+pub asks_step : (w : Wording) (s now : SessionParts) (made : SessionCall) (answer : SessionAnswer StepParts)
+    (stamp : StampParts) (step : Step) (a : Wire) (x : Stream) → IsPlain made → called w.decoding s made ≡ added answer
     → ((said : Said) → Hears said made a) → ((said : Said) → said_with said made ≡ said)
-    → (is_connected answer.1.phase ≡ true → is_connected s.phase ≡ true) → Gives (IsStep w stamp) s answer (Ok step) now
-    → Asks w read (linked_of s a x) step (linked_of now a x)
-asks_step w read s now made answer stamp step a x plain is hears same back gives = record {
+    → (is_connected answer.1.phase ≡ true → is_connected s.phase ≡ true) → Gives (IsStep w.encoding stamp) s answer (Ok step) now
+    → Asks w (io_of s a x) step (io_of now a x)
+asks_step w s now made answer stamp step a x plain is hears same back gives = record {
   made = made;
-  gave = gave_step w read s now made answer stamp step plain is gives;
+  gave = gave_step w s now made answer stamp step plain is gives;
   wire = stays_here a;
-  hears = λ (said : Said) (hearing : IsHearing said (linked_of s a x)). (
+  hears = λ (said : Said) (hearing : IsHearing said (io_of s a x)). (
     hears said,
-    subst (λ (l : Said). IsHearing l (linked_of now a x)) (sym (same said))
-        (hearing_same said (linked_of s a x) (linked_of now a x)
-        (λ on. back (subst (λ (t : SessionParts). is_connected t.phase ≡ true) (took_answer (IsStep w stamp) s now answer step gives) on))
+    subst (λ (l : Said). IsHearing l (io_of now a x)) (sym (same said))
+        (hearing_same said (io_of s a x) (io_of now a x)
+        (λ on. back (subst (λ (t : SessionParts). is_connected t.phase ≡ true) (took_answer (IsStep w.encoding stamp) s now answer step gives) on))
         (stays_here a) refl hearing),
   );
 }
 
 -- it was refused, or wanted memory
-pub moves_refused : {Y : Type 0} (Is : StepParts → Y → Type 0) (w : Encoding) (read : Decoding) (x y : LinkedParts)
+pub moves_refused : {Y : Type 0} (Is : StepParts → Y → Type 0) (w : Wording) (x y : SessionIoParts)
     (made : SessionCall) (answer : SessionAnswer StepParts) (why : SessionFault) → IsPlain made
-    → called read x.session made ≡ added answer → ((said : Said) → Hears said made x.wire)
+    → called w.decoding x.session made ≡ added answer → ((said : Said) → Hears said made x.wire)
     → ((said : Said) → said_with said made ≡ said) → (is_connected answer.1.phase ≡ true → is_connected x.session.phase ≡ true)
-    → Gives Is x.session answer (Err why) y.session → Tells x.wire y.wire Stays → y.stream ≡ x.stream → Moves w read x y
-moves_refused Is w read x y made (Ok said, after) why plain is hears same back gives stays stream =
-    moves_same w read x y gives.1 stays stream
-moves_refused Is w read x y made (Err refused, after) why plain is hears same back gives stays stream =
-    moves_call w read x y made (plain_no_leg made plain) (ap (λ (a : Addition). messages_in a.0) is) (λ said hearing. hears said)
+    → Gives Is x.session answer (Err why) y.session → Tells x.wire y.wire Stays → y.stream ≡ x.stream → Moves w x y
+moves_refused Is w x y made (Ok said, after) why plain is hears same back gives stays stream =
+    moves_same w x y gives.1 stays stream
+moves_refused Is w x y made (Err refused, after) why plain is hears same back gives stays stream =
+    moves_call w x y made (plain_no_leg made plain) (ap (λ (a : Addition). messages_in a.0) is) (λ said hearing. hears said)
     (begins_plain x.session made x.wire y.wire plain stays) (gives.1 ∙ sym (ap (λ (a : Addition). a.1) is))
     (λ said hearing. subst (λ (l : Said). IsHearing l y) (sym (same said))
     (hearing_same said x y (λ on. back (subst (λ (t : SessionParts). is_connected t.phase ≡ true) gives.1 on)) stays stream hearing))
 
 -- its frames were written
-speak_gave : (w : Encoding) (read : Decoding) (s now : SessionParts) (made : SessionCall) (step : Step)
-    (gave : Gave w read made s step now) (said : Said) (later : List SessionCall) (a b c : Wire) → Hears said made a
-    → Puts (concat step.out) later a b → Speak w read now (said_with said made) later b c
-    → Speak w read s said (made ∷ later) a c
-speak_gave w read s now made step gave said later a b c hears puts rest =
-    speak_made w read s said made later gave.stamp step.out a a b c hears (begins_plain s made a a gave.plain (stays_here a))
-    (subst (λ (adds : Option StepParts). AreFramed w gave.stamp (map alone (messages_in adds)) step.out)
+speak_gave : (w : Wording) (s now : SessionParts) (made : SessionCall) (step : Step)
+    (gave : Gave w made s step now) (said : Said) (later : List SessionCall) (a b c : Wire) → Hears said made a
+    → Puts (concat step.out) later a b → Speak w now (said_with said made) later b c
+    → Speak w s said (made ∷ later) a c
+speak_gave w s now made step gave said later a b c hears puts rest =
+    speak_made w s said made later gave.stamp step.out a a b c hears (begins_plain s made a a gave.plain (stays_here a))
+    (subst (λ (adds : Option StepParts). AreFramed w.encoding gave.stamp (map alone (messages_in adds)) step.out)
     (sym (ap (λ (a : Addition). a.0) gave.adds)) gave.is_step.out) puts
-    (subst (λ (t : SessionParts). Speak w read t (said_with said made) later b c) (sym (ap (λ (a : Addition). a.1) gave.adds)) rest)
+    (subst (λ (t : SessionParts). Speak w t (said_with said made) later b c) (sym (ap (λ (a : Addition). a.1) gave.adds)) rest)
 
-pub moves_gave : (w : Encoding) (read : Decoding) (x m y : LinkedParts) (step : Step) (asks : Asks w read x step m)
-    (later : List SessionCall) (b : Wire) → y.session ≡ after_calls read m.session later → legs_in later ≡ []
+pub moves_gave : (w : Wording) (x m y : SessionIoParts) (step : Step) (asks : Asks w x step m)
+    (later : List SessionCall) (b : Wire) → y.session ≡ after_calls w.decoding m.session later → legs_in later ≡ []
     → Puts (concat step.out) later x.wire b
-    → ((said : Said) → IsHearing said m → Speak w read m.session said later b y.wire × IsHearing (said_after said later) y)
-    → Moves w read x y
-moves_gave w read x m y step asks later b is no_leg puts rest = record {
+    → ((said : Said) → IsHearing said m → Speak w m.session said later b y.wire × IsHearing (said_after said later) y)
+    → Moves w x y
+moves_gave w x m y step asks later b is no_leg puts rest = record {
   calls = asks.made ∷ later;
-  session = is ∙ ap (λ (t : SessionParts). after_calls read t later) (sym (ap (λ (a : Addition). a.1) asks.gave.adds));
+  session = is ∙ ap (λ (t : SessionParts). after_calls w.decoding t later) (sym (ap (λ (a : Addition). a.1) asks.gave.adds));
   no_leg = ap (λ l. l ++ legs_in later) (plain_no_leg asks.made asks.gave.plain) ∙ no_leg;
   speaks = λ (said : Said) (hearing : IsHearing said x).
       let heard = asks.hears said hearing in
       let done = rest (said_with said asks.made) heard.1 in (
-        speak_gave w read x.session m.session asks.made step asks.gave said later x.wire b y.wire heard.0 puts done.0,
+        speak_gave w x.session m.session asks.made step asks.gave said later x.wire b y.wire heard.0 puts done.0,
         done.1,
       );
 }
 
-pub moves_written : (w : Encoding) (read : Decoding) (x m y : LinkedParts) (step : Step) → Asks w read x step m
-    → Writes (concat step.out) m y → y.stream ≡ m.stream → Moves w read x y
-moves_written w read x m y step asks (inl all) stream =
-    moves_gave w read x m y step asks [] y.wire all.0 refl
+pub moves_written : (w : Wording) (x m y : SessionIoParts) (step : Step) → Asks w x step m
+    → Writes (concat step.out) m y → y.stream ≡ m.stream → Moves w x y
+moves_written w x m y step asks (inl all) stream =
+    moves_gave w x m y step asks [] y.wire all.0 refl
     (inl (stays_first (Takes (concat step.out)) x.wire m.wire y.wire asks.wire all.1))
     (λ said hearing. (
-      speak_none w read m.session said y.wire y.wire (stays_here y.wire),
+      speak_none w m.session said y.wire y.wire (stays_here y.wire),
       hearing_takes said (concat step.out) m y (λ on. subst (λ (s : SessionParts). is_connected s.phase ≡ true) all.0 on) all.1
           stream hearing,
     ))
-moves_written w read x m y step asks (inr part) stream =
-    moves_gave w read x m y step asks (call.Broken ∷ []) y.wire part.0 refl
+moves_written w x m y step asks (inr part) stream =
+    moves_gave w x m y step asks (call.Broken ∷ []) y.wire part.0 refl
     (inr (tt, stays_first (TakesFirst (concat step.out)) x.wire m.wire y.wire asks.wire (takes_first (concat step.out) m.wire y.wire part.1)))
     (λ said hearing. (
-      speak_broken w read m.session said y.wire y.wire (stays_here y.wire),
+      speak_broken w m.session said y.wire y.wire (stays_here y.wire),
       hearing_gone said y (gone m.session y.session part.0),
     ))
 
 -- ---- what comes of the next message
 
-pub heard_nothing : (w : Encoding) (read : Decoding) (x y : LinkedParts) → y.session ≡ x.session → Tells x.wire y.wire Stays
-    → (next_read x.stream).frame ≡ None → y.stream ≡ (next_read x.stream).stream → Moves w read x y
-heard_nothing w read x y same stays found is = record {
+pub heard_nothing : (w : Wording) (x y : SessionIoParts) → y.session ≡ x.session → Tells x.wire y.wire Stays
+    → (next_read x.stream).frame ≡ None → y.stream ≡ (next_read x.stream).stream → Moves w x y
+heard_nothing w x y same stays found is = record {
   calls = [];
   session = same;
   no_leg = refl;
   speaks = λ (said : Said) (hearing : IsHearing said x). (
-    speak_none w read x.session said x.wire y.wire stays,
+    speak_none w x.session said x.wire y.wire stays,
     (λ on. on_stays said x.wire y.wire y.stream
         (on_waits said x.wire x.stream y.stream (hearing (subst (λ (s : SessionParts). is_connected s.phase ≡ true) same on)) found is)
         stays),
   );
 }
 
-pub heard_step : (w : Encoding) (read : Decoding) (s now : SessionParts) (a : Wire) (x y : Stream) (step : Step)
-    → is_connected s.phase ≡ true → Receives w read s x step now → y ≡ (next_read x).stream
-    → Asks w read (linked_of s a x) step (linked_of now a y)
-heard_step w read s now a x y step on receives is = record {
+pub heard_step : (w : Wording) (s now : SessionParts) (a : Wire) (x y : Stream) (step : Step)
+    → is_connected s.phase ≡ true → Receives w s x step now → y ≡ (next_read x).stream
+    → Asks w (io_of s a x) step (io_of now a y)
+heard_step w s now a x y step on receives is = record {
   made = call.Receive receives.envelope;
   gave = receives.gave;
   wire = stays_here a;
-  hears = λ (said : Said) (hearing : IsHearing said (linked_of s a x)).
+  hears = λ (said : Said) (hearing : IsHearing said (io_of s a x)).
       let at : ReaderOn (said ++ Ok receives.envelope ∷ []) a y =
       subst (λ (r : Result Envelope TagFault). ReaderOn (said ++ r ∷ []) a y) receives.says
       (on_gave said receives.fields a x y (hearing on) receives.next is) in
       (on_first (said ++ Ok receives.envelope ∷ []) a y at, (λ still. at));
 }
 
-pub heard_malformed : (w : Encoding) (read : Decoding) (x y : LinkedParts) (z : Stream) (fields : List Tagged) (fault : TagFault)
+pub heard_malformed : (w : Wording) (x y : SessionIoParts) (z : Stream) (fields : List Tagged) (fault : TagFault)
     → is_connected x.session.phase ≡ true → (next_read x.stream).frame ≡ Some fields → envelope_read fields ≡ Err fault
-    → z ≡ (next_read x.stream).stream → y.session ≡ (malformed x.session).1 → Tells x.wire y.wire Stays → Moves w read x y
-heard_malformed w read x y z fields fault on next says is gone stays =
-    moves_malformed w read x y gone stays
+    → z ≡ (next_read x.stream).stream → y.session ≡ (malformed x.session).1 → Tells x.wire y.wire Stays → Moves w x y
+heard_malformed w x y z fields fault on next says is gone stays =
+    moves_malformed w x y gone stays
     (λ (said : Said) (hearing : IsHearing said x).
     let at : ReaderOn (said ++ Err fault ∷ []) x.wire z =
     subst (λ (r : Result Envelope TagFault). ReaderOn (said ++ r ∷ []) x.wire z) says
@@ -306,65 +306,65 @@ heard_malformed w read x y z fields fault on next says is gone stays =
 -- ---- a call that gives a message
 
 -- its frame was written, or the first bytes of it
-speak_message : (w : Encoding) (read : Decoding) (s now : SessionParts) (said : Said) (made : SessionCall)
+speak_message : (w : Wording) (s now : SessionParts) (said : Said) (made : SessionCall)
     (answer : SessionAnswer Message) (stamp : StampParts) (frame : Vec ℕ) (later : List SessionCall) (a b c d : Wire)
-    → called read s made ≡ added_message answer → Gives (λ (m : Message) (bytes : Vec ℕ). IsFramed w stamp (alone m) bytes.items) s answer (Ok frame) now → Hears said made a
-    → Begins s made a b → Puts frame.items later b c → Speak w read now (said_with said made) later c d
-    → Speak w read s said (made ∷ later) a d
-speak_message w read s now said made (Err refused, after) stamp frame later a b c d is gives hears begins puts rest =
+    → called w.decoding s made ≡ added_message answer → Gives (λ (m : Message) (bytes : Vec ℕ). IsFramed w.encoding stamp (alone m) bytes.items) s answer (Ok frame) now → Hears said made a
+    → Begins s made a b → Puts frame.items later b c → Speak w now (said_with said made) later c d
+    → Speak w s said (made ∷ later) a d
+speak_message w s now said made (Err refused, after) stamp frame later a b c d is gives hears begins puts rest =
     absurd (let e = gives.0 in cc)
-speak_message w read s now said made (Ok m, after) stamp frame later a b c d is gives hears begins puts rest =
-    speak_made w read s said made later stamp (frame.items ∷ []) a b c d hears begins
-    (subst (λ (adds : Option StepParts). AreFramed w stamp (map alone (messages_in adds)) (frame.items ∷ []))
+speak_message w s now said made (Ok m, after) stamp frame later a b c d is gives hears begins puts rest =
+    speak_made w s said made later stamp (frame.items ∷ []) a b c d hears begins
+    (subst (λ (adds : Option StepParts). AreFramed w.encoding stamp (map alone (messages_in adds)) (frame.items ∷ []))
     (sym (ap (λ (a : Addition). a.0) is)) (gives.0, tt))
     (subst (λ (bytes : List ℕ). Puts bytes later b c) (sym (concat_one frame.items)) puts)
-    (subst (λ (t : SessionParts). Speak w read t (said_with said made) later c d) (gives.1 ∙ sym (ap (λ (a : Addition). a.1) is)) rest)
+    (subst (λ (t : SessionParts). Speak w t (said_with said made) later c d) (gives.1 ∙ sym (ap (λ (a : Addition). a.1) is)) rest)
 
 after_message : (answer : SessionAnswer Message) → (added_message answer).1 ≡ answer.1
 after_message (Ok message, after) = refl
 after_message (Err why, after) = refl
 
 -- a session that logged on over a link that was dialled for it
-pub moves_connected : (w : Encoding) (read : Decoding) (s now : SessionParts) (stamp : StampParts) (frame : Vec ℕ) (a b : Wire)
-    (x z : Stream) (y : LinkedParts) → Gives (λ (m : Message) (bytes : Vec ℕ). IsFramed w stamp (alone m) bytes.items) s (connect s) (Ok frame) now → Tells a b Dials
-    → Writes frame.items (linked_of now b z) y → y.stream ≡ new_stream → Moves w read (linked_of s a x) y
-moves_connected w read s now stamp frame a b x z y gives dials (inl all) fresh = record {
+pub moves_connected : (w : Wording) (s now : SessionParts) (stamp : StampParts) (frame : Vec ℕ) (a b : Wire)
+    (x z : Stream) (y : SessionIoParts) → Gives (λ (m : Message) (bytes : Vec ℕ). IsFramed w.encoding stamp (alone m) bytes.items) s (connect s) (Ok frame) now → Tells a b Dials
+    → Writes frame.items (io_of now b z) y → y.stream ≡ new_stream → Moves w (io_of s a x) y
+moves_connected w s now stamp frame a b x z y gives dials (inl all) fresh = record {
   calls = call.Connect ∷ [];
-  session = all.0 ∙ (took_answer (λ (m : Message) (bytes : Vec ℕ). IsFramed w stamp (alone m) bytes.items) s now (connect s) frame gives ∙ sym (after_message (connect s)));
+  session = all.0 ∙ (took_answer (λ (m : Message) (bytes : Vec ℕ). IsFramed w.encoding stamp (alone m) bytes.items) s now (connect s) frame gives ∙ sym (after_message (connect s)));
   no_leg = refl;
-  speaks = λ (said : Said) (hearing : IsHearing said (linked_of s a x)). (
-    speak_message w read s now said call.Connect (connect s) stamp frame [] a b y.wire y.wire refl gives tt dials (inl all.1)
-        (speak_none w read now [] y.wire y.wire (stays_here y.wire)),
+  speaks = λ (said : Said) (hearing : IsHearing said (io_of s a x)). (
+    speak_message w s now said call.Connect (connect s) stamp frame [] a b y.wire y.wire refl gives tt dials (inl all.1)
+        (speak_none w now [] y.wire y.wire (stays_here y.wire)),
     (λ on. subst (λ (t : Stream). ReaderOn [] y.wire t) (sym fresh)
         (on_takes [] frame.items b y.wire new_stream (on_dials a b dials) all.1)),
   );
 }
-moves_connected w read s now stamp frame a b x z y gives dials (inr part) fresh = record {
+moves_connected w s now stamp frame a b x z y gives dials (inr part) fresh = record {
   calls = call.Connect ∷ call.Broken ∷ [];
-  session = part.0 ∙ ap broken (took_answer (λ (m : Message) (bytes : Vec ℕ). IsFramed w stamp (alone m) bytes.items) s now (connect s) frame gives ∙ sym (after_message (connect s)));
+  session = part.0 ∙ ap broken (took_answer (λ (m : Message) (bytes : Vec ℕ). IsFramed w.encoding stamp (alone m) bytes.items) s now (connect s) frame gives ∙ sym (after_message (connect s)));
   no_leg = refl;
-  speaks = λ (said : Said) (hearing : IsHearing said (linked_of s a x)). (
-    speak_message w read s now said call.Connect (connect s) stamp frame (call.Broken ∷ []) a b y.wire y.wire refl gives tt dials
-        (inr (tt, takes_first frame.items b y.wire part.1)) (speak_broken w read now [] y.wire y.wire (stays_here y.wire)),
+  speaks = λ (said : Said) (hearing : IsHearing said (io_of s a x)). (
+    speak_message w s now said call.Connect (connect s) stamp frame (call.Broken ∷ []) a b y.wire y.wire refl gives tt dials
+        (inr (tt, takes_first frame.items b y.wire part.1)) (speak_broken w now [] y.wire y.wire (stays_here y.wire)),
     hearing_gone [] y (gone now y.session part.0),
   );
 }
 
 -- a connection that was dialled, where the session refused to log on
-pub moves_not_connected : {Y : Type 0} (Is : Message → Y → Type 0) (w : Encoding) (read : Decoding) (s now : SessionParts)
-    (why : SessionFault) (a b : Wire) (x : Stream) (y : LinkedParts) → (why ≡ fault.OutOfMemory → ⊥)
+pub moves_not_connected : {Y : Type 0} (Is : Message → Y → Type 0) (w : Wording) (s now : SessionParts)
+    (why : SessionFault) (a b : Wire) (x : Stream) (y : SessionIoParts) → (why ≡ fault.OutOfMemory → ⊥)
     → Gives Is s (connect s) (Err why) now → Tells a b Dials → y.session ≡ now → Tells b y.wire Stays → y.stream ≡ new_stream
-    → Moves w read (linked_of s a x) y
-moves_not_connected Is w read s now why a b x y other gives dials same stays fresh =
+    → Moves w (io_of s a x) y
+moves_not_connected Is w s now why a b x y other gives dials same stays fresh =
     not_connected (connect s) refl gives where
       to : Tells a y.wire Dials
       to = stays_last Dials a b y.wire dials stays
 
       not_connected : (answer : SessionAnswer Message) → connect s ≡ answer → Gives Is s answer (Err why) now
-          → Moves w read (linked_of s a x) y
+          → Moves w (io_of s a x) y
       not_connected (Ok m, after) is gave = absurd (other gave.0)
       not_connected (Err refused, after) is gave =
-          moves_call w read (linked_of s a x) y call.Connect refl
+          moves_call w (io_of s a x) y call.Connect refl
           (ap (λ (t : SessionAnswer Message). messages_in (added_message t).0) is) (λ said hearing. tt) to
           (same ∙ (gave.1 ∙ sym (ap (λ (t : SessionAnswer Message). (added_message t).1) is)))
           (λ said hearing. λ on. subst (λ (t : Stream). ReaderOn [] y.wire t) (sym fresh) (on_dials a y.wire to))
@@ -381,23 +381,23 @@ down_connects s Closing m after is = absurd (let e = ap (λ p. p.0) is in cc)
 down_connects s LoggedOut m after is = absurd (let e = ap (λ p. p.0) is in cc)
 
 -- or where it was given up
-pub moves_gone : {Y : Type 0} (Is : Message → Y → Type 0) (w : Encoding) (read : Decoding) (s now : SessionParts)
-    (why : SessionFault) (a b : Wire) (x : Stream) (y : LinkedParts) → Gives Is s (connect s) (Err why) now → Tells a b Dials
-    → y.session ≡ broken now → Tells b y.wire Stays → Moves w read (linked_of s a x) y
-moves_gone Is w read s now why a b x y gives dials over stays = gone_from (connect s) refl gives where
+pub moves_gone : {Y : Type 0} (Is : Message → Y → Type 0) (w : Wording) (s now : SessionParts)
+    (why : SessionFault) (a b : Wire) (x : Stream) (y : SessionIoParts) → Gives Is s (connect s) (Err why) now → Tells a b Dials
+    → y.session ≡ broken now → Tells b y.wire Stays → Moves w (io_of s a x) y
+moves_gone Is w s now why a b x y gives dials over stays = gone_from (connect s) refl gives where
   gone_from : (answer : SessionAnswer Message) → connect s ≡ answer → Gives Is s answer (Err why) now
-      → Moves w read (linked_of s a x) y
+      → Moves w (io_of s a x) y
   gone_from (Ok m, after) is gave =
-      moves_call w read (linked_of s a x) y call.Broken refl refl (λ said hearing. tt)
+      moves_call w (io_of s a x) y call.Broken refl refl (λ said hearing. tt)
       (inr (down_connects s s.phase m after is, stays_last Dials a b y.wire dials stays)) (over ∙ ap broken gave.1)
       (λ said hearing. hearing_gone said y (gone now y.session over))
   gone_from (Err refused, after) is gave =
-      let between : LinkedParts = linked_of now b new_stream in
-      moves_on w read (linked_of s a x) between y
-      (moves_call w read (linked_of s a x) between call.Connect refl
+      let between : SessionIoParts = io_of now b new_stream in
+      moves_on w (io_of s a x) between y
+      (moves_call w (io_of s a x) between call.Connect refl
       (ap (λ (t : SessionAnswer Message). messages_in (added_message t).0) is) (λ said hearing. tt) dials
       (gave.1 ∙ sym (ap (λ (t : SessionAnswer Message). (added_message t).1) is)) (λ said hearing. λ on. on_dials a b dials))
-      (moves_broken w read between y over stays)
+      (moves_broken w between y over stays)
 
 -- a refused call leaves the session as it was
 refused : {X Y : Type 0} (Is : X → Y → Type 0) (Made : X → SessionParts → Type 0) (s now : SessionParts)
@@ -422,45 +422,45 @@ answered Is s now (Ok said, after) why other gives = absurd (other gives.0)
 answered Is s now (Err refused, after) why other gives = gives.1
 
 -- a leg that was sent
-pub hands_sent : (w : Encoding) (read : Decoding) (leg : PlacedLeg) (s now : SessionParts) (stamp : StampParts) (frame : Vec ℕ)
-    (a : Wire) (x : Stream) (y : LinkedParts) → Gives (λ (m : Message) (bytes : Vec ℕ). IsFramed w stamp (alone m) bytes.items) s (send_leg s leg.ordinal leg.leg) (Ok frame) now
-    → Writes frame.items (linked_of now a x) y → y.stream ≡ x → Hands w read leg (linked_of s a x) y
-hands_sent w read leg s now stamp frame a x y gives (inl all) stream =
-    let is : y.session ≡ (send_leg s leg.ordinal leg.leg).1 = all.0 ∙ took_answer (λ (m : Message) (bytes : Vec ℕ). IsFramed w stamp (alone m) bytes.items) s now (send_leg s leg.ordinal leg.leg) frame gives in
+pub hands_sent : (w : Wording) (leg : PlacedLeg) (s now : SessionParts) (stamp : StampParts) (frame : Vec ℕ)
+    (a : Wire) (x : Stream) (y : SessionIoParts) → Gives (λ (m : Message) (bytes : Vec ℕ). IsFramed w.encoding stamp (alone m) bytes.items) s (send_leg s leg.ordinal leg.leg) (Ok frame) now
+    → Writes frame.items (io_of now a x) y → y.stream ≡ x → Hands w leg (io_of s a x) y
+hands_sent w leg s now stamp frame a x y gives (inl all) stream =
+    let is : y.session ≡ (send_leg s leg.ordinal leg.leg).1 = all.0 ∙ took_answer (λ (m : Message) (bytes : Vec ℕ). IsFramed w.encoding stamp (alone m) bytes.items) s now (send_leg s leg.ordinal leg.leg) frame gives in
     record {
       event = Calls (call.SendLeg leg.ordinal leg.leg);
       of_leg = inl refl;
       calls = [];
       session = is ∙ sym (after_message (send_leg s leg.ordinal leg.leg));
       no_leg = refl;
-      speaks = λ (said : Said) (hearing : IsHearing said (linked_of s a x)). (
-        speak_message w read s now said (call.SendLeg leg.ordinal leg.leg) (send_leg s leg.ordinal leg.leg) stamp frame [] a a y.wire y.wire
-            refl gives tt (stays_here a) (inl all.1) (speak_none w read now said y.wire y.wire (stays_here y.wire)),
-        hearing_takes said frame.items (linked_of s a x) y
+      speaks = λ (said : Said) (hearing : IsHearing said (io_of s a x)). (
+        speak_message w s now said (call.SendLeg leg.ordinal leg.leg) (send_leg s leg.ordinal leg.leg) stamp frame [] a a y.wire y.wire
+            refl gives tt (stays_here a) (inl all.1) (speak_none w now said y.wire y.wire (stays_here y.wire)),
+        hearing_takes said frame.items (io_of s a x) y
             (λ on. send_on s leg.ordinal leg.leg (subst (λ (t : SessionParts). is_connected t.phase ≡ true) is on)) all.1 stream hearing,
       );
     }
-hands_sent w read leg s now stamp frame a x y gives (inr part) stream = record {
+hands_sent w leg s now stamp frame a x y gives (inr part) stream = record {
   event = Calls (call.SendLeg leg.ordinal leg.leg);
   of_leg = inl refl;
   calls = call.Broken ∷ [];
-  session = part.0 ∙ ap broken (took_answer (λ (m : Message) (bytes : Vec ℕ). IsFramed w stamp (alone m) bytes.items) s now (send_leg s leg.ordinal leg.leg) frame gives ∙ sym (after_message (send_leg s leg.ordinal leg.leg)));
+  session = part.0 ∙ ap broken (took_answer (λ (m : Message) (bytes : Vec ℕ). IsFramed w.encoding stamp (alone m) bytes.items) s now (send_leg s leg.ordinal leg.leg) frame gives ∙ sym (after_message (send_leg s leg.ordinal leg.leg)));
   no_leg = refl;
-  speaks = λ (said : Said) (hearing : IsHearing said (linked_of s a x)). (
-    speak_message w read s now said (call.SendLeg leg.ordinal leg.leg) (send_leg s leg.ordinal leg.leg) stamp frame (call.Broken ∷ []) a a
+  speaks = λ (said : Said) (hearing : IsHearing said (io_of s a x)). (
+    speak_message w s now said (call.SendLeg leg.ordinal leg.leg) (send_leg s leg.ordinal leg.leg) stamp frame (call.Broken ∷ []) a a
         y.wire y.wire refl gives tt (stays_here a) (inr (tt, takes_first frame.items a y.wire part.1))
-        (speak_broken w read now said y.wire y.wire (stays_here y.wire)),
+        (speak_broken w now said y.wire y.wire (stays_here y.wire)),
     hearing_gone said y (gone now y.session part.0),
   );
 }
 
 -- one that the session refused
-pub hands_refused : {Y : Type 0} (Is : Message → Y → Type 0) (w : Encoding) (read : Decoding) (leg : PlacedLeg)
+pub hands_refused : {Y : Type 0} (Is : Message → Y → Type 0) (w : Wording) (leg : PlacedLeg)
     (s now : SessionParts) (why : SessionFault) (a : Wire) (x : Stream) → (why ≡ fault.OutOfMemory → ⊥)
-    → Gives Is s (send_leg s leg.ordinal leg.leg) (Err why) now → Hands w read leg (linked_of s a x) (linked_of now a x)
-hands_refused Is w read leg s now why a x other gives = was_refused (send_leg s leg.ordinal leg.leg) refl gives where
+    → Gives Is s (send_leg s leg.ordinal leg.leg) (Err why) now → Hands w leg (io_of s a x) (io_of now a x)
+hands_refused Is w leg s now why a x other gives = was_refused (send_leg s leg.ordinal leg.leg) refl gives where
   was_refused : (answer : SessionAnswer Message) → send_leg s leg.ordinal leg.leg ≡ answer → Gives Is s answer (Err why) now
-      → Hands w read leg (linked_of s a x) (linked_of now a x)
+      → Hands w leg (io_of s a x) (io_of now a x)
   was_refused (Ok m, after) is gave = absurd (other gave.0)
   was_refused (Err refused, after) is gave =
       let same : now ≡ (send_leg s leg.ordinal leg.leg).1 = gave.1 ∙ sym (ap (λ (t : SessionAnswer Message). t.1) is) in
@@ -470,28 +470,28 @@ hands_refused Is w read leg s now why a x other gives = was_refused (send_leg s 
         calls = [];
         session = gave.1 ∙ sym (ap (λ (t : SessionAnswer Message). (added_message t).1) is);
         no_leg = refl;
-        speaks = λ (said : Said) (hearing : IsHearing said (linked_of s a x)). (
-          speak_silent w read s said (call.SendLeg leg.ordinal leg.leg) [] a a a tt (stays_here a)
+        speaks = λ (said : Said) (hearing : IsHearing said (io_of s a x)). (
+          speak_silent w s said (call.SendLeg leg.ordinal leg.leg) [] a a a tt (stays_here a)
               (ap (λ (t : SessionAnswer Message). messages_in (added_message t).0) is)
-              (speak_none w read (called read s (call.SendLeg leg.ordinal leg.leg)).1 said a a (stays_here a)),
-          hearing_same said (linked_of s a x) (linked_of now a x)
+              (speak_none w (called w.decoding s (call.SendLeg leg.ordinal leg.leg)).1 said a a (stays_here a)),
+          hearing_same said (io_of s a x) (io_of now a x)
               (λ on. send_on s leg.ordinal leg.leg (subst (λ (t : SessionParts). is_connected t.phase ≡ true) same on)) (stays_here a)
               refl hearing,
         );
       }
 
 -- one for which it wanted memory
-pub hands_failed : {Y : Type 0} (Is : Message → Y → Type 0) (w : Encoding) (read : Decoding) (leg : PlacedLeg)
-    (s now : SessionParts) (why : SessionFault) (a : Wire) (x : Stream) (y : LinkedParts)
-    → Gives Is s (send_leg s leg.ordinal leg.leg) (Err why) now → y.session ≡ broken now → Tells a y.wire Stays → Hands w read leg (linked_of s a x) y
-hands_failed Is w read leg s now why a x y gives e stays = record {
+pub hands_failed : {Y : Type 0} (Is : Message → Y → Type 0) (w : Wording) (leg : PlacedLeg)
+    (s now : SessionParts) (why : SessionFault) (a : Wire) (x : Stream) (y : SessionIoParts)
+    → Gives Is s (send_leg s leg.ordinal leg.leg) (Err why) now → y.session ≡ broken now → Tells a y.wire Stays → Hands w leg (io_of s a x) y
+hands_failed Is w leg s now why a x y gives e stays = record {
   event = Fails leg;
   of_leg = inr refl;
   calls = [];
   session = e ∙ ap broken (refused_send Is s now leg why gives);
   no_leg = refl;
-  speaks = λ (said : Said) (hearing : IsHearing said (linked_of s a x)).
-      (speak_broken w read s said a y.wire stays, hearing_gone said y (gone now y.session e));
+  speaks = λ (said : Said) (hearing : IsHearing said (io_of s a x)).
+      (speak_broken w s said a y.wire stays, hearing_gone said y (gone now y.session e));
 }
 
 -- a session that is down or closed can't send a leg

@@ -15,7 +15,7 @@ use Rattle.session_core.specs.Receiving.{confirm}
 use Rattle.session_core.specs.Calling.{SessionAnswer, refuses, quiet, silent, close, close_in, send_leg, send_in, malformed, broken, abandon}
 use Rattle.session_core.proofs.Adding.{chosen}
 use Rattle.session_worker.specs.Hearing.{Said, ReaderOn}
-use Rattle.session_worker.specs.Linking.{LinkedParts, IsHearing, MayBreak, TakesIn}
+use Rattle.session_worker.specs.Linking.{SessionIoParts, IsHearing, MayBreak, TakesIn}
 use Rattle.session_worker.proofs.Hearing.{on_stays, on_fed, on_takes}
 
 -- a session whose connection is gone
@@ -90,28 +90,28 @@ pub send_on : (s : SessionParts) (ordinal : ℕ) (leg : Leg) → is_connected (s
 send_on s ordinal leg = send_in_on s ordinal leg s.phase refl
 
 -- what the reader has stays so where no byte was read
-pub hearing_same : (said : Said) (x y : LinkedParts) → (is_connected y.session.phase ≡ true → is_connected x.session.phase ≡ true)
+pub hearing_same : (said : Said) (x y : SessionIoParts) → (is_connected y.session.phase ≡ true → is_connected x.session.phase ≡ true)
     → Tells x.wire y.wire Stays → y.stream ≡ x.stream → IsHearing said x → IsHearing said y
 hearing_same said x y back stays stream hearing =
     λ on. subst (λ (z : Stream). ReaderOn said y.wire z) (sym stream)
     (on_stays said x.wire y.wire x.stream (hearing (back on)) stays)
 
-pub hearing_takes : (said : Said) (bytes : List ℕ) (x y : LinkedParts)
+pub hearing_takes : (said : Said) (bytes : List ℕ) (x y : SessionIoParts)
     → (is_connected y.session.phase ≡ true → is_connected x.session.phase ≡ true) → Tells x.wire y.wire (Takes bytes)
     → y.stream ≡ x.stream → IsHearing said x → IsHearing said y
 hearing_takes said bytes x y back takes stream hearing =
     λ on. subst (λ (z : Stream). ReaderOn said y.wire z) (sym stream)
     (on_takes said bytes x.wire y.wire x.stream (hearing (back on)) takes)
 
-pub hearing_gone : (said : Said) (y : LinkedParts) → (is_connected y.session.phase ≡ true → ⊥) → IsHearing said y
+pub hearing_gone : (said : Said) (y : SessionIoParts) → (is_connected y.session.phase ≡ true → ⊥) → IsHearing said y
 hearing_gone said y off = λ on. absurd (off on)
 
 -- bytes that were read were handed to the reader, or else the connection was given up
-pub fed_breaks : (bytes : List ℕ) (x y : LinkedParts) → TakesIn bytes x y → MayBreak x.session y.session
+pub fed_breaks : (bytes : List ℕ) (x y : SessionIoParts) → TakesIn bytes x y → MayBreak x.session y.session
 fed_breaks bytes x y (inl all) = inl all.0
 fed_breaks bytes x y (inr over) = inr over
 
-pub hearing_fed : (said : Said) (bytes : List ℕ) (x m y : LinkedParts) → m.session ≡ x.session → m.stream ≡ x.stream
+pub hearing_fed : (said : Said) (bytes : List ℕ) (x m y : SessionIoParts) → m.session ≡ x.session → m.stream ≡ x.stream
     → Tells x.wire m.wire (GivesBytes bytes) → TakesIn bytes m y → Tells m.wire y.wire Stays → IsHearing said x → IsHearing said y
 hearing_fed said bytes x m y session stream gives (inl all) stays hearing =
     λ on. on_stays said m.wire y.wire y.stream

@@ -4,7 +4,7 @@ use Rattle.std.specs.List.{concat}
 use Rattle.std.specs.Prelude.{Option, Some, None, MatchOption}
 use Rattle.std.proofs.lemmas.List.{append-nil}
 use Rattle.leg.specs.declared.placed_leg.PlacedLeg.{PlacedLeg}
-use Rattle.dialect.specs.Wording.{Decoding, Encoding}
+use Rattle.dialect.specs.Wording.{Decoding, Wording}
 use Rattle.link.specs.Traffic.{Tells, Takes, Stays}
 use Rattle.session_core.specs.declared.phase.Phase.{Phase}
 use Rattle.session_core.specs.declared.phase.Phase.TheVariants.{Down, LoggingOn, Settling, Up, Closing, LoggedOut, Closed}
@@ -16,11 +16,13 @@ use Rattle.session_core.specs.Receiving.{confirm}
 use Rattle.session_core.specs.Calling.{broken, abandon}
 use Rattle.session_core.specs.Trial.{called, after_calls}
 use Rattle.session_core.proofs.CallsMade.{after-append}
+use Rattle.release_lock.specs.Queues.{Took}
+use Rattle.exec_collector.specs.Seats.{Seat}
 use Rattle.session_worker.specs.Ends.{is_over, last_calls}
 use Rattle.session_worker.specs.Taking.{with_taken}
 use Rattle.session_worker.specs.Hearing.{Said, said_after}
 use Rattle.session_worker.specs.Speaking.{Wire, TakesFirst, Speak}
-use Rattle.session_worker.specs.Linking.{LinkedParts, SpeaksOn, PostParts, worker_in, linked_in, MayConfirm, Moves, Hands, Asks, CarriesOut, Does, Drains}
+use Rattle.session_worker.specs.Linking.{SessionIoParts, SpeaksOn, WorkerStateParts, worker_in, MayConfirm, Moves, Hands, Asks, CarriesOut, Does, Drains}
 use Rattle.session_worker.specs.Events.{WorkerEvent, calls_in, calls_of, leg_in, legs_in, taken_in, taken_of, IsIdle, IsAllowedCall, IsAllowed, AreAllowed, WorkerParts, Goes}
 use Rattle.session_worker.specs.Events.WorkerEvent.{Calls, Drops, Fails}
 use Rattle.session_worker.proofs.Spoken.{stays_here}
@@ -50,13 +52,13 @@ allowed-append read s (event ∷ first) more all rest = (
       (subst (λ (t : SessionParts). AreAllowed read t more) (after-append read s (calls_in event) (calls_of first)) rest),
 )
 
-pub speak_events : (w : Encoding) (read : Decoding) (s : SessionParts) (said : Said) (first more : List WorkerEvent) (a b c : Wire)
-    → Speak w read s said (calls_of first) a b
-    → Speak w read (after_calls read s (calls_of first)) (said_after said (calls_of first)) (calls_of more) b c
-    → Speak w read s said (calls_of (first ++ more)) a c
-speak_events w read s said first more a b c one next =
-    subst (λ (calls : List SessionCall). Speak w read s said calls a c) (sym (calls-append first more))
-    (speak_on w read s said (calls_of first) (calls_of more) a b c one next)
+pub speak_events : (w : Wording) (s : SessionParts) (said : Said) (first more : List WorkerEvent) (a b c : Wire)
+    → Speak w s said (calls_of first) a b
+    → Speak w (after_calls w.decoding s (calls_of first)) (said_after said (calls_of first)) (calls_of more) b c
+    → Speak w s said (calls_of (first ++ more)) a c
+speak_events w s said first more a b c one next =
+    subst (λ (calls : List SessionCall). Speak w s said calls a c) (sym (calls-append first more))
+    (speak_on w s said (calls_of first) (calls_of more) a b c one next)
 
 pub goes_on : (read : Decoding) (a b c : WorkerParts) (first more : List WorkerEvent) → Goes read a first b
     → Goes read b more c → Goes read a (first ++ more) c
@@ -73,19 +75,23 @@ goes_on read a b c first more one next = record {
   seat = next.seat ∙ one.seat;
 }
 
-pub does_on : (w : Encoding) (read : Decoding) (a b c : PostParts) → Does w read a b → Does w read b c → Does w read a c
-does_on w read a b c first next = record {
+pub does_on : (w : Wording) (a b c : WorkerStateParts) → Does w a b → Does w b c → Does w a c
+does_on w a b c first next = record {
   events = first.events ++ next.events;
-  goes = goes_on read (worker_in a) (worker_in b) (worker_in c) first.events next.events first.goes next.goes;
-  speaks = subst (λ (calls : List SessionCall). SpeaksOn w read (linked_in a) calls (linked_in c))
+  goes = goes_on w.decoding (worker_in a) (worker_in b) (worker_in c) first.events next.events first.goes next.goes;
+  speaks = subst (λ (calls : List SessionCall). SpeaksOn w a.io calls c.io)
       (sym (calls-append first.events next.events))
-      (speaks_then w read (linked_in a) (linked_in b) (linked_in c) (calls_of first.events) (calls_of next.events)
+      (speaks_then w a.io b.io c.io (calls_of first.events) (calls_of next.events)
       first.goes.session first.speaks next.speaks);
 }
 
+-- a worker in the middle of a turn, of its parts
+abbrev pub state_of : SessionIoParts → Took → Seat → WorkerStateParts
+state_of io took seat = record { io = io; took = took; seat = seat }
+
 -- nothing
 pub goes_none : (read : Decoding) (a b : WorkerParts) → b.session ≡ a.session → b.took ≡ a.took
-    → b.seat_parts ≡ a.seat_parts → Goes read a [] b
+    → b.seat.parts ≡ a.seat.parts → Goes read a [] b
 goes_none read a b session took seat = record {
   session = session;
   taken = ap (λ t. t.taken) took ∙ sym (append-nil a.took.taken);
@@ -130,7 +136,7 @@ allowed_calls read s (made ∷ calls) e =
     (allowed_call s made none.0, allowed_calls read (called read s made).1 calls none.1)
 
 pub goes_calls : (read : Decoding) (a b : WorkerParts) (calls : List SessionCall)
-    → b.session ≡ after_calls read a.session calls → legs_in calls ≡ [] → b.took ≡ a.took → b.seat_parts ≡ a.seat_parts
+    → b.session ≡ after_calls read a.session calls → legs_in calls ≡ [] → b.took ≡ a.took → b.seat.parts ≡ a.seat.parts
     → Goes read a (calling calls) b
 goes_calls read a b calls session no_leg took seat = record {
   session = session ∙ ap (after_calls read a.session) (sym (calling-calls calls));
@@ -141,68 +147,71 @@ goes_calls read a b calls session no_leg took seat = record {
   seat = seat;
 }
 
-pub does_moves : (w : Encoding) (read : Decoding) (a b : PostParts) → Moves w read (linked_in a) (linked_in b) → b.took ≡ a.took
-    → b.seat_parts ≡ a.seat_parts → Does w read a b
-does_moves w read a b moves took seat = record {
+pub does_moves : (w : Wording) (a b : WorkerStateParts) → Moves w a.io b.io → b.took ≡ a.took
+    → b.seat.parts ≡ a.seat.parts → Does w a b
+does_moves w a b moves took seat = record {
   events = calling moves.calls;
-  goes = goes_calls read (worker_in a) (worker_in b) moves.calls moves.session moves.no_leg took seat;
-  speaks = subst (λ (calls : List SessionCall). SpeaksOn w read (linked_in a) calls (linked_in b))
+  goes = goes_calls w.decoding (worker_in a) (worker_in b) moves.calls moves.session moves.no_leg took seat;
+  speaks = subst (λ (calls : List SessionCall). SpeaksOn w a.io calls b.io)
       (sym (calling-calls moves.calls)) moves.speaks;
 }
 
-pub does_same : (w : Encoding) (read : Decoding) (a b : PostParts) → b.session ≡ a.session → b.took ≡ a.took
-    → b.seat_parts ≡ a.seat_parts → Tells a.wire b.wire Stays → b.stream ≡ a.stream → Does w read a b
-does_same w read a b session took seat stays stream =
-    does_moves w read a b (moves_same w read (linked_in a) (linked_in b) session stays stream) took seat
+pub does_same : (w : Wording) (a b : WorkerStateParts) → b.io.session ≡ a.io.session → b.took ≡ a.took
+    → b.seat.parts ≡ a.seat.parts → Tells a.io.wire b.io.wire Stays → b.io.stream ≡ a.io.stream → Does w a b
+does_same w a b session took seat stays stream =
+    does_moves w a b (moves_same w a.io b.io session stays stream) took seat
 
-pub does_none : (w : Encoding) (read : Decoding) (a : PostParts) → Does w read a a
-does_none w read a = does_same w read a a refl refl refl (stays_here a.wire) refl
+pub does_none : (w : Wording) (a : WorkerStateParts) → Does w a a
+does_none w a = does_same w a a refl refl refl (stays_here a.io.wire) refl
+
+pub does_stay : (w : Wording) (a b : WorkerStateParts) → b ≡ a → Does w a b
+does_stay w a b same = subst (λ (c : WorkerStateParts). Does w a c) (sym same) (does_none w a)
 
 -- ---- what a step wanted
 
 -- a call that gave a step, and then what the step wanted
-moves_carried : (w : Encoding) (read : Decoding) (x m y : LinkedParts) (step : Step) (noted : SessionParts) → Asks w read x step m
+moves_carried : (w : Wording) (x m y : SessionIoParts) (step : Step) (noted : SessionParts) → Asks w x step m
     → MayConfirm m.session noted
     → ((y.session ≡ noted) × Tells m.wire y.wire (Takes (concat step.out)))
     ⊎ ((y.session ≡ broken noted) × Tells m.wire y.wire (TakesFirst (concat step.out))) → y.stream ≡ m.stream
-    → Moves w read x y
-moves_carried w read x m y step noted asks (inl same) (inl all) stream =
-    moves_gave w read x m y step asks [] y.wire (all.0 ∙ same) refl
+    → Moves w x y
+moves_carried w x m y step noted asks (inl same) (inl all) stream =
+    moves_gave w x m y step asks [] y.wire (all.0 ∙ same) refl
     (inl (stays_first (Takes (concat step.out)) x.wire m.wire y.wire asks.wire all.1))
     (λ said hearing. (
-      speak_none w read m.session said y.wire y.wire (stays_here y.wire),
+      speak_none w m.session said y.wire y.wire (stays_here y.wire),
       hearing_takes said (concat step.out) m y (λ on. subst (λ (s : SessionParts). is_connected s.phase ≡ true) (all.0 ∙ same) on)
           all.1 stream hearing,
     ))
-moves_carried w read x m y step noted asks (inr confirmed) (inl all) stream =
-    moves_gave w read x m y step asks (call.Confirm ∷ []) y.wire (all.0 ∙ confirmed) refl
+moves_carried w x m y step noted asks (inr confirmed) (inl all) stream =
+    moves_gave w x m y step asks (call.Confirm ∷ []) y.wire (all.0 ∙ confirmed) refl
     (inl (stays_first (Takes (concat step.out)) x.wire m.wire y.wire asks.wire all.1))
     (λ said hearing. (
-      speak_silent w read m.session said call.Confirm [] y.wire y.wire y.wire tt (stays_here y.wire) refl
-          (speak_none w read (confirm m.session) said y.wire y.wire (stays_here y.wire)),
+      speak_silent w m.session said call.Confirm [] y.wire y.wire y.wire tt (stays_here y.wire) refl
+          (speak_none w (confirm m.session) said y.wire y.wire (stays_here y.wire)),
       hearing_takes said (concat step.out) m y (confirm_on m.session y.session (all.0 ∙ confirmed)) all.1 stream hearing,
     ))
-moves_carried w read x m y step noted asks (inl same) (inr part) stream =
-    moves_gave w read x m y step asks (call.Broken ∷ []) y.wire (part.0 ∙ ap broken same) refl
+moves_carried w x m y step noted asks (inl same) (inr part) stream =
+    moves_gave w x m y step asks (call.Broken ∷ []) y.wire (part.0 ∙ ap broken same) refl
     (inr (tt, stays_first (TakesFirst (concat step.out)) x.wire m.wire y.wire asks.wire part.1))
     (λ said hearing. (
-      speak_broken w read m.session said y.wire y.wire (stays_here y.wire),
+      speak_broken w m.session said y.wire y.wire (stays_here y.wire),
       hearing_gone said y (gone noted y.session part.0),
     ))
-moves_carried w read x m y step noted asks (inr confirmed) (inr part) stream =
-    moves_gave w read x m y step asks (call.Confirm ∷ call.Broken ∷ []) y.wire (part.0 ∙ ap broken confirmed) refl
+moves_carried w x m y step noted asks (inr confirmed) (inr part) stream =
+    moves_gave w x m y step asks (call.Confirm ∷ call.Broken ∷ []) y.wire (part.0 ∙ ap broken confirmed) refl
     (inr (tt, stays_first (TakesFirst (concat step.out)) x.wire m.wire y.wire asks.wire part.1))
     (λ said hearing. (
-      speak_silent w read m.session said call.Confirm (call.Broken ∷ []) y.wire y.wire y.wire tt (stays_here y.wire) refl
-          (speak_broken w read (confirm m.session) said y.wire y.wire (stays_here y.wire)),
+      speak_silent w m.session said call.Confirm (call.Broken ∷ []) y.wire y.wire y.wire tt (stays_here y.wire) refl
+          (speak_broken w (confirm m.session) said y.wire y.wire (stays_here y.wire)),
       hearing_gone said y (gone noted y.session part.0),
     ))
 
-pub does_asked : (w : Encoding) (read : Decoding) (a b d : PostParts) (step : Step) → Asks w read (linked_in a) step (linked_in b)
-    → b.took ≡ a.took → b.seat_parts ≡ a.seat_parts → CarriesOut (concat step.out) b d → Does w read a d
-does_asked w read a b d step asks took seat carries =
-    does_moves w read a d
-    (moves_carried w read (linked_in a) (linked_in b) (linked_in d) step carries.noted asks carries.notes carries.writes carries.stream)
+pub does_asked : (w : Wording) (a b d : WorkerStateParts) (step : Step) → Asks w a.io step b.io
+    → b.took ≡ a.took → b.seat.parts ≡ a.seat.parts → CarriesOut (concat step.out) b d → Does w a d
+does_asked w a b d step asks took seat carries =
+    does_moves w a d
+    (moves_carried w a.io b.io d.io step carries.noted asks carries.notes carries.writes carries.stream)
     (carries.took ∙ took) (carries.seat ∙ seat)
 
 -- legs that are dropped
@@ -221,66 +230,62 @@ allowed_drops : (read : Decoding) (s : SessionParts) (legs : List PlacedLeg) →
 allowed_drops read s [] idle = tt
 allowed_drops read s (leg ∷ legs) idle = (idle, allowed_drops read s legs idle)
 
-pub goes_drains : (read : Decoding) (a b : PostParts) (drains : Drains a b) → IsIdle a.session
+pub goes_drains : (read : Decoding) (a b : WorkerStateParts) (drains : Drains a b) → IsIdle a.io.session
     → Goes read (worker_in a) (dropping drains.legs) (worker_in b)
 goes_drains read a b drains idle = record {
-  session = drains.session ∙ ap (after_calls read a.session) (sym (dropping-calls drains.legs));
+  session = ap (λ (x : SessionIoParts). x.session) drains.io
+      ∙ ap (after_calls read a.io.session) (sym (dropping-calls drains.legs));
   taken = drains.taken ∙ ap (λ l. a.took.taken ++ l) (sym (dropping-taken drains.legs));
-  allowed = allowed_drops read a.session drains.legs idle;
+  allowed = allowed_drops read a.io.session drains.legs idle;
   venue = drains.venue;
   seat = drains.seat;
 }
 
-pub does_drains : (w : Encoding) (read : Decoding) (a b : PostParts) → Drains a b → IsIdle a.session → Does w read a b
-does_drains w read a b drains idle = record {
+pub does_drains : (w : Wording) (a b : WorkerStateParts) → Drains a b → IsIdle a.io.session → Does w a b
+does_drains w a b drains idle = record {
   events = dropping drains.legs;
-  goes = goes_drains read a b drains idle;
-  speaks = subst (λ (calls : List SessionCall). SpeaksOn w read (linked_in a) calls (linked_in b))
+  goes = goes_drains w.decoding a b drains idle;
+  speaks = subst (λ (calls : List SessionCall). SpeaksOn w a.io calls b.io)
       (sym (dropping-calls drains.legs))
-      (speaks_same w read (linked_in a) (linked_in b) drains.session (stays_same a.wire b.wire drains.wire) drains.stream);
+      (speaks_same w a.io b.io (ap (λ (x : SessionIoParts). x.session) drains.io)
+      (stays_same a.io.wire b.io.wire (ap (λ (x : SessionIoParts). x.wire) drains.io))
+      (ap (λ (x : SessionIoParts). x.stream) drains.io));
 }
 
-pub drains_none : (a b : PostParts) → b.session ≡ a.session → b.took ≡ a.took → b.seat_parts ≡ a.seat_parts
-    → b.wire ≡ a.wire → b.stream ≡ a.stream → Drains a b
-drains_none a b session took seat wire stream = record {
+pub drains_none : (a b : WorkerStateParts) → b.io ≡ a.io → b.took ≡ a.took → b.seat.parts ≡ a.seat.parts → Drains a b
+drains_none a b io took seat = record {
   legs = [];
-  session = session;
+  io = io;
   taken = ap (λ t. t.taken) took ∙ sym (append-nil a.took.taken);
   venue = ap (λ t. t.venue) took;
   seat = seat;
-  wire = wire;
-  stream = stream;
 }
 
-pub drains_one : (a b : PostParts) (leg : PlacedLeg) → b.session ≡ a.session → b.took ≡ with_taken a.took leg
-    → b.seat_parts ≡ a.seat_parts → b.wire ≡ a.wire → b.stream ≡ a.stream → Drains a b
-drains_one a b leg session took seat wire stream = record {
+pub drains_one : (a b : WorkerStateParts) (leg : PlacedLeg) → b.io ≡ a.io → b.took ≡ with_taken a.took leg
+    → b.seat.parts ≡ a.seat.parts → Drains a b
+drains_one a b leg io took seat = record {
   legs = leg ∷ [];
-  session = session;
+  io = io;
   taken = ap (λ t. t.taken) took;
   venue = ap (λ t. t.venue) took;
   seat = seat;
-  wire = wire;
-  stream = stream;
 }
 
-pub drains_on : (a b c : PostParts) → Drains a b → Drains b c → Drains a c
+pub drains_on : (a b c : WorkerStateParts) → Drains a b → Drains b c → Drains a c
 drains_on a b c first next = record {
   legs = first.legs ++ next.legs;
-  session = next.session ∙ first.session;
+  io = next.io ∙ first.io;
   taken = next.taken ∙ (ap (λ l. l ++ next.legs) first.taken ∙ append_assoc a.took.taken first.legs next.legs);
   venue = next.venue ∙ first.venue;
   seat = next.seat ∙ first.seat;
-  wire = next.wire ∙ first.wire;
-  stream = next.stream ∙ first.stream;
 }
 
 -- the next leg, if there was one
-pub drains_next : (a b : PostParts) (next : Option PlacedLeg)
-    → MatchOption next (b.took ≡ a.took) (λ leg. b.took ≡ with_taken a.took leg) → b.session ≡ a.session
-    → b.seat_parts ≡ a.seat_parts → b.wire ≡ a.wire → b.stream ≡ a.stream → Drains a b
-drains_next a b None took session seat wire stream = drains_none a b session took seat wire stream
-drains_next a b (Some leg) took session seat wire stream = drains_one a b leg session took seat wire stream
+pub drains_next : (a b : WorkerStateParts) (next : Option PlacedLeg)
+    → MatchOption next (b.took ≡ a.took) (λ leg. b.took ≡ with_taken a.took leg) → b.io ≡ a.io
+    → b.seat.parts ≡ a.seat.parts → Drains a b
+drains_next a b None took io seat = drains_none a b io took seat
+drains_next a b (Some leg) took io seat = drains_one a b leg io took seat
 
 -- a leg that was taken and handed to the session
 handed : (read : Decoding) (s : SessionParts) (leg : PlacedLeg) (event : WorkerEvent)
@@ -291,46 +296,46 @@ handed read s leg event (inl e) up =
 handed read s leg event (inr e) up =
     (ap taken_in e, subst (λ (one : WorkerEvent). IsAllowed s one) (sym e) up)
 
-pub does_hands : (w : Encoding) (read : Decoding) (a b : PostParts) (leg : PlacedLeg)
-    → Hands w read leg (linked_in a) (linked_in b) → a.session.phase ≡ Up → b.took ≡ with_taken a.took leg
-    → b.seat_parts ≡ a.seat_parts → Does w read a b
-does_hands w read a b leg hands up took seat =
-    let one = handed read a.session leg hands.event hands.of_leg up in
+pub does_hands : (w : Wording) (a b : WorkerStateParts) (leg : PlacedLeg)
+    → Hands w leg a.io b.io → a.io.session.phase ≡ Up → b.took ≡ with_taken a.took leg
+    → b.seat.parts ≡ a.seat.parts → Does w a b
+does_hands w a b leg hands up took seat =
+    let one = handed w.decoding a.io.session leg hands.event hands.of_leg up in
     let middle : WorkerParts = record {
-      session = after_calls read a.session (calls_in hands.event);
+      session = after_calls w.decoding a.io.session (calls_in hands.event);
       took = b.took;
-      seat_parts = a.seat_parts;
-      wire = b.wire;
+      seat = a.seat;
+      wire = b.io.wire;
     } in
-    let first : Goes read (worker_in a) (hands.event ∷ []) middle = record {
-      session = ap (after_calls read a.session) (sym (append-nil (calls_in hands.event)));
+    let first : Goes w.decoding (worker_in a) (hands.event ∷ []) middle = record {
+      session = ap (after_calls w.decoding a.io.session) (sym (append-nil (calls_in hands.event)));
       taken = ap (λ t. t.taken) took ∙ ap (λ l. a.took.taken ++ l) (sym (append-nil (taken_in hands.event) ∙ one.0));
       allowed = (one.1, tt);
       venue = ap (λ t. t.venue) took;
       seat = refl;
     } in
-    let later : b.session ≡ after_calls read middle.session hands.calls =
-    hands.session ∙ after-append read a.session (calls_in hands.event) hands.calls in
+    let later : b.io.session ≡ after_calls w.decoding middle.session hands.calls =
+    hands.session ∙ after-append w.decoding a.io.session (calls_in hands.event) hands.calls in
     record {
       events = hands.event ∷ calling hands.calls;
-      goes = goes_on read (worker_in a) middle (worker_in b) (hands.event ∷ []) (calling hands.calls) first
-          (goes_calls read middle (worker_in b) hands.calls later hands.no_leg refl seat);
-      speaks = subst (λ (calls : List SessionCall). SpeaksOn w read (linked_in a) (calls_in hands.event ++ calls) (linked_in b))
+      goes = goes_on w.decoding (worker_in a) middle (worker_in b) (hands.event ∷ []) (calling hands.calls) first
+          (goes_calls w.decoding middle (worker_in b) hands.calls later hands.no_leg refl seat);
+      speaks = subst (λ (calls : List SessionCall). SpeaksOn w a.io (calls_in hands.event ++ calls) b.io)
           (sym (calling-calls hands.calls)) hands.speaks;
     }
 
 -- a leg that was taken, if one was, and what the session did with it
-pub does_sent : (w : Encoding) (read : Decoding) (a b d : PostParts) (next : Option PlacedLeg) → a.session.phase ≡ Up
-    → MatchOption next (b.took ≡ a.took) (λ leg. b.took ≡ with_taken a.took leg) → b.seat_parts ≡ a.seat_parts
-    → linked_in b ≡ linked_in a
-    → MatchOption next (linked_in d ≡ linked_in b) (λ leg. Hands w read leg (linked_in b) (linked_in d)) → d.took ≡ b.took
-    → d.seat_parts ≡ b.seat_parts → Does w read a d
-does_sent w read a b d None up took parts linked sent same seat =
-    let all : linked_in d ≡ linked_in a = sent ∙ linked in
-    does_same w read a d (ap (λ (x : LinkedParts). x.session) all) (same ∙ took) (seat ∙ parts)
-    (stays_same a.wire d.wire (ap (λ (x : LinkedParts). x.wire) all)) (ap (λ (x : LinkedParts). x.stream) all)
-does_sent w read a b d (Some leg) up took parts linked sent same seat =
-    does_hands w read a d leg (subst (λ (x : LinkedParts). Hands w read leg x (linked_in d)) linked sent) up (same ∙ took)
+pub does_sent : (w : Wording) (a b d : WorkerStateParts) (next : Option PlacedLeg) → a.io.session.phase ≡ Up
+    → MatchOption next (b.took ≡ a.took) (λ leg. b.took ≡ with_taken a.took leg) → b.seat.parts ≡ a.seat.parts
+    → b.io ≡ a.io
+    → MatchOption next (d.io ≡ b.io) (λ leg. Hands w leg b.io d.io) → d.took ≡ b.took
+    → d.seat.parts ≡ b.seat.parts → Does w a d
+does_sent w a b d None up took parts io sent same seat =
+    let all : d.io ≡ a.io = sent ∙ io in
+    does_same w a d (ap (λ (x : SessionIoParts). x.session) all) (same ∙ took) (seat ∙ parts)
+    (stays_same a.io.wire d.io.wire (ap (λ (x : SessionIoParts). x.wire) all)) (ap (λ (x : SessionIoParts). x.stream) all)
+does_sent w a b d (Some leg) up took parts io sent same seat =
+    does_hands w a d leg (subst (λ (x : SessionIoParts). Hands w leg x d.io) io sent) up (same ∙ took)
     (seat ∙ parts)
 
 -- a session that a turn left closed, and one that is abandoned
@@ -362,14 +367,14 @@ one_call Closing e = refl
 one_call LoggedOut e = refl
 
 pub finish_closed : (read : Decoding) (a b : WorkerParts) → b.session ≡ a.session → b.took ≡ a.took
-    → b.seat_parts ≡ a.seat_parts → is_over a.session.phase ≡ true
+    → b.seat.parts ≡ a.seat.parts → is_over a.session.phase ≡ true
     → Goes read a (last_calls a.session.phase) b
 finish_closed read a b session took seat e =
     subst (λ (events : List WorkerEvent). Goes read a events b) (sym (no_call a.session.phase e))
     (goes_none read a b session took seat)
 
 pub finish_abandoned : (read : Decoding) (a b : WorkerParts) → b.session ≡ abandon a.session → b.took ≡ a.took
-    → b.seat_parts ≡ a.seat_parts → is_over a.session.phase ≡ false
+    → b.seat.parts ≡ a.seat.parts → is_over a.session.phase ≡ false
     → Goes read a (last_calls a.session.phase) b
 finish_abandoned read a b session took seat e =
     subst (λ (events : List WorkerEvent). Goes read a events b) (sym (one_call a.session.phase e))
@@ -378,19 +383,19 @@ finish_abandoned read a b session took seat e =
 pub abandoned_closed : (s t : SessionParts) → t ≡ abandon s → t.phase ≡ Closed
 abandoned_closed s t e = ap (λ (u : SessionParts). u.phase) e
 
-speak_abandon : (w : Encoding) (read : Decoding) (s : SessionParts) (said : Said) (a b : Wire) → b ≡ a
-    → Speak w read s said (call.Abandon ∷ []) a b
-speak_abandon w read s said a b same =
-    speak_silent w read s said call.Abandon [] a b b tt (stays_same a b same) refl
-    (speak_none w read (abandon s) said b b (stays_here b))
+speak_abandon : (w : Wording) (s : SessionParts) (said : Said) (a b : Wire) → b ≡ a
+    → Speak w s said (call.Abandon ∷ []) a b
+speak_abandon w s said a b same =
+    speak_silent w s said call.Abandon [] a b b tt (stays_same a b same) refl
+    (speak_none w (abandon s) said b b (stays_here b))
 
 -- what is done last goes over no link
-pub speak_last : (w : Encoding) (read : Decoding) (s : SessionParts) (said : Said) (phase : Phase) (a b : Wire) → b ≡ a
-    → Speak w read s said (calls_of (last_calls phase)) a b
-speak_last w read s said Closed a b same = speak_none w read s said a b (stays_same a b same)
-speak_last w read s said Down a b same = speak_abandon w read s said a b same
-speak_last w read s said LoggingOn a b same = speak_abandon w read s said a b same
-speak_last w read s said Settling a b same = speak_abandon w read s said a b same
-speak_last w read s said Up a b same = speak_abandon w read s said a b same
-speak_last w read s said Closing a b same = speak_abandon w read s said a b same
-speak_last w read s said LoggedOut a b same = speak_abandon w read s said a b same
+pub speak_last : (w : Wording) (s : SessionParts) (said : Said) (phase : Phase) (a b : Wire) → b ≡ a
+    → Speak w s said (calls_of (last_calls phase)) a b
+speak_last w s said Closed a b same = speak_none w s said a b (stays_same a b same)
+speak_last w s said Down a b same = speak_abandon w s said a b same
+speak_last w s said LoggingOn a b same = speak_abandon w s said a b same
+speak_last w s said Settling a b same = speak_abandon w s said a b same
+speak_last w s said Up a b same = speak_abandon w s said a b same
+speak_last w s said Closing a b same = speak_abandon w s said a b same
+speak_last w s said LoggedOut a b same = speak_abandon w s said a b same

@@ -1,31 +1,44 @@
 -- Threads that were joined, and what their workers left.
 use Rattle.std.proofs.lemmas.List.{append-nil}
-use Rattle.std.proofs.Common.{◌≡◌, ℕ, suc, ◌<◌, List, [], ◌∷◌, ◌++◌, length, map, drop, refl, sym, ap, subst, ◌∙◌, arith}
-use Rattle.std.specs.Prelude.{Option, Some, None, option_to_list, slice_index_or}
+use Rattle.std.proofs.Common.{◌≡◌, ℕ, suc, ◌+◌, ◌<◌, ◌≤◌, false, List, [], ◌∷◌, ◌++◌, length, map, drop, refl, sym, ap, subst, ◌∙◌, arith}
+use Rattle.std.specs.Prelude.{Option, Some, None, option_to_list, slice_index_or, Result, Ok, Err, OnOk}
+use Rattle.std.specs.Result.{is_err}
 use Rattle.std.specs.PromisedHandle.{KeepsAt}
 use Rattle.std.specs.declared.thread.PromisedHandle.{PromisedHandle}
 use Rattle.std.specs.declared.thread.Promise as Promise
-use Rattle.dialect.specs.Wording.{Encoding}
+use Rattle.dialect.specs.Wording.{Wording}
 use Rattle.session_worker.specs.Ends.{WorkerStart, WorkerLeft, Runs, AllRan}
 
-module _ {A T P : Type 0} (g : Promise.Ghosts P T) (writes : A → Encoding) (start : A → WorkerStart) (worker : P → A)
-    (left : T → WorkerLeft)
-    (keeps : (p : P) (r : T) → g.kept_by p r
-    → Runs (writes (worker p)) (start (worker p)).read (start (worker p)).parts (left r).parts (left r).reason) where
-  -- each result keeps the promise of the handle at its place, so each worker ran
-  pub all_ran : (handles : List (PromisedHandle T P)) (results : List T) → length results ≡ length handles
-      → ((i : ℕ) (d : T) → i < length handles → KeepsAt g handles i (slice_index_or results i d))
-      → AllRan writes start (map (λ h. worker h.promise) handles) (map left results)
-  all_ran [] [] same each = tt
-  all_ran [] (r ∷ results) same each = absurd (omega arith)
-  all_ran (h ∷ handles) [] same each = absurd (omega arith)
-  all_ran (h ∷ handles) (r ∷ results) same each =
-      let first = each 0 r (omega arith) in
-      let kept : g.kept_by h.promise r = subst (λ (x : PromisedHandle T P). g.kept_by x.promise r) first.handle_is first.kept in (
-        keeps h.promise r kept,
-        all_ran handles results (omega arith) (λ i d below. (let next = each (suc i) d (omega (arith, below)) in
-            record { handle = next.handle; handle_is = next.handle_is; kept = next.kept })),
-      )
+module _ {A P : Type 0} (g : Promise.Ghosts P WorkerLeft) (wording : A → Wording) (worker : P → WorkerStart A)
+    (keeps : (p : P) (left : WorkerLeft) → g.kept_by p left → Runs (wording (worker p).dialect) (worker p).parts left)
+  where
+    -- each result keeps the promise of the handle at its place, so each worker ran
+    pub all_ran : (handles : List (PromisedHandle WorkerLeft P)) (ends : List WorkerLeft) → length ends ≡ length handles
+        → ((i : ℕ) (d : WorkerLeft) → i < length handles → KeepsAt g handles i (slice_index_or ends i d))
+        → AllRan wording (map (λ h. worker h.promise) handles) ends
+    all_ran [] [] same each = tt
+    all_ran [] (left ∷ ends) same each = absurd (omega arith)
+    all_ran (h ∷ handles) [] same each = absurd (omega arith)
+    all_ran (h ∷ handles) (left ∷ ends) same each =
+        let first = each 0 left (omega arith) in
+        let kept : g.kept_by h.promise left =
+        subst (λ (x : PromisedHandle WorkerLeft P). g.kept_by x.promise left) first.handle_is first.kept in (
+          keeps h.promise left kept,
+          all_ran handles ends (omega arith) (λ i d below. (let next = each (suc i) d (omega (arith, below)) in
+              record { handle = next.handle; handle_is = next.handle_is; kept = next.kept })),
+        )
+
+-- a worker that is seen as another one
+pub runs_as : {D : Type 0} (wording : D → Wording) (seen worker : WorkerStart D) (left : WorkerLeft) → seen ≡ worker
+    → Runs (wording seen.dialect) seen.parts left → Runs (wording worker.dialect) worker.parts left
+runs_as {D} wording seen worker left is runs =
+    subst (λ (x : WorkerStart D). Runs (wording x.dialect) x.parts left) is runs
+
+-- there is room after a growth that wasn't refused
+pub has_room : {T E : Type 0} (result : Result T E) (len capacity : ℕ) → OnOk result (len + 1 ≤ capacity)
+    → is_err result ≡ false → len < capacity
+has_room (Ok x) len capacity ok none = omega (arith, ok)
+has_room (Err e) len capacity ok none = absurd cc
 
 -- all workers were started
 pub all_started : {A B : Type 0} (f : A → B) (handles : List A) (rest first workers : List B)

@@ -5,7 +5,7 @@ use Rattle.std.proofs.lemmas.List.{append-nil}
 use Rattle.fix_tags.specs.Stamp.{StampParts}
 use Rattle.dialect.specs.declared.message.Message.{Message}
 use Rattle.dialect.specs.Framed.{AreFramed}
-use Rattle.dialect.specs.Wording.{Decoding, Encoding}
+use Rattle.dialect.specs.Wording.{Wording}
 use Rattle.dialect.specs.Outgoing.{alone}
 use Rattle.link.specs.Traffic.{Traffic, Tells, Takes, TakesPart, GivesBytes, Stays}
 use Rattle.link.proofs.Taking.{tells_nothing}
@@ -102,9 +102,9 @@ puts_more : (bytes : List ℕ) (first more : List SessionCall) (a b : Wire) → 
 puts_more bytes first more a b (inl all) = inl all
 puts_more bytes first more a b (inr part) = inr (given_up_more first more part.0, part.1)
 
-speaks_more : (w : Encoding) (read : Decoding) (s : SessionParts) (said : Said) (made : SessionCall) (first more : List SessionCall)
-    (a b : Wire) → Speaks w read s said made first a b → Speaks w read s said made (first ++ more) a b
-speaks_more w read s said made first more a b one = record {
+speaks_more : (w : Wording) (s : SessionParts) (said : Said) (made : SessionCall) (first more : List SessionCall)
+    (a b : Wire) → Speaks w s said made first a b → Speaks w s said made (first ++ more) a b
+speaks_more w s said made first more a b one = record {
   heard = one.heard;
   reads = one.reads;
   hears = one.hears;
@@ -117,9 +117,9 @@ speaks_more w read s said made first more a b one = record {
 }
 
 -- bytes that were read before
-speaks_read : (w : Encoding) (read : Decoding) (s : SessionParts) (said : Said) (made : SessionCall) (later : List SessionCall)
-    (a b c : Wire) → Reads a b → Speaks w read s said made later b c → Speaks w read s said made later a c
-speaks_read w read s said made later a b c reads one = record {
+speaks_read : (w : Wording) (s : SessionParts) (said : Said) (made : SessionCall) (later : List SessionCall)
+    (a b c : Wire) → Reads a b → Speaks w s said made later b c → Speaks w s said made later a c
+speaks_read w s said made later a b c reads one = record {
   heard = one.heard;
   reads = reads_on a b one.heard reads one.reads;
   hears = one.hears;
@@ -131,34 +131,34 @@ speaks_read w read s said made later a b c reads one = record {
   puts = one.puts;
 }
 
-pub speak_read : (w : Encoding) (read : Decoding) (s : SessionParts) (said : Said) (calls : List SessionCall) (a b c : Wire)
-    → Reads a b → Speak w read s said calls b c → Speak w read s said calls a c
-speak_read w read s said [] a b c reads rest = reads_on a b c reads rest
-speak_read w read s said (made ∷ later) a b c reads rest =
-    (rest.0, speaks_read w read s said made later a b rest.0 reads rest.1, rest.2)
+pub speak_read : (w : Wording) (s : SessionParts) (said : Said) (calls : List SessionCall) (a b c : Wire)
+    → Reads a b → Speak w s said calls b c → Speak w s said calls a c
+speak_read w s said [] a b c reads rest = reads_on a b c reads rest
+speak_read w s said (made ∷ later) a b c reads rest =
+    (rest.0, speaks_read w s said made later a b rest.0 reads rest.1, rest.2)
 
 -- calls and then others
-pub speak_on : (w : Encoding) (read : Decoding) (s : SessionParts) (said : Said) (first more : List SessionCall) (a b c : Wire)
-    → Speak w read s said first a b → Speak w read (after_calls read s first) (said_after said first) more b c
-    → Speak w read s said (first ++ more) a c
-speak_on w read s said [] more a b c one next = speak_read w read s said more a b c one next
-speak_on w read s said (made ∷ first) more a b c one next = (
+pub speak_on : (w : Wording) (s : SessionParts) (said : Said) (first more : List SessionCall) (a b c : Wire)
+    → Speak w s said first a b → Speak w (after_calls w.decoding s first) (said_after said first) more b c
+    → Speak w s said (first ++ more) a c
+speak_on w s said [] more a b c one next = speak_read w s said more a b c one next
+speak_on w s said (made ∷ first) more a b c one next = (
   one.0,
-  speaks_more w read s said made first more a one.0 one.1,
-  speak_on w read (called read s made).1 (said_with said made) first more one.0 b c one.2 next,
+  speaks_more w s said made first more a one.0 one.1,
+  speak_on w (called w.decoding s made).1 (said_with said made) first more one.0 b c one.2 next,
 )
 
 -- no call
-pub speak_none : (w : Encoding) (read : Decoding) (s : SessionParts) (said : Said) (a b : Wire) → Tells a b Stays
-    → Speak w read s said [] a b
-speak_none w read s said a b stays = reads_none a b stays
+pub speak_none : (w : Wording) (s : SessionParts) (said : Said) (a b : Wire) → Tells a b Stays
+    → Speak w s said [] a b
+speak_none w s said a b stays = reads_none a b stays
 
 -- one call, whose messages were written with a stamp
-pub speak_made : (w : Encoding) (read : Decoding) (s : SessionParts) (said : Said) (made : SessionCall) (later : List SessionCall)
+pub speak_made : (w : Wording) (s : SessionParts) (said : Said) (made : SessionCall) (later : List SessionCall)
     (stamp : StampParts) (frames : List (List ℕ)) (a b c d : Wire) → Hears said made a → Begins s made a b
-    → AreFramed w stamp (map alone (messages_in (called read s made).0)) frames → Puts (concat frames) later b c
-    → Speak w read (called read s made).1 (said_with said made) later c d → Speak w read s said (made ∷ later) a d
-speak_made w read s said made later stamp frames a b c d hears begins framed puts rest = (
+    → AreFramed w.encoding stamp (map alone (messages_in (called w.decoding s made).0)) frames → Puts (concat frames) later b c
+    → Speak w (called w.decoding s made).1 (said_with said made) later c d → Speak w s said (made ∷ later) a d
+speak_made w s said made later stamp frames a b c d hears begins framed puts rest = (
   c,
   record {
     heard = a;
@@ -178,12 +178,12 @@ abbrev no_stamp : StampParts
 no_stamp = record { year = 0; month = 0; day = 0; hour = 0; minute = 0; second = 0; milli = 0 }
 
 -- one call, which has no message
-pub speak_silent : (w : Encoding) (read : Decoding) (s : SessionParts) (said : Said) (made : SessionCall) (later : List SessionCall)
-    (a b c : Wire) → Hears said made a → Begins s made a b → messages_in (called read s made).0 ≡ []
-    → Speak w read (called read s made).1 (said_with said made) later b c → Speak w read s said (made ∷ later) a c
-speak_silent w read s said made later a b c hears begins none rest =
-    speak_made w read s said made later no_stamp [] a b b c hears begins
-    (subst (λ (messages : List Message). AreFramed w no_stamp (map alone messages) []) (sym none) tt)
+pub speak_silent : (w : Wording) (s : SessionParts) (said : Said) (made : SessionCall) (later : List SessionCall)
+    (a b c : Wire) → Hears said made a → Begins s made a b → messages_in (called w.decoding s made).0 ≡ []
+    → Speak w (called w.decoding s made).1 (said_with said made) later b c → Speak w s said (made ∷ later) a c
+speak_silent w s said made later a b c hears begins none rest =
+    speak_made w s said made later no_stamp [] a b b c hears begins
+    (subst (λ (messages : List Message). AreFramed w.encoding no_stamp (map alone messages) []) (sym none) tt)
     (inl (takes_none b b (stays_here b))) rest
 
 pub begins_plain : (s : SessionParts) (made : SessionCall) (a b : Wire) → IsPlain made → Tells a b Stays → Begins s made a b
@@ -203,8 +203,8 @@ pub concat_one : (frame : List ℕ) → concat (frame ∷ []) ≡ frame
 concat_one frame = append-nil frame
 
 -- the connection is given up
-pub speak_broken : (w : Encoding) (read : Decoding) (s : SessionParts) (said : Said) (a b : Wire) → Tells a b Stays
-    → Speak w read s said (call.Broken ∷ []) a b
-speak_broken w read s said a b stays =
-    speak_silent w read s said call.Broken [] a b b tt (inl stays) refl
-    (speak_none w read (called read s call.Broken).1 said b b (stays_here b))
+pub speak_broken : (w : Wording) (s : SessionParts) (said : Said) (a b : Wire) → Tells a b Stays
+    → Speak w s said (call.Broken ∷ []) a b
+speak_broken w s said a b stays =
+    speak_silent w s said call.Broken [] a b b tt (inl stays) refl
+    (speak_none w (called w.decoding s call.Broken).1 said b b (stays_here b))

@@ -24,6 +24,10 @@ pub record DayParts : Type 0 where
   pub queues : List Took
   pub seats : List Seat
 
+abbrev pub day_of : KeptDesk → BookParts → List Seat → List Took → List Seat → DayParts
+day_of desk book callers queues seats =
+    record { desk = desk; book = book; callers = callers; queues = queues; seats = seats }
+
 -- each worker took the first legs released to the venue at its place; the workers' seats add up to what is resolved; the
 -- callers' add up to what was placed
 abbrev pub AreQueues : DayParts → Type 0
@@ -58,8 +62,7 @@ pub record AuditedDay (callers : List Seat) (queues : List Took) (seats : List S
   pub book : BookParts
   pub desk_replays : DeskReplays desk
   pub book_replays : BookReplays book
-  pub audits :
-      Audits (record { desk = desk; book = book; callers = callers; queues = queues; seats = seats }) answer
+  pub audits : Audits (day_of desk book callers queues seats) answer
 
 abbrev pub AuditsOf : List Seat → List Took → List Seat → Result DayReport AuditFault → Type 0
 AuditsOf callers queues seats answer = AuditedDay callers queues seats answer ⊎ (answer ≡ Err OutOfMemory)

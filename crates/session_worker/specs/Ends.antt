@@ -1,11 +1,13 @@
 -- How a worker ends.
 use Rattle.std.specs.Prelude.{◌≡◌, Bool, true, false, List, [], ◌∷◌, ◌++◌, map}
 use Rattle.leg.specs.declared.placed_leg.PlacedLeg.{PlacedLeg}
-use Rattle.dialect.specs.Wording.{Decoding, Encoding}
+use Rattle.dialect.specs.Wording.{Wording}
 use Rattle.session_core.specs.declared.phase.Phase.{Phase}
 use Rattle.session_core.specs.declared.phase.Phase.TheVariants.{Closed}
 use Rattle.session_core.specs.Session.{is_connected}
 use Rattle.session_core.specs.declared.session_call.SessionCall.TheVariants as call
+use Rattle.release_lock.specs.Queues.{Took}
+use Rattle.exec_collector.specs.Seats.{Seat}
 use Rattle.session_worker.specs.declared.end_reason.EndReason.{EndReason}
 use Rattle.session_worker.specs.declared.end_reason.EndReason.TheVariants as reason
 use Rattle.session_worker.specs.Events.{WorkerEvent, WorkerParts, calls_of, Goes}
@@ -28,36 +30,40 @@ abbrev pub last_calls : Phase → List WorkerEvent
 last_calls Closed = []
 last_calls _ = Calls call.Abandon ∷ []
 
--- a worker before its turns and after them, and why it ended: after the last turn its session was as the reason says,
--- and all that it took then was dropped. Over its link, where it began with no connection, went what the calls of all
--- these events say
-pub record Runs (w : Encoding) (read : Decoding) (before after : WorkerParts) (why : EndReason) : Type 0 where
-  pub turns : List WorkerEvent
-  pub at : WorkerParts
-  pub goes : Goes read before turns at
-  pub reason_is : IsReason why at.session.phase
-  pub dropped : List PlacedLeg
-  pub last : Goes read at (last_calls at.session.phase ++ map (λ leg. Drops leg) dropped) after
-  pub over : after.session.phase ≡ Closed
-  pub bytes : is_connected before.session.phase ≡ false
-      → Speak w read before.session [] (calls_of (turns ++ last_calls at.session.phase)) before.wire after.wire
-
--- a worker with the way in which its dialect is read
-pub record WorkerStart : Type 0 where
-  pub read : Decoding
+-- a worker before its turns, with its dialect
+pub record WorkerStart (Dialect : Type 0) : Type 0 where
+  pub dialect : Dialect
   pub parts : WorkerParts
 
--- what a worker leaves, and why
+-- what a worker leaves, and why it ended
 pub record WorkerLeft : Type 0 where
   pub parts : WorkerParts
   pub reason : EndReason
 
--- each worker ran, and left this, in order: each with the way in which its dialect is written, and as it was
-abbrev pub AllRan : {Worker : Type 0} → (Worker → Encoding) → (Worker → WorkerStart) → List Worker → List WorkerLeft
-    → Type 0
-AllRan writes start [] [] = Unit {0}
-AllRan writes start [] (left ∷ ends) = ⊥
-AllRan writes start (worker ∷ workers) [] = ⊥
-AllRan writes start (worker ∷ workers) (left ∷ ends) =
-    Runs (writes worker) (start worker).read (start worker).parts left.parts left.reason
-    × AllRan writes start workers ends
+-- what workers took, and their seats
+abbrev pub queues_of : List WorkerLeft → List Took
+queues_of ends = map (λ end. end.parts.took) ends
+
+abbrev pub seats_of : List WorkerLeft → List Seat
+seats_of ends = map (λ end. end.parts.seat) ends
+
+-- a worker before its turns and what it leaves: after the last turn its session was as the reason says, and all that it
+-- took then was dropped. Over its link, where it began with no connection, went what the calls of all these events say
+pub record Runs (w : Wording) (before : WorkerParts) (left : WorkerLeft) : Type 0 where
+  pub turns : List WorkerEvent
+  pub at : WorkerParts
+  pub goes : Goes w.decoding before turns at
+  pub reason_is : IsReason left.reason at.session.phase
+  pub dropped : List PlacedLeg
+  pub last : Goes w.decoding at (last_calls at.session.phase ++ map (λ leg. Drops leg) dropped) left.parts
+  pub over : left.parts.session.phase ≡ Closed
+  pub bytes : is_connected before.session.phase ≡ false
+      → Speak w before.session [] (calls_of (turns ++ last_calls at.session.phase)) before.wire left.parts.wire
+
+-- each of these workers ran, and left this, in order; each says of its dialect how it is written and read
+abbrev pub AllRan : {Dialect : Type 0} → (Dialect → Wording) → List (WorkerStart Dialect) → List WorkerLeft → Type 0
+AllRan wording [] [] = Unit {0}
+AllRan wording [] (left ∷ ends) = ⊥
+AllRan wording (worker ∷ workers) [] = ⊥
+AllRan wording (worker ∷ workers) (left ∷ ends) =
+    Runs (wording worker.dialect) worker.parts left × AllRan wording workers ends

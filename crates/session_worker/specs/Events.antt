@@ -66,21 +66,23 @@ AreAllowed read s [] = Unit {0}
 AreAllowed read s (event ∷ events) =
     IsAllowed s event × AreAllowed read (after_calls read s (calls_in event)) events
 
--- a worker as its events change it: its session, the venue and the legs taken, the parts of its seat, and what its link
--- tells
+-- a worker as its events change it: its session, the venue and the legs taken, its seat, and what its link tells
 pub record WorkerParts : Type 0 where
   pub session : SessionParts
   pub took : Took
-  pub seat_parts : ℕ
+  pub seat : Seat
   pub wire : Wire
 
-abbrev pub parts_of : SessionParts → Took → Seat → Wire → WorkerParts
-parts_of session took seat wire = record { session = session; took = took; seat_parts = seat.parts; wire = wire }
+-- a worker that took nothing yet
+abbrev pub new_worker : SessionParts → ℕ → Seat → Wire → WorkerParts
+new_worker session venue seat wire =
+    record { session = session; took = record { venue = venue; taken = [] }; seat = seat; wire = wire }
 
--- a worker before and after these events: the session is that after the calls, and the legs taken are the events'
+-- a worker before and after these events: the session is that after the calls, the legs taken are the events', and the
+-- seat has as many parts
 pub record Goes (read : Decoding) (before : WorkerParts) (events : List WorkerEvent) (after : WorkerParts) : Type 0 where
   pub session : after.session ≡ after_calls read before.session (calls_of events)
   pub taken : after.took.taken ≡ before.took.taken ++ taken_of events
   pub allowed : AreAllowed read before.session events
   pub venue : after.took.venue ≡ before.took.venue
-  pub seat : after.seat_parts ≡ before.seat_parts
+  pub seat : after.seat.parts ≡ before.seat.parts

@@ -1,5 +1,5 @@
 -- What a worker does at its link in one step of a turn.
-use Rattle.std.specs.Prelude.{◌≡◌, ◌⊎◌, ℕ, true, List, [], ◌++◌, Some, None, Ok, Err}
+use Rattle.std.specs.Prelude.{◌≡◌, ◌⊎◌, ℕ, true, List, [], ◌++◌, Option, Some, None, Ok, Err}
 use Rattle.fix_text.specs.Tagged.{Tagged}
 use Rattle.fix_text.specs.Reading.{Stream, next_read, fed}
 use Rattle.fix_tags.specs.Reading.{envelope_read}
@@ -7,7 +7,7 @@ use Rattle.fix_tags.specs.Stamp.{StampParts}
 use Rattle.fix_tags.specs.declared.envelope.Envelope.{Envelope}
 use Rattle.fix_tags.specs.declared.tag_fault.TagFault.{TagFault}
 use Rattle.leg.specs.declared.placed_leg.PlacedLeg.{PlacedLeg}
-use Rattle.dialect.specs.Wording.{Decoding, Encoding}
+use Rattle.dialect.specs.Wording.{Wording}
 use Rattle.link.specs.Traffic.{Tells, Takes, TakesPart, Stays}
 use Rattle.session_core.specs.declared.session_call.SessionCall.{SessionCall}
 use Rattle.session_core.specs.declared.session_call.SessionCall.TheVariants as call
@@ -28,22 +28,22 @@ use Rattle.session_worker.specs.Events.{WorkerEvent, WorkerParts, calls_in, call
 use Rattle.session_worker.specs.Events.WorkerEvent.{Calls, Fails}
 
 -- a session, what its link tells, and what its reader has
-pub record LinkedParts : Type 0 where
+pub record SessionIoParts : Type 0 where
   pub session : SessionParts
   pub wire : Wire
   pub stream : Stream
 
-abbrev pub linked_of : SessionParts → Wire → Stream → LinkedParts
-linked_of session wire stream = record { session = session; wire = wire; stream = stream }
+abbrev pub io_of : SessionParts → Wire → Stream → SessionIoParts
+io_of session wire stream = record { session = session; wire = wire; stream = stream }
 
 -- while there is a connection the reader was fed all bytes read on it, and gave frames that say this
-abbrev pub IsHearing : Said → LinkedParts → Type 0
+abbrev pub IsHearing : Said → SessionIoParts → Type 0
 IsHearing said x = is_connected x.session.phase ≡ true → ReaderOn said x.wire x.stream
 
 -- the calls of the session say what went over the link
-abbrev pub SpeaksOn : Encoding → Decoding → LinkedParts → List SessionCall → LinkedParts → Type 0
-SpeaksOn w read before calls after = (said : Said) → IsHearing said before
-    → Speak w read before.session said calls before.wire after.wire × IsHearing (said_after said calls) after
+abbrev pub SpeaksOn : Wording → SessionIoParts → List SessionCall → SessionIoParts → Type 0
+SpeaksOn w before calls after = (said : Said) → IsHearing said before
+    → Speak w before.session said calls before.wire after.wire × IsHearing (said_after said calls) after
 
 -- a session as it was, or with its connection given up
 abbrev pub MayBreak : SessionParts → SessionParts → Type 0
@@ -54,32 +54,32 @@ abbrev pub MayConfirm : SessionParts → SessionParts → Type 0
 MayConfirm before after = (after ≡ before) ⊎ (after ≡ confirm before)
 
 -- these bytes were handed to the reader; or the connection was given up
-abbrev pub TakesIn : List ℕ → LinkedParts → LinkedParts → Type 0
+abbrev pub TakesIn : List ℕ → SessionIoParts → SessionIoParts → Type 0
 TakesIn bytes before after =
     ((after.session ≡ before.session) × (after.stream ≡ fed before.stream bytes))
     ⊎ (after.session ≡ broken before.session)
 
 -- these bytes were written; or the first of them, and the connection was given up
-abbrev pub Writes : List ℕ → LinkedParts → LinkedParts → Type 0
+abbrev pub Writes : List ℕ → SessionIoParts → SessionIoParts → Type 0
 Writes bytes before after =
     ((after.session ≡ before.session) × Tells before.wire after.wire (Takes bytes))
     ⊎ ((after.session ≡ broken before.session) × Tells before.wire after.wire (TakesPart bytes))
 
 -- some calls, none of which is to send a leg
-pub record Moves (w : Encoding) (read : Decoding) (before after : LinkedParts) : Type 0 where
+pub record Moves (w : Wording) (before after : SessionIoParts) : Type 0 where
   pub calls : List SessionCall
-  pub session : after.session ≡ after_calls read before.session calls
+  pub session : after.session ≡ after_calls w.decoding before.session calls
   pub no_leg : legs_in calls ≡ []
-  pub speaks : SpeaksOn w read before calls after
+  pub speaks : SpeaksOn w before calls after
 
 -- the session was to send a leg: that call and others, or the leg failed
-pub record Hands (w : Encoding) (read : Decoding) (leg : PlacedLeg) (before after : LinkedParts) : Type 0 where
+pub record Hands (w : Wording) (leg : PlacedLeg) (before after : SessionIoParts) : Type 0 where
   pub event : WorkerEvent
   pub of_leg : (event ≡ Calls (call.SendLeg leg.ordinal leg.leg)) ⊎ (event ≡ Fails leg)
   pub calls : List SessionCall
-  pub session : after.session ≡ after_calls read before.session (calls_in event ++ calls)
+  pub session : after.session ≡ after_calls w.decoding before.session (calls_in event ++ calls)
   pub no_leg : legs_in calls ≡ []
-  pub speaks : SpeaksOn w read before (calls_in event ++ calls) after
+  pub speaks : SpeaksOn w before (calls_in event ++ calls) after
 
 -- a call that neither dials nor sends a leg
 abbrev pub IsPlain : SessionCall → Type 0
@@ -89,86 +89,80 @@ IsPlain (call.SendLeg ordinal leg) = ⊥
 IsPlain _ = Unit {0}
 
 -- such a call gave a step
-pub record Gave (w : Encoding) (read : Decoding) (made : SessionCall) (before : SessionParts) (step : Step)
+pub record Gave (w : Wording) (made : SessionCall) (before : SessionParts) (step : Step)
     (after : SessionParts) : Type 0 where
   pub plain : IsPlain made
   pub said : StepParts
-  pub adds : called read before made ≡ (Some said, after)
+  pub adds : called w.decoding before made ≡ (Some said, after)
   pub stamp : StampParts
-  pub is_step : IsStep w stamp said step
+  pub is_step : IsStep w.encoding stamp said step
 
 -- one did, and what the step wants isn't done yet
-pub record Asks (w : Encoding) (read : Decoding) (before : LinkedParts) (step : Step) (after : LinkedParts) : Type 0 where
+pub record Asks (w : Wording) (before : SessionIoParts) (step : Step) (after : SessionIoParts) : Type 0 where
   pub made : SessionCall
-  pub gave : Gave w read made before.session step after.session
+  pub gave : Gave w made before.session step after.session
   pub wire : Tells before.wire after.wire Stays
   pub hears : (said : Said) → IsHearing said before
       → Hears said made before.wire × IsHearing (said_with said made) after
 
 -- the next message was received, and this was what its frame said
-pub record Receives (w : Encoding) (read : Decoding) (before : SessionParts) (stream : Stream) (step : Step)
+pub record Receives (w : Wording) (before : SessionParts) (stream : Stream) (step : Step)
     (after : SessionParts) : Type 0 where
   pub fields : List Tagged
   pub envelope : Envelope
   pub next : (next_read stream).frame ≡ Some fields
   pub says : envelope_read fields ≡ Ok envelope
-  pub gave : Gave w read (call.Receive envelope) before step after
+  pub gave : Gave w (call.Receive envelope) before step after
 
 -- what came of the next message
-abbrev pub HeardGives : Encoding → Decoding → SessionParts → Stream → Heard → SessionParts → Type 0
-HeardGives w read before stream heard.Nothing after = (after ≡ before) × ((next_read stream).frame ≡ None)
-HeardGives w read before stream (heard.Step step) after = Receives w read before stream step after
-HeardGives w read before stream heard.Malformed after =
+abbrev pub HeardGives : Wording → SessionParts → Stream → Heard → SessionParts → Type 0
+HeardGives w before stream heard.Nothing after = (after ≡ before) × ((next_read stream).frame ≡ None)
+HeardGives w before stream (heard.Step step) after = Receives w before stream step after
+HeardGives w before stream heard.Malformed after =
     (fields : List Tagged) × (fault : TagFault) × ((next_read stream).frame ≡ Some fields)
     × (envelope_read fields ≡ Err fault) × (after ≡ (malformed before).1)
-HeardGives w read before stream heard.OutOfMemory after = after ≡ before
+HeardGives w before stream heard.OutOfMemory after = after ≡ before
 
 -- the reader then stands behind it, unless memory was wanted
 abbrev pub StandsBehind : Heard → Stream → Stream → Type 0
 StandsBehind heard.OutOfMemory before after = Unit {0}
 StandsBehind _ before after = after ≡ (next_read before).stream
 
--- a worker in the middle of a turn: as it is seen from outside, and what its reader has
-pub record PostParts : Type 0 where
-  pub session : SessionParts
+-- what came of a call that may give a step: it did, and what it wants isn't done yet; or calls that gave none
+abbrev pub AsksOrMoves : Wording → SessionIoParts → Option Step → SessionIoParts → Type 0
+AsksOrMoves w before None after = Moves w before after
+AsksOrMoves w before (Some step) after = Asks w before step after
+
+-- a worker in the middle of a turn: its session over its link, what it took, and its seat
+pub record WorkerStateParts : Type 0 where
+  pub io : SessionIoParts
   pub took : Took
-  pub seat_parts : ℕ
-  pub wire : Wire
-  pub stream : Stream
+  pub seat : Seat
 
-abbrev pub post_of : SessionParts → Took → Seat → Wire → Stream → PostParts
-post_of session took seat wire stream =
-    record { session = session; took = took; seat_parts = seat.parts; wire = wire; stream = stream }
-
-abbrev pub worker_in : PostParts → WorkerParts
-worker_in p = record { session = p.session; took = p.took; seat_parts = p.seat_parts; wire = p.wire }
-
-abbrev pub linked_in : PostParts → LinkedParts
-linked_in p = linked_of p.session p.wire p.stream
+abbrev pub worker_in : WorkerStateParts → WorkerParts
+worker_in p = record { session = p.io.session; took = p.took; seat = p.seat; wire = p.io.wire }
 
 -- a worker before and after some events, and what went over its link meanwhile
-pub record Does (w : Encoding) (read : Decoding) (before after : PostParts) : Type 0 where
+pub record Does (w : Wording) (before after : WorkerStateParts) : Type 0 where
   pub events : List WorkerEvent
-  pub goes : Goes read (worker_in before) events (worker_in after)
-  pub speaks : SpeaksOn w read (linked_in before) (calls_of events) (linked_in after)
+  pub goes : Goes w.decoding (worker_in before) events (worker_in after)
+  pub speaks : SpeaksOn w before.io (calls_of events) after.io
 
 -- a worker before and after it dropped some legs
-pub record Drains (before after : PostParts) : Type 0 where
+pub record Drains (before after : WorkerStateParts) : Type 0 where
   pub legs : List PlacedLeg
-  pub session : after.session ≡ before.session
+  pub io : after.io ≡ before.io
   pub taken : after.took.taken ≡ before.took.taken ++ legs
   pub venue : after.took.venue ≡ before.took.venue
-  pub seat : after.seat_parts ≡ before.seat_parts
-  pub wire : after.wire ≡ before.wire
-  pub stream : after.stream ≡ before.stream
+  pub seat : after.seat.parts ≡ before.seat.parts
 
 -- what a step wanted was done: its note, if it had one, was confirmed, and its frames were written; or the first bytes
 -- of them, and the connection was given up
-pub record CarriesOut (bytes : List ℕ) (before after : PostParts) : Type 0 where
+pub record CarriesOut (bytes : List ℕ) (before after : WorkerStateParts) : Type 0 where
   pub noted : SessionParts
-  pub notes : MayConfirm before.session noted
-  pub writes : ((after.session ≡ noted) × Tells before.wire after.wire (Takes bytes))
-      ⊎ ((after.session ≡ broken noted) × Tells before.wire after.wire (TakesFirst bytes))
+  pub notes : MayConfirm before.io.session noted
+  pub writes : ((after.io.session ≡ noted) × Tells before.io.wire after.io.wire (Takes bytes))
+      ⊎ ((after.io.session ≡ broken noted) × Tells before.io.wire after.io.wire (TakesFirst bytes))
   pub took : after.took ≡ before.took
-  pub seat : after.seat_parts ≡ before.seat_parts
-  pub stream : after.stream ≡ before.stream
+  pub seat : after.seat.parts ≡ before.seat.parts
+  pub stream : after.io.stream ≡ before.io.stream

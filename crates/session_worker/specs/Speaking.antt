@@ -1,11 +1,11 @@
 -- What goes over a worker's link beside the calls of its session.
-use Rattle.std.specs.Prelude.{◌≡◌, ◌⊎◌, ℕ, List, [], ◌∷◌, ◌++◌, map, Option, Some, None}
+use Rattle.std.specs.Prelude.{◌≡◌, ◌⊎◌, ℕ, List, [], ◌∷◌, map, Option, Some, None}
 use Rattle.std.specs.List.{concat}
 use mathlib.Core.List.{IsPrefix}
 use Rattle.fix_tags.specs.Stamp.{StampParts}
 use Rattle.dialect.specs.declared.message.Message.{Message}
 use Rattle.dialect.specs.Framed.{AreFramed}
-use Rattle.dialect.specs.Wording.{Decoding, Encoding}
+use Rattle.dialect.specs.Wording.{Wording}
 use Rattle.dialect.specs.Outgoing.{alone}
 use Rattle.link.specs.Traffic.{Traffic, Tells, Dials, Takes, GivesBytes, Stays}
 use Rattle.session_core.specs.declared.phase.Phase.TheVariants.{Down}
@@ -53,7 +53,7 @@ messages_in (Some step) = step.written
 
 -- one call, before others: bytes may be read until it is made; a message that is received is the next one of them; and
 -- then the call's frames are written, one behind the other, all with one stamp
-pub record Speaks (w : Encoding) (read : Decoding) (s : SessionParts) (said : Said) (made : SessionCall)
+pub record Speaks (w : Wording) (s : SessionParts) (said : Said) (made : SessionCall)
     (later : List SessionCall) (wire after : Wire) : Type 0 where
   pub heard : Wire
   pub reads : Reads wire heard
@@ -62,12 +62,12 @@ pub record Speaks (w : Encoding) (read : Decoding) (s : SessionParts) (said : Sa
   pub begins : Begins s made heard ready
   pub stamp : StampParts
   pub frames : List (List ℕ)
-  pub framed : AreFramed w stamp (map alone (messages_in (called read s made).0)) frames
+  pub framed : AreFramed w.encoding stamp (map alone (messages_in (called w.decoding s made).0)) frames
   pub puts : Puts (concat frames) later ready after
 
 -- calls one after the other, where the frames of the present connection said this before them
-abbrev pub Speak : Encoding → Decoding → SessionParts → Said → List SessionCall → Wire → Wire → Type 0
-Speak w read s said [] wire after = Reads wire after
-Speak w read s said (made ∷ later) wire after =
-    (between : Wire) × Speaks w read s said made later wire between
-    × Speak w read (called read s made).1 (said_with said made) later between after
+abbrev pub Speak : Wording → SessionParts → Said → List SessionCall → Wire → Wire → Type 0
+Speak w s said [] wire after = Reads wire after
+Speak w s said (made ∷ later) wire after =
+    (between : Wire) × Speaks w s said made later wire between
+    × Speak w (called w.decoding s made).1 (said_with said made) later between after

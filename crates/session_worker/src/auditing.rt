@@ -1,13 +1,14 @@
 //! The audit of a day, once its threads have ended.
 
-ghost use Rattle.std.specs.Prelude.{◌≡◌, ◌<◌, IfOk, IsOk, IsOkUnless, map};
+ghost use Rattle.std.specs.Prelude.{◌≡◌, ◌<◌, IfOk, IsOk, IsOkUnless};
 ghost use Rattle.exec_collector.specs.Resolved.{Replays as BookReplays};
 ghost use Rattle.exec_collector.specs.Seats.{parts_of};
 ghost use Rattle.sweep_release.specs.History.{KeptDesk as ADesk};
 ghost use Rattle.share_ledger.specs.Book.{BookParts};
 ghost use Rattle.release_lock.specs.Locked.{Replays};
 ghost use Rattle.release_lock.specs.Queues.{AreInOrder};
-ghost use Rattle.session_worker.specs.Audit.{Audits, AuditsOf};
+ghost use Rattle.session_worker.specs.Audit.{day_of, Audits, AuditsOf};
+ghost use Rattle.session_worker.specs.Ends.{queues_of, seats_of};
 
 use crate::open_shares::open_shares;
 use crate::{AuditFault, DayReport, WorkerEnd};
@@ -31,9 +32,9 @@ pub fn audit<K: Link, L: Run, M: Ledger>(
     callers: Vec<CallerSeat<L>>,
     ends: Vec<WorkerEnd<K, L, M>>,
 ) -> Result<DayReport, AuditFault>
-    ensures audits { AuditsOf callers.items (map (λ e. e.took) ends.items) (map (λ e. e.seat) ends.items) result }
-    ensures whole { AreInOrder (map (λ e. e.took) ends.items) → parts_of (map (λ e. e.seat) ends.items) ≡ M.parts
-        → 0 < M.parts → parts_of callers.items ≡ 1024 → IsOkUnless result AuditFault.OutOfMemory }
+    ensures audits { AuditsOf callers.items (queues_of ends.items) (seats_of ends.items) result }
+    ensures whole { AreInOrder (queues_of ends.items) → parts_of (seats_of ends.items) ≡ M.parts → 0 < M.parts
+        → parts_of callers.items ≡ 1024 → IsOkUnless result AuditFault.OutOfMemory }
 {
     match parted(alloc, ends) {
         Ok((queues, seats)) => audit_of(
@@ -55,9 +56,10 @@ fn audit_of<L: Run, M: Ledger>(
     queues: Vec<VenueEnd<L>>,
     seats: Vec<WorkerSeat<M>>,
 ) -> Result<DayReport, AuditFault>
-    ensures audits { Audits (record { desk = locked; book = counted; callers = callers.items; queues = queues.items; seats = seats.items }) result }
+    ensures audits { Audits (day_of locked counted callers.items queues.items seats.items) result }
     ensures replays { Replays locked × BookReplays counted }
-    ensures whole { AreInOrder queues.items → parts_of seats.items ≡ M.parts → 0 < M.parts → parts_of callers.items ≡ 1024 → IsOk result }
+    ensures whole { AreInOrder queues.items → parts_of seats.items ≡ M.parts → 0 < M.parts
+        → parts_of callers.items ≡ 1024 → IsOk result }
 {
     let mut locked = locked;
     let mut counted = counted;
@@ -86,7 +88,7 @@ fn parted<K: Link, L: Run, M: Ledger>(
     alloc: Global,
     ends: Vec<WorkerEnd<K, L, M>>,
 ) -> Result<(Vec<VenueEnd<L>>, Vec<WorkerSeat<M>>), AllocError>
-    ensures { IfOk result (λ parts. (parts.0.items ≡ map (λ e. e.took) ends.items) × (parts.1.items ≡ map (λ e. e.seat) ends.items)) }
+    ensures { IfOk result (λ parts. (parts.0.items ≡ queues_of ends.items) × (parts.1.items ≡ seats_of ends.items)) }
 {
     let mut queues = Vec::with_capacity(alloc, ends.len())?;
     let mut seats = Vec::with_capacity(alloc, ends.len())?;

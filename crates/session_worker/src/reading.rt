@@ -27,7 +27,7 @@ pub(crate) fn hear<D: Dialect>(
     session: &mut Session,
     stamp: &Stamp,
 ) -> Heard
-    ensures heard { HeardGives (D.wording dialect.now).encoding (D.wording dialect.now).decoding session.old reader.old result session.new }
+    ensures heard { HeardGives (D.wording dialect.now) session.old reader.old result session.new }
     ensures reader { StandsBehind result reader.old reader.new }
 {
     let frame = match reader.next() {

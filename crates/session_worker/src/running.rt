@@ -1,7 +1,6 @@
 //! Workers in threads.
 
-ghost use Rattle.std.specs.Prelude.{IfOk, map};
-ghost use Rattle.session_worker.specs.Events.{parts_of};
+ghost use Rattle.std.specs.Prelude.{IfOk};
 ghost use Rattle.session_worker.specs.Ends.{Runs, AllRan};
 
 use crate::{RunFault, Stop, Worker, WorkerEnd};
@@ -26,7 +25,7 @@ struct EndOf<D: Dialect + Drop, K: Link, C: Clock + Drop, L: Run, M: Ledger>(
 
 impl<D: Dialect + Drop, K: Link, C: Clock + Drop, L: Run, M: Ledger> Promise<WorkerEnd<K, L, M>>
     for EndOf<D, K, C, L, M> {
-    ghost kept_by = { λ p e. Runs (D.wording p.0.value.dialect).encoding (D.wording p.0.value.dialect).decoding (parts_of p.0.value.post.linked.session p.0.value.post.takings p.0.value.post.seat (K.wire p.0.value.post.linked.link)) (parts_of e.session e.took e.seat (K.wire e.link)) e.reason };
+    ghost kept_by = { λ p end. Runs (D.wording p.0.value.dialect) p.0.value.parts end };
 }
 
 /// Runs each worker in a thread of its own, and gives their ends in order. Where memory is wanted or no thread can be
@@ -46,7 +45,7 @@ where
     L: Run + Send + Sync,
     M: Ledger + Send + Sync,
     R: Threads + Wait + Sync,
-    ensures { IfOk result (λ ends. AllRan (λ w. (D.wording w.dialect).encoding) (λ w. record { read = (D.wording w.dialect).decoding; parts = parts_of w.post.linked.session w.post.takings w.post.seat (K.wire w.post.linked.link) }) workers.items (map (λ e. record { parts = parts_of e.session e.took e.seat (K.wire e.link); reason = e.reason }) ends.items)) }
+    ensures { IfOk result (λ ends. AllRan D.wording workers.items ends.items) }
 {
     run_all_until(
         rt,
@@ -76,13 +75,13 @@ where
     L: Run + Send + Sync,
     M: Ledger + Send + Sync,
     R: Threads + Wait + Sync,
-    ensures { IfOk result (λ ends. AllRan (λ w. (D.wording w.dialect).encoding) (λ w. record { read = (D.wording w.dialect).decoding; parts = parts_of w.post.linked.session w.post.takings w.post.seat (K.wire w.post.linked.link) }) workers.items (map (λ e. record { parts = parts_of e.session e.took e.seat (K.wire e.link); reason = e.reason }) ends.items)) }
+    ensures { IfOk result (λ ends. AllRan D.wording workers.items ends.items) }
 {
     thread::scope(
         thread::scope_env(),
         rt,
         |scope| -> Result<Vec<WorkerEnd<K, L, M>>, RunFault>
-            ensures { IfOk result (λ ends. AllRan (λ w. (D.wording w.dialect).encoding) (λ w. record { read = (D.wording w.dialect).decoding; parts = parts_of w.post.linked.session w.post.takings w.post.seat (K.wire w.post.linked.link) }) workers.items (map (λ e. record { parts = parts_of e.session e.took e.seat (K.wire e.link); reason = e.reason }) ends.items)) }
+            ensures { IfOk result (λ ends. AllRan D.wording workers.items ends.items) }
         {
             let mut workers = VecDeque::from(workers);
             let mut handles = Vec::new(alloc);

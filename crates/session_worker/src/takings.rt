@@ -1,11 +1,11 @@
 //! What a worker took from its venue's ring.
 
-ghost use Rattle.std.specs.Prelude.{◌≡◌, ◌++◌, ◌∷◌, ◌<◌, [], length, min, MatchOption, MatchResult, IfOk, IfSome};
+ghost use Rattle.std.specs.Prelude.{◌≡◌, ◌<◌, [], length, min, MatchResult};
 ghost use Rattle.leg.specs.Answering.{Answers};
 ghost use Rattle.sweep_release.specs.History.{KeptDesk as ADesk, without_room};
 ghost use Rattle.release_lock.specs.Locked.{Replays};
 ghost use Rattle.release_lock.specs.Queues.{raise};
-ghost use Rattle.session_worker.specs.Taking.{with_taken};
+ghost use Rattle.session_worker.specs.Taking.{TakesNext};
 
 use leg::{PlacedLeg, VenueId};
 use release_lock::{ReleaseLock, Run, VenueDrain, VenueEnd};
@@ -62,14 +62,15 @@ impl<L: Run> Takings<L> {
     /// Puts the venue's gate up, once every leg released to it was taken.
     pub(crate) fn raise(&self, rt: &impl Wait, lock: &ReleaseLock<L>) -> Result<(), GateFault>
         ensures { (before : ADesk) × (after : ADesk) × Replays before × Replays after
-            × Answers GateFault.OutOfMemory (without_room before) (raise (without_room before) self.now.venue (length self.now.taken)) result (without_room after) }
+            × Answers GateFault.OutOfMemory (without_room before)
+            (raise (without_room before) self.now.venue (length self.now.taken)) result (without_room after) }
     {
         lock.raise(rt, &self.drain)
     }
 
     /// The next leg, if the ring has one; there is room for it before it is popped. The only refusal is want of memory.
     pub(crate) fn next(&mut self, rt: &impl Wait) -> Result<Option<PlacedLeg>, AllocError>
-        ensures { MatchResult result (λ next. MatchOption next (self.new ≡ self.old) (λ leg. self.new ≡ with_taken self.old leg)) (λ _. self.new ≡ self.old) }
+        ensures { MatchResult result (TakesNext self.old self.new) (λ _. self.new ≡ self.old) }
     {
         self.legs.reserve(1)?;
         match self.drain.pop(rt) {
@@ -87,7 +88,7 @@ impl<L: Run> Takings<L> {
         rt: &impl Wait,
         count: u64,
     ) -> Result<Option<PlacedLeg>, AllocError>
-        ensures { MatchResult result (λ next. MatchOption next (self.new ≡ self.old) (λ leg. self.new ≡ with_taken self.old leg)) (λ _. self.new ≡ self.old) }
+        ensures { MatchResult result (TakesNext self.old self.new) (λ _. self.new ≡ self.old) }
     {
         self.legs.reserve(1)?;
         match self.drain.pop_to(rt, count) {

@@ -2,13 +2,13 @@
 
 ghost use Rattle.std.specs.Prelude.{◌≡◌, []};
 ghost use Rattle.session_core.specs.Session.{new_session};
-ghost use Rattle.session_worker.specs.Events.{parts_of};
+ghost use Rattle.session_worker.specs.Events.{new_worker};
 ghost use Rattle.session_worker.specs.Ends.{Runs};
 
 use crate::gates::shut_gate;
-use crate::linked::Linked;
-use crate::post::Post;
+use crate::session_io::SessionIo;
 use crate::takings::Takings;
+use crate::worker_state::WorkerState;
 use crate::{Pace, Stop, WorkerEnd};
 use clock::Clock;
 use dialect::Dialect;
@@ -17,14 +17,26 @@ use fix_tags::Config;
 use link::Link;
 use release_lock::{ReleaseLock, Run, VenueDrain};
 use std::alloc::Global;
+use std::marker::Model;
 use std::sync::Wait;
 use std::sync::ledger::Ledger;
 
 /// The worker of one venue: its dialect, and its session over its link, the end of the venue's ring, and its seat.
+/// Contracts see the dialect, and the worker's parts as its events change them.
 #[derive(Drop)]
 pub struct Worker<D: Dialect + Drop, K: Link, C: Clock + Drop, L: Run, M: Ledger> {
     pub(crate) dialect: D,
-    pub(crate) post: Post<K, C, L, M>,
+    pub(crate) state: WorkerState<K, C, L, M>,
+}
+
+impl<D: Dialect + Drop, K: Link, C: Clock + Drop, L: Run, M: Ledger> Model
+    for Worker<D, K, C, L, M> {
+    ghost use Rattle.session_worker.specs.Ends.{WorkerStart};
+    ghost use Rattle.session_worker.specs.Linking.{worker_in};
+
+    ghost Value = { WorkerStart D };
+
+    ghost view = { λ w. record { dialect = w.dialect; parts = worker_in w.state } };
 }
 
 impl<D: Dialect + Drop, K: Link, C: Clock + Drop, L: Run, M: Ledger> Worker<D, K, C, L, M> {
@@ -41,12 +53,12 @@ impl<D: Dialect + Drop, K: Link, C: Clock + Drop, L: Run, M: Ledger> Worker<D, K
     ) -> Worker<D, K, C, L, M>
         requires { drain.popped ≡ [] }
         ensures dialect { result.dialect ≡ dialect }
-        ensures parts { parts_of result.post.linked.session result.post.takings result.post.seat (K.wire result.post.linked.link) ≡ parts_of (new_session config) (record { venue = drain.venue; taken = [] }) seat (K.wire link) }
+        ensures parts { result.parts ≡ new_worker (new_session config) drain.venue seat (K.wire link) }
     {
         Worker {
             dialect,
-            post: Post {
-                linked: Linked::new(alloc, link, clock, config, drain.venue(), pace),
+            state: WorkerState {
+                io: SessionIo::new(alloc, link, clock, config, drain.venue(), pace),
                 takings: Takings::new(alloc, drain),
                 seat,
                 raised: true,
@@ -64,7 +76,7 @@ impl<D: Dialect + Drop, K: Link, C: Clock + Drop, L: Run, M: Ledger> Worker<D, K
         collector: &Collector<M>,
         turn_limit: u64,
     ) -> WorkerEnd<K, L, M>
-        ensures { Runs (D.wording self.dialect).encoding (D.wording self.dialect).decoding (parts_of self.post.linked.session self.post.takings self.post.seat (K.wire self.post.linked.link)) (parts_of result.session result.took result.seat (K.wire result.link)) result.reason }
+        ensures { Runs (D.wording self.dialect) self.parts result }
     {
         self.run_until(rt, lock, collector, &Stop::new(), turn_limit)
     }
@@ -78,21 +90,21 @@ impl<D: Dialect + Drop, K: Link, C: Clock + Drop, L: Run, M: Ledger> Worker<D, K
         stop: &Stop,
         turn_limit: u64,
     ) -> WorkerEnd<K, L, M>
-        ensures { Runs (D.wording self.dialect).encoding (D.wording self.dialect).decoding (parts_of self.post.linked.session self.post.takings self.post.seat (K.wire self.post.linked.link)) (parts_of result.session result.took result.seat (K.wire result.link)) result.reason }
+        ensures { Runs (D.wording self.dialect) self.parts result }
     {
-        let Worker { dialect, post } = self;
-        let mut post = post;
-        let reason = post.turns(rt, &dialect, lock, collector, stop, turn_limit);
-        post.finish();
-        shut_gate(rt, lock, post.takings.venue());
-        post.drain(rt, lock, collector);
-        let Post {
-            linked,
+        let Worker { dialect, state } = self;
+        let mut state = state;
+        let reason = state.turns(rt, &dialect, lock, collector, stop, turn_limit);
+        state.finish();
+        shut_gate(rt, lock, state.takings.venue());
+        state.drain(rt, lock, collector);
+        let WorkerState {
+            io,
             takings,
             seat,
             raised: _,
-        } = post;
-        let (session, link) = linked.into_parts();
+        } = state;
+        let (session, link) = io.into_parts();
         WorkerEnd {
             session,
             took: takings.into_end(),

@@ -10,10 +10,11 @@ use link::Link;
 use release_lock::{Run, VenueEnd};
 use session_core::Session;
 use std::alloc::{AllocError, Global};
+use std::marker::Model;
 use std::sync::ledger::Ledger;
 
 /// What a worker gives back: its session, the drain of its venue with all legs taken from it, its seat, its link, and
-/// why it ended.
+/// why it ended. Contracts see what the link tells in its place.
 #[derive(Drop)]
 pub struct WorkerEnd<K: Link, L: Run, M: Ledger> {
     pub session: Session,
@@ -23,11 +24,23 @@ pub struct WorkerEnd<K: Link, L: Run, M: Ledger> {
     pub reason: EndReason,
 }
 
+impl<K: Link, L: Run, M: Ledger> Model for WorkerEnd<K, L, M> {
+    ghost use Rattle.session_worker.specs.Ends.{WorkerLeft};
+
+    ghost Value = { WorkerLeft };
+
+    ghost view = { λ e. record {
+      parts = record { session = e.session; took = e.took; seat = e.seat; wire = K.wire e.link };
+      reason = e.reason;
+    } };
+}
+
 impl<K: Link, L: Run, M: Ledger> WorkerEnd<K, L, M> {
     /// The ordinals of the legs that it sent and that aren't settled, in order: the exchange may have them or not. The
     /// only refusal is want of memory.
     pub fn in_doubt(&self, alloc: Global) -> Result<Vec<u64>, AllocError>
-        ensures { IfOk result (λ ordinals. ordinals.items ≡ in_doubt_of self.now.session self.now.took.taken) }
+        ensures { IfOk result (λ ordinals. ordinals.items
+            ≡ in_doubt_of self.now.parts.session self.now.parts.took.taken) }
     {
         let mut ordinals = Vec::new(alloc);
         let taken = self.took.taken();

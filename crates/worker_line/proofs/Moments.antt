@@ -7,7 +7,7 @@ use Rattle.std.proofs.lemmas.Option.{slice_get_within}
 use mathlib.Core.List.{IsPrefix}
 use Rattle.fix_tags.specs.Config.{ConfigParts}
 use Rattle.leg.specs.declared.leg.Leg.{Leg}
-use Rattle.dialect.specs.Wording.{Decoding, Encoding}
+use Rattle.dialect.specs.Wording.{Decoding, Wording}
 use Rattle.session_core.specs.Trial.{after_calls}
 use Rattle.sweep_release.specs.Released.{released}
 use Rattle.release_lock.specs.Queues.{placed_from}
@@ -18,10 +18,9 @@ use Rattle.venue_line.specs.ForGood.{StaysSettled}
 use Rattle.venue_line.proofs.GivenSteps.{Whole, whole_new, whole_step}
 use Rattle.venue_line.proofs.LineGives.{line_holds}
 use Rattle.venue_line.proofs.ForGood.{settled-trans}
-use Rattle.session_worker.specs.declared.end_reason.EndReason.{EndReason}
 use Rattle.session_worker.specs.Events.{WorkerParts, calls_of, taken_of, Goes}
 use Rattle.session_worker.specs.Events.WorkerEvent.{Drops}
-use Rattle.session_worker.specs.Ends.{last_calls, Runs}
+use Rattle.session_worker.specs.Ends.{WorkerLeft, last_calls, Runs}
 use Rattle.session_worker.proofs.Doing.{goes_on}
 use Rattle.worker_line.specs.Happening.{VenueEvent, works_of, after_event, after_events, moments_of, MayAllHappen, AllTakeNext}
 use Rattle.worker_line.specs.WorkerTheorem.{released_line, IsSafeLine, Worked, TheWorkerTheorem, works_in, Ran, TheRunTheorem, TheDayTheorem}
@@ -100,27 +99,27 @@ the_taken_theorem read config legs events after small worked may first =
     (subst (λ l. IsPrefix l (placed_from 1 legs)) (took_is read config events after worked) first))
 
 -- a run is what the worker did in its turns and when it ended
-run_goes : (w : Encoding) (read : Decoding) (before after : WorkerParts) (why : EndReason)
-    (runs : Runs w read before after why) → Goes read before (works_in runs) after
-run_goes w read before after why runs =
-    goes_on read before runs.at after runs.turns
+run_goes : (w : Wording) (before : WorkerParts) (left : WorkerLeft) (runs : Runs w before left)
+    → Goes w.decoding before (works_in runs) left.parts
+run_goes w before left runs =
+    goes_on w.decoding before runs.at left.parts runs.turns
     (last_calls runs.at.session.phase ++ map (λ leg. Drops leg) runs.dropped) runs.goes runs.last
 
-ran_worked : (w : Encoding) (read : Decoding) (config : ConfigParts) (events : List VenueEvent) (after : WorkerParts)
-    → Ran w read config events after → Worked read config events after
-ran_worked w read config events after ran = record {
+ran_worked : (w : Wording) (config : ConfigParts) (events : List VenueEvent) (after : WorkerParts)
+    → Ran w config events after → Worked w.decoding config events after
+ran_worked w config events after ran = record {
   before = ran.before;
   new = ran.new;
   empty = ran.empty;
-  goes = subst (λ works. Goes read ran.before works after) (sym ran.works)
-      (run_goes w read ran.before after ran.why ran.runs);
+  goes = subst (λ works. Goes w.decoding ran.before works after) (sym ran.works)
+      (run_goes w ran.before _ ran.runs);
 }
 
-pub the_run_theorem : (w : Encoding) (read : Decoding) → TheRunTheorem w read
-the_run_theorem w read config legs events after small ran may first =
-    the_taken_theorem read config legs events after small (ran_worked w read config events after ran) may first
+pub the_run_theorem : (w : Wording) → TheRunTheorem w
+the_run_theorem w config legs events after small ran may first =
+    the_taken_theorem w.decoding config legs events after small (ran_worked w config events after ran) may first
 
-pub the_day_theorem : (w : Encoding) (read : Decoding) → TheDayTheorem w read
-the_day_theorem w read callers queues seats report day venue config events after there small ran may =
-    the_run_theorem w read config (released venue day.desk.desk.sweeps) events after small ran may
+pub the_day_theorem : (w : Wording) → TheDayTheorem w
+the_day_theorem w callers queues seats report day venue config events after there small ran may =
+    the_run_theorem w config (released venue day.desk.desk.sweeps) events after small ran may
     (day.audits.0 venue after.took (slice_get_within queues venue after.took there) there)

@@ -4,7 +4,7 @@ use Rattle.std.specs.List.{All, AllPairs}
 use mathlib.Core.List.{IsPrefix}
 use Rattle.fix_tags.specs.Config.{ConfigParts}
 use Rattle.leg.specs.declared.leg.Leg.{Leg}
-use Rattle.dialect.specs.Wording.{Decoding, Encoding}
+use Rattle.dialect.specs.Wording.{Decoding, Wording}
 use Rattle.session_core.specs.Session.{new_session}
 use Rattle.sweep_release.specs.Released.{released}
 use Rattle.release_lock.specs.Queues.{Took, placed_from}
@@ -16,7 +16,7 @@ use Rattle.session_worker.specs.declared.day_report.DayReport.{DayReport}
 use Rattle.session_worker.specs.declared.end_reason.EndReason.{EndReason}
 use Rattle.session_worker.specs.Events.{WorkerEvent, WorkerParts, calls_of, Goes}
 use Rattle.session_worker.specs.Events.WorkerEvent.{Drops}
-use Rattle.session_worker.specs.Ends.{last_calls, Runs}
+use Rattle.session_worker.specs.Ends.{WorkerLeft, last_calls, Runs}
 use Rattle.session_worker.specs.Audit.{AuditedDay}
 use Rattle.worker_line.specs.Booked.{booked_by}
 use Rattle.worker_line.specs.Happening.{VenueEvent, works_of, after_events, moments_of, MayAllHappen, AllTakeNext}
@@ -34,18 +34,16 @@ pub record Worked (read : Decoding) (config : ConfigParts) (events : List VenueE
   pub goes : Goes read before (works_of events) after
 
 -- what a worker did in its turns and when it ended
-abbrev pub works_in : {w : Encoding} {read : Decoding} {before after : WorkerParts} {why : EndReason}
-    → Runs w read before after why → List WorkerEvent
+abbrev pub works_in : {w : Wording} {before : WorkerParts} {left : WorkerLeft} → Runs w before left → List WorkerEvent
 works_in runs = runs.turns ++ (last_calls runs.at.session.phase ++ map (λ leg. Drops leg) runs.dropped)
 
 -- the same of one that ran to its end
-pub record Ran (w : Encoding) (read : Decoding) (config : ConfigParts) (events : List VenueEvent) (after : WorkerParts)
-    : Type 0 where
+pub record Ran (w : Wording) (config : ConfigParts) (events : List VenueEvent) (after : WorkerParts) : Type 0 where
   pub before : WorkerParts
   pub new : before.session ≡ new_session config
   pub empty : before.took.taken ≡ []
   pub why : EndReason
-  pub runs : Runs w read before after why
+  pub runs : Runs w before (record { parts = after; reason = why })
   pub works : works_of events ≡ works_in runs
 
 -- at each moment what is safe on a line holds, and from each to every later one what is settled stays so; the line that
@@ -68,17 +66,17 @@ TheWorkerTheorem = (read : Decoding) (config : ConfigParts) (legs : List Leg) (e
     → IsSafeLine read (released_line config legs) events after
 
 -- of a worker that ran, where all that is known of its legs is that they are the first of those released
-abbrev pub TheRunTheorem : Encoding → Decoding → Type 0
-TheRunTheorem w read = (config : ConfigParts) (legs : List Leg) (events : List VenueEvent) (after : WorkerParts)
-    → config.max_number ≤ 999999999 → Ran w read config events after
-    → MayAllHappen read (released_line config legs) events → IsPrefix after.took.taken (placed_from 1 legs)
-    → IsSafeLine read (released_line config legs) events after
+abbrev pub TheRunTheorem : Wording → Type 0
+TheRunTheorem w = (config : ConfigParts) (legs : List Leg) (events : List VenueEvent) (after : WorkerParts)
+    → config.max_number ≤ 999999999 → Ran w config events after
+    → MayAllHappen w.decoding (released_line config legs) events → IsPrefix after.took.taken (placed_from 1 legs)
+    → IsSafeLine w.decoding (released_line config legs) events after
 
 -- and of each worker of a day that was audited, where nothing need be known of its legs
-abbrev pub TheDayTheorem : Encoding → Decoding → Type 0
-TheDayTheorem w read = (callers : List Seat) (queues : List Took) (seats : List Seat) (report : DayReport)
+abbrev pub TheDayTheorem : Wording → Type 0
+TheDayTheorem w = (callers : List Seat) (queues : List Took) (seats : List Seat) (report : DayReport)
     (day : AuditedDay callers queues seats (Ok report)) (venue : ℕ) (config : ConfigParts) (events : List VenueEvent)
     (after : WorkerParts) → slice_get queues venue ≡ Some after.took
-    → config.max_number ≤ 999999999 → Ran w read config events after
-    → MayAllHappen read (released_line config (released venue day.desk.desk.sweeps)) events
-    → IsSafeLine read (released_line config (released venue day.desk.desk.sweeps)) events after
+    → config.max_number ≤ 999999999 → Ran w config events after
+    → MayAllHappen w.decoding (released_line config (released venue day.desk.desk.sweeps)) events
+    → IsSafeLine w.decoding (released_line config (released venue day.desk.desk.sweeps)) events after

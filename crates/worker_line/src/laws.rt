@@ -10,15 +10,13 @@ use dialect::Dialect;
 /// session is that of a line, so that at each moment what is safe on a line holds between it and its exchange, and what
 /// is settled stays settled. It asks that the exchange keeps the rules, and wrote what came in the present connection.
 pub fn every_worker_of_an_audited_day_is_a_line<D: Dialect>(dialect: &D)
-    ensures { TheDayTheorem (D.wording dialect.now).encoding
-        (D.wording dialect.now).decoding }
+    ensures { TheDayTheorem (D.wording dialect.now) }
 {}
 
 /// The same of every run of a worker that began with a new session, where the legs that it took are the first of those
 /// released.
 pub fn a_running_worker_is_a_line<D: Dialect>(dialect: &D)
-    ensures { TheRunTheorem (D.wording dialect.now).encoding
-        (D.wording dialect.now).decoding }
+    ensures { TheRunTheorem (D.wording dialect.now) }
 {}
 
 /// The same of whatever a worker has done till now, where legs are released meanwhile, and each is taken after it was

@@ -1,7 +1,7 @@
-use Rattle.std.proofs.Common.{◌≡◌, refl, sym, ap, ◌∙◌}
+use Rattle.std.proofs.Common.{refl, sym, ap, ◌∙◌}
 use Rattle.std.specs.Prelude.{option_map}
 use Rattle.fix_text.specs.FrameFields.{fields_in}
-use Rattle.dialect.specs.Wording.{Decoding, Encoding}
+use Rattle.dialect.specs.Wording.{Wording}
 use Rattle.dialect.specs.Message.{seen}
 use Rattle.session_core.specs.declared.session_call.SessionCall.TheVariants as call
 use Rattle.session_core.specs.Calling.{answers}
@@ -11,15 +11,14 @@ use Rattle.session_worker.proofs.reading.hear.Goals as goal
 
 pub returns-in-Ok-receive-clause-heard : goal.returns-in-Ok-receive-clause-heard
 returns-in-Ok-receive-clause-heard g c =
-    let w : Encoding = (g.D.Dialect.wording c.args.dialect.now).encoding in
-    let read : Decoding = (g.D.Dialect.wording c.args.dialect.now).decoding in
+    let w : Wording = g.D.Dialect.wording c.args.dialect.now in
     let s = c.args.session.now in
     record {
       fields = fields_in c.in-Ok-Some.frame;
       envelope = c.in-Ok.envelope;
       next = sym c.in-Ok-Some.ensures.fields ∙ ap (option_map fields_in) c.in-Ok-Some.field-0-is;
       says = c.in-Ok.ensures.read;
-      gave = gave_step w read s c.receive.new.self (call.Receive c.in-Ok.envelope) (answers (receive s (seen read c.in-Ok.envelope))) c.args.stamp.now
+      gave = gave_step w s c.receive.new.self (call.Receive c.in-Ok.envelope) (answers (receive s (seen w.decoding c.in-Ok.envelope))) c.args.stamp.now
           c.in-Ok-receive.step tt refl c.in-Ok-receive.ensures;
     }
 

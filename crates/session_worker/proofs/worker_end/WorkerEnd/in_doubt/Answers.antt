@@ -1,4 +1,4 @@
-use Rattle.std.proofs.Common.{◌≡◌, ◌∙◌, ap, ◌++◌, sym}
+use Rattle.std.proofs.Common.{◌∙◌, ap, ◌++◌, sym}
 use Rattle.std.specs.Prelude.{Option, option_to_list}
 use Rattle.leg.specs.declared.placed_leg.PlacedLeg.{PlacedLeg}
 use Rattle.leg.specs.declared.leg_state.LegState.{LegState}
@@ -9,7 +9,7 @@ use Rattle.session_worker.proofs.worker_end.WorkerEnd.in_doubt.Goals as goal
 
 pub loop-placed-preserved : goal.loop-placed-preserved
 loop-placed-preserved g c =
-    let doubt = λ (leg : PlacedLeg). if_doubt (leg_state c.args.self.now.session leg.ordinal) leg.ordinal in
+    let doubt = λ (leg : PlacedLeg). if_doubt (leg_state c.self.inside.session leg.ordinal) leg.ordinal in
     let placed = c.placed-item.result in
     c.in_ok-push_if_doubt.ensures
     ∙ (ap (λ (state : Option LegState). c.loop-placed.ordinals.items ++ option_to_list (if_doubt state placed.ordinal)) c.leg_state-state.ensures

@@ -1,8 +1,0 @@
-use Rattle.session_worker.specs.Linking.{Drains, post_of}
-use Rattle.session_worker.proofs.post.Post.drain.Given as goal
-
-abbrev pub invariant-loop : goal.invariant-loop
-invariant-loop g l =
-    Drains
-    (post_of l.initial.self.linked.session l.initial.self.takings l.initial.self.seat (g.K.Link.wire l.initial.self.linked.link) l.initial.self.linked.reader)
-    (post_of l.self.linked.session l.self.takings l.self.seat (g.K.Link.wire l.self.linked.link) l.self.linked.reader)

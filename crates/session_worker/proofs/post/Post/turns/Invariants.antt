@@ -1,9 +1,0 @@
-use Rattle.session_worker.specs.Linking.{Does, post_of}
-use Rattle.session_worker.proofs.post.Post.turns.Given as goal
-
-abbrev pub invariant-loop : goal.invariant-loop
-invariant-loop g l =
-    Does (g.D.Dialect.wording l.dialect).encoding
-    (g.D.Dialect.wording l.dialect).decoding
-    (post_of l.initial.self.linked.session l.initial.self.takings l.initial.self.seat (g.K.Link.wire l.initial.self.linked.link) l.initial.self.linked.reader)
-    (post_of l.self.linked.session l.self.takings l.self.seat (g.K.Link.wire l.self.linked.link) l.self.linked.reader)

@@ -1,0 +1,65 @@
+use Rattle.std.proofs.Common.{rules, ◌≡◌, refl, sym, subst}
+use Rattle.std.specs.List.{concat}
+use Rattle.dialect.specs.Wording.{Wording}
+use Rattle.session_core.specs.declared.session_call.SessionCall.TheVariants as call
+use Rattle.session_core.specs.declared.session_fault.SessionFault.{SessionFault}
+use Rattle.session_core.specs.Calling.{close}
+use Rattle.session_core.specs.Given.{IsStep}
+use Rattle.session_worker.specs.Events.{IsIdle}
+use Rattle.session_worker.specs.Linking.{SessionIoParts, io_of, Moves}
+use Rattle.session_worker.proofs.Spoken.{stays_here, writes_breaks}
+use Rattle.session_worker.proofs.Connected.{close_on}
+use Rattle.session_worker.proofs.Calling.{moves_on, moves_refused, moves_written, asks_step, moves_broken, idle_broken, idle_may_break, idle_closed, idle_refused}
+use Rattle.session_worker.proofs.session_io.SessionIo.close.Goals as goal
+
+pub returns-in-Ok-clause-moves : goal.returns-in-Ok-clause-moves
+returns-in-Ok-clause-moves g c =
+    let w : Wording = g.D.Dialect.wording c.args.dialect.now in
+    let old : SessionIoParts = io_of c.self.inside.session (g.K.Link.wire c.self.inside.link) c.self.inside.reader in
+    let now : SessionIoParts = c.write_all.new.self in
+    let between : SessionIoParts = io_of c.close.new.self old.wire old.stream in
+    subst (λ (x : SessionIoParts). Moves w x now) c.self.view_is
+    (moves_written w old between now c.in-Ok.step
+    (asks_step w old.session c.close.new.self call.Close (close old.session) c.now-stamp.result c.in-Ok.step old.wire old.stream tt refl
+    (λ said. tt) (λ said. refl) (close_on old.session) c.in-Ok.ensures)
+    c.write_all.ensures.wire c.write_all.ensures.stream)
+
+pub returns-in-Ok-clause-idle : goal.returns-in-Ok-clause-idle
+returns-in-Ok-clause-idle g c =
+    let w : Wording = g.D.Dialect.wording c.args.dialect.now in
+    let old : SessionIoParts = io_of c.self.inside.session (g.K.Link.wire c.self.inside.link) c.self.inside.reader in
+    let now : SessionIoParts = c.write_all.new.self in
+    let between : SessionIoParts = io_of c.close.new.self old.wire old.stream in
+    idle_may_break between.session now.session
+    (idle_closed (IsStep w.encoding c.now-stamp.result) old.session between.session c.in-Ok.step c.in-Ok.ensures)
+    (writes_breaks (concat c.in-Ok.step.out) between now c.write_all.ensures.wire)
+
+pub returns-in-Err-OutOfMemory-clause-moves : goal.returns-in-Err-OutOfMemory-clause-moves
+returns-in-Err-OutOfMemory-clause-moves g c =
+    let w : Wording = g.D.Dialect.wording c.args.dialect.now in
+    let old : SessionIoParts = io_of c.self.inside.session (g.K.Link.wire c.self.inside.link) c.self.inside.reader in
+    let now : SessionIoParts = c.break_off.new.self in
+    let between : SessionIoParts = io_of c.close.new.self old.wire old.stream in
+    subst (λ (x : SessionIoParts). Moves w x now) c.self.view_is
+    (moves_on w old between now
+    (moves_refused (IsStep w.encoding c.now-stamp.result) w old between call.Close (close old.session) _ tt refl
+    (λ said. tt) (λ said. refl) (close_on old.session) c.in-Err-OutOfMemory.ensures (stays_here old.wire) refl)
+    (moves_broken w between now c.break_off.ensures.session c.break_off.ensures.wire))
+
+pub returns-in-Err-OutOfMemory-clause-idle : goal.returns-in-Err-OutOfMemory-clause-idle
+returns-in-Err-OutOfMemory-clause-idle g c = subst IsIdle (sym c.break_off.ensures.session) (idle_broken c.close.new.self)
+
+pub returns-in-Err-clause-moves : goal.returns-in-Err-clause-moves
+returns-in-Err-clause-moves g c =
+    let w : Wording = g.D.Dialect.wording c.args.dialect.now in
+    let old : SessionIoParts = io_of c.self.inside.session (g.K.Link.wire c.self.inside.link) c.self.inside.reader in
+    let now : SessionIoParts = io_of c.close.new.self old.wire old.stream in
+    subst (λ (x : SessionIoParts). Moves w x now) c.self.view_is
+    (moves_refused (IsStep w.encoding c.now-stamp.result) w old now call.Close (close old.session) c.in-Err.field-0 tt refl
+    (λ said. tt) (λ said. refl) (close_on old.session) c.in-Err.ensures (stays_here old.wire) refl)
+
+pub returns-in-Err-clause-idle : goal.returns-in-Err-clause-idle
+returns-in-Err-clause-idle g c =
+    let w : Wording = g.D.Dialect.wording c.args.dialect.now in
+    let other : c.in-Err.field-0 ≡ SessionFault.OutOfMemory → ⊥ = search rules in
+    idle_refused (IsStep w.encoding c.now-stamp.result) c.self.inside.session c.close.new.self c.in-Err.field-0 other c.in-Err.ensures

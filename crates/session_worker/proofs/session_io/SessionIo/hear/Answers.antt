@@ -1,0 +1,51 @@
+use Rattle.std.proofs.Common.{◌≡◌, true, sym, ap, subst, ◌∙◌}
+use Rattle.dialect.specs.Wording.{Wording}
+use Rattle.session_core.specs.Session.{is_connected}
+use Rattle.session_core.specs.Calling.{broken}
+use Rattle.session_worker.specs.Linking.{SessionIoParts, io_of, Moves, Asks}
+use Rattle.session_worker.proofs.Spoken.{stays_here}
+use Rattle.session_worker.proofs.Calling.{moves_none, moves_broken, heard_nothing, heard_step, heard_malformed}
+use Rattle.session_worker.proofs.session_io.SessionIo.hear.Goals as goal
+
+pub returns-then-not-is_connected : goal.returns-then-not-is_connected
+returns-then-not-is_connected g c = moves_none _ _
+
+pub returns-in-Nothing : goal.returns-in-Nothing
+returns-in-Nothing g c =
+    let w : Wording = g.D.Dialect.wording c.args.dialect.now in
+    let old : SessionIoParts = io_of c.self.inside.session (g.K.Link.wire c.self.inside.link) c.self.inside.reader in
+    let now : SessionIoParts = io_of c.hear.new.session old.wire c.hear.new.reader in
+    subst (λ (x : SessionIoParts). Moves w x now) c.self.view_is
+    (heard_nothing w old now c.in-Nothing.ensures.heard.0 (stays_here old.wire) c.in-Nothing.ensures.heard.1
+    c.in-Nothing.ensures.reader)
+
+pub returns-in-Step : goal.returns-in-Step
+returns-in-Step g c =
+    let w : Wording = g.D.Dialect.wording c.args.dialect.now in
+    let old : SessionIoParts = io_of c.self.inside.session (g.K.Link.wire c.self.inside.link) c.self.inside.reader in
+    let now : SessionIoParts = io_of c.hear.new.session old.wire c.hear.new.reader in
+    let on : is_connected old.session.phase ≡ true =
+    ap is_connected (sym c.phase.ensures) ∙ (sym c.is_connected.ensures ∙ c.if-not-is_connected.false) in
+    subst (λ (x : SessionIoParts). Asks w x c.in-Step.step now) c.self.view_is
+    (heard_step w old.session c.hear.new.session old.wire old.stream c.hear.new.reader c.in-Step.step on c.in-Step.ensures.heard
+    c.in-Step.ensures.reader)
+
+pub returns-in-Malformed : goal.returns-in-Malformed
+returns-in-Malformed g c =
+    let w : Wording = g.D.Dialect.wording c.args.dialect.now in
+    let old : SessionIoParts = io_of c.self.inside.session (g.K.Link.wire c.self.inside.link) c.self.inside.reader in
+    let now : SessionIoParts = c.hang_up.new.self in
+    let on : is_connected old.session.phase ≡ true =
+    ap is_connected (sym c.phase.ensures) ∙ (sym c.is_connected.ensures ∙ c.if-not-is_connected.false) in
+    let what = c.in-Malformed.ensures.heard in
+    subst (λ (x : SessionIoParts). Moves w x now) c.self.view_is
+    (heard_malformed w old now c.hear.new.reader what.0 what.1 on what.2 what.3 c.in-Malformed.ensures.reader
+    (c.hang_up.ensures.session ∙ what.4) c.hang_up.ensures.wire)
+
+pub returns-in-OutOfMemory : goal.returns-in-OutOfMemory
+returns-in-OutOfMemory g c =
+    let w : Wording = g.D.Dialect.wording c.args.dialect.now in
+    let old : SessionIoParts = io_of c.self.inside.session (g.K.Link.wire c.self.inside.link) c.self.inside.reader in
+    let now : SessionIoParts = c.break_off.new.self in
+    subst (λ (x : SessionIoParts). Moves w x now) c.self.view_is
+    (moves_broken w old now (c.break_off.ensures.session ∙ ap broken c.in-OutOfMemory.ensures.heard) c.break_off.ensures.wire)

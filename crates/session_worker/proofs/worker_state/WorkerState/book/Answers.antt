@@ -1,0 +1,35 @@
+use Rattle.std.proofs.Common.{true≢false, sym, ap, subst, ◌∙◌}
+use Rattle.link.specs.Traffic.{Tells, Stays}
+use Rattle.session_core.specs.Receiving.{confirm}
+use Rattle.session_core.specs.Calling.{broken}
+use Rattle.session_worker.specs.Linking.{SessionIoParts, WorkerStateParts}
+use Rattle.session_worker.proofs.Speech.{stays_same}
+use Rattle.session_worker.proofs.worker_state.WorkerState.book.Goals as goal
+
+pub returns-in-Ok-clause-confirmed : goal.returns-in-Ok-clause-confirmed
+returns-in-Ok-clause-confirmed g c =
+    λ e. ap (λ (x : SessionIoParts). x.session) c.confirm.ensures
+    ∙ ap (λ (x : WorkerStateParts). confirm x.io.session) c.self.view_is
+
+pub returns-in-Ok-clause-broken : goal.returns-in-Ok-clause-broken
+returns-in-Ok-clause-broken g c = λ e. absurd (true≢false e)
+
+pub returns-in-Ok-clause-wire : goal.returns-in-Ok-clause-wire
+returns-in-Ok-clause-wire g c =
+    subst (λ (x : WorkerStateParts). Tells x.io.wire c.confirm.new.self.wire Stays) c.self.view_is
+    (stays_same _ _ (ap (λ (x : SessionIoParts). x.wire) c.confirm.ensures))
+
+pub returns-in-Ok-clause-stream : goal.returns-in-Ok-clause-stream
+returns-in-Ok-clause-stream g c =
+    ap (λ (x : SessionIoParts). x.stream) c.confirm.ensures ∙ ap (λ (x : WorkerStateParts). x.io.stream) c.self.view_is
+
+pub returns-in-Err-clause-confirmed : goal.returns-in-Err-clause-confirmed
+returns-in-Err-clause-confirmed g c = λ e. absurd (true≢false (sym e))
+
+pub returns-in-Err-clause-broken : goal.returns-in-Err-clause-broken
+returns-in-Err-clause-broken g c =
+    λ e. c.break_off.ensures.session ∙ ap (λ (x : WorkerStateParts). broken x.io.session) c.self.view_is
+
+pub returns-in-Err-clause-wire : goal.returns-in-Err-clause-wire
+returns-in-Err-clause-wire g c =
+    subst (λ (x : WorkerStateParts). Tells x.io.wire c.break_off.new.self.wire Stays) c.self.view_is c.break_off.ensures.wire

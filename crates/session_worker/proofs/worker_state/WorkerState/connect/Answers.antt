@@ -1,0 +1,49 @@
+use Rattle.std.proofs.Common.{refl, sym, ap, subst, ◌∙◌}
+use Rattle.dialect.specs.Wording.{Wording}
+use Rattle.session_worker.specs.Events.{IsIdle}
+use Rattle.session_worker.specs.Linking.{SessionIoParts, WorkerStateParts, Does}
+use Rattle.session_core.specs.declared.phase.Phase.TheVariants.{Down}
+use Rattle.session_worker.proofs.Speech.{stays_same}
+use Rattle.session_worker.proofs.Calling.{moves_abandon, idle_in}
+use Rattle.session_worker.proofs.Doing.{state_of, does_none, does_on, does_moves, does_drains}
+use Rattle.session_worker.proofs.worker_state.WorkerState.connect.Goals as goal
+
+pub returns-then-not-in_doubt : goal.returns-then-not-in_doubt
+returns-then-not-in_doubt g c =
+    let w : Wording = g.D.Dialect.wording c.args.dialect.now in
+    let a : WorkerStateParts = state_of c.self.inside.io c.self.inside.takings c.self.inside.seat in
+    let b : WorkerStateParts = state_of c.abandon.new.self c.self.inside.takings c.self.inside.seat in
+    subst (λ (x : WorkerStateParts). Does w x b) c.self.view_is
+    (does_moves w a b
+    (moves_abandon w a.io b.io (ap (λ (x : SessionIoParts). x.session) c.abandon.ensures)
+    (stays_same a.io.wire b.io.wire (ap (λ (x : SessionIoParts). x.wire) c.abandon.ensures))) refl refl)
+
+pub returns-then-not-may_dial : goal.returns-then-not-may_dial
+returns-then-not-may_dial g c = does_none _ _
+
+pub returns-then-connect : goal.returns-then-connect
+returns-then-connect g c =
+    let w : Wording = g.D.Dialect.wording c.args.dialect.now in
+    let a : WorkerStateParts = state_of c.self.inside.io c.self.inside.takings c.self.inside.seat in
+    let b : WorkerStateParts = state_of c.connect.new.self c.self.inside.takings c.self.inside.seat in
+    subst (λ (x : WorkerStateParts). Does w x b) c.self.view_is
+    (does_moves w a b c.connect.ensures.moves refl refl)
+
+pub returns : goal.returns
+returns g c =
+    let w : Wording = g.D.Dialect.wording c.args.dialect.now in
+    let a : WorkerStateParts = state_of c.self.inside.io c.self.inside.takings c.self.inside.seat in
+    let d : WorkerStateParts = state_of c.connect.new.self c.self.inside.takings c.self.inside.seat in
+    let e : WorkerStateParts = c.drain.new.self in
+    let m : WorkerStateParts = state_of c.self-2.inside.io c.self-2.inside.takings c.self-2.inside.seat in
+    let f : WorkerStateParts = state_of c.abandon-2.new.self c.self-2.inside.takings c.self-2.inside.seat in
+    let down = ap (λ (x : WorkerStateParts). x.io.session.phase) c.self.view_is ∙ c.requires in
+    let idle : IsIdle a.io.session = idle_in a.io.session Down down (λ e. cc) in
+    let still : IsIdle d.io.session = subst IsIdle (sym (c.connect.ensures.spent c.if-connect.false)) idle in
+    subst (λ (x : WorkerStateParts). Does w x f) c.self.view_is
+    (does_on w a e f (does_on w a d e (does_moves w a d c.connect.ensures.moves refl refl)
+    (does_drains w d e c.drain.ensures still))
+    (subst (λ (x : WorkerStateParts). Does w x f) c.self-2.view_is
+    (does_moves w m f
+    (moves_abandon w m.io f.io (ap (λ (x : SessionIoParts). x.session) c.abandon-2.ensures)
+    (stays_same m.io.wire f.io.wire (ap (λ (x : SessionIoParts). x.wire) c.abandon-2.ensures))) refl refl)))

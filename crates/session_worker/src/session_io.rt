@@ -1,0 +1,403 @@
+//! A session and the link over which it speaks.
+
+ghost use Rattle.std.specs.Prelude.{◌≡◌, ◌↔◌, false, IsTrue};
+ghost use Rattle.std.specs.List.{concat};
+ghost use Rattle.session_core.specs.declared.phase.Phase.TheVariants as phase;
+ghost use Rattle.session_core.specs.Session.{new_session, is_connected, has_doubt};
+ghost use Rattle.session_core.specs.Receiving.{confirm};
+ghost use Rattle.session_core.specs.Calling.{broken, abandon};
+ghost use Rattle.fix_text.specs.Reading.{Stream};
+ghost use Rattle.link.specs.Traffic.{Tells, Dials, Stays};
+ghost use Rattle.session_worker.specs.Speaking.{Wire, Reads};
+ghost use Rattle.session_worker.specs.Hearing.{Said};
+ghost use Rattle.session_worker.specs.Linking.{io_of, IsHearing, MayBreak, TakesIn, Writes, Moves, Hands, AsksOrMoves};
+ghost use Rattle.session_worker.specs.Events.{IsIdle};
+
+use crate::Pace;
+use crate::reading::{Heard, hear};
+use crate::redial::Redial;
+use crate::timer::Timer;
+use clock::Clock;
+use dialect::Dialect;
+use fix_tags::Config;
+use fix_text::FrameReader;
+use leg::{PlacedLeg, VenueId};
+use link::{Got, Link, write_whole};
+use session_core::{Frames, Phase, Session, SessionFault, Step};
+use std::alloc::Global;
+use std::marker::Model;
+use std::time::Duration;
+
+/// How many bytes a read takes at most.
+const READ_SIZE: usize = 4096;
+
+/// How many milliseconds a rest lasts at least, unless the link has something to tell.
+const LEAST_REST: u64 = 1;
+
+/// How many it lasts at most, so that a worker whose bell nobody rings comes back to its gate.
+const LONGEST_REST: u64 = 1_000;
+
+/// A session, the link over which it speaks, since when nothing was written and nothing heard, and when it is dialled
+/// again. Contracts see the session, what the link tells, and what the reader has.
+#[derive(Drop)]
+pub(crate) struct SessionIo<K: Link, C: Clock + Drop> {
+    alloc: Global,
+    link: K,
+    clock: C,
+    session: Session,
+    reader: FrameReader,
+    timer: Timer,
+    redial: Redial,
+}
+
+impl<K: Link, C: Clock + Drop> Model for SessionIo<K, C> {
+    ghost use Rattle.session_worker.specs.Linking.{SessionIoParts};
+
+    ghost Value = { SessionIoParts };
+
+    ghost view = { λ l. record { session = l.session; wire = K.wire l.link; stream = l.reader } };
+}
+
+impl<K: Link, C: Clock + Drop> SessionIo<K, C> {
+    /// The session of a venue, which is down, over a link that isn't dialled yet.
+    pub(crate) fn new(
+        alloc: Global,
+        link: K,
+        clock: C,
+        config: Config,
+        venue: VenueId,
+        pace: Pace,
+    ) -> SessionIo<K, C>
+        ensures session { result.session ≡ new_session config }
+        ensures wire { result.wire ≡ K.wire link }
+    {
+        let timer = Timer::new(pace, config.heart());
+        SessionIo {
+            alloc,
+            link,
+            clock,
+            session: Session::new(alloc, config),
+            reader: FrameReader::new(alloc),
+            timer,
+            redial: Redial::new(pace, u64::from(venue.number())),
+        }
+    }
+
+    /// The session and the link, at the end.
+    pub(crate) fn into_parts(self) -> (Session, K)
+        ensures session { result.0 ≡ self.session }
+        ensures wire { K.wire result.1 ≡ self.wire }
+    {
+        let SessionIo {
+            alloc: _,
+            link,
+            clock: _,
+            session,
+            reader: _,
+            timer: _,
+            redial: _,
+        } = self;
+        (session, link)
+    }
+
+    pub(crate) fn phase(&self) -> Phase
+        ensures { result ≡ self.now.session.phase }
+    {
+        self.session.phase()
+    }
+
+    pub(crate) fn is_up(&self) -> bool
+        ensures { IsTrue result ↔ (self.now.session.phase ≡ phase.Up) }
+    {
+        self.session.phase() == Phase::Up
+    }
+
+    pub(crate) fn is_connected(&self) -> bool
+        ensures { result ≡ is_connected self.now.session.phase }
+    {
+        self.session.phase().is_connected()
+    }
+
+    pub(crate) fn in_doubt(&self) -> bool
+        ensures { result ≡ has_doubt self.now.session }
+    {
+        self.session.in_doubt()
+    }
+
+    /// The note that is pending was taken.
+    pub(crate) fn confirm(&mut self)
+        ensures { self.new ≡ record self.old { session = confirm self.old.session } }
+    {
+        self.session.confirm();
+    }
+
+    /// The session is over.
+    pub(crate) fn abandon(&mut self)
+        ensures { self.new ≡ record self.old { session = abandon self.old.session } }
+    {
+        self.session.abandon();
+    }
+
+    /// The connection is given up.
+    pub(crate) fn break_off(&mut self)
+        ensures session { self.new.session ≡ broken self.old.session }
+        ensures wire { Tells self.old.wire self.new.wire Stays }
+        ensures stream { self.new.stream ≡ self.old.stream }
+    {
+        self.session.broken();
+        let _ = self.link.shut();
+    }
+
+    /// The session ended the connection: the link ends it too.
+    pub(crate) fn hang_up(&mut self)
+        ensures session { self.new.session ≡ self.old.session }
+        ensures wire { Tells self.old.wire self.new.wire Stays }
+        ensures stream { self.new.stream ≡ self.old.stream }
+    {
+        let _ = self.link.shut();
+    }
+
+    /// Writes a frame. Where that fails the connection is given up.
+    fn write(&mut self, frame: &[u8])
+        ensures wire { Writes frame.now self.old self.new }
+        ensures stream { self.new.stream ≡ self.old.stream }
+    {
+        match write_whole(&mut self.link, frame) {
+            Ok(()) => self.timer.wrote(),
+            Err(_) => self.break_off(),
+        }
+    }
+
+    /// Writes frames, in order, until one fails.
+    pub(crate) fn write_all(&mut self, frames: Frames)
+        ensures wire { Writes (concat frames) self.old self.new }
+        ensures stream { self.new.stream ≡ self.old.stream }
+    {
+        let frames = frames.into_vec();
+        for frame in &frames {
+            match write_whole(&mut self.link, frame.as_slice()) {
+                Ok(()) => self.timer.wrote(),
+                Err(_) => return self.break_off(),
+            }
+        }
+    }
+
+    /// Dials, and logs on where that succeeds; a failed dial is no fault of the session. It says whether the session
+    /// may go on: it may not where no number is left for the Logon.
+    pub(crate) fn connect<D: Dialect>(&mut self, dialect: &D) -> bool
+        ensures moves { Moves (D.wording dialect.now) self.old self.new }
+        ensures spent { result ≡ false → self.new.session ≡ self.old.session }
+    {
+        self.redial.dialled();
+        match self.link.dial() {
+            Ok(()) => self.log_on(dialect),
+            Err(_) => true,
+        }
+    }
+
+    /// Logs on over a link that was dialled, and says whether the session may go on.
+    fn log_on<D: Dialect>(&mut self, dialect: &D) -> bool
+        ensures moves { (before : Wire) (stream : Stream) → Tells before self.old.wire Dials
+            → Moves (D.wording dialect.now) (io_of self.old.session before stream) self.new }
+        ensures spent { result ≡ false → self.new.session ≡ self.old.session }
+    {
+        self.reader = FrameReader::new(self.alloc);
+        self.timer.dialled();
+        let stamp = self.clock.now();
+        match self.session.connect(dialect, &stamp) {
+            Ok(frame) => {
+                self.write(frame.as_slice());
+                true
+            }
+            Err(SessionFault::NumbersSpent) => {
+                self.hang_up();
+                false
+            }
+            Err(_) => {
+                self.break_off();
+                true
+            }
+        }
+    }
+
+    /// Sends a leg, and says whether the session took it. Where it wanted memory for that, or the order can't be
+    /// written, the connection is given up.
+    pub(crate) fn send<D: Dialect>(&mut self, dialect: &D, placed: &PlacedLeg) -> bool
+        ensures { Hands (D.wording dialect.now) placed.now self.old self.new }
+    {
+        let stamp = self.clock.now();
+        match self
+            .session
+            .send_leg(dialect, placed.ordinal, &placed.leg, &stamp)
+        {
+            Ok(frame) => {
+                self.write(frame.as_slice());
+                true
+            }
+            Err(SessionFault::OutOfMemory) => {
+                self.break_off();
+                false
+            }
+            Err(_) => false,
+        }
+    }
+
+    /// The session is to close, and can send no leg from here on.
+    pub(crate) fn close<D: Dialect>(&mut self, dialect: &D)
+        ensures moves { Moves (D.wording dialect.now) self.old self.new }
+        ensures idle { IsIdle self.new.session }
+    {
+        let stamp = self.clock.now();
+        match self.session.close(dialect, &stamp) {
+            Ok(step) => self.write_all(step.out),
+            Err(SessionFault::OutOfMemory) => self.break_off(),
+            Err(_) => {}
+        }
+    }
+
+    /// Hands bytes that were read to the reader.
+    fn take_in(&mut self, bytes: &[u8])
+        ensures fed { TakesIn bytes.now self.old self.new }
+        ensures wire { Tells self.old.wire self.new.wire Stays }
+    {
+        self.timer.read();
+        match self.reader.feed(bytes) {
+            Ok(()) => {}
+            Err(_) => self.break_off(),
+        }
+    }
+
+    /// Reads once. Where that fails, or no byte comes any more, the connection is given up.
+    pub(crate) fn read(&mut self)
+        ensures session { MayBreak self.old.session self.new.session }
+        ensures wire { Reads self.old.wire self.new.wire }
+        ensures hears { (said : Said) → IsHearing said self.old → IsHearing said self.new }
+    {
+        let mut buf = [0; READ_SIZE];
+        match self.link.read(&mut buf) {
+            Ok(Got::Bytes(count)) => self.take_in(&buf[..count]),
+            Ok(Got::Nothing) => {}
+            Ok(Got::End) => self.break_off(),
+            Err(_) => self.break_off(),
+        }
+    }
+
+    /// The next message that was read is handed to the session, while there is a connection and a message. It gives
+    /// what is to be done for it.
+    pub(crate) fn hear<D: Dialect>(&mut self, dialect: &D) -> Option<Step>
+        ensures { AsksOrMoves (D.wording dialect.now) self.old result self.new }
+    {
+        if !self.session.phase().is_connected() {
+            return None;
+        }
+        let stamp = self.clock.now();
+        match hear(dialect, &mut self.reader, &mut self.session, &stamp) {
+            Heard::Nothing => None,
+            Heard::Step(step) => {
+                self.timer.heard();
+                Some(step)
+            }
+            Heard::Malformed => {
+                self.hang_up();
+                None
+            }
+            Heard::OutOfMemory => {
+                self.break_off();
+                None
+            }
+        }
+    }
+
+    /// A turn begins. Where the session is found down after a dial, the pause before the next one begins.
+    pub(crate) fn begin_turn(&mut self)
+        ensures { self.new ≡ self.old }
+    {
+        self.timer.begin_turn(self.clock.millis());
+        if self.session.phase() == Phase::Down {
+            self.redial.found_down(self.timer.now());
+        }
+    }
+
+    /// The session came up: where the connection ends it is dialled again at once.
+    pub(crate) fn came_up(&mut self)
+        ensures { self.new ≡ self.old }
+    {
+        self.redial.came_up();
+    }
+
+    /// The milliseconds that the clock tells.
+    pub(crate) fn millis(&self) -> u64 {
+        self.clock.millis()
+    }
+
+    /// Whether the pause before the next dial is over.
+    pub(crate) fn may_dial(&self) -> bool {
+        self.redial.is_due(self.timer.now())
+    }
+
+    /// Whether nothing was written in this turn and no message heard. A session that the turn leaves down is idle too,
+    /// so that no connection is dialled without a rest before; one that is over isn't.
+    pub(crate) fn is_idle(&self) -> bool {
+        match self.session.phase() {
+            Phase::Down => true,
+            Phase::Closed => false,
+            Phase::LoggingOn => !self.timer.has_acted(),
+            Phase::Settling => !self.timer.has_acted(),
+            Phase::Up => !self.timer.has_acted(),
+            Phase::Closing => !self.timer.has_acted(),
+            Phase::LoggedOut => !self.timer.has_acted(),
+        }
+    }
+
+    /// Rests until the link has something to tell, or something is due.
+    pub(crate) fn rest(&mut self)
+        ensures session { self.new.session ≡ self.old.session }
+        ensures wire { Tells self.old.wire self.new.wire Stays }
+        ensures stream { self.new.stream ≡ self.old.stream }
+    {
+        let left = if self.session.phase().is_connected() {
+            self.timer.millis_left()
+        } else {
+            self.redial.millis_left(self.timer.now())
+        };
+        self.link.rest(Duration::from_millis(left.clamp(LEAST_REST, LONGEST_REST)));
+    }
+
+    /// After so long without a write the session is told, and gives what is to be written.
+    pub(crate) fn on_quiet<D: Dialect>(&mut self, dialect: &D) -> Option<Step>
+        ensures { AsksOrMoves (D.wording dialect.now) self.old result self.new }
+    {
+        if !self.timer.is_quiet() {
+            return None;
+        }
+        self.timer.restart_quiet();
+        let stamp = self.clock.now();
+        match self.session.quiet(dialect, &stamp) {
+            Ok(step) => Some(step),
+            Err(SessionFault::OutOfMemory) => {
+                self.break_off();
+                None
+            }
+            Err(_) => None,
+        }
+    }
+
+    /// After so long without a message the session is told, and gives what is to be done.
+    pub(crate) fn on_silence<D: Dialect>(&mut self, dialect: &D) -> Option<Step>
+        ensures { AsksOrMoves (D.wording dialect.now) self.old result self.new }
+    {
+        if !self.timer.is_silent() {
+            return None;
+        }
+        self.timer.restart_silent();
+        let stamp = self.clock.now();
+        match self.session.silent(dialect, &stamp) {
+            Ok(step) => Some(step),
+            Err(SessionFault::OutOfMemory) => {
+                self.break_off();
+                None
+            }
+            Err(_) => None,
+        }
+    }
+}

@@ -1,0 +1,527 @@
+//! What a worker does in its turns.
+
+ghost use Rattle.std.specs.Prelude.{◌≡◌, true, false, MatchOption, MatchResult};
+ghost use Rattle.std.specs.List.{concat};
+ghost use Rattle.dialect.specs.Wording.{Decoding};
+ghost use Rattle.link.specs.Traffic.{Tells, Stays};
+ghost use Rattle.session_core.specs.declared.phase.Phase.TheVariants as phase;
+ghost use Rattle.session_core.specs.Receiving.{confirm};
+ghost use Rattle.session_core.specs.Calling.{broken};
+ghost use Rattle.session_worker.specs.Events.{Goes};
+ghost use Rattle.session_worker.specs.Linking.{worker_in, MayConfirm, Hands, Does, Drains, CarriesOut};
+ghost use Rattle.session_worker.specs.Ends.{is_over, IsReason, last_calls};
+ghost use Rattle.session_worker.specs.Taking.{TakesNext};
+
+use crate::gates::{lower, shut_gate};
+use crate::patience::Patience;
+use crate::session_io::SessionIo;
+use crate::takings::Takings;
+use crate::{EndReason, Stop};
+use clock::Clock;
+use dialect::{Dialect, Note};
+use exec_collector::{Collector, WorkerSeat};
+use leg::{LegId, PlacedLeg};
+use link::Link;
+use release_lock::{ReleaseLock, Run};
+use session_core::{LegIds, Phase, Step};
+use std::alloc::AllocError;
+use std::marker::Model;
+use std::sync::Wait;
+use std::sync::ledger::Ledger;
+
+/// In how many rounds a turn drains a ring at most.
+const DRAIN_ROUNDS: usize = 8;
+
+/// How many messages a turn takes at most; the others are taken in the next one.
+const MESSAGES_A_TURN: usize = 512;
+
+/// How many legs a turn sends at most.
+const LEGS_A_TURN: usize = 32;
+
+/// How far a ring was drained.
+#[derive(Clone, Copy)]
+pub(crate) enum Drained {
+    /// Nothing was left.
+    Everything,
+    /// The rounds of a turn weren't enough.
+    SomeLeft,
+    /// There was no room for a leg, which is left in the ring.
+    NoRoom,
+}
+
+/// What a worker works with: its session over its link, what it took from the ring, its seat, and whether its gate may
+/// be up. Contracts see the first three.
+#[derive(Drop)]
+pub(crate) struct WorkerState<K: Link, C: Clock + Drop, L: Run, M: Ledger> {
+    pub(crate) io: SessionIo<K, C>,
+    pub(crate) takings: Takings<L>,
+    pub(crate) seat: WorkerSeat<M>,
+    pub(crate) raised: bool,
+}
+
+impl<K: Link, C: Clock + Drop, L: Run, M: Ledger> Model for WorkerState<K, C, L, M> {
+    ghost use Rattle.session_worker.specs.Linking.{WorkerStateParts};
+
+    ghost Value = { WorkerStateParts };
+
+    ghost view = { λ p. record { io = p.io; took = p.takings; seat = p.seat } };
+}
+
+impl<K: Link, C: Clock + Drop, L: Run, M: Ledger> WorkerState<K, C, L, M> {
+    /// Takes its turns, until one leaves the session closed, it has rested so often, or it is told to stop and its
+    /// patience is over. A turn in which it had something to do doesn't count.
+    pub(crate) fn turns<D: Dialect>(
+        &mut self,
+        rt: &impl Wait,
+        dialect: &D,
+        lock: &ReleaseLock<L>,
+        collector: &Collector<M>,
+        stop: &Stop,
+        turn_limit: u64,
+    ) -> EndReason
+        ensures does { Does (D.wording dialect.now) self.old self.new }
+        ensures reason { IsReason result self.new.io.session.phase }
+    {
+        let mut rests = 0;
+        let mut patience = Patience::new();
+        for _ in rt.forever() {
+            if has_ended(self.io.phase())
+                || rests >= turn_limit
+                || patience.is_over(stop, self.io.millis())
+            {
+                break;
+            }
+            self.heed(rt, lock, stop);
+            if self.turn(rt, dialect, lock, collector) {
+                rests += 1;
+            }
+        }
+        if has_ended(self.io.phase()) {
+            return EndReason::Closed;
+        }
+        if rests >= turn_limit {
+            EndReason::TurnLimit
+        } else {
+            EndReason::Stopped
+        }
+    }
+
+    /// Where the worker was told to stop its gate is shut.
+    fn heed(&self, rt: &impl Wait, lock: &ReleaseLock<L>, stop: &Stop) {
+        let venue = self.takings.venue();
+        if stop.is_told() && !lock.is_shut(venue) {
+            shut_gate(rt, lock, venue);
+        }
+    }
+
+    /// The session is over, also where no turn has left it so.
+    pub(crate) fn finish(&mut self)
+        ensures goes { (read : Decoding) → Goes read (worker_in self.old) (last_calls self.old.io.session.phase)
+            (worker_in self.new) }
+        ensures wire { self.new.io.wire ≡ self.old.io.wire }
+        ensures over { self.new.io.session.phase ≡ phase.Closed }
+    {
+        if has_ended(self.io.phase()) {
+            return;
+        }
+        self.io.abandon();
+    }
+
+    /// One turn, and whether the worker rested at its end, since it had nothing to do.
+    pub(crate) fn turn<D: Dialect>(
+        &mut self,
+        rt: &impl Wait,
+        dialect: &D,
+        lock: &ReleaseLock<L>,
+        collector: &Collector<M>,
+    ) -> bool
+        ensures { Does (D.wording dialect.now) self.old self.new }
+    {
+        let taken = self.takings.count();
+        self.io.begin_turn();
+        self.begin(rt, dialect, lock, collector);
+        self.close_if_shut(rt, dialect, lock, collector);
+        self.listen(rt, dialect, collector);
+        self.write_if_quiet(rt, dialect, collector);
+        self.ask_if_silent(rt, dialect, collector);
+        self.rest_if_idle(taken)
+    }
+
+    /// At the end of a turn in which no leg was taken since there were this many, nothing written and nothing heard,
+    /// the worker rests. It says whether it did.
+    fn rest_if_idle(&mut self, taken: u64) -> bool
+        ensures session { self.new.io.session ≡ self.old.io.session }
+        ensures wire { Tells self.old.io.wire self.new.io.wire Stays }
+        ensures stream { self.new.io.stream ≡ self.old.io.stream }
+        ensures took { self.new.took ≡ self.old.took }
+        ensures seat { self.new.seat.parts ≡ self.old.seat.parts }
+    {
+        if self.takings.count() != taken || !self.io.is_idle() {
+            return false;
+        }
+        self.io.rest();
+        true
+    }
+
+    /// What a turn begins with, by how far the session has come.
+    fn begin<D: Dialect>(
+        &mut self,
+        rt: &impl Wait,
+        dialect: &D,
+        lock: &ReleaseLock<L>,
+        collector: &Collector<M>,
+    )
+        ensures { Does (D.wording dialect.now) self.old self.new }
+    {
+        match self.io.phase() {
+            Phase::Down => self.start(rt, dialect, lock, collector),
+            Phase::Up => self.send_waiting(rt, dialect, lock, collector),
+            Phase::LoggingOn => {}
+            Phase::Settling => {}
+            Phase::Closing => {}
+            Phase::LoggedOut => {}
+            Phase::Closed => {}
+        }
+    }
+
+    /// In `Down`: the gate goes down, and what is placed is dropped. Once nothing is left the session may connect.
+    fn start<D: Dialect>(
+        &mut self,
+        rt: &impl Wait,
+        dialect: &D,
+        lock: &ReleaseLock<L>,
+        collector: &Collector<M>,
+    )
+        requires { self.old.io.session.phase ≡ phase.Down }
+        ensures { Does (D.wording dialect.now) self.old self.new }
+    {
+        self.put_down(rt, lock);
+        match self.drain(rt, lock, collector) {
+            Drained::Everything => self.connect(rt, dialect, lock, collector),
+            Drained::SomeLeft => {}
+            Drained::NoRoom => {}
+        }
+    }
+
+    /// The gate goes down, if it may be up.
+    fn put_down(&mut self, rt: &impl Wait, lock: &ReleaseLock<L>)
+        ensures { self.new ≡ self.old }
+    {
+        if self.raised {
+            lower(rt, lock, self.takings.venue());
+            self.raised = false;
+        }
+    }
+
+    /// The session connects, once the pause after the last dial is over. It is over where the gate was shut and no leg
+    /// is in doubt, or where no number is left for a Logon.
+    fn connect<D: Dialect>(
+        &mut self,
+        rt: &impl Wait,
+        dialect: &D,
+        lock: &ReleaseLock<L>,
+        collector: &Collector<M>,
+    )
+        requires { self.old.io.session.phase ≡ phase.Down }
+        ensures { Does (D.wording dialect.now) self.old self.new }
+    {
+        let venue = self.takings.venue();
+        if lock.is_shut(venue) && !self.io.in_doubt() {
+            return self.io.abandon();
+        }
+        if !self.io.may_dial() {
+            return;
+        }
+        if self.io.connect(dialect) {
+            return;
+        }
+        shut_gate(rt, lock, venue);
+        self.drain(rt, lock, collector);
+        self.io.abandon();
+    }
+
+    /// In `Up`: the gate is put up, and the legs that wait are sent, so many at most.
+    fn send_waiting<D: Dialect>(
+        &mut self,
+        rt: &impl Wait,
+        dialect: &D,
+        lock: &ReleaseLock<L>,
+        collector: &Collector<M>,
+    )
+        ensures { Does (D.wording dialect.now) self.old self.new }
+    {
+        if !self.put_up(rt, lock) {
+            return;
+        }
+        for _ in 0..LEGS_A_TURN {
+            if lock.is_shut(self.takings.venue()) || !self.io.is_up() {
+                return;
+            }
+            if !self.send_next(rt, dialect, lock, collector) {
+                return;
+            }
+        }
+    }
+
+    /// The gate goes up, unless the worker has put it up since the session came up, and it says whether it is. Where
+    /// that is refused the next turn tries again.
+    fn put_up(&mut self, rt: &impl Wait, lock: &ReleaseLock<L>) -> bool
+        ensures { self.new ≡ self.old }
+    {
+        if self.raised {
+            return true;
+        }
+        self.io.came_up();
+        self.raised = self.takings.raise(rt, lock).is_ok();
+        self.raised
+    }
+
+    /// The next leg is sent, and it says whether there was one.
+    fn send_next<D: Dialect>(
+        &mut self,
+        rt: &impl Wait,
+        dialect: &D,
+        lock: &ReleaseLock<L>,
+        collector: &Collector<M>,
+    ) -> bool
+        requires { self.old.io.session.phase ≡ phase.Up }
+        ensures { Does (D.wording dialect.now) self.old self.new }
+    {
+        match next_leg(rt, lock, &mut self.takings) {
+            Ok(next) => self.send(rt, dialect, collector, next),
+            Err(_) => {
+                self.io.break_off();
+                false
+            }
+        }
+    }
+
+    /// Sends the leg that was taken, if one was, and says whether one was. One that the session doesn't take is
+    /// withdrawn in the book.
+    fn send<D: Dialect>(
+        &mut self,
+        rt: &impl Wait,
+        dialect: &D,
+        collector: &Collector<M>,
+        next: Option<PlacedLeg>,
+    ) -> bool
+        ensures io { MatchOption next (self.new.io ≡ self.old.io)
+            (λ leg. Hands (D.wording dialect.now) leg self.old.io self.new.io) }
+        ensures took { self.new.took ≡ self.old.took }
+        ensures seat { self.new.seat.parts ≡ self.old.seat.parts }
+    {
+        let Some(leg) = next else {
+            return false;
+        };
+        if self.io.send(dialect, &leg) {
+            return true;
+        }
+        self.withdraw(rt, collector, leg.leg.id);
+        true
+    }
+
+    /// With the gate shut the session is to close while it is connected, and what is placed is dropped. Where there is
+    /// no room for a leg the connection is given up.
+    fn close_if_shut<D: Dialect>(
+        &mut self,
+        rt: &impl Wait,
+        dialect: &D,
+        lock: &ReleaseLock<L>,
+        collector: &Collector<M>,
+    )
+        ensures { Does (D.wording dialect.now) self.old self.new }
+    {
+        if !self.io.is_connected() || !lock.is_shut(self.takings.venue()) {
+            return;
+        }
+        self.io.close(dialect);
+        match self.drain(rt, lock, collector) {
+            Drained::Everything => {}
+            Drained::SomeLeft => {}
+            Drained::NoRoom => self.io.break_off(),
+        }
+    }
+
+    /// Reads once, while there is a connection, and does what the messages want.
+    fn listen<D: Dialect>(&mut self, rt: &impl Wait, dialect: &D, collector: &Collector<M>)
+        ensures { Does (D.wording dialect.now) self.old self.new }
+    {
+        if !self.io.is_connected() {
+            return;
+        }
+        self.io.read();
+        for _ in 0..MESSAGES_A_TURN {
+            match self.io.hear(dialect) {
+                Some(step) => self.carry_out(rt, collector, step),
+                None => return,
+            }
+        }
+    }
+
+    /// After so long without a write the session writes a Heartbeat.
+    fn write_if_quiet<D: Dialect>(&mut self, rt: &impl Wait, dialect: &D, collector: &Collector<M>)
+        ensures { Does (D.wording dialect.now) self.old self.new }
+    {
+        match self.io.on_quiet(dialect) {
+            Some(step) => self.carry_out(rt, collector, step),
+            None => {}
+        }
+    }
+
+    /// After so long without a message the session writes a fence, and the second time the connection ends.
+    fn ask_if_silent<D: Dialect>(&mut self, rt: &impl Wait, dialect: &D, collector: &Collector<M>)
+        ensures { Does (D.wording dialect.now) self.old self.new }
+    {
+        match self.io.on_silence(dialect) {
+            Some(step) => self.carry_out(rt, collector, step),
+            None => {}
+        }
+    }
+
+    /// Does what a step of the session wants: the legs that it names are withdrawn in the book, its note is booked and
+    /// then confirmed, and its frames are written. Where the book wants memory the connection is given up.
+    fn carry_out(&mut self, rt: &impl Wait, collector: &Collector<M>, step: Step)
+        ensures { CarriesOut (concat step.out) self.old self.new }
+    {
+        let Step {
+            out,
+            note,
+            withdrawn,
+            ended,
+        } = step;
+        self.withdraw_all(rt, collector, withdrawn);
+        if !self.take_note(rt, collector, note) {
+            return;
+        }
+        self.io.write_all(out);
+        if ended.is_some() {
+            self.io.hang_up();
+        }
+    }
+
+    /// Books the note, if there is one, and says whether the session may go on.
+    fn take_note(&mut self, rt: &impl Wait, collector: &Collector<M>, note: Option<Note>) -> bool
+        ensures confirmed { result ≡ true → MayConfirm self.old.io.session self.new.io.session }
+        ensures broken { result ≡ false → self.new.io.session ≡ broken self.old.io.session }
+        ensures wire { Tells self.old.io.wire self.new.io.wire Stays }
+        ensures stream { self.new.io.stream ≡ self.old.io.stream }
+        ensures took { self.new.took ≡ self.old.took }
+        ensures seat { self.new.seat.parts ≡ self.old.seat.parts }
+    {
+        match note {
+            Some(note) => self.book(rt, collector, &note),
+            None => true,
+        }
+    }
+
+    /// Books a note, and says whether the book took it. Where it wants memory the connection is given up.
+    fn book(&mut self, rt: &impl Wait, collector: &Collector<M>, note: &Note) -> bool
+        ensures confirmed { result ≡ true → self.new.io.session ≡ confirm self.old.io.session }
+        ensures broken { result ≡ false → self.new.io.session ≡ broken self.old.io.session }
+        ensures wire { Tells self.old.io.wire self.new.io.wire Stays }
+        ensures stream { self.new.io.stream ≡ self.old.io.stream }
+        ensures took { self.new.took ≡ self.old.took }
+        ensures seat { self.new.seat.parts ≡ self.old.seat.parts }
+    {
+        match collector.apply(rt, self.takings.venue(), note, &mut self.seat) {
+            Ok(_) => {
+                self.io.confirm();
+                true
+            }
+            Err(_) => {
+                self.io.break_off();
+                false
+            }
+        }
+    }
+
+    /// Drops what is placed at the venue, in at most eight rounds, and says how far it came.
+    pub(crate) fn drain(
+        &mut self,
+        rt: &impl Wait,
+        lock: &ReleaseLock<L>,
+        collector: &Collector<M>,
+    ) -> Drained
+        ensures { Drains self.old self.new }
+    {
+        for _ in 0..DRAIN_ROUNDS {
+            let pushed = lock.pump(rt, self.takings.venue());
+            if self.takings.count() == pushed {
+                return Drained::Everything;
+            }
+            if !self.drop_to(rt, collector, pushed) {
+                return Drained::NoRoom;
+            }
+        }
+        Drained::SomeLeft
+    }
+
+    /// Drops legs until so many were taken in all or the ring is empty, and says whether there was room for each.
+    fn drop_to(&mut self, rt: &impl Wait, collector: &Collector<M>, count: u64) -> bool
+        ensures { Drains self.old self.new }
+    {
+        for _ in self.takings.count()..count {
+            match self.takings.next_to(rt, count) {
+                Ok(Some(leg)) => self.withdraw(rt, collector, leg.leg.id),
+                Ok(None) => return true,
+                Err(_) => return false,
+            }
+        }
+        true
+    }
+
+    /// Withdraws legs in the book.
+    fn withdraw_all(&mut self, rt: &impl Wait, collector: &Collector<M>, ids: LegIds)
+        ensures io { self.new.io ≡ self.old.io }
+        ensures took { self.new.took ≡ self.old.took }
+        ensures seat { self.new.seat.parts ≡ self.old.seat.parts }
+    {
+        let ids = ids.into_vec();
+        for id in &ids {
+            let _ = collector.withdraw(rt, *id, &mut self.seat);
+        }
+    }
+
+    /// Withdraws a leg in the book. Where the book has moved it already nothing happens.
+    fn withdraw(&mut self, rt: &impl Wait, collector: &Collector<M>, id: LegId)
+        ensures io { self.new.io ≡ self.old.io }
+        ensures took { self.new.took ≡ self.old.took }
+        ensures seat { self.new.seat.parts ≡ self.old.seat.parts }
+    {
+        let _ = collector.withdraw(rt, id, &mut self.seat);
+    }
+}
+
+/// Whether a session in this phase is over.
+fn has_ended(phase: Phase) -> bool
+    ensures { result ≡ is_over phase }
+{
+    match phase {
+        Phase::Closed => true,
+        Phase::Down => false,
+        Phase::LoggingOn => false,
+        Phase::Settling => false,
+        Phase::Up => false,
+        Phase::Closing => false,
+        Phase::LoggedOut => false,
+    }
+}
+
+/// The next leg of a ring. Where it is empty, and legs are placed for which it had no room, they are moved into it
+/// first.
+fn next_leg<L: Run>(
+    rt: &impl Wait,
+    lock: &ReleaseLock<L>,
+    takings: &mut Takings<L>,
+) -> Result<Option<PlacedLeg>, AllocError>
+    ensures { MatchResult result (TakesNext takings.old takings.new) (λ _. takings.new ≡ takings.old) }
+{
+    if let Some(leg) = takings.next(rt)? {
+        return Ok(Some(leg));
+    }
+    if !lock.is_behind(takings.venue()) {
+        return Ok(None);
+    }
+    lock.pump(rt, takings.venue());
+    takings.next(rt)
+}
