@@ -7,6 +7,7 @@ use clap::error::ErrorKind;
 use live_command::live_command;
 use order_command::order_command;
 use replay_command::replay_command;
+use run_command::run_command;
 use std::alloc::{AllocError, Global};
 use std::convert::AsStr;
 
@@ -23,9 +24,11 @@ Examples:
     --number 4 --from A --to B
   dispatch replay < day.script
   dispatch live --venues 2 --callers 2 --sweeps 5 --cut 3 --turns 10000
+  dispatch run examples/desk.toml < examples/morning.sweeps
 
 The exit status is 0, or 2 for the command line, 3 for a bad value, line or frame, 4 for a failed read or write or where
-there is no socket or thread, 5 for memory, 6 for an audit that fails. Help has status 2.";
+there is no socket or thread, 5 for memory, 6 for an audit that fails, 7 for a day that is given up. Help has
+status 2.";
 
 /// The program with its commands, each with what it is for.
 fn program<'a>(alloc: Global) -> Result<Command<'a>, AllocError> {
@@ -37,7 +40,8 @@ fn program<'a>(alloc: Global) -> Result<Command<'a>, AllocError> {
         .subcommand_required(true)
         .subcommand(order_command(alloc)?)?
         .subcommand(replay_command(alloc)?)?
-        .subcommand(live_command(alloc)?)
+        .subcommand(live_command(alloc)?)?
+        .subcommand(run_command(alloc)?)
 }
 
 /// The help that lists the commands, where the words name none of them.

@@ -1,5 +1,6 @@
 //! The program `dispatch`: `dispatch order ..` writes a leg as an order frame and reads it back, `dispatch replay` runs
-//! a day from a script, and `dispatch live ..` runs one over loopback, in threads.
+//! a day from a script, `dispatch live ..` runs one over loopback, in threads, and `dispatch run FILE` runs that of a
+//! desk's file.
 #![tactic(auto)]
 
 mod command;
@@ -15,11 +16,13 @@ use live_command::{ProgressLines, live_run};
 use live_day::Progress;
 use order_command::order_run;
 use replay_command::replay_run;
+use run_command::run_run;
 use std::alloc::Global;
 use std::convert::AsStr;
 use std::fs::Files;
 use std::io::{Read, Write};
 use std::net::{Net, TcpListener, TcpStream};
+use std::os::fd::AsRawFd;
 use std::process::ExitCode;
 use std::sync::Wait;
 use std::thread::Threads;
@@ -66,8 +69,8 @@ where
         + Sync,
     C: Clock,
     P: Progress + Drop + Send,
-    R: Read,
-    W: Write,
+    R: Read + AsRawFd,
+    W: Write + Send,
     E: Write,
 {
     match words {
@@ -79,6 +82,9 @@ where
         }
         [_, command, ..] if command.as_str() == "live" => {
             live_run(rt, alloc, &words[1..], progress, out, err)
+        }
+        [_, command, ..] if command.as_str() == "run" => {
+            run_run(rt, alloc, &words[1..], input, out, err)
         }
         [_, word, ..] if is_version(word.as_str()) => finish(print_version(out), err),
         _ => tell(&no_command(alloc, words), err),

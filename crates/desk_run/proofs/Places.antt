@@ -1,0 +1,141 @@
+-- The workers of a day keep their places: each is that of its venue, and their seats have all parts.
+use Rattle.std.proofs.Common.{◌≡◌, ◌⊎◌, inl, inr, ℕ, zero, suc, List, [], ◌∷◌, ◌++◌, length, map, All, replicate, Some, None, refl, sym, ap, subst, ◌∙◌, arith}
+use Rattle.std.specs.Prelude.{slice_get, sum_by}
+use Rattle.std.proofs.lemmas.List.{length-append, append-nil, append_assoc, map-append}
+use Rattle.std.proofs.lemmas.List.Elements.{All-nil, All-replicate, All-push}
+use Rattle.std.proofs.lemmas.List.Sums.{sum_by-cons}
+use Rattle.exec_collector.specs.Seats.{Seat, new_seat, parts_of as seat_parts}
+use Rattle.release_lock.specs.Queues.{DrainParts, new_drains, Took, AreInOrder}
+use Rattle.dialect.specs.Wording.{Encoding}
+use Rattle.session_worker.specs.Events.{WorkerParts}
+use Rattle.session_worker.specs.Ends.{WorkerStart, WorkerLeft, AllRan}
+use Rattle.desk_run.specs.Places.{Place, place, new_place, new_places}
+
+-- the place of a worker
+abbrev pub place_in : WorkerParts → Place
+place_in parts = record { venue = parts.took.venue; parts = parts.seat_parts }
+
+-- each worker that ran keeps its place
+pub kept_places : {A B : Type 0} (writes : A → Encoding) (f : A → WorkerStart) (g : B → WorkerLeft) (xs : List A) (ys : List B)
+    → AllRan writes f xs (map g ys) → map (λ y. place_in (g y).parts) ys ≡ map (λ x. place_in (f x).parts) xs
+kept_places writes f g [] [] ran = refl
+kept_places writes f g [] (y ∷ ys) ran = absurd ran
+kept_places writes f g (x ∷ xs) [] ran = absurd ran
+kept_places writes f g (x ∷ xs) (y ∷ ys) ran =
+    let runs = ran.0 in
+    let venue : (g y).parts.took.venue ≡ (f x).parts.took.venue = runs.last.venue ∙ runs.goes.venue in
+    let seat : (g y).parts.seat_parts ≡ (f x).parts.seat_parts = runs.last.seat ∙ runs.goes.seat in
+    let rest = kept_places writes f g xs ys ran.1 in
+    let first : place_in (g y).parts ≡ place_in (f x).parts = (λ k. record { venue = venue k; parts = seat k }) in
+    (λ k. first k ∷ rest k)
+
+-- what stands at a place of a list with one element more
+snoc_at : {A : Type 0} (xs : List A) (y : A) (at : ℕ) (x : A) → slice_get (xs ++ y ∷ []) at ≡ Some x
+    → (slice_get xs at ≡ Some x) ⊎ ((at ≡ length xs) × (y ≡ x))
+snoc_at [] y zero x e = inr (refl, cc)
+snoc_at [] y (suc at) x e = absurd cc
+snoc_at (first ∷ xs) y zero x e = inl e
+snoc_at (first ∷ xs) y (suc at) x e =
+    elim (snoc_at xs y at x e) [
+      | inl there ↦ inl there
+      | inr last ↦ inr (ap suc last.0, last.1)
+    ]
+
+pub drains_length : (venues : ℕ) → length (new_drains venues) ≡ venues
+drains_length zero = refl
+drains_length (suc venues) =
+    let rest = drains_length venues in
+    let one = length-append (new_drains venues) (record { venue = venues; popped = [] } ∷ []) in
+    omega (arith, rest, one)
+
+-- nothing was popped from a new drain
+pub none_popped : (venues : ℕ) → All (λ (d : DrainParts). d.popped ≡ []) (new_drains venues)
+none_popped zero = All-nil (λ (d : DrainParts). d.popped ≡ [])
+none_popped (suc venues) = All-push (λ (d : DrainParts). d.popped ≡ []) (new_drains venues) (record { venue = venues; popped = [] })
+    (none_popped venues) refl
+
+pub all_new : (count : ℕ) → All (λ (s : Seat). s ≡ new_seat) (replicate count new_seat)
+all_new count = All-replicate (λ (s : Seat). s ≡ new_seat) count new_seat refl
+
+drain_at : (venues at : ℕ) (drain : DrainParts) → slice_get (new_drains venues) at ≡ Some drain → drain.venue ≡ at
+drain_at zero at drain e = absurd cc
+drain_at (suc venues) at drain e =
+    elim (snoc_at (new_drains venues) (record { venue = venues; popped = [] }) at drain e) [
+      | inl there ↦ drain_at venues at drain there
+      | inr last ↦ sym (ap (λ (d : DrainParts). d.venue) last.1) ∙ sym (last.0 ∙ drains_length venues)
+    ]
+
+-- what stands at a place of a list that was mapped
+source_at : {A B : Type 0} (f : A → B) (xs : List A) (at : ℕ) (y : B) → slice_get (map f xs) at ≡ Some y
+    → (x : A) × (slice_get xs at ≡ Some x) × (f x ≡ y)
+source_at f [] at y e = absurd cc
+source_at f (x ∷ xs) zero y e = (x, refl, cc)
+source_at f (x ∷ xs) (suc at) y e = source_at f xs at y e
+
+at_map : {A B : Type 0} (f : A → B) (xs : List A) (at : ℕ) (x : A) → slice_get xs at ≡ Some x
+    → slice_get (map f xs) at ≡ Some (f x)
+at_map f [] at x e = absurd cc
+at_map f (first ∷ xs) zero x e = (let same : first ≡ x = cc in ap (λ y. Some (f y)) same)
+at_map f (first ∷ xs) (suc at) x e = at_map f xs at x e
+
+-- workers that have the places of new ones, one for each venue, are in the order of the venues
+pub in_order : {A : Type 0} (took : A → Took) (seat : A → Seat) (venues : ℕ) (ends : List A)
+    → map (λ e. place (took e) (seat e)) ends ≡ new_places venues → AreInOrder (map took ends)
+in_order took seat venues ends kept at t e =
+    let end = source_at took ends at t e in
+    let there = at_map (λ e. place (took e) (seat e)) ends at end.0 end.1 in
+    let here : slice_get (new_places venues) at ≡ Some (place (took end.0) (seat end.0)) =
+    ap (λ (ps : List Place). slice_get ps at) (sym kept) ∙ there in
+    let drain = source_at new_place (new_drains venues) at (place (took end.0) (seat end.0)) here in
+    let venue_is : (took end.0).venue ≡ drain.0.venue = sym (ap (λ (p : Place). p.venue) drain.2) in
+    sym (ap (λ (t : Took). t.venue) end.2) ∙ (venue_is ∙ drain_at venues at drain.0 drain.1)
+
+parts_in : {A : Type 0} (took : A → Took) (seat : A → Seat) (ends : List A)
+    → seat_parts (map seat ends) ≡ sum_by (λ (p : Place). p.parts) (map (λ e. place (took e) (seat e)) ends)
+parts_in took seat [] = refl
+parts_in took seat (end ∷ ends) =
+    let rest = parts_in took seat ends in
+    let seats = sum_by-cons (λ (s : Seat). s.parts) (seat end) (map seat ends) in
+    let places = sum_by-cons (λ (p : Place). p.parts) (place (took end) (seat end))
+    (map (λ e. place (took e) (seat e)) ends) in
+    omega (arith, rest, seats, places)
+
+one_each : (drains : List DrainParts) → sum_by (λ (p : Place). p.parts) (map new_place drains) ≡ length drains
+one_each [] = refl
+one_each (drain ∷ drains) =
+    let rest = one_each drains in
+    let all = sum_by-cons (λ (p : Place). p.parts) (new_place drain) (map new_place drains) in
+    omega (arith, rest, all)
+
+-- and their seats have one part for each venue
+pub all_parts : {A : Type 0} (took : A → Took) (seat : A → Seat) (venues : ℕ) (ends : List A)
+    → map (λ e. place (took e) (seat e)) ends ≡ new_places venues → seat_parts (map seat ends) ≡ venues
+all_parts took seat venues ends kept =
+    parts_in took seat ends
+    ∙ (ap (λ (ps : List Place). sum_by (λ (p : Place). p.parts) ps) kept
+    ∙ (one_each (new_drains venues) ∙ drains_length venues))
+
+-- a worker that was made of a new seat has the place of its drain
+pub is_new : (made given : WorkerParts) (drain : DrainParts) (seat : Seat) → made ≡ given
+    → place_in given ≡ record { venue = drain.venue; parts = seat.parts } → seat ≡ new_seat → place_in made ≡ new_place drain
+is_new made given drain seat is given_is same =
+    ap place_in is ∙ (given_is ∙ ap (λ (s : Seat). record { venue = drain.venue; parts = s.parts }) same)
+
+-- one worker more was made, of the first drain left
+pub one_made : {A : Type 0} (where_is : A → Place) (made : List A) (worker : A) (drain : DrainParts)
+    (before rest all : List DrainParts) → where_is worker ≡ new_place drain → before ≡ drain ∷ rest
+    → map where_is made ++ map new_place before ≡ map new_place all
+    → map where_is (made ++ worker ∷ []) ++ map new_place rest ≡ map new_place all
+one_made where_is made worker drain before rest all is here so_far =
+    ap (λ ws. ws ++ map new_place rest) (map-append where_is made (worker ∷ []))
+    ∙ (append_assoc (map where_is made) (where_is worker ∷ []) (map new_place rest)
+    ∙ (ap (λ w. map where_is made ++ w ∷ map new_place rest) is
+    ∙ (sym (ap (λ ds. map where_is made ++ map new_place ds) here) ∙ so_far)))
+
+-- where no drain is left, all were made
+pub all_made : {A : Type 0} (where_is : A → Place) (made : List A) (left all : List DrainParts) (venues : ℕ)
+    → length left ≡ 0 → all ≡ new_drains venues → map where_is made ++ map new_place left ≡ map new_place all
+    → map where_is made ≡ new_places venues
+all_made where_is made [] all venues none is so_far =
+    sym (append-nil (map where_is made)) ∙ (so_far ∙ ap (map new_place) is)
+all_made where_is made (drain ∷ drains) all venues none is so_far = absurd (omega (arith, none))

@@ -1,0 +1,17 @@
+use Rattle.std.proofs.Common.{◌≡◌, ◌+◌, ◌++◌, [], List, length, map, All}
+use Rattle.exec_collector.specs.Seats.{Seat, new_seat}
+use Rattle.release_lock.specs.Queues.{DrainParts}
+use Rattle.desk_run.specs.Places.{Place, place, new_place}
+use Rattle.desk_run.proofs.workers.new_workers.Given as goal
+
+abbrev pub invariant-loop-venue : goal.invariant-loop-venue
+invariant-loop-venue g l =
+    let made : List Place = map (λ w. place w.post.takings w.post.seat) l.workers.items in
+    record {
+      made_are : made ++ map new_place l.drains.items ≡ map new_place l.initial.drains.items;
+      none_popped : All (λ (d : DrainParts). d.popped ≡ []) l.drains.items;
+      new_seats : All (λ (s : Seat). s ≡ new_seat) l.seats.items;
+      made : length l.workers.items ≡ l.venue-index;
+      as_many : length l.drains.items + l.venue-index ≡ length l.venues;
+      seats_left : length l.seats.items + l.venue-index ≡ length l.venues;
+    }

@@ -1,0 +1,8 @@
+pub mod Faults
+pub mod Sweeps
+pub mod Places
+pub mod Venues
+pub mod Release
+pub mod Standing
+pub mod Status
+pub mod Doubts

@@ -1,0 +1,20 @@
+-- The places of a day's workers: which venue each has, and the parts of its seat.
+use Rattle.std.specs.Prelude.{ℕ, List, map}
+use Rattle.exec_collector.specs.Seats.{Seat}
+use Rattle.release_lock.specs.Queues.{DrainParts, Took, new_drains}
+
+-- a worker's venue, and the parts of its seat
+pub record Place : Type 0 where
+  pub venue : ℕ
+  pub parts : ℕ
+
+abbrev pub place : Took → Seat → Place
+place took seat = record { venue = took.venue; parts = seat.parts }
+
+-- the place of the worker of a new drain, whose seat has one part
+abbrev pub new_place : DrainParts → Place
+new_place drain = record { venue = drain.venue; parts = 1 }
+
+-- the places of so many workers, one for each venue, in order
+abbrev pub new_places : ℕ → List Place
+new_places venues = map new_place (new_drains venues)

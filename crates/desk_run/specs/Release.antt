@@ -1,0 +1,30 @@
+-- What a sweep is answered.
+use Rattle.std.specs.Prelude.{ℕ, List, Option, Some, None, slice_get, Result, Ok, Err}
+use Rattle.sweep_release.specs.declared.receipt.Receipt.{Receipt}
+use Rattle.sweep_release.specs.declared.release_fault.ReleaseFault.{ReleaseFault}
+use Rattle.sweep_release.specs.declared.release_fault.ReleaseFault.TheVariants as fault
+use Rattle.sweep_text.specs.declared.answer.Answer.{Answer}
+use Rattle.sweep_text.specs.declared.answer.Answer.TheVariants.{Placed, Refused}
+use Rattle.sweep_text.specs.declared.answer.Refusal.{Refusal}
+use Rattle.sweep_text.specs.declared.answer.Refusal.TheVariants as refusal
+
+-- a refusal that names the venue that is to blame, which the desk has
+abbrev pub naming : (List ℕ → Refusal) → Option (List ℕ) → Refusal
+naming why (Some name) = why name
+naming why None = refusal.UnknownVenue
+
+-- why a sweep isn't placed, with the name of the venue that is to blame
+abbrev pub refusal_of : List (List ℕ) → ReleaseFault → Refusal
+refusal_of names fault.Empty = refusal.NoLegs
+refusal_of names fault.TooManyLegs = refusal.TooManyLegs
+refusal_of names (fault.UnknownVenue venue) = refusal.UnknownVenue
+refusal_of names (fault.GateShut venue) = naming (λ name. refusal.GateDown name) (slice_get names venue)
+refusal_of names (fault.BacklogFull venue) = naming (λ name. refusal.BacklogFull name) (slice_get names venue)
+refusal_of names fault.SweepsSpent = refusal.SweepsSpent
+refusal_of names fault.OutOfMemory = refusal.OutOfMemory
+refusal_of names fault.WrongBook = refusal.WrongBook
+
+-- the answer to a sweep that was released, or refused
+abbrev pub answer_of : List (List ℕ) → Result Receipt ReleaseFault → Answer
+answer_of names (Ok receipt) = Placed receipt.number receipt.shares
+answer_of names (Err why) = Refused (refusal_of names why)

@@ -1,0 +1,11 @@
+//! What a venue's address stands for.
+
+use desk_config::Address;
+use std::net::{Net, SocketAddr, ToSocketAddrs};
+
+/// The first address that a host's name and port stand for, if it has one.
+pub fn first_address<N: Net>(net: &N, address: &Address) -> Option<SocketAddr> {
+    let port = u16::try_from(address.port.get()).ok()?;
+    let mut found = (address.host.as_str(), port).to_socket_addrs(net).ok()?;
+    found.next()
+}

@@ -1,0 +1,61 @@
+//! Why a day can't be run.
+
+ghost use Rattle.std.specs.Prelude.{◌≡◌};
+ghost use Rattle.desk_run.specs.declared.day_fault.DayFault.TheVariants.{OutOfMemory};
+ghost use Rattle.desk_run.specs.Faults.{run_fault};
+
+use session_worker::RunFault;
+use std::alloc::{AllocError, AllocFailed};
+use thiserror::Error;
+
+/// Why a day can't be run, or its audit fails. All its threads have ended.
+#[derive(Clone, Copy, Debug, PartialEq, Eq, Error)]
+pub enum DayFault {
+    /// The address of the venue at this place, from 0, is no address that can be dialled: its host isn't known.
+    #[error("no address")]
+    NoAddress(usize),
+    /// No socket for a simulated exchange to listen on can be had.
+    #[error("no socket")]
+    NoSocket,
+    /// The system makes no more threads.
+    #[error("no thread")]
+    NoThread,
+    #[error("out of memory")]
+    OutOfMemory,
+    /// A worker didn't take the first legs released to its venue.
+    #[error("audit A01")]
+    MismatchQueue,
+    /// The workers' seats don't add up to what the venues have resolved.
+    #[error("audit A02")]
+    MismatchShares,
+    /// The caller's seat doesn't have the shares placed.
+    #[error("audit A03")]
+    MismatchPlaced,
+}
+
+impl From<AllocError> for DayFault {
+    ghost from_gives = { λ _ fault. fault ≡ OutOfMemory };
+
+    fn from(_: AllocError) -> DayFault {
+        DayFault::OutOfMemory
+    }
+}
+
+impl<T: Drop> From<AllocFailed<T>> for DayFault {
+    ghost from_gives = { λ _ fault. fault ≡ OutOfMemory };
+
+    fn from(_: AllocFailed<T>) -> DayFault {
+        DayFault::OutOfMemory
+    }
+}
+
+impl From<RunFault> for DayFault {
+    ghost from_gives = { λ fault given. given ≡ run_fault fault };
+
+    fn from(fault: RunFault) -> DayFault {
+        match fault {
+            RunFault::OutOfMemory => DayFault::OutOfMemory,
+            RunFault::NoThread => DayFault::NoThread,
+        }
+    }
+}

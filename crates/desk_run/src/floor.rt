@@ -1,0 +1,110 @@
+//! What the threads of a day share.
+
+ghost use Rattle.std.specs.Prelude.{◌≤◌, length};
+
+use crate::bells::Bells;
+use crate::exchange::Serve;
+use crate::signals::{Manner, Signals};
+use crate::standing::{Standing, standing_in};
+use crate::voice::Voice;
+use desk_words::VenueName;
+use exec_collector::Collector;
+use leg::VenueId;
+use release_lock::{ReleaseLock, Run};
+use session_worker::Stop;
+use std::alloc::AllocError;
+use std::io::Write;
+use std::sync::Wait;
+use std::sync::ledger::Ledger;
+use std::thread;
+use std::time::{Clock, Duration};
+use sweep_release::Desk;
+
+/// How many milliseconds pass between two looks whether the venues are up.
+const LOOK_MILLIS: u64 = 5;
+
+/// For how many such looks the first line is kept waiting for venues to come up: two seconds.
+const LOOKS: u64 = 400;
+
+/// What the threads of a day share.
+#[derive(Drop)]
+pub struct Floor<L: Run, M: Ledger, W: Write + Drop> {
+    /// The names of the venues, each at the place that is its number.
+    pub names: Vec<VenueName>,
+    pub manner: Manner,
+    pub lock: ReleaseLock<L>,
+    pub collector: Collector<M>,
+    pub voice: Voice<W>,
+    pub signals: Signals,
+    /// What wakes the workers.
+    pub bells: Bells,
+    /// What tells the workers to stop.
+    pub stop: Stop,
+    ghost few: { length names.items ≤ 16 },
+}
+
+impl<L: Run, M: Ledger, W: Write + Drop> Floor<L, M, W> {
+    /// How the venue at a place stands, if there is one.
+    pub fn standing(&self, rt: &impl Wait, place: usize) -> Option<Standing> {
+        let venue = VenueId::new(u8::try_from(place).ok()?).ok()?;
+        self.lock.with(rt, |desk: &mut Desk| standing_in(desk, venue))
+    }
+
+    /// Whether each venue is up.
+    fn are_up(&self, rt: &impl Wait) -> bool {
+        for place in 0..self.names.len() {
+            if self.standing(rt, place) != Some(Standing::Up) {
+                return false;
+            }
+        }
+        true
+    }
+
+    /// Waits until each venue is up, but no longer than two seconds.
+    pub fn await_venues<R: Wait + Clock>(&self, rt: &R) {
+        for _ in 0..LOOKS {
+            if self.signals.is_ending() || self.are_up(rt) {
+                return;
+            }
+            thread::sleep(rt, Duration::from_millis(LOOK_MILLIS));
+        }
+    }
+
+    /// Whether all shares placed are filled, busted, cancelled or withdrawn.
+    pub fn is_resolved(&self, rt: &impl Wait) -> bool {
+        self.signals.placed() <= self.collector.resolved(rt)
+    }
+
+    /// The day is to close; the second time it is given up.
+    pub fn close(&self) {
+        if self.signals.close() {
+            self.give_up();
+        }
+    }
+
+    /// The workers are told to stop, once: they shut their gates and close their sessions in order.
+    pub fn stop(&self) {
+        if !self.signals.stop_workers() {
+            self.stop.tell();
+            self.bells.ring_all();
+        }
+    }
+
+    /// The day is to close, and its workers give up their sessions.
+    pub fn give_up(&self) {
+        self.signals.close();
+        self.stop();
+        self.stop.tell();
+        self.bells.ring_all();
+    }
+
+    /// Serves an exchange's clients until it is stopped. Where it wants memory the day closes.
+    pub fn serve<X: Serve>(&self, exchange: X) -> Result<(), AllocError> {
+        let served = exchange.serve(&self.signals.is_over);
+        if served.is_err() {
+            self.signals.close();
+            self.stop();
+        }
+        served
+    }
+}

@@ -1,0 +1,214 @@
+//! A day from its rings to its audit.
+
+ghost use Rattle.std.specs.Prelude.{◌≡◌, ◌<◌, ◌≤◌, length, map, IfOk, IfErr};
+ghost use Rattle.std.specs.List.{All};
+ghost use Rattle.share_ledger.specs.Book.{BookParts};
+ghost use Rattle.exec_collector.specs.Resolved.{Replays};
+ghost use Rattle.exec_collector.specs.Seats.{parts_of as seat_parts};
+ghost use Rattle.release_lock.specs.Queues.{IsFresh, AreInOrder};
+ghost use Rattle.desk_config.specs.Apart.{AreVenues};
+ghost use Rattle.desk_run.specs.Faults.{IsNoMismatch};
+ghost use Rattle.desk_run.specs.Places.{place, new_places};
+ghost use Rattle.desk_run.specs.Sweeps.{sweeps_in};
+
+use crate::bells::Bells;
+use crate::day_fault::DayFault;
+use crate::doubts::{doubts_of, is_given_up};
+use crate::floor::Floor;
+use crate::input_lines::{DeskInput, InputLines};
+use crate::opening::open_places;
+use crate::signals::{Manner, Signals};
+use crate::sweeps::booked_sweeps;
+use crate::threads::{Cast, Ended, in_threads};
+use crate::voice::Voice;
+use crate::workers::new_workers;
+use crate::{DeskDay, caller::CallerEnd};
+use desk_config::Venue;
+use desk_words::VenueName;
+use exec_collector::Collector;
+use link::Link;
+use release_lock::{CallerSeat, Opened, ReleaseLock, Run, rings};
+use session_worker::{AuditFault, DayReport, Stop, WorkerEnd, audit};
+use share_ledger::Book;
+use std::alloc::{AllocError, Global};
+use std::collections::VecDeque;
+use std::io::{Read, Write};
+use std::marker::Brand;
+use std::net::{Net, TcpListener, TcpStream};
+use std::sync::Wait;
+use std::sync::ledger::{Blank, Ledger};
+use std::thread::Threads;
+use std::time::Clock;
+use venue_queue::{Drain, Feed};
+
+/// Runs a day of these venues, and audits it. The lines of the input are taken by one caller, in order, and answered on
+/// `out`, where changes are told too. It closes with the end of the input, or at `close`: then it waits until no share
+/// is open, as long as the patience goes, the gates are shut, what is placed and unsent is withdrawn, and the sessions
+/// log out. A session that isn't over ten seconds later, or at a second `close`, is given up.
+pub fn run_day<R, I, W>(
+    rt: &R,
+    alloc: Global,
+    venues: &[Venue],
+    manner: Manner,
+    input: DeskInput<I>,
+    out: W,
+) -> Result<DeskDay, DayFault>
+where
+    R: Net<Listener = TcpListener, Stream = TcpStream> + Threads + Wait + Clock + Sync,
+    I: Read + Drop,
+    W: Write + Drop + Send,
+    requires { AreVenues venues.now }
+    ensures sweeps { IfOk result (λ day. (book : BookParts) × Replays book × (day.sweeps.items ≡ sweeps_in book)) }
+    ensures only { IfErr result IsNoMismatch }
+{
+    let count = venues.len() as u8;
+    let rings = rings(alloc, count)?;
+    let Ok(lines) = InputLines::new(rt, alloc, input) else {
+        return Err(DayFault::NoSocket);
+    };
+    named_day::<Brand, Brand, R, I, W>(
+        rt,
+        alloc,
+        venues,
+        manner,
+        Blank::new(1024),
+        Blank::new(u64::from(count)),
+        rings,
+        lines,
+        Voice::new(alloc, out),
+    )
+}
+
+/// A day whose names were picked.
+fn named_day<L, M, R, I, W>(
+    rt: &R,
+    alloc: Global,
+    venues: &[Venue],
+    manner: Manner,
+    caller: Blank,
+    workers: Blank,
+    rings: VecDeque<(Feed, Drain)>,
+    lines: InputLines<I>,
+    voice: Voice<W>,
+) -> Result<DeskDay, DayFault>
+where
+    L: Run + Send + Sync,
+    M: Ledger + Send + Sync,
+    R: Net<Listener = TcpListener, Stream = TcpStream> + Threads + Wait + Clock + Sync,
+    I: Read + Drop,
+    W: Write + Drop + Send,
+    requires venues { (1 ≤ length venues.now) × (length venues.now ≤ 16) }
+    requires caller { (caller.name ≡ L.name) × (caller.parts ≡ L.parts) × (L.parts ≡ 1024) }
+    requires workers { (workers.name ≡ M.name) × (workers.parts ≡ M.parts) × (M.parts ≡ length venues.now) }
+    requires rings { (length rings.items ≡ length venues.now) × All IsFresh rings.items }
+    requires queues { L.queues ≡ map (λ ends. ends.0.table) rings.items }
+    ensures sweeps { IfOk result (λ day. (book : BookParts) × Replays book × (day.sweeps.items ≡ sweeps_in book)) }
+    ensures only { IfErr result IsNoMismatch }
+{
+    let count = venues.len() as u8;
+    let opened = ReleaseLock::<L>::new(alloc, count, caller, rings);
+    let Ok(Opened { lock, seat, drains }) = opened else {
+        return Err(DayFault::OutOfMemory);
+    };
+    let made = Collector::<M>::new(alloc, count, workers);
+    let Ok((collector, seats)) = made else {
+        return Err(DayFault::OutOfMemory);
+    };
+    let places = open_places(rt, alloc, venues)?;
+    let mut bells = Bells::new(alloc);
+    let addrs = places.addrs.as_slice();
+    let workers = new_workers(rt, alloc, venues, addrs, drains, seats, &mut bells)?;
+    let cast = Cast {
+        exchanges: places.exchanges,
+        workers,
+        seat,
+    };
+    let floor = Floor {
+        names: names_of(alloc, venues)?,
+        manner,
+        lock,
+        collector,
+        voice,
+        signals: Signals::new(),
+        bells,
+        stop: Stop::new(),
+    };
+    let ended = in_threads(rt, alloc, &floor, cast, lines)?;
+    told(rt, alloc, floor, ended)
+}
+
+/// The names of venues, in order.
+fn names_of(alloc: Global, venues: &[Venue]) -> Result<Vec<VenueName>, AllocError>
+    ensures each { IfOk result (λ names. names.items ≡ map (λ v. v.name) venues.now) }
+    ensures as_many { IfOk result (λ names. length names.items ≡ length venues.now) }
+{
+    let mut names = Vec::new(alloc);
+    for venue in venues {
+        names.push(venue.name.clone()?)?;
+    }
+    Ok(names)
+}
+
+/// What became of a day whose threads have ended.
+fn told<K: Link, L: Run, M: Ledger, W: Write + Drop>(
+    rt: &impl Wait,
+    alloc: Global,
+    floor: Floor<L, M, W>,
+    ended: Ended<K, L, M>,
+) -> Result<DeskDay, DayFault>
+    requires workers { map (λ e. place e.took e.seat) ended.workers.items ≡ new_places M.parts }
+    requires some { 0 < M.parts }
+    requires caller { ended.caller.seat.parts ≡ 1024 }
+    ensures sweeps { IfOk result (λ day. (book : BookParts) × Replays book × (day.sweeps.items ≡ sweeps_in book)) }
+    ensures only { IfErr result IsNoMismatch }
+{
+    let Floor {
+        names,
+        manner: _,
+        lock,
+        collector,
+        voice: _,
+        signals: _,
+        bells: _,
+        stop: _,
+    } = floor;
+    let Ended { workers, caller } = ended;
+    let CallerEnd { seat, broken_off } = caller;
+    let sweeps = collector.read(rt, |book: &Book| booked_sweeps(alloc, book))?;
+    let doubts = doubts_of(alloc, names.as_slice(), workers.as_slice())?;
+    let is_given_up = is_given_up(workers.as_slice());
+    let report = audited(alloc, lock, collector, seat, workers)?;
+    Ok(DeskDay {
+        sweeps,
+        doubts,
+        is_given_up,
+        report,
+        broken_off,
+    })
+}
+
+/// The audit of a day.
+fn audited<K: Link, L: Run, M: Ledger>(
+    alloc: Global,
+    lock: ReleaseLock<L>,
+    collector: Collector<M>,
+    seat: CallerSeat<L>,
+    workers: Vec<WorkerEnd<K, L, M>>,
+) -> Result<DayReport, DayFault>
+    requires order { AreInOrder (map (λ e. e.took) workers.items) }
+    requires shared { seat_parts (map (λ e. e.seat) workers.items) ≡ M.parts }
+    requires some { 0 < M.parts }
+    requires caller { seat.parts ≡ 1024 }
+    ensures placed { IfOk result (λ report. report.placed ≡ seat.shares) }
+    ensures only { IfErr result (λ fault. fault ≡ DayFault.OutOfMemory) }
+{
+    let mut callers = Vec::new(alloc);
+    callers.push(seat)?;
+    match audit(alloc, lock, collector, callers, workers) {
+        Ok(report) => Ok(report),
+        Err(AuditFault::MismatchQueue(_)) => Err(DayFault::MismatchQueue),
+        Err(AuditFault::MismatchShares) => Err(DayFault::MismatchShares),
+        Err(AuditFault::MismatchPlaced) => Err(DayFault::MismatchPlaced),
+        Err(AuditFault::OutOfMemory) => Err(DayFault::OutOfMemory),
+    }
+}

@@ -1,0 +1,75 @@
+-- The faults of `dispatch run`.
+use Rattle.std.specs.Prelude.{ℕ}
+use Rattle.command_line.specs.declared.input.InputFault.{InputFault}
+use Rattle.command_line.specs.declared.input.InputFault.TheVariants as input
+use Rattle.desk_run.specs.declared.day_fault.DayFault.{DayFault}
+use Rattle.desk_run.specs.declared.day_fault.DayFault.TheVariants as day
+use Rattle.desk_run.specs.declared.talk_fault.TalkFault.{TalkFault}
+use Rattle.desk_run.specs.declared.talk_fault.TalkFault.TheVariants as talk
+use Rattle.run_command.specs.declared.fault.CommandFault.{CommandFault}
+use Rattle.run_command.specs.declared.fault.CommandFault.TheVariants.{
+  CommandLine,
+  NoName,
+  BadPatience,
+  NoFile,
+  NotText,
+  BadFile,
+  NotServed,
+  NoAddress,
+  ReadFailed,
+  WriteFailed,
+  NoSocket,
+  NoThread,
+  OutOfMemory,
+  MismatchQueue,
+  MismatchShares,
+  MismatchPlaced,
+  GivenUp,
+}
+
+-- the status that tells a fault
+abbrev pub fault_status : CommandFault → ℕ
+fault_status (CommandLine error) = 2
+fault_status NoName = 2
+fault_status BadPatience = 3
+fault_status (NotText name) = 3
+fault_status (BadFile name fault) = 3
+fault_status (NotServed name key) = 3
+fault_status (NoFile name) = 4
+fault_status (NoAddress place) = 4
+fault_status ReadFailed = 4
+fault_status WriteFailed = 4
+fault_status NoSocket = 4
+fault_status NoThread = 4
+fault_status OutOfMemory = 5
+fault_status MismatchQueue = 6
+fault_status MismatchShares = 6
+fault_status MismatchPlaced = 6
+fault_status GivenUp = 7
+
+-- a fault of the command line, or want of memory
+abbrev pub IsOfCommandLine : CommandFault → Type 0
+IsOfCommandLine (CommandLine error) = Unit {0}
+IsOfCommandLine OutOfMemory = Unit {0}
+IsOfCommandLine other = ⊥
+
+-- the fault of an input that can't be had
+abbrev pub input_fault : InputFault → CommandFault
+input_fault input.ReadFailed = ReadFailed
+input_fault input.OutOfMemory = OutOfMemory
+
+-- why no line was taken any more
+abbrev pub talk_fault : TalkFault → CommandFault
+talk_fault talk.ReadFailed = ReadFailed
+talk_fault talk.WriteFailed = WriteFailed
+talk_fault talk.OutOfMemory = OutOfMemory
+
+-- the fault of a day that can't be run, or whose audit fails
+abbrev pub day_fault : DayFault → CommandFault
+day_fault (day.NoAddress place) = NoAddress place
+day_fault day.NoSocket = NoSocket
+day_fault day.NoThread = NoThread
+day_fault day.OutOfMemory = OutOfMemory
+day_fault day.MismatchQueue = MismatchQueue
+day_fault day.MismatchShares = MismatchShares
+day_fault day.MismatchPlaced = MismatchPlaced

@@ -1,0 +1,41 @@
+-- How `dispatch run` ends.
+use Rattle.std.specs.Prelude.{◌≡◌, ℕ, List, Option, Result, Ok, Err}
+use Rattle.std.specs.Io.KnownBytes.{Keeps}
+use Rattle.command_line.specs.ExitStatus.{exit_status}
+use Rattle.run_command.specs.Fault.{fault_status}
+use Rattle.run_command.specs.declared.fault.CommandFault.{CommandFault}
+use Rattle.run_command.specs.declared.fault.CommandFault.TheVariants.{
+  CommandLine,
+  NoName,
+  BadPatience,
+  NoFile,
+  NotText,
+  BadFile,
+  NotServed,
+}
+
+-- what is said of a fault of the words or of the file, which comes before anything is dialled or printed
+abbrev pub IfBeforeDay : Type 0 → CommandFault → Type 0
+IfBeforeDay said (CommandLine error) = said
+IfBeforeDay said NoName = said
+IfBeforeDay said BadPatience = said
+IfBeforeDay said (NoFile name) = said
+IfBeforeDay said (NotText name) = said
+IfBeforeDay said (BadFile name fault) = said
+IfBeforeDay said (NotServed name key) = said
+IfBeforeDay said other = Unit {0}
+
+-- a fault of a day that was begun
+abbrev pub IsOfDay : CommandFault → Type 0
+IsOfDay fault = IfBeforeDay ⊥ fault
+
+-- how a run ends, by the bytes that the output held before and holds after: a fault of the words or of the file prints
+-- nothing
+abbrev pub EndsRun : Option (List ℕ) → Option (List ℕ) → {A : Type 0} → Result A CommandFault → Type 0
+EndsRun before after (Ok done) = Unit {0}
+EndsRun before after (Err fault) = IfBeforeDay (Keeps before after) fault
+
+-- a run that ends so has this exit status
+abbrev pub ExitsSo : Option (List ℕ) → Option (List ℕ) → ℕ → Type 0
+ExitsSo before after status =
+    (done : Result (Unit {0}) CommandFault) × (status ≡ exit_status fault_status done) × EndsRun before after done

@@ -1,0 +1,30 @@
+-- What `dispatch run` prints at the end of a day.
+use Rattle.std.specs.Prelude.{ℕ, List, ◌∷◌, [], ◌++◌, codes}
+use Rattle.std.specs.List.{flat_map}
+use Rattle.desk_news.specs.Sweep.{sweep_text}
+use Rattle.desk_news.specs.Doubt.{doubt_text}
+use Rattle.desk_news.specs.Day.{day_text as totals_text}
+use Rattle.desk_news.specs.declared.sweep_parts.SweepParts.{SweepParts}
+use Rattle.desk_news.specs.declared.day_totals.DayTotals.{DayTotals}
+use Rattle.desk_run.specs.declared.day.DeskDay.{DeskDay}
+use Rattle.desk_run.specs.declared.day.VenueDoubt.{VenueDoubt}
+use Rattle.session_worker.specs.declared.day_report.DayReport.{DayReport}
+
+-- the line of a sweep
+abbrev pub sweep_line : SweepParts → List ℕ
+sweep_line sweep = sweep_text sweep ++ 10 ∷ []
+
+-- the line of a venue's legs that stay in doubt
+abbrev pub doubt_line : VenueDoubt → List ℕ
+doubt_line doubt = doubt_text doubt.venue doubt.legs.items ++ 10 ∷ []
+
+-- the shares of a day
+abbrev pub totals_of : DayReport → DayTotals
+totals_of report = record { placed = report.placed; resolved = report.resolved; still_open = report.still_open }
+
+-- a line for each sweep, one for each venue with legs that stay in doubt, the shares of the day, and that the audit found
+-- nothing wrong
+abbrev pub day_text : DeskDay → List ℕ
+day_text day =
+    flat_map sweep_line day.sweeps.items ++ flat_map doubt_line day.doubts.items ++ totals_text (totals_of day.report)
+    ++ 10 ∷ codes "audit ok" ++ 10 ∷ []

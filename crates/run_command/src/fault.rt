@@ -1,0 +1,177 @@
+//! Why `dispatch run` failed.
+ghost use Rattle.std.specs.Prelude.{◌≡◌};
+ghost use Rattle.run_command.specs.declared.fault.CommandFault.TheVariants.{OutOfMemory, WriteFailed};
+ghost use Rattle.run_command.specs.Fault.{IsOfCommandLine, fault_status, day_fault, input_fault, talk_fault};
+
+use clap::error::ErrorKind;
+use command_line::{Fault, InputFault};
+use desk_config::ConfigFault;
+use desk_run::{DayFault, TalkFault};
+use std::alloc::AllocError;
+use std::io;
+use thiserror::Error;
+
+/// Why `dispatch run` failed.
+#[derive(Debug, Drop, Error)]
+pub enum CommandFault {
+    /// The words aren't those of the command line, or ask for help.
+    #[error("{0}")]
+    CommandLine(clap::Error),
+    /// The command line gave no file.
+    #[error("no file")]
+    NoName,
+    /// The value of `--patience` is no number within its limits.
+    #[error("bad value --patience")]
+    BadPatience,
+    /// The file can't be opened.
+    #[error("{0}: it can't be opened")]
+    NoFile(String),
+    /// The file isn't UTF-8.
+    #[error("{0}: it isn't UTF-8 text")]
+    NotText(String),
+    /// What is wrong with the file.
+    #[error("{name}: {fault}")]
+    BadFile { name: String, fault: ConfigFault },
+    /// The file asks for what no day has yet.
+    #[error("{name}: [desk]: {key} is not served")]
+    NotServed { name: String, key: &'static str },
+    /// The host of the venue at this place, from 0, isn't known.
+    #[error("no address for venue {0}, counted from 0")]
+    NoAddress(usize),
+    #[error("read failed")]
+    ReadFailed,
+    #[error("write failed")]
+    WriteFailed,
+    /// There was no socket to listen on.
+    #[error("no socket")]
+    NoSocket,
+    /// The system made no more threads.
+    #[error("no thread")]
+    NoThread,
+    #[error("out of memory")]
+    OutOfMemory,
+    /// A worker didn't take the first legs released to its venue.
+    #[error("audit A01")]
+    MismatchQueue,
+    /// The workers' seats don't add up to what the venues have resolved.
+    #[error("audit A02")]
+    MismatchShares,
+    /// The caller's seat doesn't have the shares placed.
+    #[error("audit A03")]
+    MismatchPlaced,
+    /// Legs stay in doubt, or a session was given up.
+    #[error("the day was given up")]
+    GivenUp,
+}
+
+impl Fault for CommandFault {
+    ghost status_of = { fault_status };
+
+    fn status(&self) -> u8 {
+        match self {
+            CommandFault::CommandLine(_) | CommandFault::NoName => 2,
+            CommandFault::BadPatience
+            | CommandFault::NotText(_)
+            | CommandFault::BadFile { .. }
+            | CommandFault::NotServed { .. } => 3,
+            CommandFault::NoFile(_)
+            | CommandFault::NoAddress(_)
+            | CommandFault::ReadFailed
+            | CommandFault::WriteFailed
+            | CommandFault::NoSocket
+            | CommandFault::NoThread => 4,
+            CommandFault::OutOfMemory => 5,
+            CommandFault::MismatchQueue
+            | CommandFault::MismatchShares
+            | CommandFault::MismatchPlaced => 6,
+            CommandFault::GivenUp => 7,
+        }
+    }
+
+    fn reason(&self) -> Option<&'static str> {
+        match self {
+            CommandFault::BadPatience => Some("a whole number from 0 to 86400 is wanted"),
+            CommandFault::NotServed { .. } => Some("take the key away: this version has neither logs nor a page"),
+            CommandFault::GivenUp => Some("a session didn't log out in time, or legs stay in doubt"),
+            _ => None,
+        }
+    }
+
+    fn ends_line(&self) -> bool {
+        matches!(self, CommandFault::CommandLine(_))
+    }
+}
+
+impl From<AllocError> for CommandFault {
+    ghost from_gives = { λ _ fault. fault ≡ OutOfMemory };
+
+    fn from(_: AllocError) -> CommandFault {
+        CommandFault::OutOfMemory
+    }
+}
+
+impl From<io::Error> for CommandFault {
+    ghost from_gives = { λ _ fault. fault ≡ OutOfMemory };
+
+    fn from(_: io::Error) -> CommandFault {
+        CommandFault::OutOfMemory
+    }
+}
+
+impl From<command_line::WriteFailed> for CommandFault {
+    ghost from_gives = { λ _ fault. fault ≡ WriteFailed };
+
+    fn from(_: command_line::WriteFailed) -> CommandFault {
+        CommandFault::WriteFailed
+    }
+}
+
+impl From<InputFault> for CommandFault {
+    ghost from_gives = { λ fault given. given ≡ input_fault fault };
+
+    fn from(fault: InputFault) -> CommandFault {
+        match fault {
+            InputFault::ReadFailed => CommandFault::ReadFailed,
+            InputFault::OutOfMemory => CommandFault::OutOfMemory,
+        }
+    }
+}
+
+impl From<TalkFault> for CommandFault {
+    ghost from_gives = { λ fault given. given ≡ talk_fault fault };
+
+    fn from(fault: TalkFault) -> CommandFault {
+        match fault {
+            TalkFault::ReadFailed => CommandFault::ReadFailed,
+            TalkFault::WriteFailed => CommandFault::WriteFailed,
+            TalkFault::OutOfMemory => CommandFault::OutOfMemory,
+        }
+    }
+}
+
+impl From<clap::Error> for CommandFault {
+    ghost from_gives = { λ _ fault. IsOfCommandLine fault };
+
+    fn from(error: clap::Error) -> CommandFault {
+        match error.kind() {
+            ErrorKind::OutOfMemory => CommandFault::OutOfMemory,
+            _ => CommandFault::CommandLine(error),
+        }
+    }
+}
+
+impl From<DayFault> for CommandFault {
+    ghost from_gives = { λ fault given. given ≡ day_fault fault };
+
+    fn from(fault: DayFault) -> CommandFault {
+        match fault {
+            DayFault::NoAddress(place) => CommandFault::NoAddress(place),
+            DayFault::NoSocket => CommandFault::NoSocket,
+            DayFault::NoThread => CommandFault::NoThread,
+            DayFault::OutOfMemory => CommandFault::OutOfMemory,
+            DayFault::MismatchQueue => CommandFault::MismatchQueue,
+            DayFault::MismatchShares => CommandFault::MismatchShares,
+            DayFault::MismatchPlaced => CommandFault::MismatchPlaced,
+        }
+    }
+}

@@ -1,0 +1,105 @@
+//! `dispatch run`: the day of a desk's file runs, against real exchanges and simulated ones.
+#![tactic(auto)]
+
+ghost use Rattle.std.specs.Prelude.{IfErr};
+ghost use Rattle.desk_config.specs.Apart.{AreVenues};
+ghost use Rattle.run_command.specs.Running.{EndsRun, ExitsSo, IsOfDay};
+
+mod check;
+mod fault;
+mod file;
+mod options;
+mod text;
+
+use crate::check::check_text;
+use crate::file::read_file;
+use command_line::{finish, print};
+use desk_config::DeskConfig;
+use desk_run::{DeskInput, Manner, run_day};
+pub use fault::CommandFault;
+pub use options::{Options, read_options, run_command};
+use std::alloc::Global;
+use std::convert::AsStr;
+use std::fs::Files;
+use std::io::{Read, Write};
+use std::net::{Net, TcpListener, TcpStream};
+use std::os::fd::AsRawFd;
+use std::sync::Wait;
+use std::thread::Threads;
+use std::time::Clock;
+pub use text::day_text;
+
+/// Runs `dispatch run` on its words, of which the first is the command's own name.
+///
+/// It reads the file that they name, and runs its day: the lines of `input` are taken and answered, changes are told,
+/// and at the end each sweep's line is written, the legs that stay in doubt, the shares of the day, and that the audit
+/// found nothing wrong. With `--check` it says what it would do. Faults go to `err`. The answer is the exit status: 0,
+/// or that of the fault.
+pub fn run_run<S, R, I, W, E>(
+    rt: &R,
+    alloc: Global,
+    words: &[S],
+    input: &mut I,
+    out: &mut W,
+    err: &mut E,
+) -> u8
+where
+    S: AsStr,
+    R: Net<Listener = TcpListener, Stream = TcpStream> + Files + Threads + Wait + Clock + Sync,
+    I: Read + AsRawFd,
+    W: Write + Send,
+    E: Write,
+    ensures { ExitsSo (W.contents out.old) (W.contents out.new) result }
+{
+    finish(run(rt, alloc, words, input, out), err)
+}
+
+#[tactic(auto, using(crate::proofs::Ends::said_of, crate::proofs::Ends::of_day))]
+fn run<S, R, I, W>(
+    rt: &R,
+    alloc: Global,
+    words: &[S],
+    input: &mut I,
+    out: &mut W,
+) -> Result<(), CommandFault>
+where
+    S: AsStr,
+    R: Net<Listener = TcpListener, Stream = TcpStream> + Files + Threads + Wait + Clock + Sync,
+    I: Read + AsRawFd,
+    W: Write + Send,
+    ensures { EndsRun (W.contents out.old) (W.contents out.new) result }
+{
+    let options = read_options(alloc, words)?;
+    let config = read_file(rt, alloc, options.file)?;
+    if options.checks {
+        return Ok(print(&check_text(alloc, &config)?, out)?);
+    }
+    run_config(rt, alloc, &config, options.manner, input, out)
+}
+
+/// Runs the day of a configuration.
+fn run_config<R, I, W>(
+    rt: &R,
+    alloc: Global,
+    config: &DeskConfig,
+    manner: Manner,
+    input: &mut I,
+    out: &mut W,
+) -> Result<(), CommandFault>
+where
+    R: Net<Listener = TcpListener, Stream = TcpStream> + Threads + Wait + Clock + Sync,
+    I: Read + AsRawFd,
+    W: Write + Send,
+    requires { AreVenues config.now.venues.items }
+    ensures { IfErr result IsOfDay }
+{
+    let fd = input.as_raw_fd();
+    let input = DeskInput { input, fd };
+    let day = run_day(rt, alloc, config.venues.as_slice(), manner, input, &mut *out)?;
+    print(&day_text(alloc, &day)?, out)?;
+    match day.broken_off {
+        Some(fault) => Err(CommandFault::from(fault)),
+        None if day.is_given_up || !day.doubts.is_empty() => Err(CommandFault::GivenUp),
+        None => Ok(()),
+    }
+}

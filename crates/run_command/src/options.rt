@@ -1,0 +1,103 @@
+//! The options of `dispatch run`.
+ghost use Rattle.std.specs.Prelude.{◌≡◌, IfErr};
+
+use crate::fault::CommandFault;
+use clap::{Arg, ArgAction, ArgMatches, Command};
+use desk_run::Manner;
+use fix_tags::read_number;
+use std::alloc::{AllocError, Global};
+use std::convert::AsStr;
+
+const FILE: &str = "FILE";
+
+const CHECK: &str = "check";
+
+const PATIENCE: &str = "patience";
+
+const QUIET: &str = "quiet";
+
+/// How many seconds open shares are waited for at the end where the command line doesn't say.
+const USUAL_PATIENCE: u64 = 30;
+
+/// The most.
+const MAX_PATIENCE: u64 = 86_400;
+
+/// What stands behind the options in the help.
+const EXAMPLES: &str = "\
+Takes lines on standard input until it ends, or until `close`, and answers each:
+
+  sweep NYSE BRK.B buy 100 10.25 + ARCA IBM sell 50 100
+  status
+  close
+
+Example:
+  dispatch run examples/desk.toml < examples/morning.sweeps";
+
+/// What the command line asks for.
+#[derive(Drop)]
+pub struct Options<'a> {
+    /// The name of the desk's file.
+    pub file: &'a str,
+    /// Whether the file is only read, and told.
+    pub checks: bool,
+    pub manner: Manner,
+}
+
+fn flag<'a>(alloc: Global, name: &'a str, help: &'a str) -> Arg<'a> {
+    Arg::new(alloc, name)
+        .long(name)
+        .help(help)
+        .action(ArgAction::SetTrue)
+}
+
+/// The command `run`, with its options.
+pub fn run_command<'a>(alloc: Global) -> Result<Command<'a>, AllocError> {
+    let file = Arg::new(alloc, FILE)
+        .help("the desk's file")
+        .required(true);
+    let patience = Arg::new(alloc, PATIENCE)
+        .long(PATIENCE)
+        .value_name("S")
+        .help("for how many seconds open shares are waited for at the end, 0 to 86400; 30 without it");
+    Command::new(alloc, "run")
+        .about("Runs the day of a desk's file: takes sweeps by lines, and tells what becomes of them")
+        .after_help(EXAMPLES)
+        .arg(file)?
+        .arg(flag(alloc, CHECK, "reads the file, and says what it would do"))?
+        .arg(patience)?
+        .arg(flag(alloc, QUIET, "tells no changes while they come"))
+}
+
+/// The patience that the command line asks for.
+fn patience_of(matches: &ArgMatches<'_>) -> Result<u64, CommandFault>
+    ensures { IfErr result (λ fault. fault ≡ CommandFault.BadPatience) }
+{
+    let Some(text) = matches.get_str(PATIENCE) else {
+        return Ok(USUAL_PATIENCE);
+    };
+    match read_number(text.as_bytes()) {
+        Some(seconds) if seconds <= MAX_PATIENCE => Ok(seconds),
+        _ => Err(CommandFault::BadPatience),
+    }
+}
+
+/// The options in these words. A missing, unknown or repeated option is a fault of the command line.
+pub fn read_options<'a, S: AsStr>(
+    alloc: Global,
+    words: &'a [S],
+) -> Result<Options<'a>, CommandFault> {
+    let command = run_command(alloc)?.bin_name("dispatch run")?;
+    let matches = command.try_get_matches_from(words)?;
+    let Some(file) = matches.get_str(FILE) else {
+        return Err(CommandFault::NoName);
+    };
+    let patience = patience_of(&matches)?;
+    Ok(Options {
+        file,
+        checks: matches.get_flag(CHECK),
+        manner: Manner {
+            patience,
+            tells_news: !matches.get_flag(QUIET),
+        },
+    })
+}

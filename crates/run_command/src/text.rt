@@ -1,0 +1,54 @@
+//! What `dispatch run` prints at the end of a day.
+ghost use Rattle.std.specs.Prelude.{◌≡◌, ◌++◌, IfOk, OnOk, string_bytes};
+ghost use Rattle.std.specs.List.{flat_map};
+ghost use Rattle.run_command.specs.Text.{day_text, doubt_line, sweep_line, totals_of};
+
+use desk_news::{AUDIT_OK, DayTotals, SweepParts, doubt_line};
+use desk_run::{DeskDay, VenueDoubt};
+use session_worker::DayReport;
+use std::alloc::{AllocError, Global};
+
+/// The text of a day: a line for each sweep, one for each venue with legs that stay in doubt, the shares of the day,
+/// and that the audit found nothing wrong. The only refusal is want of memory.
+pub fn day_text(alloc: Global, day: &DeskDay) -> Result<Vec<u8>, AllocError>
+    ensures { IfOk result (λ text. text.items ≡ day_text day.now) }
+{
+    let mut text = String::new(alloc);
+    write_sweeps(&mut text, day.sweeps.as_slice())?;
+    write_doubts(alloc, &mut text, day.doubts.as_slice())?;
+    let totals = totals_of(day.report);
+    write!(text, "{totals}\n{AUDIT_OK}\n")?;
+    Ok(text.into_bytes())
+}
+
+/// The shares of a day.
+fn totals_of(report: DayReport) -> DayTotals
+    ensures { result ≡ totals_of report }
+{
+    DayTotals {
+        placed: report.placed,
+        resolved: report.resolved,
+        still_open: report.still_open,
+    }
+}
+
+/// Appends the lines of sweeps.
+fn write_sweeps(text: &mut String, sweeps: &[SweepParts]) -> Result<(), AllocError>
+    ensures { OnOk result (string_bytes text.new ≡ string_bytes text.old ++ flat_map sweep_line sweeps.now) }
+{
+    for sweep in sweeps {
+        write!(text, "{sweep}\n")?;
+    }
+    Ok(())
+}
+
+/// Appends the lines of legs that stay in doubt.
+fn write_doubts(alloc: Global, text: &mut String, doubts: &[VenueDoubt]) -> Result<(), AllocError>
+    ensures { OnOk result (string_bytes text.new ≡ string_bytes text.old ++ flat_map doubt_line doubts.now) }
+{
+    for doubt in doubts {
+        let line = doubt_line(alloc, &doubt.venue, doubt.legs.as_slice())?;
+        write!(text, "{line}\n")?;
+    }
+    Ok(())
+}
