@@ -6,27 +6,23 @@ use Rattle.std.proofs.lemmas.List.Elements.{All-nil, All-replicate, All-push}
 use Rattle.std.proofs.lemmas.List.Sums.{sum_by-cons}
 use Rattle.exec_collector.specs.Seats.{Seat, new_seat, parts_of as seat_parts}
 use Rattle.release_lock.specs.Queues.{DrainParts, new_drains, Took, AreInOrder}
-use Rattle.dialect.specs.Wording.{Encoding}
+use Rattle.dialect.specs.Wording.{Wording}
 use Rattle.session_worker.specs.Events.{WorkerParts}
-use Rattle.session_worker.specs.Ends.{WorkerStart, WorkerLeft, AllRan}
+use Rattle.session_worker.specs.Ends.{WorkerStart, WorkerLeft, queues_of, seats_of, AllRan}
 use Rattle.desk_run.specs.Places.{Place, place, new_place, new_places}
 
--- the place of a worker
-abbrev pub place_in : WorkerParts → Place
-place_in parts = record { venue = parts.took.venue; parts = parts.seat_parts }
-
 -- each worker that ran keeps its place
-pub kept_places : {A B : Type 0} (writes : A → Encoding) (f : A → WorkerStart) (g : B → WorkerLeft) (xs : List A) (ys : List B)
-    → AllRan writes f xs (map g ys) → map (λ y. place_in (g y).parts) ys ≡ map (λ x. place_in (f x).parts) xs
-kept_places writes f g [] [] ran = refl
-kept_places writes f g [] (y ∷ ys) ran = absurd ran
-kept_places writes f g (x ∷ xs) [] ran = absurd ran
-kept_places writes f g (x ∷ xs) (y ∷ ys) ran =
+pub kept_places : {D : Type 0} (wording : D → Wording) (workers : List (WorkerStart D)) (ends : List WorkerLeft)
+    → AllRan wording workers ends → map (λ e. place e.parts) ends ≡ map (λ w. place w.parts) workers
+kept_places wording [] [] ran = refl
+kept_places wording [] (end ∷ ends) ran = absurd ran
+kept_places wording (worker ∷ workers) [] ran = absurd ran
+kept_places wording (worker ∷ workers) (end ∷ ends) ran =
     let runs = ran.0 in
-    let venue : (g y).parts.took.venue ≡ (f x).parts.took.venue = runs.last.venue ∙ runs.goes.venue in
-    let seat : (g y).parts.seat_parts ≡ (f x).parts.seat_parts = runs.last.seat ∙ runs.goes.seat in
-    let rest = kept_places writes f g xs ys ran.1 in
-    let first : place_in (g y).parts ≡ place_in (f x).parts = (λ k. record { venue = venue k; parts = seat k }) in
+    let venue : end.parts.took.venue ≡ worker.parts.took.venue = runs.last.venue ∙ runs.goes.venue in
+    let seat : end.parts.seat.parts ≡ worker.parts.seat.parts = runs.last.seat ∙ runs.goes.seat in
+    let rest = kept_places wording workers ends ran.1 in
+    let first : place end.parts ≡ place worker.parts = (λ k. record { venue = venue k; parts = seat k }) in
     (λ k. first k ∷ rest k)
 
 -- what stands at a place of a list with one element more
@@ -79,25 +75,24 @@ at_map f (first ∷ xs) zero x e = (let same : first ≡ x = cc in ap (λ y. Som
 at_map f (first ∷ xs) (suc at) x e = at_map f xs at x e
 
 -- workers that have the places of new ones, one for each venue, are in the order of the venues
-pub in_order : {A : Type 0} (took : A → Took) (seat : A → Seat) (venues : ℕ) (ends : List A)
-    → map (λ e. place (took e) (seat e)) ends ≡ new_places venues → AreInOrder (map took ends)
-in_order took seat venues ends kept at t e =
-    let end = source_at took ends at t e in
-    let there = at_map (λ e. place (took e) (seat e)) ends at end.0 end.1 in
-    let here : slice_get (new_places venues) at ≡ Some (place (took end.0) (seat end.0)) =
+pub in_order : (venues : ℕ) (ends : List WorkerLeft) → map (λ e. place e.parts) ends ≡ new_places venues
+    → AreInOrder (queues_of ends)
+in_order venues ends kept at t e =
+    let end = source_at (λ (e : WorkerLeft). e.parts.took) ends at t e in
+    let there = at_map (λ (e : WorkerLeft). place e.parts) ends at end.0 end.1 in
+    let here : slice_get (new_places venues) at ≡ Some (place end.0.parts) =
     ap (λ (ps : List Place). slice_get ps at) (sym kept) ∙ there in
-    let drain = source_at new_place (new_drains venues) at (place (took end.0) (seat end.0)) here in
-    let venue_is : (took end.0).venue ≡ drain.0.venue = sym (ap (λ (p : Place). p.venue) drain.2) in
+    let drain = source_at new_place (new_drains venues) at (place end.0.parts) here in
+    let venue_is : end.0.parts.took.venue ≡ drain.0.venue = sym (ap (λ (p : Place). p.venue) drain.2) in
     sym (ap (λ (t : Took). t.venue) end.2) ∙ (venue_is ∙ drain_at venues at drain.0 drain.1)
 
-parts_in : {A : Type 0} (took : A → Took) (seat : A → Seat) (ends : List A)
-    → seat_parts (map seat ends) ≡ sum_by (λ (p : Place). p.parts) (map (λ e. place (took e) (seat e)) ends)
-parts_in took seat [] = refl
-parts_in took seat (end ∷ ends) =
-    let rest = parts_in took seat ends in
-    let seats = sum_by-cons (λ (s : Seat). s.parts) (seat end) (map seat ends) in
-    let places = sum_by-cons (λ (p : Place). p.parts) (place (took end) (seat end))
-    (map (λ e. place (took e) (seat e)) ends) in
+parts_in : (ends : List WorkerLeft)
+    → seat_parts (seats_of ends) ≡ sum_by (λ (p : Place). p.parts) (map (λ e. place e.parts) ends)
+parts_in [] = refl
+parts_in (end ∷ ends) =
+    let rest = parts_in ends in
+    let seats = sum_by-cons (λ (s : Seat). s.parts) end.parts.seat (seats_of ends) in
+    let places = sum_by-cons (λ (p : Place). p.parts) (place end.parts) (map (λ e. place e.parts) ends) in
     omega (arith, rest, seats, places)
 
 one_each : (drains : List DrainParts) → sum_by (λ (p : Place). p.parts) (map new_place drains) ≡ length drains
@@ -108,18 +103,18 @@ one_each (drain ∷ drains) =
     omega (arith, rest, all)
 
 -- and their seats have one part for each venue
-pub all_parts : {A : Type 0} (took : A → Took) (seat : A → Seat) (venues : ℕ) (ends : List A)
-    → map (λ e. place (took e) (seat e)) ends ≡ new_places venues → seat_parts (map seat ends) ≡ venues
-all_parts took seat venues ends kept =
-    parts_in took seat ends
+pub all_parts : (venues : ℕ) (ends : List WorkerLeft) → map (λ e. place e.parts) ends ≡ new_places venues
+    → seat_parts (seats_of ends) ≡ venues
+all_parts venues ends kept =
+    parts_in ends
     ∙ (ap (λ (ps : List Place). sum_by (λ (p : Place). p.parts) ps) kept
     ∙ (one_each (new_drains venues) ∙ drains_length venues))
 
 -- a worker that was made of a new seat has the place of its drain
 pub is_new : (made given : WorkerParts) (drain : DrainParts) (seat : Seat) → made ≡ given
-    → place_in given ≡ record { venue = drain.venue; parts = seat.parts } → seat ≡ new_seat → place_in made ≡ new_place drain
+    → place given ≡ record { venue = drain.venue; parts = seat.parts } → seat ≡ new_seat → place made ≡ new_place drain
 is_new made given drain seat is given_is same =
-    ap place_in is ∙ (given_is ∙ ap (λ (s : Seat). record { venue = drain.venue; parts = s.parts }) same)
+    ap place is ∙ (given_is ∙ ap (λ (s : Seat). record { venue = drain.venue; parts = s.parts }) same)
 
 -- one worker more was made, of the first drain left
 pub one_made : {A : Type 0} (where_is : A → Place) (made : List A) (worker : A) (drain : DrainParts)

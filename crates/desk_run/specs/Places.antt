@@ -1,15 +1,15 @@
 -- The places of a day's workers: which venue each has, and the parts of its seat.
 use Rattle.std.specs.Prelude.{ℕ, List, map}
-use Rattle.exec_collector.specs.Seats.{Seat}
-use Rattle.release_lock.specs.Queues.{DrainParts, Took, new_drains}
+use Rattle.release_lock.specs.Queues.{DrainParts, new_drains}
+use Rattle.session_worker.specs.Events.{WorkerParts}
 
 -- a worker's venue, and the parts of its seat
 pub record Place : Type 0 where
   pub venue : ℕ
   pub parts : ℕ
 
-abbrev pub place : Took → Seat → Place
-place took seat = record { venue = took.venue; parts = seat.parts }
+abbrev pub place : WorkerParts → Place
+place worker = record { venue = worker.took.venue; parts = worker.seat.parts }
 
 -- the place of the worker of a new drain, whose seat has one part
 abbrev pub new_place : DrainParts → Place

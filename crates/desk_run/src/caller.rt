@@ -88,7 +88,9 @@ fn answer_line<L: Run, M: Ledger, W: Write + Drop, I: Read + Drop>(
             Ok(())
         }
         Ok(Command::Status) => tell_status(rt, floor),
-        Ok(Command::Sweep(_)) if floor.signals.is_closing() => floor.voice.say(rt, &Answer::Closing),
+        Ok(Command::Sweep(_)) if floor.signals.is_closing() => floor
+            .voice
+            .say(rt, &Answer::Closing),
         Ok(Command::Sweep(sweep)) => {
             let answer = release(rt, floor, sweep, seat);
             floor.voice.say(rt, &answer)

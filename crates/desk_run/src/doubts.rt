@@ -36,7 +36,7 @@ fn legs_in_doubt<K: Link, L: Run, M: Ledger>(
     alloc: Global,
     end: &WorkerEnd<K, L, M>,
 ) -> Result<Vec<LegId>, AllocError>
-    ensures { IfOk result (λ legs. legs.items ≡ legs_in_doubt end.now.session end.now.took.taken) }
+    ensures { IfOk result (λ legs. legs.items ≡ legs_in_doubt end.now.parts.session end.now.parts.took.taken) }
 {
     let mut legs = Vec::new(alloc);
     let taken = end.took.taken();

@@ -54,7 +54,13 @@ impl<'a, R: Net + Clock> Exchange<'a, R> {
             lose: 0,
         };
         let clock = UtcClock::new(rt);
-        let acceptor = Acceptor::new(alloc, venue.session.dialect, clock, exchange_end(venue), plan);
+        let acceptor = Acceptor::new(
+            alloc,
+            venue.session.dialect,
+            clock,
+            exchange_end(venue),
+            plan,
+        );
         Ok(Exchange {
             addr,
             port,

@@ -47,7 +47,8 @@ impl<L: Run, M: Ledger, W: Write + Drop> Floor<L, M, W> {
     /// How the venue at a place stands, if there is one.
     pub fn standing(&self, rt: &impl Wait, place: usize) -> Option<Standing> {
         let venue = VenueId::new(u8::try_from(place).ok()?).ok()?;
-        self.lock.with(rt, |desk: &mut Desk| standing_in(desk, venue))
+        self.lock
+            .with(rt, |desk: &mut Desk| standing_in(desk, venue))
     }
 
     /// Whether each venue is up.

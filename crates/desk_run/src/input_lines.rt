@@ -113,7 +113,11 @@ impl<I: Read + Drop> InputLines<I> {
             Err(error) => return Err(TalkFault::of_read(&error)),
         };
         if piece.is_empty() {
-            return Ok(if self.line.is_empty() { Reach::End } else { Reach::Line });
+            return Ok(if self.line.is_empty() {
+                Reach::End
+            } else {
+                Reach::Line
+            });
         }
         match piece.iter().position(|byte| *byte == b'\n') {
             Some(at) => {

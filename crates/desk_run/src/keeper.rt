@@ -37,7 +37,11 @@ pub fn keep<L: Run, M: Ledger, W: Write + Drop, R: Wait + Clock>(
     alloc: Global,
     floor: &Floor<L, M, W>,
 ) {
-    let mut told = if floor.manner.tells_news { Some(Told::new(alloc)) } else { None };
+    let mut told = if floor.manner.tells_news {
+        Some(Told::new(alloc))
+    } else {
+        None
+    };
     let patience = floor.manner.patience.saturating_mul(LOOKS_A_SECOND);
     watch(rt, floor, &mut told, Until::Closing, u64::MAX);
     watch(rt, floor, &mut told, Until::Resolved, patience);

@@ -6,12 +6,15 @@ ghost use Rattle.share_ledger.specs.Book.{BookParts};
 ghost use Rattle.exec_collector.specs.Resolved.{Replays};
 ghost use Rattle.exec_collector.specs.Seats.{parts_of as seat_parts};
 ghost use Rattle.release_lock.specs.Queues.{IsFresh, AreInOrder};
+ghost use Rattle.session_worker.specs.Ends.{queues_of, seats_of};
 ghost use Rattle.desk_config.specs.Apart.{AreVenues};
 ghost use Rattle.desk_run.specs.Faults.{IsNoMismatch};
 ghost use Rattle.desk_run.specs.Places.{place, new_places};
 ghost use Rattle.desk_run.specs.Sweeps.{sweeps_in};
 
+use crate::DeskDay;
 use crate::bells::Bells;
+use crate::caller::CallerEnd;
 use crate::day_fault::DayFault;
 use crate::doubts::{doubts_of, is_given_up};
 use crate::floor::Floor;
@@ -22,7 +25,6 @@ use crate::sweeps::booked_sweeps;
 use crate::threads::{Cast, Ended, in_threads};
 use crate::voice::Voice;
 use crate::workers::new_workers;
-use crate::{DeskDay, caller::CallerEnd};
 use desk_config::Venue;
 use desk_words::VenueName;
 use exec_collector::Collector;
@@ -156,7 +158,7 @@ fn told<K: Link, L: Run, M: Ledger, W: Write + Drop>(
     floor: Floor<L, M, W>,
     ended: Ended<K, L, M>,
 ) -> Result<DeskDay, DayFault>
-    requires workers { map (λ e. place e.took e.seat) ended.workers.items ≡ new_places M.parts }
+    requires workers { map (λ e. place e.parts) ended.workers.items ≡ new_places M.parts }
     requires some { 0 < M.parts }
     requires caller { ended.caller.seat.parts ≡ 1024 }
     ensures sweeps { IfOk result (λ day. (book : BookParts) × Replays book × (day.sweeps.items ≡ sweeps_in book)) }
@@ -195,8 +197,8 @@ fn audited<K: Link, L: Run, M: Ledger>(
     seat: CallerSeat<L>,
     workers: Vec<WorkerEnd<K, L, M>>,
 ) -> Result<DayReport, DayFault>
-    requires order { AreInOrder (map (λ e. e.took) workers.items) }
-    requires shared { seat_parts (map (λ e. e.seat) workers.items) ≡ M.parts }
+    requires order { AreInOrder (queues_of workers.items) }
+    requires shared { seat_parts (seats_of workers.items) ≡ M.parts }
     requires some { 0 < M.parts }
     requires caller { seat.parts ≡ 1024 }
     ensures placed { IfOk result (λ report. report.placed ≡ seat.shares) }

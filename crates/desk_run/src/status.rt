@@ -34,7 +34,9 @@ pub fn tell_status<L: Run, M: Ledger, W: Write + Drop>(
 ) -> Result<(), TalkFault> {
     for (place, name) in floor.names.iter().enumerate() {
         if let Some(standing) = floor.standing(rt, place) {
-            floor.voice.say(rt, &StatusLine(venue_news(name, standing)))?;
+            floor
+                .voice
+                .say(rt, &StatusLine(venue_news(name, standing)))?;
         }
     }
     for number in 1..u64::MAX {

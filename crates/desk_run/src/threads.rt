@@ -57,8 +57,8 @@ where
     W: Write + Drop + Send,
     I: Read + Drop,
     R: Threads + Wait + time::Clock + Sync,
-    ensures workers { IfOk result (λ ended. map (λ e. place e.took e.seat) ended.workers.items
-        ≡ map (λ w. place w.post.takings w.post.seat) cast.workers.items) }
+    ensures workers { IfOk result (λ ended. map (λ e. place e.parts) ended.workers.items
+        ≡ map (λ w. place w.parts) cast.workers.items) }
     ensures seat { IfOk result (λ ended. ended.caller.seat.parts ≡ cast.seat.parts) }
     ensures only { IfErr result IsNoMismatch }
 {
@@ -71,8 +71,8 @@ where
         rt,
         || run_exchanges(rt, alloc, floor, exchanges),
         || -> Result<Ended<K, L, M>, DayFault>
-            ensures workers { IfOk result (λ ended. map (λ e. place e.took e.seat) ended.workers.items
-                ≡ map (λ w. place w.post.takings w.post.seat) workers.items) }
+            ensures workers { IfOk result (λ ended. map (λ e. place e.parts) ended.workers.items
+                ≡ map (λ w. place w.parts) workers.items) }
             ensures seat { IfOk result (λ ended. ended.caller.seat.parts ≡ seat.parts) }
             ensures only { IfErr result IsNoMismatch }
         { run_dispatcher(rt, alloc, floor, workers, seat, lines) },
@@ -141,8 +141,8 @@ where
     W: Write + Drop + Send,
     I: Read + Drop,
     R: Threads + Wait + time::Clock + Sync,
-    ensures workers { IfOk result (λ ended. map (λ e. place e.took e.seat) ended.workers.items
-        ≡ map (λ w. place w.post.takings w.post.seat) workers.items) }
+    ensures workers { IfOk result (λ ended. map (λ e. place e.parts) ended.workers.items
+        ≡ map (λ w. place w.parts) workers.items) }
     ensures seat { IfOk result (λ ended. ended.caller.seat.parts ≡ seat.parts) }
     ensures only { IfErr result IsNoMismatch }
 {

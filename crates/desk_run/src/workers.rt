@@ -43,7 +43,7 @@ pub fn new_workers<'a, L: Run, M: Ledger, R: Net + time::Clock>(
     requires addrs { length addrs.now ≡ length venues.now }
     requires drains { drains.items ≡ new_drains (length venues.now) }
     requires seats { seats.items ≡ replicate (length venues.now) new_seat }
-    ensures new { IfOk result (λ workers. map (λ w. place w.post.takings w.post.seat) workers.items
+    ensures new { IfOk result (λ workers. map (λ w. place w.parts) workers.items
         ≡ new_places (length venues.now)) }
     ensures only { IfErr result IsNoMismatch }
 {
@@ -98,8 +98,8 @@ where
     M: Ledger + Send + Sync,
     R: Threads + Wait + Sync,
     W: Write + Drop + Send,
-    ensures kept { IfOk result (λ ends. map (λ e. place e.took e.seat) ends.items
-        ≡ map (λ w. place w.post.takings w.post.seat) workers.items) }
+    ensures kept { IfOk result (λ ends. map (λ e. place e.parts) ends.items
+        ≡ map (λ w. place w.parts) workers.items) }
     ensures only { IfErr result IsNoMismatch }
 {
     floor.signals.workers.tell();

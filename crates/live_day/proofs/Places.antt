@@ -6,22 +6,22 @@ use Rattle.std.proofs.lemmas.List.Elements.{All-nil, All-replicate, All-push}
 use Rattle.std.proofs.lemmas.List.Sums.{sum_by-cons}
 use Rattle.exec_collector.specs.Seats.{Seat, new_seat, parts_of as seat_parts}
 use Rattle.release_lock.specs.Queues.{DrainParts, new_drains, Took, AreInOrder}
-use Rattle.dialect.specs.Wording.{Encoding}
+use Rattle.dialect.specs.Wording.{Wording}
 use Rattle.fix_tags.specs.Config.{ConfigParts}
 use Rattle.session_core.specs.Session.{new_session}
-use Rattle.session_worker.specs.Events.{WorkerParts, parts_of}
-use Rattle.session_worker.specs.Ends.{WorkerStart, WorkerLeft, AllRan}
-use Rattle.live_day.specs.Day.{dispatcher, new_worker, new_workers, KeepsPlace, AllKeepPlace}
+use Rattle.session_worker.specs.Events.{WorkerParts, new_worker}
+use Rattle.session_worker.specs.Ends.{WorkerStart, WorkerLeft, queues_of, seats_of, AllRan}
+use Rattle.live_day.specs.Day.{dispatcher, worker_of, new_workers, KeepsPlace, AllKeepPlace}
 
 -- each worker that ran keeps its place
-pub kept_places : {A B : Type 0} (writes : A → Encoding) (f : A → WorkerStart) (g : B → WorkerLeft) (xs : List A) (ys : List B)
-    → AllRan writes f xs (map g ys) → AllKeepPlace (map (λ x. (f x).parts) xs) (map (λ y. (g y).parts) ys)
-kept_places writes f g [] [] ran = tt
-kept_places writes f g [] (y ∷ ys) ran = absurd ran
-kept_places writes f g (x ∷ xs) [] ran = absurd ran
-kept_places writes f g (x ∷ xs) (y ∷ ys) ran =
+pub kept_places : {D : Type 0} (wording : D → Wording) (workers : List (WorkerStart D)) (ends : List WorkerLeft)
+    → AllRan wording workers ends → AllKeepPlace (map (λ w. w.parts) workers) (map (λ e. e.parts) ends)
+kept_places wording [] [] ran = tt
+kept_places wording [] (end ∷ ends) ran = absurd ran
+kept_places wording (worker ∷ workers) [] ran = absurd ran
+kept_places wording (worker ∷ workers) (end ∷ ends) ran =
     let runs = ran.0 in
-    ((runs.last.venue ∙ runs.goes.venue, runs.last.seat ∙ runs.goes.seat), kept_places writes f g xs ys ran.1)
+    ((runs.last.venue ∙ runs.goes.venue, runs.last.seat ∙ runs.goes.seat), kept_places wording workers ends ran.1)
 
 -- what stands at a place of a list with one element more
 snoc_at : {A : Type 0} (xs : List A) (y : A) (at : ℕ) (x : A) → slice_get (xs ++ y ∷ []) at ≡ Some x
@@ -83,66 +83,63 @@ kept_at (before ∷ starts) (after ∷ ends) zero end kept e =
 kept_at (before ∷ starts) (after ∷ ends) (suc at) end kept e = kept_at starts ends at end kept.1 e
 
 -- workers that were new, one for each venue, are in the order of the venues
-pub in_order : {A : Type 0} (parts : A → WorkerParts) (venues : ℕ) (ends : List A)
-    → AllKeepPlace (new_workers venues) (map parts ends) → AreInOrder (map (λ e. (parts e).took) ends)
-in_order parts venues ends kept at took e =
-    let end = source_at (λ e. (parts e).took) ends at took e in
-    let there = at_map parts ends at end.0 end.1 in
-    let start = kept_at (new_workers venues) (map parts ends) at (parts end.0) kept there in
-    let drain = source_at new_worker (new_drains venues) at start.0 start.1 in
+pub in_order : (venues : ℕ) (ends : List WorkerLeft) → AllKeepPlace (new_workers venues) (map (λ e. e.parts) ends)
+    → AreInOrder (queues_of ends)
+in_order venues ends kept at took e =
+    let end = source_at (λ (e : WorkerLeft). e.parts.took) ends at took e in
+    let there = at_map (λ (e : WorkerLeft). e.parts) ends at end.0 end.1 in
+    let start = kept_at (new_workers venues) (map (λ e. e.parts) ends) at end.0.parts kept there in
+    let drain = source_at worker_of (new_drains venues) at start.0 start.1 in
     let is_drain : start.0.took.venue ≡ drain.0.venue = sym (ap (λ (w : WorkerParts). w.took.venue) drain.2) in
     sym (ap (λ (t : Took). t.venue) end.2) ∙ (start.2.0 ∙ (is_drain ∙ drain_at venues at drain.0 drain.1))
 
-parts_kept : {A : Type 0} (parts : A → WorkerParts) (seat : A → Seat)
-    → ((x : A) → (parts x).seat_parts ≡ (seat x).parts) → (starts : List WorkerParts) (ends : List A)
-    → AllKeepPlace starts (map parts ends)
-    → seat_parts (map seat ends) ≡ sum_by (λ (w : WorkerParts). w.seat_parts) starts
-parts_kept parts seat same [] [] kept = refl
-parts_kept parts seat same [] (end ∷ ends) kept = absurd kept
-parts_kept parts seat same (start ∷ starts) [] kept = absurd kept
-parts_kept parts seat same (start ∷ starts) (end ∷ ends) kept =
-    let first : (seat end).parts ≡ start.seat_parts = sym (same end) ∙ kept.0.1 in
-    let rest = parts_kept parts seat same starts ends kept.1 in
-    let seats = sum_by-cons (λ (s : Seat). s.parts) (seat end) (map seat ends) in
-    let befores = sum_by-cons (λ (w : WorkerParts). w.seat_parts) start starts in
+parts_kept : (starts : List WorkerParts) (ends : List WorkerLeft) → AllKeepPlace starts (map (λ e. e.parts) ends)
+    → seat_parts (seats_of ends) ≡ sum_by (λ (w : WorkerParts). w.seat.parts) starts
+parts_kept [] [] kept = refl
+parts_kept [] (end ∷ ends) kept = absurd kept
+parts_kept (start ∷ starts) [] kept = absurd kept
+parts_kept (start ∷ starts) (end ∷ ends) kept =
+    let first : end.parts.seat.parts ≡ start.seat.parts = kept.0.1 in
+    let rest = parts_kept starts ends kept.1 in
+    let seats = sum_by-cons (λ (s : Seat). s.parts) end.parts.seat (seats_of ends) in
+    let befores = sum_by-cons (λ (w : WorkerParts). w.seat.parts) start starts in
     omega (arith, first, rest, seats, befores)
 
-one_each : (drains : List DrainParts) → sum_by (λ (w : WorkerParts). w.seat_parts) (map new_worker drains) ≡ length drains
+one_each : (drains : List DrainParts) → sum_by (λ (w : WorkerParts). w.seat.parts) (map worker_of drains) ≡ length drains
 one_each [] = refl
 one_each (drain ∷ drains) =
     let rest = one_each drains in
-    let all = sum_by-cons (λ (w : WorkerParts). w.seat_parts) (new_worker drain) (map new_worker drains) in
+    let all = sum_by-cons (λ (w : WorkerParts). w.seat.parts) (worker_of drain) (map worker_of drains) in
     omega (arith, rest, all)
 
 -- and their seats have one part for each venue
-pub all_parts : {A : Type 0} (parts : A → WorkerParts) (seat : A → Seat)
-    → ((x : A) → (parts x).seat_parts ≡ (seat x).parts) → (venues : ℕ) (ends : List A)
-    → AllKeepPlace (new_workers venues) (map parts ends) → seat_parts (map seat ends) ≡ venues
-all_parts parts seat same venues ends kept =
-    parts_kept parts seat same (new_workers venues) ends kept ∙ (one_each (new_drains venues) ∙ drains_length venues)
+pub all_parts : (venues : ℕ) (ends : List WorkerLeft) → AllKeepPlace (new_workers venues) (map (λ e. e.parts) ends)
+    → seat_parts (seats_of ends) ≡ venues
+all_parts venues ends kept =
+    parts_kept (new_workers venues) ends kept ∙ (one_each (new_drains venues) ∙ drains_length venues)
 
 -- a worker that was made of a new seat is the new one of its drain's venue
 pub is_new : (config : ConfigParts) (drain : DrainParts) (seat : Seat) → config ≡ dispatcher → seat ≡ new_seat
-    → parts_of (new_session config) (record { venue = drain.venue; taken = [] }) seat None ≡ new_worker drain
+    → new_worker (new_session config) drain.venue seat None ≡ worker_of drain
 is_new config drain seat is same =
-    ap (λ (c : ConfigParts). parts_of (new_session c) (record { venue = drain.venue; taken = [] }) seat None) is
-    ∙ ap (λ (s : Seat). parts_of (new_session dispatcher) (record { venue = drain.venue; taken = [] }) s None) same
+    ap (λ (c : ConfigParts). new_worker (new_session c) drain.venue seat None) is
+    ∙ ap (λ (s : Seat). new_worker (new_session dispatcher) drain.venue s None) same
 
 -- one worker more was made, of the first drain left
 pub one_made : {A : Type 0} (parts : A → WorkerParts) (made : List A) (worker : A) (drain : DrainParts)
-    (before rest all : List DrainParts) → parts worker ≡ new_worker drain → before ≡ drain ∷ rest
-    → map parts made ++ map new_worker before ≡ map new_worker all
-    → map parts (made ++ worker ∷ []) ++ map new_worker rest ≡ map new_worker all
+    (before rest all : List DrainParts) → parts worker ≡ worker_of drain → before ≡ drain ∷ rest
+    → map parts made ++ map worker_of before ≡ map worker_of all
+    → map parts (made ++ worker ∷ []) ++ map worker_of rest ≡ map worker_of all
 one_made parts made worker drain before rest all is here so_far =
-    ap (λ ws. ws ++ map new_worker rest) (map-append parts made (worker ∷ []))
-    ∙ (append_assoc (map parts made) (parts worker ∷ []) (map new_worker rest)
-    ∙ (ap (λ w. map parts made ++ w ∷ map new_worker rest) is
-    ∙ (sym (ap (λ ds. map parts made ++ map new_worker ds) here) ∙ so_far)))
+    ap (λ ws. ws ++ map worker_of rest) (map-append parts made (worker ∷ []))
+    ∙ (append_assoc (map parts made) (parts worker ∷ []) (map worker_of rest)
+    ∙ (ap (λ w. map parts made ++ w ∷ map worker_of rest) is
+    ∙ (sym (ap (λ ds. map parts made ++ map worker_of ds) here) ∙ so_far)))
 
 -- where no drain is left, all were made
 pub all_made : {A : Type 0} (parts : A → WorkerParts) (made : List A) (left all : List DrainParts) (venues : ℕ)
-    → length left ≡ 0 → all ≡ new_drains venues → map parts made ++ map new_worker left ≡ map new_worker all
+    → length left ≡ 0 → all ≡ new_drains venues → map parts made ++ map worker_of left ≡ map worker_of all
     → map parts made ≡ new_workers venues
 all_made parts made [] all venues none is so_far =
-    sym (append-nil (map parts made)) ∙ (so_far ∙ ap (map new_worker) is)
+    sym (append-nil (map parts made)) ∙ (so_far ∙ ap (map worker_of) is)
 all_made parts made (drain ∷ drains) all venues none is so_far = absurd (omega (arith, none))

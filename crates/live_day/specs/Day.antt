@@ -1,11 +1,11 @@
 -- A day: how large it is, and what its threads begin and end with.
 use Rattle.std.specs.Prelude.{◌≡◌, ℕ, zero, suc, ◌+◌, ◌*◌, ◌≤◌, false, List, [], ◌∷◌, ◌++◌, None, codes, map, sum_by}
 use Rattle.fix_tags.specs.Config.{ConfigParts}
-use Rattle.exec_collector.specs.Seats.{Seat}
+use Rattle.exec_collector.specs.Seats.{Seat, new_seat}
 use Rattle.exchange_sim.specs.declared.plan.Plan.{Plan}
 use Rattle.release_lock.specs.Queues.{DrainParts, new_drains}
 use Rattle.session_core.specs.Session.{new_session}
-use Rattle.session_worker.specs.Events.{WorkerParts}
+use Rattle.session_worker.specs.Events.{WorkerParts, new_worker}
 use Rattle.live_day.specs.declared.live_plan.LivePlan.{LivePlan}
 
 -- each number of a plan is in its range
@@ -43,20 +43,15 @@ plans cut zero = []
 plans cut (suc venue) = plans cut venue ++ plan_of (cut_of cut venue) ∷ []
 
 -- the worker of a drain's venue before its first turn, and those of so many venues
-abbrev pub new_worker : DrainParts → WorkerParts
-new_worker drain = record {
-  session = new_session dispatcher;
-  took = record { venue = drain.venue; taken = [] };
-  seat_parts = 1;
-  wire = None;
-}
+abbrev pub worker_of : DrainParts → WorkerParts
+worker_of drain = new_worker (new_session dispatcher) drain.venue new_seat None
 
 abbrev pub new_workers : ℕ → List WorkerParts
-new_workers venues = map new_worker (new_drains venues)
+new_workers venues = map worker_of (new_drains venues)
 
 -- a worker before its turns and after them: it is still that of its venue, and its seat has as many parts
 abbrev pub KeepsPlace : WorkerParts → WorkerParts → Type 0
-KeepsPlace before after = (after.took.venue ≡ before.took.venue) × (after.seat_parts ≡ before.seat_parts)
+KeepsPlace before after = (after.took.venue ≡ before.took.venue) × (after.seat.parts ≡ before.seat.parts)
 
 -- and so does each of these, in order
 abbrev pub AllKeepPlace : List WorkerParts → List WorkerParts → Type 0

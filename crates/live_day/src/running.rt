@@ -6,6 +6,7 @@ ghost use Rattle.share_ledger.specs.Book.{BookParts};
 ghost use Rattle.exec_collector.specs.Resolved.{Replays};
 ghost use Rattle.exec_collector.specs.Seats.{parts_of as seat_parts, shares_of};
 ghost use Rattle.release_lock.specs.Queues.{IsFresh, AreInOrder};
+ghost use Rattle.session_worker.specs.Ends.{queues_of, seats_of};
 ghost use Rattle.live_day.specs.Faults.{IsNoMismatch};
 ghost use Rattle.live_day.specs.Day.{IsLivePlan, AreCalled, left_of, shares_each};
 ghost use Rattle.live_day.specs.Sweeps.{sweeps_in};
@@ -124,8 +125,8 @@ fn told<K: Link, L: Run, M: Ledger>(
     ended: Ended<K, L, M>,
 ) -> Result<LiveDay, LiveFault>
     requires plan { IsLivePlan floor.plan }
-    requires order { AreInOrder (map (λ e. e.took) ended.workers.items) }
-    requires shared { seat_parts (map (λ e. e.seat) ended.workers.items) ≡ M.parts }
+    requires order { AreInOrder (queues_of ended.workers.items) }
+    requires shared { seat_parts (seats_of ended.workers.items) ≡ M.parts }
     requires some { 0 < M.parts }
     requires callers { AreCalled floor.plan (map (λ e. left_of e.seat e.unplaced) ended.callers.items) }
     ensures sweeps { IfOk result (λ day. (book : BookParts) × Replays book × (day.sweeps.items ≡ sweeps_in book)) }
@@ -180,8 +181,8 @@ fn audited<K: Link, L: Run, M: Ledger>(
     callers: Vec<CallerSeat<L>>,
     workers: Vec<WorkerEnd<K, L, M>>,
 ) -> Result<DayReport, LiveFault>
-    requires order { AreInOrder (map (λ e. e.took) workers.items) }
-    requires shared { seat_parts (map (λ e. e.seat) workers.items) ≡ M.parts }
+    requires order { AreInOrder (queues_of workers.items) }
+    requires shared { seat_parts (seats_of workers.items) ≡ M.parts }
     requires some { 0 < M.parts }
     requires callers { seat_parts callers.items ≡ 1024 }
     ensures placed { IfOk result (λ report. report.placed ≡ shares_of callers.items) }

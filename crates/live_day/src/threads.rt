@@ -1,7 +1,6 @@
 //! The threads of a day.
 
 ghost use Rattle.std.specs.Prelude.{◌≡◌, map, IfOk, IfErr};
-ghost use Rattle.session_worker.specs.Events.{parts_of};
 ghost use Rattle.live_day.specs.Faults.{IsNoMismatch};
 ghost use Rattle.live_day.specs.Day.{caller_of, left_of, AllCalled, AllKeepPlace};
 
@@ -58,9 +57,7 @@ where
     R: Threads + Wait + time::Clock + Sync,
     P: Progress + Drop + Send,
     ensures workers { IfOk result (λ ended. AllKeepPlace
-        (map (λ w. parts_of w.post.linked.session w.post.takings w.post.seat (K.wire w.post.linked.link))
-        cast.workers.items)
-        (map (λ e. parts_of e.session e.took e.seat (K.wire e.link)) ended.workers.items)) }
+        (map (λ w. w.parts) cast.workers.items) (map (λ e. e.parts) ended.workers.items)) }
     ensures callers { IfOk result (λ ended. AllCalled (map (λ s. caller_of floor.now.plan s) cast.callers.items)
         (map (λ e. left_of e.seat e.unplaced) ended.callers.items)) }
     ensures only { IfErr result IsNoMismatch }
@@ -75,9 +72,7 @@ where
         || run_exchanges(rt, alloc, floor, exchanges),
         || -> Result<Ended<K, L, M>, LiveFault>
             ensures workers { IfOk result (λ ended. AllKeepPlace
-                (map (λ w. parts_of w.post.linked.session w.post.takings w.post.seat (K.wire w.post.linked.link))
-                workers.items)
-                (map (λ e. parts_of e.session e.took e.seat (K.wire e.link)) ended.workers.items)) }
+                (map (λ w. w.parts) workers.items) (map (λ e. e.parts) ended.workers.items)) }
             ensures callers { IfOk result (λ ended. AllCalled
                 (map (λ s. caller_of floor.entry.now.plan s) callers.items)
                 (map (λ e. left_of e.seat e.unplaced) ended.callers.items)) }
@@ -148,8 +143,7 @@ where
     R: Threads + Wait + time::Clock + Sync,
     P: Progress + Drop + Send,
     ensures workers { IfOk result (λ ended. AllKeepPlace
-        (map (λ w. parts_of w.post.linked.session w.post.takings w.post.seat (K.wire w.post.linked.link)) workers.items)
-        (map (λ e. parts_of e.session e.took e.seat (K.wire e.link)) ended.workers.items)) }
+        (map (λ w. w.parts) workers.items) (map (λ e. e.parts) ended.workers.items)) }
     ensures callers { IfOk result (λ ended. AllCalled (map (λ s. caller_of floor.now.plan s) callers.items)
         (map (λ e. left_of e.seat e.unplaced) ended.callers.items)) }
     ensures only { IfErr result IsNoMismatch }
@@ -232,8 +226,7 @@ where
     M: Ledger + Send + Sync,
     R: Threads + Wait + time::Clock + Sync,
     ensures kept { IfOk result (λ ends. AllKeepPlace
-        (map (λ w. parts_of w.post.linked.session w.post.takings w.post.seat (K.wire w.post.linked.link)) workers.items)
-        (map (λ e. parts_of e.session e.took e.seat (K.wire e.link)) ends.items)) }
+        (map (λ w. w.parts) workers.items) (map (λ e. e.parts) ends.items)) }
     ensures only { IfErr result IsNoMismatch }
 {
     if !floor.signals.awaits(rt, &floor.signals.dispatcher) {

@@ -1,9 +1,8 @@
 //! The workers of a day.
 
-ghost use Rattle.std.specs.Prelude.{◌≡◌, [], None, length, replicate, IfOk, IfErr, map};
+ghost use Rattle.std.specs.Prelude.{◌≡◌, length, replicate, IfOk, IfErr, map};
 ghost use Rattle.exec_collector.specs.Seats.{new_seat};
 ghost use Rattle.release_lock.specs.Queues.{new_drains};
-ghost use Rattle.session_worker.specs.Events.{parts_of};
 ghost use Rattle.live_day.specs.Day.{new_workers};
 ghost use Rattle.live_day.specs.Faults.{IsNoMismatch};
 
@@ -37,8 +36,7 @@ pub fn new_workers<'a, L: Run, M: Ledger, R: Net + Clock>(
 ) -> Result<Vec<LiveWorker<'a, R, L, M>>, LiveFault>
     requires drains { drains.items ≡ new_drains (length exchanges.now) }
     requires seats { seats.items ≡ replicate (length exchanges.now) new_seat }
-    ensures new { IfOk result (λ workers. map (λ w. parts_of w.post.linked.session w.post.takings w.post.seat None)
-        workers.items ≡ new_workers (length exchanges.now)) }
+    ensures new { IfOk result (λ workers. map (λ w. w.parts) workers.items ≡ new_workers (length exchanges.now)) }
     ensures only { IfErr result IsNoMismatch }
 {
     let mut workers = Vec::new(alloc);

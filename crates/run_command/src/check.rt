@@ -25,10 +25,16 @@ impl<'a> fmt::Display for VenueLine<'a> {
         let heartbeat = self.0.session.heartbeat;
         match &self.0.endpoint {
             Endpoint::At(address) => {
-                write!(f, "venue {name} at {address} {dialect} heartbeat {heartbeat}")
+                write!(
+                    f,
+                    "venue {name} at {address} {dialect} heartbeat {heartbeat}"
+                )
             }
             Endpoint::Simulated(fill) => {
-                write!(f, "venue {name} simulated fill {fill} {dialect} heartbeat {heartbeat}")
+                write!(
+                    f,
+                    "venue {name} simulated fill {fill} {dialect} heartbeat {heartbeat}"
+                )
             }
         }
     }

@@ -91,8 +91,12 @@ impl Fault for CommandFault {
     fn reason(&self) -> Option<&'static str> {
         match self {
             CommandFault::BadPatience => Some("a whole number from 0 to 86400 is wanted"),
-            CommandFault::NotServed { .. } => Some("take the key away: this version has neither logs nor a page"),
-            CommandFault::GivenUp => Some("a session didn't log out in time, or legs stay in doubt"),
+            CommandFault::NotServed { .. } => Some(
+                "take the key away: this version has neither logs nor a page",
+            ),
+            CommandFault::GivenUp => Some(
+                "a session didn't log out in time, or legs stay in doubt",
+            ),
             _ => None,
         }
     }

@@ -15,11 +15,7 @@ const MAX_FILE: u64 = 1_048_576;
 
 /// The configuration that the file of a name has. One that asks for logs or a page is refused, since the day has
 /// neither.
-pub fn read_file<R: Files>(
-    rt: &R,
-    alloc: Global,
-    name: &str,
-) -> Result<DeskConfig, CommandFault>
+pub fn read_file<R: Files>(rt: &R, alloc: Global, name: &str) -> Result<DeskConfig, CommandFault>
     ensures { IfOk result (λ config. AreVenues config.venues.items) }
 {
     let Ok(mut file) = fs::open(rt, name) else {

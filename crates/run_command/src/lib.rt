@@ -95,7 +95,14 @@ where
 {
     let fd = input.as_raw_fd();
     let input = DeskInput { input, fd };
-    let day = run_day(rt, alloc, config.venues.as_slice(), manner, input, &mut *out)?;
+    let day = run_day(
+        rt,
+        alloc,
+        config.venues.as_slice(),
+        manner,
+        input,
+        &mut *out,
+    )?;
     print(&day_text(alloc, &day)?, out)?;
     match day.broken_off {
         Some(fault) => Err(CommandFault::from(fault)),

@@ -52,15 +52,17 @@ fn flag<'a>(alloc: Global, name: &'a str, help: &'a str) -> Arg<'a> {
 
 /// The command `run`, with its options.
 pub fn run_command<'a>(alloc: Global) -> Result<Command<'a>, AllocError> {
-    let file = Arg::new(alloc, FILE)
-        .help("the desk's file")
-        .required(true);
+    let file = Arg::new(alloc, FILE).help("the desk's file").required(true);
     let patience = Arg::new(alloc, PATIENCE)
         .long(PATIENCE)
         .value_name("S")
-        .help("for how many seconds open shares are waited for at the end, 0 to 86400; 30 without it");
+        .help(
+            "for how many seconds open shares are waited for at the end, 0 to 86400; 30 without it",
+        );
     Command::new(alloc, "run")
-        .about("Runs the day of a desk's file: takes sweeps by lines, and tells what becomes of them")
+        .about(
+            "Runs the day of a desk's file: takes sweeps by lines, and tells what becomes of them",
+        )
         .after_help(EXAMPLES)
         .arg(file)?
         .arg(flag(alloc, CHECK, "reads the file, and says what it would do"))?

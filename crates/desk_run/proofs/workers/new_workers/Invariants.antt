@@ -6,7 +6,7 @@ use Rattle.desk_run.proofs.workers.new_workers.Given as goal
 
 abbrev pub invariant-loop-venue : goal.invariant-loop-venue
 invariant-loop-venue g l =
-    let made : List Place = map (λ w. place w.post.takings w.post.seat) l.workers.items in
+    let made : List Place = map (λ w. place w.parts) l.workers.items in
     record {
       made_are : made ++ map new_place l.drains.items ≡ map new_place l.initial.drains.items;
       none_popped : All (λ (d : DrainParts). d.popped ≡ []) l.drains.items;

@@ -1,7 +1,7 @@
-use Rattle.std.proofs.Common.{◌∙◌, List, None, length, map, replicate, refl, sym, ap, subst}
+use Rattle.std.proofs.Common.{◌∙◌, List, length, map, replicate, refl, sym, ap, subst}
 use Rattle.exec_collector.specs.Seats.{new_seat}
 use Rattle.release_lock.specs.Queues.{new_drains}
-use Rattle.session_worker.specs.Events.{WorkerParts, parts_of}
+use Rattle.session_worker.specs.Events.{WorkerParts}
 use Rattle.live_day.specs.Day.{new_workers, AllKeepPlace}
 use Rattle.live_day.proofs.Places.{in_order, all_parts}
 use Rattle.live_day.proofs.Exchanges.{as_many}
@@ -22,16 +22,16 @@ pub told-requires-clause-order : goal.told-requires-clause-order
 told-requires-clause-order g c =
     let many = as_many _ c.in_ok-exchanges.exchanges.items c.args.plan.cut c.args.plan.venues c.in_ok-exchanges.ensures.plans in
     let begun = c.in_ok-workers.ensures.new ∙ ap new_workers (ap length c.deref.ensures.value ∙ many) in
-    in_order (λ e. parts_of e.session e.took e.seat None) c.args.plan.venues c.in_ok-ended.ended.workers.items
-    (subst (λ (starts : List WorkerParts). AllKeepPlace starts (map (λ e. parts_of e.session e.took e.seat None) c.in_ok-ended.ended.workers.items))
+    in_order c.args.plan.venues c.in_ok-ended.ended.workers.items
+    (subst (λ (starts : List WorkerParts). AllKeepPlace starts (map (λ e. e.parts) c.in_ok-ended.ended.workers.items))
     begun c.in_ok-ended.ensures.workers)
 
 pub told-requires-clause-shared : goal.told-requires-clause-shared
 told-requires-clause-shared g c =
     let many = as_many _ c.in_ok-exchanges.exchanges.items c.args.plan.cut c.args.plan.venues c.in_ok-exchanges.ensures.plans in
     let begun = c.in_ok-workers.ensures.new ∙ ap new_workers (ap length c.deref.ensures.value ∙ many) in
-    all_parts (λ e. parts_of e.session e.took e.seat None) (λ e. e.seat) (λ e. refl) c.args.plan.venues c.in_ok-ended.ended.workers.items
-    (subst (λ (starts : List WorkerParts). AllKeepPlace starts (map (λ e. parts_of e.session e.took e.seat None) c.in_ok-ended.ended.workers.items))
+    all_parts c.args.plan.venues c.in_ok-ended.ended.workers.items
+    (subst (λ (starts : List WorkerParts). AllKeepPlace starts (map (λ e. e.parts) c.in_ok-ended.ended.workers.items))
     begun c.in_ok-ended.ensures.workers)
     ∙ sym c.requires.workers.2
 
