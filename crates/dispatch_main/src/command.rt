@@ -4,6 +4,7 @@ ghost use Rattle.dispatch_main.specs.Fault.{IsOfCommandLine};
 use crate::fault::ProgramFault;
 use clap::Command;
 use clap::error::ErrorKind;
+use exchange_command::exchange_command;
 use live_command::live_command;
 use order_command::order_command;
 use replay_command::replay_command;
@@ -25,6 +26,7 @@ Examples:
   dispatch replay < day.script
   dispatch live --venues 2 --callers 2 --sweeps 5 --cut 3 --turns 10000
   dispatch run examples/desk.toml < examples/morning.sweeps
+  dispatch exchange --port 9001 --sender NYSE --target DESK --fill 60
 
 The exit status is 0, or 2 for the command line, 3 for a bad value, line or frame, 4 for a failed read or write or where
 there is no socket or thread, 5 for memory, 6 for an audit that fails, 7 for a day that is given up. Help has
@@ -41,7 +43,8 @@ fn program<'a>(alloc: Global) -> Result<Command<'a>, AllocError> {
         .subcommand(order_command(alloc)?)?
         .subcommand(replay_command(alloc)?)?
         .subcommand(live_command(alloc)?)?
-        .subcommand(run_command(alloc)?)
+        .subcommand(run_command(alloc)?)?
+        .subcommand(exchange_command(alloc)?)
 }
 
 /// The help that lists the commands, where the words name none of them.

@@ -1,6 +1,6 @@
 //! The program `dispatch`: `dispatch order ..` writes a leg as an order frame and reads it back, `dispatch replay` runs
-//! a day from a script, `dispatch live ..` runs one over loopback, in threads, and `dispatch run FILE` runs that of a
-//! desk's file.
+//! a day from a script, `dispatch live ..` runs one over loopback, in threads, `dispatch run FILE` runs that of a desk's
+//! file, and `dispatch exchange ..` is a simulated exchange.
 #![tactic(auto)]
 
 mod command;
@@ -12,6 +12,7 @@ use crate::fault::ProgramFault;
 use crate::streams::hold_closed_streams;
 use clock::{Clock, UtcClock};
 use command_line::{finish, print, tell};
+use exchange_command::exchange_run;
 use live_command::{ProgressLines, live_run};
 use live_day::Progress;
 use order_command::order_run;
@@ -85,6 +86,9 @@ where
         }
         [_, command, ..] if command.as_str() == "run" => {
             run_run(rt, alloc, &words[1..], input, out, err)
+        }
+        [_, command, ..] if command.as_str() == "exchange" => {
+            exchange_run(rt, alloc, &words[1..], out, err)
         }
         [_, word, ..] if is_version(word.as_str()) => finish(print_version(out), err),
         _ => tell(&no_command(alloc, words), err),

@@ -1,0 +1,77 @@
+"""Whether the desk's side of a day and its exchange's agree."""
+
+import re
+from collections import Counter, defaultdict
+
+
+def leg_of(id):
+    """The sweep and the leg of a ClOrdID such as S12L3."""
+    sweep, leg = re.fullmatch(r"S(\d+)L(\d+)", id).groups()
+    return int(sweep), int(leg)
+
+
+def order_faults(placed, orders):
+    """What is wrong with the orders that the exchange took, by the legs of each sweep that was placed."""
+    of_venue = defaultdict(list)
+    for order in orders:
+        of_venue[order.venue].append(order)
+        sweep, leg = leg_of(order.id)
+        wanted = placed[sweep][leg - 1] if sweep in placed and leg <= len(placed[sweep]) else None
+        if wanted is None or (wanted.venue, wanted.shares) != (order.venue, order.shares):
+            yield f"{order.id} was placed otherwise: {order}"
+    for id, count in Counter(order.id for order in orders).items():
+        if count > 1:
+            yield f"{id} was accepted {count} times"
+    for venue, taken in of_venue.items():
+        for before, order in zip(taken, taken[1:]):
+            if leg_of(before.id) > leg_of(order.id):
+                yield f"{venue} accepted {order.id} behind {before.id}"
+            if before.number >= order.number:
+                yield f"{venue} took number {order.number} behind {before.number}"
+
+
+def filled_of(order, fill):
+    return 0 if order.is_ignored else min(fill, order.shares)
+
+
+def sweep_line(number, legs, orders, fill):
+    """What the dispatcher has to say of a sweep at the end, by those of its legs that were accepted."""
+    shares = sum(leg.shares for leg in legs)
+    accepted = sum(order.shares for order in orders)
+    filled = sum(filled_of(order, fill) for order in orders)
+    still_open = sum(order.shares for order in orders if order.is_ignored)
+    return (
+        f"sweep {number} legs {shares} filled {filled} busted 0 cancelled {accepted - filled - still_open} "
+        f"withdrawn {shares - accepted} open {still_open}"
+    )
+
+
+def wanted_end(placed, orders, fill):
+    """The last lines of the day: each sweep's, the sums, and the audit."""
+    of_sweep = defaultdict(list)
+    for order in orders:
+        of_sweep[leg_of(order.id)[0]].append(order)
+    shares = sum(leg.shares for legs in placed.values() for leg in legs)
+    still_open = sum(order.shares for order in orders if order.is_ignored)
+    return [
+        *(sweep_line(number, legs, of_sweep[number], fill) for number, legs in sorted(placed.items())),
+        f"day placed {shares} resolved {shares - still_open} open {still_open}",
+        "audit ok",
+    ]
+
+
+def end_faults(lines, wanted):
+    """Where the last lines of a day are others than wanted."""
+    ended = lines[-len(wanted) :]
+    ended += ["nothing"] * (len(wanted) - len(ended))
+    for line, want in zip(ended, wanted):
+        if line != want:
+            yield f"wanted {want}, was told {line}"
+
+
+def day_faults(placed, orders, fill, status, lines):
+    """All that is wrong with a day that has ended."""
+    if status != 0:
+        yield f"dispatch run ended with status {status}"
+    yield from order_faults(placed, orders)
+    yield from end_faults(lines, wanted_end(placed, orders, fill))

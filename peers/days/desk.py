@@ -1,0 +1,110 @@
+"""A run of `dispatch run`, as a desk sees it: lines in, lines out."""
+
+import queue
+import re
+import subprocess
+import threading
+import time
+
+from days.acceptor import DESK
+
+# How long a refused sweep waits before it is tried again, in seconds.
+PAUSE = 0.02
+
+ENDED = "dispatch run ended while it was asked for a sweep"
+
+
+class Late(Exception):
+    """A day has come to its deadline."""
+
+
+def file_of(venues, port, heartbeat):
+    """The desk's file, for venues that one exchange serves at a port."""
+    tables = [f'[desk]\nsender = "{DESK}"\n']
+    for venue in venues:
+        tables.append(
+            f'[[venue]]\nname = "{venue}"\ntarget = "{venue}"\naddress = "127.0.0.1:{port}"\nheartbeat = {heartbeat}\n'
+        )
+    return "\n".join(tables)
+
+
+class Desk:
+    def __init__(self, program, folder, text, deadline):
+        self.lines = []
+        self._deadline = deadline
+        self._heard = queue.Queue()
+        self._kept = (folder / "news").open("w")
+        self._errors = folder / "errors"
+        file = folder / "desk.toml"
+        file.write_text(text)
+        with self._errors.open("w") as errors:
+            self._process = subprocess.Popen(
+                [program, "run", file], stdin=subprocess.PIPE, stdout=subprocess.PIPE, stderr=errors, text=True
+            )
+        threading.Thread(target=self._listen, daemon=True).start()
+
+    def _listen(self):
+        for line in self._process.stdout:
+            self._heard.put(line.rstrip("\n"))
+        self._heard.put(None)
+
+    def _next(self, seconds=None):
+        """The next line; None at the end of the output, or where none comes for so many seconds."""
+        left = self._deadline - time.monotonic()
+        if left <= 0:
+            raise Late("the day came to no end")
+        try:
+            line = self._heard.get(timeout=left if seconds is None else min(left, seconds))
+        except queue.Empty:
+            return None if seconds is not None else self._next()
+        if line is not None:
+            self.lines.append(line)
+            print(line, file=self._kept, flush=True)
+        return line
+
+    def _ask(self, line):
+        try:
+            self._process.stdin.write(line + "\n")
+            self._process.stdin.flush()
+        except BrokenPipeError:
+            raise RuntimeError(ENDED) from None
+
+    def _answer(self):
+        """The answer to a sweep: other lines are news."""
+        while (line := self._next()) is not None:
+            if re.match("placed|refused|bad line", line):
+                return line
+        raise RuntimeError(ENDED)
+
+    def place(self, line):
+        """Asks for a sweep until it is placed, and gives its number."""
+        while True:
+            self._ask(line)
+            answer = self._answer()
+            if placed := re.fullmatch(r"placed (\d+) shares \d+", answer):
+                return int(placed[1])
+            if not re.match("refused R0[45]", answer):
+                raise RuntimeError(f"{answer}: {line}")
+            time.sleep(PAUSE)
+
+    def rest(self, seconds):
+        """Waits until nothing has been said for so long."""
+        while self._next(seconds) is not None:
+            pass
+
+    def close(self):
+        """Ends the day, and gives the exit status."""
+        self._process.stdin.close()
+        while self._next() is not None:
+            pass
+        self._kept.close()
+        return self._process.wait(max(1, self._deadline - time.monotonic()))
+
+    def errors(self):
+        """The lines of standard error."""
+        return self._errors.read_text().splitlines()
+
+    def kill(self):
+        if self._process.poll() is None:
+            self._process.kill()
+            self._process.wait()
