@@ -2,6 +2,7 @@
 ghost use Rattle.dispatch_main.specs.Fault.{IsOfCommandLine};
 
 use crate::fault::ProgramFault;
+use check_command::check_command;
 use clap::Command;
 use clap::error::ErrorKind;
 use exchange_command::exchange_command;
@@ -24,13 +25,14 @@ Examples:
   dispatch order --dialect plain --sweep 12 --leg 3 --symbol BRK.B --side buy --shares 100 --price 102500 \\
     --number 4 --from A --to B
   dispatch replay < day.script
+  dispatch check day/NYSE.log
   dispatch live --venues 2 --callers 2 --sweeps 5 --cut 3 --turns 10000
   dispatch run examples/desk.toml < examples/morning.sweeps
   dispatch exchange --port 9001 --sender NYSE --target DESK --fill 60
 
 The exit status is 0, or 2 for the command line, 3 for a bad value, line or frame, 4 for a failed read or write or where
-there is no socket or thread, 5 for memory, 6 for an audit that fails, 7 for a day that is given up. Help has
-status 2.";
+there is no socket or thread, 5 for memory, 6 for an audit that fails, 7 for a day that is given up, 8 for a rule that
+is broken. Help has status 2.";
 
 /// The program with its commands, each with what it is for.
 fn program<'a>(alloc: Global) -> Result<Command<'a>, AllocError> {
@@ -42,6 +44,7 @@ fn program<'a>(alloc: Global) -> Result<Command<'a>, AllocError> {
         .subcommand_required(true)
         .subcommand(order_command(alloc)?)?
         .subcommand(replay_command(alloc)?)?
+        .subcommand(check_command(alloc)?)?
         .subcommand(live_command(alloc)?)?
         .subcommand(run_command(alloc)?)?
         .subcommand(exchange_command(alloc)?)

@@ -1,6 +1,7 @@
 //! The program `dispatch`: `dispatch order ..` writes a leg as an order frame and reads it back, `dispatch replay` runs
-//! a day from a script, `dispatch live ..` runs one over loopback, in threads, `dispatch run FILE` runs that of a desk's
-//! file, and `dispatch exchange ..` is a simulated exchange.
+//! a day from a script, `dispatch check ..` tells which rules the messages of a log break, `dispatch live ..` runs a day
+//! over loopback, in threads, `dispatch run FILE` runs that of a desk's file, and `dispatch exchange ..` is a simulated
+//! exchange.
 #![tactic(auto)]
 
 mod command;
@@ -10,6 +11,7 @@ mod streams;
 use crate::command::{VERSION_LINE, no_command};
 use crate::fault::ProgramFault;
 use crate::streams::hold_closed_streams;
+use check_command::check_run;
 use clock::{Clock, UtcClock};
 use command_line::{finish, print, tell};
 use exchange_command::exchange_run;
@@ -80,6 +82,9 @@ where
         }
         [_, command, ..] if command.as_str() == "replay" => {
             replay_run(rt, alloc, &words[1..], input, out, err)
+        }
+        [_, command, ..] if command.as_str() == "check" => {
+            check_run(rt, alloc, &words[1..], out, err)
         }
         [_, command, ..] if command.as_str() == "live" => {
             live_run(rt, alloc, &words[1..], progress, out, err)

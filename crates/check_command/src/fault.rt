@@ -1,0 +1,88 @@
+//! Why `dispatch check` failed.
+ghost use Rattle.std.specs.Prelude.{◌≡◌};
+ghost use Rattle.check_command.specs.declared.fault.CommandFault.TheVariants.{OutOfMemory, WriteFailed};
+ghost use Rattle.check_command.specs.Fault.{IsOfCommandLine, fault_status};
+ghost use Rattle.check_command.specs.Judge.{line_fault};
+
+use clap::error::ErrorKind;
+use command_line::Fault;
+use log_text::LineFault;
+use std::alloc::AllocError;
+use thiserror::Error;
+
+/// Why `dispatch check` failed.
+#[derive(Debug, Drop, Error)]
+pub enum CommandFault {
+    /// The words aren't those of the command line, or ask for help.
+    #[error("{0}")]
+    CommandLine(clap::Error),
+    /// This line of the log, counted from 1, says nothing.
+    #[error("line {number}: {fault}")]
+    BadLine { number: u64, fault: LineFault },
+    #[error("read failed")]
+    ReadFailed,
+    #[error("write failed")]
+    WriteFailed,
+    #[error("out of memory")]
+    OutOfMemory,
+}
+
+impl CommandFault {
+    /// The fault of a line.
+    pub(crate) fn of_line(number: u64, fault: LineFault) -> CommandFault
+        ensures { result ≡ line_fault number fault }
+    {
+        match fault {
+            LineFault::OutOfMemory => CommandFault::OutOfMemory,
+            fault => CommandFault::BadLine { number, fault },
+        }
+    }
+}
+
+impl Fault for CommandFault {
+    ghost status_of = { fault_status };
+
+    fn status(&self) -> u8 {
+        match self {
+            CommandFault::CommandLine(_) => 2,
+            CommandFault::BadLine { .. } => 3,
+            CommandFault::ReadFailed | CommandFault::WriteFailed => 4,
+            CommandFault::OutOfMemory => 5,
+        }
+    }
+
+    fn reason(&self) -> Option<&'static str> {
+        None
+    }
+
+    fn ends_line(&self) -> bool {
+        matches!(self, CommandFault::CommandLine(_))
+    }
+}
+
+impl From<AllocError> for CommandFault {
+    ghost from_gives = { λ _ fault. fault ≡ OutOfMemory };
+
+    fn from(_: AllocError) -> CommandFault {
+        CommandFault::OutOfMemory
+    }
+}
+
+impl From<command_line::WriteFailed> for CommandFault {
+    ghost from_gives = { λ _ fault. fault ≡ WriteFailed };
+
+    fn from(_: command_line::WriteFailed) -> CommandFault {
+        CommandFault::WriteFailed
+    }
+}
+
+impl From<clap::Error> for CommandFault {
+    ghost from_gives = { λ _ fault. IsOfCommandLine fault };
+
+    fn from(error: clap::Error) -> CommandFault {
+        match error.kind() {
+            ErrorKind::OutOfMemory => CommandFault::OutOfMemory,
+            _ => CommandFault::CommandLine(error),
+        }
+    }
+}

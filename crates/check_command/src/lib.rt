@@ -1,0 +1,68 @@
+//! `dispatch check`: the logs of venues are read, and each rule that a message breaks is told.
+#![tactic(auto)]
+
+mod command;
+mod fault;
+mod input;
+mod judge;
+mod log_check;
+mod print_log;
+
+use crate::command::read_words;
+use crate::print_log::print_log;
+pub use command::check_command;
+use command_line::tell;
+pub use fault::CommandFault;
+use std::alloc::Global;
+use std::convert::AsStr;
+use std::fs::{self, Files};
+use std::io::{self, BufReader, Write};
+
+/// The exit status where a rule is broken.
+const BROKEN: u8 = 8;
+
+/// Runs `dispatch check` on its words, of which the first is the command's own name: each log that they name is read,
+/// the rules that its messages break are written to `out`, and then how often each rule was held and broken.
+/// Faults go to `err`. The answer is the exit status: 0 where no rule is broken, 8 where one is, or that of the fault.
+pub fn check_run<F: Files, S: AsStr, W: Write, E: Write>(
+    files: &F,
+    alloc: Global,
+    words: &[S],
+    out: &mut W,
+    err: &mut E,
+) -> u8 {
+    match check(files, alloc, words, out) {
+        Ok(false) => 0,
+        Ok(true) => BROKEN,
+        Err(fault) => tell(&fault, err),
+    }
+}
+
+/// Whether a rule is broken in one of the logs that the words name.
+fn check<F: Files, S: AsStr, W: Write>(
+    files: &F,
+    alloc: Global,
+    words: &[S],
+    out: &mut W,
+) -> Result<bool, CommandFault> {
+    let paths = read_words(alloc, words)?;
+    let mut is_broken = false;
+    for path in &paths {
+        let Ok(mut input) = BufReader::new(alloc, open(files, path)?) else {
+            return Err(CommandFault::OutOfMemory);
+        };
+        if print_log(alloc, path, &mut input, out)? {
+            is_broken = true;
+        }
+    }
+    Ok(is_broken)
+}
+
+/// Opens a log to be read.
+fn open<F: Files>(files: &F, path: &str) -> Result<F::File, CommandFault> {
+    match fs::open(files, path) {
+        Ok(file) => Ok(file),
+        Err(error) if error.kind() == io::ErrorKind::OutOfMemory => Err(CommandFault::OutOfMemory),
+        Err(_) => Err(CommandFault::ReadFailed),
+    }
+}

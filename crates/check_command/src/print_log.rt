@@ -1,0 +1,38 @@
+//! What is printed of a log.
+
+use crate::fault::CommandFault;
+use crate::input::{read_text, without_end};
+use crate::log_check::LogCheck;
+use command_line::print;
+use std::alloc::Global;
+use std::io::{BufRead, Write};
+
+/// Checks the lines of a log, and prints the rules that they break.
+fn check_lines<R: BufRead, W: Write>(
+    alloc: Global,
+    input: &mut R,
+    out: &mut W,
+) -> Result<LogCheck, CommandFault> {
+    let mut log = LogCheck::new(alloc);
+    let mut line = Vec::new(alloc);
+    for number in 1..u64::MAX {
+        if !read_text(input, &mut line)? {
+            return Ok(log);
+        }
+        log.check_line(alloc, number, without_end(&line), out)?;
+    }
+    Err(CommandFault::ReadFailed)
+}
+
+/// Prints the rules that the lines of a log break, and then a line for each rule. Answers whether one is broken.
+pub(crate) fn print_log<R: BufRead, W: Write>(
+    alloc: Global,
+    path: &str,
+    input: &mut R,
+    out: &mut W,
+) -> Result<bool, CommandFault> {
+    print(format!(in alloc; "log {path}\n")?.as_bytes(), out)?;
+    let log = check_lines(alloc, input, out)?;
+    print(&log.summary(alloc)?, out)?;
+    Ok(log.is_broken())
+}

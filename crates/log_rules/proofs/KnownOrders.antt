@@ -1,0 +1,143 @@
+-- An order that was sent stays known by its id.
+use Rattle.std.proofs.Common.{◌≡◌, ℕ, zero, suc, Bool, true, false, ◌&&◌, ◌⊎◌, inl, inr, List, [], ◌∷◌, ◌++◌, map, refl, ap, ◌∙◌, subst, sym}
+use Rattle.std.specs.Prelude.{Option, Some, None, is_some, option_and_then, slice_get, nat_le, nat_lt, if◌then◌else◌}
+use Rattle.std.specs.Str.{bytes_eq}
+use Rattle.std.proofs.lemmas.Slice.Eq.{bytes_eq-Decides}
+use Rattle.message_log.specs.declared.direction.Direction.{Direction}
+use Rattle.message_log.specs.declared.direction.Direction.TheVariants.{Sent, Received}
+use Rattle.log_rules.specs.declared.order_said.OrderSaid.{OrderSaid}
+use Rattle.log_rules.specs.declared.report_said.ReportSaid.{ReportSaid}
+use Rattle.log_rules.specs.declared.says.Says.{Says}
+use Rattle.log_rules.specs.declared.says.Says.TheVariants.{Logon, Answer, ResendRequest, GapFill, Reset, Logout, Order, Report, Other}
+use Rattle.log_rules.specs.declared.standing.Standing.{Standing}
+use Rattle.log_rules.specs.Ledger.{LedgerParts, changed_at, changed_with, newest_of, newest_order, order_changed, order_of, report_under, with_order, with_report, with_sums, withdrawn_from}
+use Rattle.log_rules.specs.Order.{OrderParts, new_order, reported, summed_up, withdrawn_by}
+use Rattle.log_rules.specs.Standing.{is_due}
+
+-- there is an order of an id
+abbrev pub Known : List OrderParts → List ℕ → Type 0
+Known orders id = is_some (newest_order orders id) ≡ true
+
+some_later : (later : Option ℕ) (is_first : Bool) → is_some later ≡ true → is_some (newest_of later is_first) ≡ true
+some_later (Some place) is_first known = refl
+some_later None is_first known = cc
+
+some_here : (later : Option ℕ) (is_first : Bool) → is_first ≡ true → is_some (newest_of later is_first) ≡ true
+some_here (Some place) is_first here = refl
+some_here None is_first here = rw here refl
+
+later_or_here : (later : Option ℕ) (is_first : Bool) → is_some (newest_of later is_first) ≡ true
+    → (is_some later ≡ true) ⊎ (is_first ≡ true)
+later_or_here (Some place) is_first known = inl refl
+later_or_here None true known = inr refl
+later_or_here None false known = cc
+
+-- among more orders
+known_among : (orders more : List OrderParts) (id : List ℕ) → Known orders id → Known (orders ++ more) id
+known_among [] more id known = cc
+known_among (o ∷ os) more id known =
+    elim (later_or_here (newest_order os id) (bytes_eq o.id id) known) [
+      | inl later ↦ some_later (newest_order (os ++ more) id) (bytes_eq o.id id) (known_among os more id later)
+      | inr here ↦ some_here (newest_order (os ++ more) id) (bytes_eq o.id id) here
+    ]
+
+-- the last one
+known_last : (orders : List OrderParts) (o : OrderParts) (id : List ℕ) → bytes_eq o.id id ≡ true
+    → Known (orders ++ o ∷ []) id
+known_last [] o id same = some_here None (bytes_eq o.id id) same
+known_last (x ∷ xs) o id same =
+    some_later (newest_order (xs ++ o ∷ []) id) (bytes_eq x.id id) (known_last xs o id same)
+
+-- a change keeps the ids
+abbrev KeepsIds : (OrderParts → OrderParts) → Type 0
+KeepsIds change = (o : OrderParts) → (change o).id ≡ o.id
+
+newest_mapped : (change : OrderParts → OrderParts) (orders : List OrderParts) (id : List ℕ) → KeepsIds change
+    → newest_order (map change orders) id ≡ newest_order orders id
+newest_mapped change [] id keeps = refl
+newest_mapped change (o ∷ os) id keeps =
+    ap (λ later. newest_of later (bytes_eq (change o).id id)) (newest_mapped change os id keeps)
+    ∙ ap (λ text. newest_of (newest_order os id) (bytes_eq text id)) (keeps o)
+
+newest_changed : (change : OrderParts → OrderParts) (place : ℕ) (orders : List OrderParts) (id : List ℕ) → KeepsIds change
+    → newest_order (order_changed change place orders) id ≡ newest_order orders id
+newest_changed change place [] id keeps = refl
+newest_changed change zero (o ∷ os) id keeps =
+    ap (λ text. newest_of (newest_order os id) (bytes_eq text id)) (keeps o)
+newest_changed change (suc place) (o ∷ os) id keeps =
+    ap (λ later. newest_of later (bytes_eq o.id id)) (newest_changed change place os id keeps)
+
+withdrawn_if : (is_withdrawn : Bool) (o : OrderParts)
+    → (if is_withdrawn then record o { is_withdrawn = true } else o).id ≡ o.id
+withdrawn_if true o = refl
+withdrawn_if false o = refl
+
+withdrawn_keeps : (settled expected : ℕ) → KeepsIds (withdrawn_by settled expected)
+withdrawn_keeps settled expected o = withdrawn_if (nat_lt settled o.number && nat_le expected o.number) o
+
+summed_keeps : (cum leaves : Option ℕ) → KeepsIds (summed_up cum leaves)
+summed_keeps (Some cum) (Some leaves) o = refl
+summed_keeps (Some cum) None o = refl
+summed_keeps None leaves o = refl
+
+-- of two ledgers, whichever it is
+either : (is_first : Bool) (a b : LedgerParts) (id : List ℕ) → (is_first ≡ true → Known a.orders id)
+    → (is_first ≡ false → Known b.orders id) → Known (if is_first then a else b).orders id
+either true a b id first second = first refl
+either false a b id first second = second refl
+
+withdrawn_known : (settled expected : ℕ) (l : LedgerParts) (id : List ℕ) → Known l.orders id
+    → Known (withdrawn_from settled expected l).orders id
+withdrawn_known settled expected l id known =
+    ap is_some (newest_mapped (withdrawn_by settled expected) l.orders id (withdrawn_keeps settled expected)) ∙ known
+
+changed_known : (said : ReportSaid) (place : Option ℕ) (orders : List OrderParts) (id : List ℕ) → Known orders id
+    → Known (changed_at (reported said) place orders) id
+changed_known said None orders id known = known
+changed_known said (Some place) orders id known =
+    ap is_some (newest_changed (reported said) place orders id (summed_keeps said.cum said.leaves)) ∙ known
+
+-- it stays known whatever comes
+pub stays : (s : Standing) (direction : Direction) (says : Says) (number : ℕ) (l : LedgerParts) (id : List ℕ)
+    → Known l.orders id → Known (changed_with s direction says number l).orders id
+stays s Sent (Order said) number l id known =
+    either (is_some (order_of l.orders said.id)) l (record l { orders = l.orders ++ new_order number said ∷ [] }) id
+    (λ sent. known) (λ new. known_among l.orders (new_order number said ∷ []) id known)
+stays s Received (Report said) number l id known =
+    let kept : LedgerParts = with_report s.seen number said l in
+    let still : Known kept.orders id =
+    either (nat_le number s.seen && is_some (report_under number l.reports)) l _ id (λ came. known) (λ new. known) in
+    either (is_due s.counted number) (with_sums said kept) kept id
+    (λ due. changed_known said (newest_order kept.orders said.id) kept.orders id still) (λ later. still)
+stays s Received (ResendRequest begin last) number l id known =
+    either s.is_up l (withdrawn_from s.settled begin l) id (λ up. known) (λ down. withdrawn_known s.settled begin l id known)
+stays s Received (Logon heart reset None) number l id known = known
+stays s Received (Logon heart reset (Some next)) number l id known =
+    either s.says_next (withdrawn_from s.settled next l) l id (λ says. withdrawn_known s.settled next l id known) (λ silent. known)
+stays s direction says number l id known = known
+
+some_before : (orders : List OrderParts) (place : Option ℕ) → is_some (option_and_then (slice_get orders) place) ≡ true
+    → is_some place ≡ true
+some_before orders None some = cc
+some_before orders (Some place) some = refl
+
+-- an order that is sent is known then
+pub sent_is_known : (number : ℕ) (said : OrderSaid) (l : LedgerParts) → Known (with_order number said l).orders said.id
+sent_is_known number said l =
+    either (is_some (order_of l.orders said.id)) l (record l { orders = l.orders ++ new_order number said ∷ [] }) said.id
+    (λ sent. some_before l.orders (newest_order l.orders said.id) sent)
+    (λ new. known_last l.orders (new_order number said) said.id ((bytes_eq-Decides said.id said.id).1 refl))
+
+found_next : (o : OrderParts) (os : List OrderParts) (later : Option ℕ) (is_first : Bool)
+    → (is_some later ≡ true → is_some (option_and_then (slice_get os) later) ≡ true)
+    → is_some (newest_of later is_first) ≡ true
+    → is_some (option_and_then (slice_get (o ∷ os)) (newest_of later is_first)) ≡ true
+found_next o os (Some place) is_first found known = found refl
+found_next o os None true found known = refl
+found_next o os None false found known = cc
+
+-- a known order is found
+pub known_is_found : (orders : List OrderParts) (id : List ℕ) → Known orders id → is_some (order_of orders id) ≡ true
+known_is_found [] id known = cc
+known_is_found (o ∷ os) id known =
+    found_next o os (newest_order os id) (bytes_eq o.id id) (known_is_found os id) known

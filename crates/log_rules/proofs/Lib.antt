@@ -1,0 +1,5 @@
+pub mod Newest
+pub mod Partly
+pub mod ChangedAt
+pub mod KnownOrders
+pub mod SentOnce

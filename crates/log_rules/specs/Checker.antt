@@ -1,0 +1,60 @@
+-- A log is gone through, message by message.
+use Rattle.std.specs.Prelude.{ℕ, List, [], ◌∷◌, Option, Some, None, option_map}
+use Rattle.log_rules.specs.declared.entry.Entry.{Entry}
+use Rattle.log_rules.specs.declared.says.Says.{Says}
+use Rattle.log_rules.specs.declared.says.Says.TheVariants.{Report}
+use Rattle.log_rules.specs.declared.standing.Standing.{Standing}
+use Rattle.log_rules.specs.declared.verdict.Verdict.{Verdict}
+use Rattle.log_rules.specs.declared.verdict.Verdict.TheVariants.{Unasked, Held, Broken}
+use Rattle.log_rules.specs.ExchangeRules.{fence_answered, logon_answered, logout_answered, resend_asked}
+use Rattle.log_rules.specs.Ledger.{LedgerParts, changed_by, order_of}
+use Rattle.log_rules.specs.LedgerRules.{known_order, not_withdrawn, one_use, sent_once, sums_add_up}
+use Rattle.log_rules.specs.Order.{OrderParts}
+use Rattle.log_rules.specs.SessionRules.{gap_fills, heartbeats, logon_first, sent_numbers}
+use Rattle.log_rules.specs.Standing.{after, new_standing}
+
+-- how the two ends stand, with the orders and the reports
+pub record CheckerParts : Type 0 where
+  pub standing : Standing
+  pub ledger : LedgerParts
+
+-- before any message
+abbrev pub new_checker : CheckerParts
+new_checker = record { standing = new_standing; ledger = record { orders = []; reports = [] } }
+
+-- what a message that can be read says of each rule
+abbrev pub verdicts : CheckerParts → Entry → List Verdict
+verdicts c e =
+    Held
+    ∷ sent_numbers c.standing.last e
+    ∷ sent_once c.ledger e.direction e.says
+    ∷ gap_fills c.standing e
+    ∷ logon_first c.standing.phase e.direction e.says
+    ∷ heartbeats c.standing e
+    ∷ logon_answered c.standing.phase e.direction e.says
+    ∷ logout_answered c.standing e.direction e.says
+    ∷ resend_asked c.standing e
+    ∷ fence_answered c.standing e
+    ∷ one_use c.standing c.ledger e
+    ∷ known_order c.ledger e.direction e.says
+    ∷ not_withdrawn c.ledger e.direction e.says
+    ∷ sums_add_up c.standing c.ledger e
+    ∷ []
+
+-- what one that can't be read says of each rule
+abbrev pub unread_verdicts : List Verdict
+unread_verdicts =
+    Broken ∷ Unasked ∷ Unasked ∷ Unasked ∷ Unasked ∷ Unasked ∷ Unasked ∷ Unasked ∷ Unasked ∷ Unasked ∷ Unasked ∷ Unasked
+    ∷ Unasked ∷ Unasked ∷ []
+
+-- the number under which the order was sent that a report is on
+abbrev pub number_of_report : LedgerParts → Says → Option ℕ
+number_of_report l (Report said) = option_map (λ (o : OrderParts). o.number) (order_of l.orders said.id)
+number_of_report l says = None
+
+-- what is known behind a message
+abbrev pub heard : CheckerParts → Entry → CheckerParts
+heard c e = record {
+  standing = after c.standing (number_of_report c.ledger e.says) e;
+  ledger = changed_by c.standing e c.ledger;
+}

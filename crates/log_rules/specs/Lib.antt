@@ -1,0 +1,13 @@
+pub mod Verdict
+pub mod Moment
+pub mod Said
+pub mod Entry
+pub mod Standing
+pub mod SessionRules
+pub mod ExchangeRules
+pub mod Order
+pub mod KeptReport
+pub mod Ledger
+pub mod LedgerRules
+pub mod Checker
+pub mod Runs

@@ -1,0 +1,31 @@
+-- An order that was sent, and what the reports on it add up to.
+use Rattle.std.specs.Prelude.{ℕ, Bool, true, false, ◌&&◌, List, Option, Some, None, nat_le, nat_lt, if◌then◌else◌}
+use Rattle.log_rules.specs.declared.order_said.OrderSaid.{OrderSaid}
+use Rattle.log_rules.specs.declared.report_said.ReportSaid.{ReportSaid}
+
+-- its id (11), the number that it was sent under, the shares filled and open, and whether the exchange asked for it again
+-- while it was in doubt
+pub record OrderParts : Type 0 where
+  pub id : List ℕ
+  pub number : ℕ
+  pub cum : ℕ
+  pub leaves : ℕ
+  pub is_withdrawn : Bool
+
+-- an order as it is sent: all of its shares are open
+abbrev pub new_order : ℕ → OrderSaid → OrderParts
+new_order number said =
+    record { id = said.id; number = number; cum = 0; leaves = said.shares; is_withdrawn = false }
+
+-- it is withdrawn where it is in doubt, above the settled number, and the exchange expects its number or one below
+abbrev pub withdrawn_by : ℕ → ℕ → OrderParts → OrderParts
+withdrawn_by settled expected o =
+    if nat_lt settled o.number && nat_le expected o.number then record o { is_withdrawn = true } else o
+
+-- its sums are those of a report that says them
+abbrev pub summed_up : Option ℕ → Option ℕ → OrderParts → OrderParts
+summed_up (Some cum) (Some leaves) o = record o { cum = cum; leaves = leaves }
+summed_up cum leaves o = o
+
+abbrev pub reported : ReportSaid → OrderParts → OrderParts
+reported said o = summed_up said.cum said.leaves o

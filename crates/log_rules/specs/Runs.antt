@@ -1,0 +1,36 @@
+-- What a whole log shows, from its first message on.
+use Rattle.std.specs.Prelude.{◌≡◌, ℕ, List, [], ◌∷◌, ◌++◌, Option, Some, None}
+use Rattle.std.specs.Option.{option_to_list}
+use Rattle.message_log.specs.declared.direction.Direction.{Direction}
+use Rattle.message_log.specs.declared.direction.Direction.TheVariants.{Sent}
+use Rattle.log_rules.specs.declared.entry.Entry.{Entry}
+use Rattle.log_rules.specs.declared.says.Says.{Says}
+use Rattle.log_rules.specs.declared.says.Says.TheVariants.{Order}
+use Rattle.log_rules.specs.declared.verdict.Verdict.TheVariants.{Broken}
+use Rattle.log_rules.specs.Checker.{CheckerParts, heard}
+use Rattle.log_rules.specs.LedgerRules.{sent_once}
+
+-- none of these messages, heard one after the other, breaks the rule that an order is sent once
+abbrev pub SendOnce : CheckerParts → List Entry → Type 0
+SendOnce c [] = Unit {0}
+SendOnce c (e ∷ es) = (sent_once c.ledger e.direction e.says ≡ Broken → ⊥) × SendOnce (heard c e) es
+
+-- the id (11) of an order that is sent
+abbrev pub sent_id : Direction → Says → Option (List ℕ)
+sent_id Sent (Order said) = Some said.id
+sent_id direction says = None
+
+-- the ids of the orders that are sent, in order
+abbrev pub sent_ids : List Entry → List (List ℕ)
+sent_ids [] = []
+sent_ids (e ∷ es) = option_to_list (sent_id e.direction e.says) ++ sent_ids es
+
+-- an id is none of these
+abbrev pub IsNoneOf : List ℕ → List (List ℕ) → Type 0
+IsNoneOf id [] = Unit {0}
+IsNoneOf id (x ∷ xs) = (id ≡ x → ⊥) × IsNoneOf id xs
+
+-- no two of these are the same
+abbrev pub AreApart : List (List ℕ) → Type 0
+AreApart [] = Unit {0}
+AreApart (id ∷ ids) = IsNoneOf id ids × AreApart ids

@@ -1,0 +1,19 @@
+-- What a message says of a rule, and the count of it.
+use Rattle.std.specs.Prelude.{ℕ, ◌+◌, ◌-◌, ◌^◌, Bool, min, if◌then◌else◌}
+use Rattle.log_rules.specs.declared.tally.Tally.{Tally}
+use Rattle.log_rules.specs.declared.verdict.Verdict.{Verdict}
+use Rattle.log_rules.specs.declared.verdict.Verdict.TheVariants.{Unasked, Held, Broken}
+
+-- the rule is held where its test is passed
+abbrev pub held_if : Bool → Verdict
+held_if is_held = if is_held then Held else Broken
+
+-- one more, up to the greatest count of 64 bits
+abbrev pub one_more : ℕ → ℕ
+one_more count = min (count + 1) (2 ^ 64 - 1)
+
+-- the counts with one more verdict
+abbrev pub tallied : Verdict → Tally → Tally
+tallied Unasked tally = tally
+tallied Held tally = record tally { held = one_more tally.held }
+tallied Broken tally = record tally { broken = one_more tally.broken }

@@ -1,0 +1,99 @@
+//! A log is gone through, message by message.
+
+ghost use Rattle.std.specs.Prelude.{◌≡◌, ◌∷◌, [], IfOk, OnOk, OnErr};
+ghost use Rattle.log_rules.specs.Checker.{heard, new_checker, number_of_report, unread_verdicts, verdicts};
+
+use crate::entry::Entry;
+use crate::exchange_rules::{fence_answered, logon_answered, logout_answered, resend_asked};
+use crate::ledger::Ledger;
+use crate::ledger_rules::{known_order, not_withdrawn, one_use, sent_once, sums_add_up};
+use crate::says::Says;
+use crate::session_rules::{gap_fills, heartbeats, logon_first, sent_numbers};
+use crate::standing::Standing;
+use crate::verdict::Verdict;
+use std::alloc::{AllocError, Global};
+use std::marker::Model;
+
+/// What is known of a log behind the messages that were heard. It keeps each order with its sums, and of each report
+/// its number, its ExecID (17) and the shares that it traded.
+#[derive(Debug, Drop)]
+pub struct Checker {
+    standing: Standing,
+    ledger: Ledger,
+}
+
+impl Model for Checker {
+    ghost use Rattle.log_rules.specs.Checker.{CheckerParts};
+
+    ghost Value = { CheckerParts };
+
+    ghost view = { λ c. record { standing = c.standing; ledger = c.ledger } };
+}
+
+impl Checker {
+    /// Before any message.
+    pub fn new(alloc: Global) -> Checker
+        ensures { result ≡ new_checker }
+    {
+        Checker {
+            standing: Standing::new(),
+            ledger: Ledger::new(alloc),
+        }
+    }
+
+    /// What a message says of each rule, in the order of `RULES`.
+    fn verdicts(&self, entry: &Entry<'_>) -> [Verdict; 14]
+        ensures { result ≡ verdicts self.now entry.now }
+    {
+        let standing = &self.standing;
+        let ledger = &self.ledger;
+        [
+            Verdict::Held,
+            sent_numbers(standing, entry),
+            sent_once(ledger, entry),
+            gap_fills(standing, entry),
+            logon_first(standing, entry),
+            heartbeats(standing, entry),
+            logon_answered(standing, entry),
+            logout_answered(standing, entry),
+            resend_asked(standing, entry),
+            fence_answered(standing, entry),
+            one_use(standing, ledger, entry),
+            known_order(ledger, entry),
+            not_withdrawn(ledger, entry),
+            sums_add_up(standing, ledger, entry),
+        ]
+    }
+
+    /// The number under which the order was sent that a report is on.
+    fn number_of_report(&self, entry: &Entry<'_>) -> Option<u64>
+        ensures { result ≡ number_of_report self.now.ledger entry.now.says }
+    {
+        match &entry.says {
+            Says::Report(said) => Some(self.ledger.order(said.id.as_bytes())?.number()),
+            _ => None,
+        }
+    }
+
+    /// What a message that can't be read says of each rule: nothing, but that it can't be read.
+    pub fn unread() -> [Verdict; 14]
+        ensures { result ≡ unread_verdicts }
+    {
+        let mut verdicts = [Verdict::Unasked; 14];
+        verdicts[0] = Verdict::Broken;
+        verdicts
+    }
+
+    /// What the next message says of each rule, in the order of `RULES`. Where memory is refused, nothing changes.
+    pub fn hear(&mut self, entry: &Entry<'_>) -> Result<[Verdict; 14], AllocError>
+        ensures verdicts { IfOk result (λ said. said ≡ verdicts self.old entry.now) }
+        ensures ok { OnOk result (self.new ≡ heard self.old entry.now) }
+        ensures err { OnErr result (self.new ≡ self.old) }
+    {
+        let verdicts = self.verdicts(entry);
+        let number = self.number_of_report(entry);
+        self.ledger.hear(&self.standing, entry)?;
+        self.standing = self.standing.after(number, entry);
+        Ok(verdicts)
+    }
+}

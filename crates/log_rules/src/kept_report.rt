@@ -1,0 +1,68 @@
+//! A report that came.
+
+ghost use Rattle.std.specs.Prelude.{◌≡◌, IfOk};
+ghost use Rattle.log_rules.specs.KeptReport.{kept_report, traded_by};
+
+use crate::report_said::{Happening, ReportSaid};
+use std::alloc::{AllocError, Global};
+use std::marker::Model;
+
+/// A report that came: its number, its ExecID (17), and how many shares it says were traded.
+#[derive(Debug, Drop)]
+pub(crate) struct KeptReport {
+    number: u64,
+    exec: Vec<u8>,
+    shares: u64,
+}
+
+impl Model for KeptReport {
+    ghost use Rattle.log_rules.specs.KeptReport.{ReportParts};
+
+    ghost Value = { ReportParts };
+
+    ghost view = { λ r. record { number = r.number; exec = r.exec.items; shares = r.shares } };
+}
+
+/// How many shares were traded.
+fn traded_by(happened: &Happening<'_>) -> u64
+    ensures { result ≡ traded_by happened.now }
+{
+    match happened {
+        Happening::Trade { shares } => *shares,
+        _ => 0,
+    }
+}
+
+impl KeptReport {
+    pub(crate) fn new(
+        alloc: Global,
+        number: u64,
+        said: &ReportSaid<'_>,
+    ) -> Result<KeptReport, AllocError>
+        ensures { IfOk result (λ report. report ≡ kept_report number said.now) }
+    {
+        Ok(KeptReport {
+            number,
+            exec: Vec::from_slice(alloc, said.exec.as_bytes())?,
+            shares: traded_by(&said.happened),
+        })
+    }
+
+    pub(crate) fn number(&self) -> u64
+        ensures { result ≡ self.now.number }
+    {
+        self.number
+    }
+
+    pub(crate) fn exec(&self) -> &[u8]
+        ensures { result.now ≡ self.now.exec }
+    {
+        self.exec.as_slice()
+    }
+
+    pub(crate) fn shares(&self) -> u64
+        ensures { result ≡ self.now.shares }
+    {
+        self.shares
+    }
+}

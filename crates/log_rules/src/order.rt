@@ -1,0 +1,103 @@
+//! An order that was sent.
+
+ghost use Rattle.std.specs.Prelude.{◌≡◌, IfOk};
+ghost use Rattle.log_rules.specs.Order.{new_order, reported, withdrawn_by};
+
+use crate::order_said::OrderSaid;
+use crate::report_said::ReportSaid;
+use std::alloc::{AllocError, Global};
+use std::marker::Model;
+
+/// An order that was sent, and what the reports on it add up to.
+#[derive(Debug, Drop)]
+pub(crate) struct Order {
+    id: Vec<u8>,
+    number: u64,
+    cum: u64,
+    leaves: u64,
+    is_withdrawn: bool,
+}
+
+impl Model for Order {
+    ghost use Rattle.log_rules.specs.Order.{OrderParts};
+
+    ghost Value = { OrderParts };
+
+    ghost view = { λ o. record {
+      id = o.id.items;
+      number = o.number;
+      cum = o.cum;
+      leaves = o.leaves;
+      is_withdrawn = o.is_withdrawn;
+    } };
+}
+
+impl Order {
+    /// An order as it is sent under a number: all of its shares are open.
+    pub(crate) fn new(alloc: Global, number: u64, said: &OrderSaid<'_>) -> Result<Order, AllocError>
+        ensures { IfOk result (λ order. order ≡ new_order number said.now) }
+    {
+        Ok(Order {
+            id: Vec::from_slice(alloc, said.id.as_bytes())?,
+            number,
+            cum: 0,
+            leaves: said.shares,
+            is_withdrawn: false,
+        })
+    }
+
+    /// ClOrdID (11).
+    pub(crate) fn id(&self) -> &[u8]
+        ensures { result.now ≡ self.now.id }
+    {
+        self.id.as_slice()
+    }
+
+    /// The number that it was sent under.
+    pub(crate) fn number(&self) -> u64
+        ensures { result ≡ self.now.number }
+    {
+        self.number
+    }
+
+    /// The shares that were filled, and not busted.
+    pub(crate) fn cum(&self) -> u64
+        ensures { result ≡ self.now.cum }
+    {
+        self.cum
+    }
+
+    /// The shares that are open.
+    pub(crate) fn leaves(&self) -> u64
+        ensures { result ≡ self.now.leaves }
+    {
+        self.leaves
+    }
+
+    /// Whether the exchange asked for it again while it was in doubt, so that it is never accepted.
+    pub(crate) fn is_withdrawn(&self) -> bool
+        ensures { result ≡ self.now.is_withdrawn }
+    {
+        self.is_withdrawn
+    }
+
+    /// It is withdrawn where it was in doubt, above the settled number, and the exchange expects its number or one
+    /// below.
+    pub(crate) fn withdraw(&mut self, settled: u64, expected: u64)
+        ensures { self.new ≡ withdrawn_by settled expected self.old }
+    {
+        if settled < self.number && expected <= self.number {
+            self.is_withdrawn = true;
+        }
+    }
+
+    /// Its sums are those of a report.
+    pub(crate) fn report(&mut self, report: &ReportSaid<'_>)
+        ensures { self.new ≡ reported report.now self.old }
+    {
+        if let (Some(cum), Some(leaves)) = (report.cum, report.leaves) {
+            self.cum = cum;
+            self.leaves = leaves;
+        }
+    }
+}

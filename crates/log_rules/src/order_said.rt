@@ -1,0 +1,12 @@
+//! What an order says.
+
+use fix_tags::TextRef;
+
+/// What a NewOrderSingle says (FIX 4.4 Volume 4), as far as the rules look at it.
+#[derive(Debug, Drop)]
+pub struct OrderSaid<'a> {
+    /// ClOrdID (11).
+    pub id: TextRef<'a>,
+    /// OrderQty (38), and 0 where it is no number.
+    pub shares: u64,
+}

@@ -1,0 +1,164 @@
+//! What a body says.
+
+ghost use Rattle.std.specs.Prelude.{◌≡◌};
+ghost use Rattle.log_rules.specs.Said.{application_said, bust_of, fence_number, happening_of, heartbeat_said, number_at, order_said, report_said, report_of, said_by, session_said, trade_of};
+
+use crate::order_said::OrderSaid;
+use crate::report_said::{Happening, ReportSaid};
+use crate::says::Says;
+use fix_tags::{AppFields, Body, BodyRef, SessionBody, TextRef, read_number};
+
+const CL_ORD_ID: u32 = 11;
+
+const CUM_QTY: u32 = 14;
+
+const EXEC_ID: u32 = 17;
+
+const EXEC_REF_ID: u32 = 19;
+
+const LAST_QTY: u32 = 32;
+
+const ORDER_QTY: u32 = 38;
+
+const EXEC_TYPE: u32 = 150;
+
+const LEAVES_QTY: u32 = 151;
+
+/// The number of the fence that an id names: `F` and a number with no leading zero.
+fn fence_number(id: &[u8]) -> Option<u64>
+    ensures { result ≡ fence_number id.now }
+{
+    match id {
+        [b'F', b'0', ..] => None,
+        [b'F', digits @ ..] => read_number(digits),
+        _ => None,
+    }
+}
+
+/// A Heartbeat, with the id that it answers.
+fn heartbeat_said<'a>(id: &Option<TextRef<'a>>) -> Says<'a>
+    ensures { result ≡ heartbeat_said id.now }
+{
+    let Some(id) = id else {
+        return Says::Other;
+    };
+    match fence_number(id.as_bytes()) {
+        Some(fence) => Says::Answer { fence },
+        None => Says::Other,
+    }
+}
+
+fn session_said<'a>(body: &SessionBody<'a>) -> Says<'a>
+    ensures { result ≡ session_said body.now }
+{
+    match body {
+        SessionBody::Logon { heart, reset, next } => Says::Logon {
+            heart: *heart,
+            reset: *reset,
+            next: *next,
+        },
+        SessionBody::Heartbeat { id } => heartbeat_said(id),
+        SessionBody::ResendRequest { begin, last } => Says::ResendRequest {
+            begin: *begin,
+            last: *last,
+        },
+        SessionBody::GapFill { new_number } => Says::GapFill {
+            new_number: *new_number,
+        },
+        SessionBody::Reset { new_number } => Says::Reset {
+            new_number: *new_number,
+        },
+        SessionBody::Logout => Says::Logout,
+        SessionBody::TestRequest { .. }
+        | SessionBody::Reject { .. }
+        | SessionBody::BusinessReject { .. } => Says::Other,
+    }
+}
+
+fn number_at(fields: &AppFields<'_>, tag: u32) -> Option<u64>
+    ensures { result ≡ number_at fields.now tag }
+{
+    read_number(fields.get(tag)?)
+}
+
+fn order_said<'a>(fields: &AppFields<'a>) -> Says<'a>
+    ensures { result ≡ order_said fields.now }
+{
+    let Some(id) = fields.get(CL_ORD_ID) else {
+        return Says::Other;
+    };
+    Says::Order(OrderSaid {
+        id: TextRef::new(id),
+        shares: number_at(fields, ORDER_QTY).unwrap_or(0),
+    })
+}
+
+fn trade_of<'a>(fields: &AppFields<'a>) -> Happening<'a>
+    ensures { result ≡ trade_of fields.now }
+{
+    match number_at(fields, LAST_QTY) {
+        Some(shares) => Happening::Trade { shares },
+        None => Happening::Other,
+    }
+}
+
+fn bust_of<'a>(fields: &AppFields<'a>) -> Happening<'a>
+    ensures { result ≡ bust_of fields.now }
+{
+    match fields.get(EXEC_REF_ID) {
+        Some(undone) => Happening::Bust {
+            undone: TextRef::new(undone),
+        },
+        None => Happening::Other,
+    }
+}
+
+/// What happened, by the byte of ExecType (150).
+fn happening_of<'a>(fields: &AppFields<'a>) -> Happening<'a>
+    ensures { result ≡ happening_of fields.now }
+{
+    match fields.get(EXEC_TYPE) {
+        Some([b'0']) => Happening::New,
+        Some([b'F']) => trade_of(fields),
+        Some([b'4' | b'8' | b'C']) => Happening::Ended,
+        Some([b'H']) => bust_of(fields),
+        _ => Happening::Other,
+    }
+}
+
+fn report_of<'a>(fields: &AppFields<'a>) -> Option<ReportSaid<'a>>
+    ensures { result ≡ report_of fields.now }
+{
+    let id = fields.get(CL_ORD_ID)?;
+    let exec = fields.get(EXEC_ID)?;
+    Some(ReportSaid {
+        id: TextRef::new(id),
+        exec: TextRef::new(exec),
+        happened: happening_of(fields),
+        cum: number_at(fields, CUM_QTY),
+        leaves: number_at(fields, LEAVES_QTY),
+    })
+}
+
+fn application_said<'a>(kind: &[u8], fields: &AppFields<'a>) -> Says<'a>
+    ensures { result ≡ application_said kind.now fields.now }
+{
+    match kind {
+        [b'D'] => order_said(fields),
+        [b'8'] => match report_of(fields) {
+            Some(report) => Says::Report(report),
+            None => Says::Other,
+        },
+        _ => Says::Other,
+    }
+}
+
+/// What a body says, as far as the rules look at it.
+pub(crate) fn said_by<'a>(body: &BodyRef<'a>) -> Says<'a>
+    ensures { result ≡ said_by body.now }
+{
+    match body {
+        Body::Session(says) => session_said(says),
+        Body::App { kind, fields } => application_said(kind.as_bytes(), fields),
+    }
+}

@@ -1,0 +1,4 @@
+pub mod ReadOn
+pub mod ReadBack
+pub mod LineParts
+pub mod LineBack
