@@ -1,7 +1,7 @@
 //! The program `dispatch`: `dispatch order ..` writes a leg as an order frame and reads it back, `dispatch replay` runs
-//! a day from a script, `dispatch check ..` tells which rules the messages of a log break, `dispatch live ..` runs a day
-//! over loopback, in threads, `dispatch run FILE` runs that of a desk's file, and `dispatch exchange ..` is a simulated
-//! exchange.
+//! a day from a script, `dispatch check ..` tells which rules the messages of a log break, `dispatch live ..` runs a
+//! day over loopback, in threads, `dispatch run FILE` runs that of a desk's file, and `dispatch exchange ..` is a
+//! simulated exchange.
 #![tactic(auto)]
 
 mod command;

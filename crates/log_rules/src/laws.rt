@@ -5,7 +5,8 @@ ghost use Rattle.log_rules.specs.declared.entry.Entry.{Entry};
 ghost use Rattle.log_rules.specs.Checker.{new_checker};
 ghost use Rattle.log_rules.specs.Runs.{AreApart, SendOnce, sent_ids};
 
-/// Where no message of a log breaks the rule that an order is sent once, no two orders of the log have one ClOrdID (11).
+/// Where no message of a log breaks the rule that an order is sent once, no two orders of the log have one ClOrdID
+/// (11).
 pub fn orders_are_sent_once()
     ensures { (entries : List Entry) → SendOnce new_checker entries → AreApart (sent_ids entries) }
 {}
