@@ -22,9 +22,10 @@ doubt_line doubt = doubt_text doubt.venue doubt.legs.items ++ 10 ∷ []
 abbrev pub totals_of : DayReport → DayTotals
 totals_of report = record { placed = report.placed; resolved = report.resolved; still_open = report.still_open }
 
--- a line for each sweep, one for each venue with legs that stay in doubt, the shares of the day, and that the audit found
--- nothing wrong
+-- a line for each sweep, and one for each venue with legs that stay in doubt
+abbrev pub booked_text : DeskDay → List ℕ
+booked_text day = flat_map sweep_line day.sweeps.items ++ flat_map doubt_line day.doubts.items
+
+-- behind these the shares of the day, and that the audit found nothing wrong
 abbrev pub day_text : DeskDay → List ℕ
-day_text day =
-    flat_map sweep_line day.sweeps.items ++ flat_map doubt_line day.doubts.items ++ totals_text (totals_of day.report)
-    ++ 10 ∷ codes "audit ok" ++ 10 ∷ []
+day_text day = booked_text day ++ totals_text (totals_of day.report) ++ 10 ∷ codes "audit ok" ++ 10 ∷ []

@@ -9,7 +9,7 @@ use Rattle.desk_run.proofs.doubts.legs_in_doubt.Goals as goal
 
 pub loop-placed-preserved : goal.loop-placed-preserved
 loop-placed-preserved g c =
-    let doubt = λ (placed : PlacedLeg). if_doubt (leg_state c.args.end.now.session placed.ordinal) placed.leg.id in
+    let doubt = λ (placed : PlacedLeg). if_doubt (leg_state c.end.inside.session placed.ordinal) placed.leg.id in
     let placed = c.placed-item.result in
     c.in_ok-push_if_doubt.ensures
     ∙ (ap (λ (state : Option LegState). c.loop-placed.legs.items ++ option_to_list (if_doubt state placed.leg.id)) c.leg_state-state.ensures
