@@ -1,5 +1,5 @@
 -- An order at a place is changed.
-use Rattle.std.proofs.Common.{◌≡◌, ℕ, zero, suc, ◌<◌, List, [], ◌∷◌, length, get_or, set, sym, ap, arith}
+use Rattle.std.proofs.Common.{◌≡◌, ℕ, zero, suc, ◌<◌, List, [], ◌∷◌, length, get_or, set, ap, arith}
 use Rattle.log_rules.specs.Ledger.{order_changed}
 use Rattle.log_rules.specs.Order.{OrderParts}
 

@@ -1,5 +1,5 @@
 -- An order that was sent stays known by its id.
-use Rattle.std.proofs.Common.{◌≡◌, ℕ, zero, suc, Bool, true, false, ◌&&◌, ◌⊎◌, inl, inr, List, [], ◌∷◌, ◌++◌, map, refl, ap, ◌∙◌, subst, sym}
+use Rattle.std.proofs.Common.{◌≡◌, ℕ, zero, suc, Bool, true, false, ◌&&◌, ◌⊎◌, inl, inr, List, [], ◌∷◌, ◌++◌, map, refl, ap, ◌∙◌}
 use Rattle.std.specs.Prelude.{Option, Some, None, is_some, option_and_then, slice_get, nat_le, nat_lt, if◌then◌else◌}
 use Rattle.std.specs.Str.{bytes_eq}
 use Rattle.std.proofs.lemmas.Slice.Eq.{bytes_eq-Decides}
@@ -8,7 +8,7 @@ use Rattle.message_log.specs.declared.direction.Direction.TheVariants.{Sent, Rec
 use Rattle.log_rules.specs.declared.order_said.OrderSaid.{OrderSaid}
 use Rattle.log_rules.specs.declared.report_said.ReportSaid.{ReportSaid}
 use Rattle.log_rules.specs.declared.says.Says.{Says}
-use Rattle.log_rules.specs.declared.says.Says.TheVariants.{Logon, Answer, ResendRequest, GapFill, Reset, Logout, Order, Report, Other}
+use Rattle.log_rules.specs.declared.says.Says.TheVariants.{Logon, ResendRequest, Order, Report}
 use Rattle.log_rules.specs.declared.standing.Standing.{Standing}
 use Rattle.log_rules.specs.Ledger.{LedgerParts, changed_at, changed_with, newest_of, newest_order, order_changed, order_of, report_under, with_order, with_report, with_sums, withdrawn_from}
 use Rattle.log_rules.specs.Order.{OrderParts, new_order, reported, summed_up, withdrawn_by}
@@ -18,15 +18,15 @@ use Rattle.log_rules.specs.Standing.{is_due}
 abbrev pub Known : List OrderParts → List ℕ → Type 0
 Known orders id = is_some (newest_order orders id) ≡ true
 
-some_later : (later : Option ℕ) (is_first : Bool) → is_some later ≡ true → is_some (newest_of later is_first) ≡ true
+pub some_later : (later : Option ℕ) (is_first : Bool) → is_some later ≡ true → is_some (newest_of later is_first) ≡ true
 some_later (Some place) is_first known = refl
 some_later None is_first known = cc
 
-some_here : (later : Option ℕ) (is_first : Bool) → is_first ≡ true → is_some (newest_of later is_first) ≡ true
+pub some_here : (later : Option ℕ) (is_first : Bool) → is_first ≡ true → is_some (newest_of later is_first) ≡ true
 some_here (Some place) is_first here = refl
 some_here None is_first here = rw here refl
 
-later_or_here : (later : Option ℕ) (is_first : Bool) → is_some (newest_of later is_first) ≡ true
+pub later_or_here : (later : Option ℕ) (is_first : Bool) → is_some (newest_of later is_first) ≡ true
     → (is_some later ≡ true) ⊎ (is_first ≡ true)
 later_or_here (Some place) is_first known = inl refl
 later_or_here None true known = inr refl
@@ -49,17 +49,17 @@ known_last (x ∷ xs) o id same =
     some_later (newest_order (xs ++ o ∷ []) id) (bytes_eq x.id id) (known_last xs o id same)
 
 -- a change keeps the ids
-abbrev KeepsIds : (OrderParts → OrderParts) → Type 0
+abbrev pub KeepsIds : (OrderParts → OrderParts) → Type 0
 KeepsIds change = (o : OrderParts) → (change o).id ≡ o.id
 
-newest_mapped : (change : OrderParts → OrderParts) (orders : List OrderParts) (id : List ℕ) → KeepsIds change
+pub newest_mapped : (change : OrderParts → OrderParts) (orders : List OrderParts) (id : List ℕ) → KeepsIds change
     → newest_order (map change orders) id ≡ newest_order orders id
 newest_mapped change [] id keeps = refl
 newest_mapped change (o ∷ os) id keeps =
     ap (λ later. newest_of later (bytes_eq (change o).id id)) (newest_mapped change os id keeps)
     ∙ ap (λ text. newest_of (newest_order os id) (bytes_eq text id)) (keeps o)
 
-newest_changed : (change : OrderParts → OrderParts) (place : ℕ) (orders : List OrderParts) (id : List ℕ) → KeepsIds change
+pub newest_changed : (change : OrderParts → OrderParts) (place : ℕ) (orders : List OrderParts) (id : List ℕ) → KeepsIds change
     → newest_order (order_changed change place orders) id ≡ newest_order orders id
 newest_changed change place [] id keeps = refl
 newest_changed change zero (o ∷ os) id keeps =
@@ -72,10 +72,10 @@ withdrawn_if : (is_withdrawn : Bool) (o : OrderParts)
 withdrawn_if true o = refl
 withdrawn_if false o = refl
 
-withdrawn_keeps : (settled expected : ℕ) → KeepsIds (withdrawn_by settled expected)
+pub withdrawn_keeps : (settled expected : ℕ) → KeepsIds (withdrawn_by settled expected)
 withdrawn_keeps settled expected o = withdrawn_if (nat_lt settled o.number && nat_le expected o.number) o
 
-summed_keeps : (cum leaves : Option ℕ) → KeepsIds (summed_up cum leaves)
+pub summed_keeps : (cum leaves : Option ℕ) → KeepsIds (summed_up cum leaves)
 summed_keeps (Some cum) (Some leaves) o = refl
 summed_keeps (Some cum) None o = refl
 summed_keeps None leaves o = refl
@@ -116,7 +116,7 @@ stays s Received (Logon heart reset (Some next)) number l id known =
     either s.says_next (withdrawn_from s.settled next l) l id (λ says. withdrawn_known s.settled next l id known) (λ silent. known)
 stays s direction says number l id known = known
 
-some_before : (orders : List OrderParts) (place : Option ℕ) → is_some (option_and_then (slice_get orders) place) ≡ true
+pub some_before : (orders : List OrderParts) (place : Option ℕ) → is_some (option_and_then (slice_get orders) place) ≡ true
     → is_some place ≡ true
 some_before orders None some = cc
 some_before orders (Some place) some = refl

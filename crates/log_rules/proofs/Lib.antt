@@ -3,3 +3,4 @@ pub mod Partly
 pub mod ChangedAt
 pub mod KnownOrders
 pub mod SentOnce
+pub mod ReportsFollow

@@ -1,5 +1,5 @@
 -- The newest order of an id is looked for from the last order on.
-use Rattle.std.proofs.Common.{◌≡◌, ℕ, zero, suc, ◌+◌, ◌<◌, Bool, true, false, List, [], ◌∷◌, length, take, get_or, Option, Some, None, refl, sym, ap, ◌∙◌, subst, add-one, arith}
+use Rattle.std.proofs.Common.{◌≡◌, ℕ, zero, suc, ◌+◌, ◌<◌, true, false, List, [], ◌∷◌, length, take, get_or, Some, None, sym, ap, ◌∙◌, add-one, arith}
 use Rattle.std.specs.Str.{bytes_eq}
 use Rattle.log_rules.specs.Ledger.{newest_of, newest_order}
 use Rattle.log_rules.specs.Order.{OrderParts}

@@ -3,11 +3,11 @@ use Rattle.std.proofs.Common.{◌≡◌, ℕ, true, List, [], ◌∷◌, ◌++�
 use Rattle.std.specs.Prelude.{Option, Some, None, is_some, is_none}
 use Rattle.std.specs.Option.{option_to_list}
 use Rattle.message_log.specs.declared.direction.Direction.{Direction}
-use Rattle.message_log.specs.declared.direction.Direction.TheVariants.{Sent, Received}
+use Rattle.message_log.specs.declared.direction.Direction.TheVariants.{Sent}
 use Rattle.log_rules.specs.declared.entry.Entry.{Entry}
 use Rattle.log_rules.specs.declared.order_said.OrderSaid.{OrderSaid}
 use Rattle.log_rules.specs.declared.says.Says.{Says}
-use Rattle.log_rules.specs.declared.says.Says.TheVariants.{Logon, Answer, ResendRequest, GapFill, Reset, Logout, Order, Report, Other}
+use Rattle.log_rules.specs.declared.says.Says.TheVariants.{Order}
 use Rattle.log_rules.specs.declared.standing.Standing.{Standing}
 use Rattle.log_rules.specs.declared.verdict.Verdict.TheVariants.{Broken}
 use Rattle.log_rules.specs.Checker.{CheckerParts, heard}

@@ -1,5 +1,5 @@
 -- A log is gone through, message by message.
-use Rattle.std.specs.Prelude.{ℕ, List, [], ◌∷◌, Option, Some, None, option_map}
+use Rattle.std.specs.Prelude.{ℕ, List, [], ◌∷◌, Option, None, option_map}
 use Rattle.log_rules.specs.declared.entry.Entry.{Entry}
 use Rattle.log_rules.specs.declared.says.Says.{Says}
 use Rattle.log_rules.specs.declared.says.Says.TheVariants.{Report}

@@ -4,9 +4,9 @@ use Rattle.message_log.specs.declared.direction.Direction.{Direction}
 use Rattle.message_log.specs.declared.direction.Direction.TheVariants.{Sent, Received}
 use Rattle.log_rules.specs.declared.entry.Entry.{Entry}
 use Rattle.log_rules.specs.declared.says.Says.{Says}
-use Rattle.log_rules.specs.declared.says.Says.TheVariants.{Logon, Answer, ResendRequest, GapFill, Reset, Logout, Order, Report, Other}
+use Rattle.log_rules.specs.declared.says.Says.TheVariants.{Logon, Answer, ResendRequest, Logout}
 use Rattle.log_rules.specs.declared.standing.Phase.{Phase}
-use Rattle.log_rules.specs.declared.standing.Phase.TheVariants.{Down, LoggingOn, LoggedOn}
+use Rattle.log_rules.specs.declared.standing.Phase.TheVariants.{LoggingOn}
 use Rattle.log_rules.specs.declared.standing.Standing.{Standing}
 use Rattle.log_rules.specs.declared.verdict.Verdict.{Verdict}
 use Rattle.log_rules.specs.declared.verdict.Verdict.TheVariants.{Unasked}

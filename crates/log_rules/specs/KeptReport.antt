@@ -1,7 +1,7 @@
 -- A report that came.
 use Rattle.std.specs.Prelude.{ℕ, List}
 use Rattle.log_rules.specs.declared.report_said.Happening.{Happening}
-use Rattle.log_rules.specs.declared.report_said.Happening.TheVariants.{New, Trade, Ended, Bust, Other}
+use Rattle.log_rules.specs.declared.report_said.Happening.TheVariants.{Trade}
 use Rattle.log_rules.specs.declared.report_said.ReportSaid.{ReportSaid}
 
 -- its number, its ExecID (17), and how many shares it says were traded

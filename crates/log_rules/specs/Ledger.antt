@@ -1,5 +1,5 @@
 -- The orders that were sent, and the reports that came.
-use Rattle.std.specs.Prelude.{ℕ, zero, suc, Bool, true, false, ◌&&◌, ◌||◌, not, List, [], ◌∷◌, ◌++◌, map, Option, Some, None, option_and_then, is_some, slice_get, nat_le, nat_lt, ◌==◌, if◌then◌else◌}
+use Rattle.std.specs.Prelude.{ℕ, zero, suc, Bool, false, ◌&&◌, ◌||◌, List, [], ◌∷◌, ◌++◌, map, Option, Some, None, option_and_then, is_some, slice_get, nat_le, nat_lt, ◌==◌, if◌then◌else◌}
 use Rattle.std.specs.Str.{bytes_eq}
 use Rattle.message_log.specs.declared.direction.Direction.{Direction}
 use Rattle.message_log.specs.declared.direction.Direction.TheVariants.{Sent, Received}
@@ -7,7 +7,7 @@ use Rattle.log_rules.specs.declared.entry.Entry.{Entry}
 use Rattle.log_rules.specs.declared.order_said.OrderSaid.{OrderSaid}
 use Rattle.log_rules.specs.declared.report_said.ReportSaid.{ReportSaid}
 use Rattle.log_rules.specs.declared.says.Says.{Says}
-use Rattle.log_rules.specs.declared.says.Says.TheVariants.{Logon, Answer, ResendRequest, GapFill, Reset, Logout, Order, Report, Other}
+use Rattle.log_rules.specs.declared.says.Says.TheVariants.{Logon, ResendRequest, Order, Report}
 use Rattle.log_rules.specs.declared.standing.Standing.{Standing}
 use Rattle.log_rules.specs.KeptReport.{ReportParts, kept_report}
 use Rattle.log_rules.specs.Order.{OrderParts, new_order, reported, withdrawn_by}

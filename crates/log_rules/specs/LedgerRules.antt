@@ -1,5 +1,5 @@
 -- The rules of orders and of the reports on them (FIX 4.4 Volume 4).
-use Rattle.std.specs.Prelude.{ℕ, ◌+◌, Bool, true, false, ◌&&◌, not, List, Option, Some, None, is_some, is_none, nat_le, nat_lt, ◌==◌, if◌then◌else◌}
+use Rattle.std.specs.Prelude.{ℕ, ◌+◌, Bool, true, false, ◌&&◌, not, List, Option, Some, None, is_some, is_none, nat_lt, ◌==◌, if◌then◌else◌}
 use Rattle.std.specs.Str.{bytes_eq}
 use Rattle.message_log.specs.declared.direction.Direction.{Direction}
 use Rattle.message_log.specs.declared.direction.Direction.TheVariants.{Sent, Received}
@@ -8,7 +8,7 @@ use Rattle.log_rules.specs.declared.report_said.Happening.{Happening}
 use Rattle.log_rules.specs.declared.report_said.Happening.TheVariants as happening
 use Rattle.log_rules.specs.declared.report_said.ReportSaid.{ReportSaid}
 use Rattle.log_rules.specs.declared.says.Says.{Says}
-use Rattle.log_rules.specs.declared.says.Says.TheVariants.{Logon, Answer, ResendRequest, GapFill, Reset, Logout, Order, Report, Other}
+use Rattle.log_rules.specs.declared.says.Says.TheVariants.{Logon, GapFill, Reset, Order, Report}
 use Rattle.log_rules.specs.declared.standing.Standing.{Standing}
 use Rattle.log_rules.specs.declared.verdict.Verdict.{Verdict}
 use Rattle.log_rules.specs.declared.verdict.Verdict.TheVariants.{Unasked, Broken}

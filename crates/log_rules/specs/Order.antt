@@ -1,5 +1,5 @@
 -- An order that was sent, and what the reports on it add up to.
-use Rattle.std.specs.Prelude.{ℕ, Bool, true, false, ◌&&◌, List, Option, Some, None, nat_le, nat_lt, if◌then◌else◌}
+use Rattle.std.specs.Prelude.{ℕ, Bool, true, false, ◌&&◌, List, Option, Some, nat_le, nat_lt, if◌then◌else◌}
 use Rattle.log_rules.specs.declared.order_said.OrderSaid.{OrderSaid}
 use Rattle.log_rules.specs.declared.report_said.ReportSaid.{ReportSaid}
 

@@ -1,12 +1,11 @@
 -- What a body says, as far as the rules look at it (FIX 4.4 Volumes 2 and 4).
-use Rattle.std.specs.Prelude.{ℕ, List, [], ◌∷◌, codes, Option, Some, None, option_and_then, unwrap_or, ◌==◌, ◌||◌, if◌then◌else◌}
+use Rattle.std.specs.Prelude.{ℕ, List, [], ◌∷◌, Option, Some, None, option_and_then, unwrap_or, ◌==◌, ◌||◌, if◌then◌else◌}
 use Rattle.fix_text.specs.Tagged.{Tagged, value_of}
 use Rattle.fix_tags.specs.Body.{Body}
 use Rattle.fix_tags.specs.declared.body.Body.TheVariants as body
 use Rattle.fix_tags.specs.Number.{number_of}
 use Rattle.fix_tags.specs.declared.session_body.SessionBody.{SessionBody}
 use Rattle.fix_tags.specs.declared.session_body.SessionBody.TheVariants as session
-use Rattle.log_rules.specs.declared.order_said.OrderSaid.{OrderSaid}
 use Rattle.log_rules.specs.declared.report_said.ReportSaid.{ReportSaid}
 use Rattle.log_rules.specs.declared.report_said.Happening.{Happening}
 use Rattle.log_rules.specs.declared.report_said.Happening.TheVariants as happening

@@ -5,9 +5,9 @@ use Rattle.message_log.specs.declared.direction.Direction.TheVariants.{Sent, Rec
 use Rattle.log_rules.specs.declared.entry.Entry.{Entry}
 use Rattle.log_rules.specs.declared.moment.Moment.{Moment}
 use Rattle.log_rules.specs.declared.says.Says.{Says}
-use Rattle.log_rules.specs.declared.says.Says.TheVariants.{Logon, Answer, ResendRequest, GapFill, Reset, Logout, Order, Report, Other}
+use Rattle.log_rules.specs.declared.says.Says.TheVariants.{Logon, GapFill, Logout}
 use Rattle.log_rules.specs.declared.standing.Phase.{Phase}
-use Rattle.log_rules.specs.declared.standing.Phase.TheVariants.{Down, LoggingOn, LoggedOn}
+use Rattle.log_rules.specs.declared.standing.Phase.TheVariants.{LoggedOn}
 use Rattle.log_rules.specs.declared.standing.Standing.{Standing}
 use Rattle.log_rules.specs.declared.verdict.Verdict.{Verdict}
 use Rattle.log_rules.specs.declared.verdict.Verdict.TheVariants.{Unasked}

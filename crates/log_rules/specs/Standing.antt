@@ -1,11 +1,11 @@
 -- How the two ends stand, as far as the messages show it.
-use Rattle.std.specs.Prelude.{ℕ, ◌+◌, ◌-◌, ◌*◌, Bool, true, false, ◌&&◌, ◌||◌, not, Option, Some, None, is_some, unwrap_or, min, max, nat_le, nat_lt, ◌==◌, if◌then◌else◌}
+use Rattle.std.specs.Prelude.{ℕ, ◌+◌, ◌-◌, ◌*◌, Bool, true, false, ◌&&◌, ◌||◌, Option, Some, None, is_some, unwrap_or, min, max, nat_le, nat_lt, ◌==◌, if◌then◌else◌}
 use Rattle.message_log.specs.declared.direction.Direction.{Direction}
 use Rattle.message_log.specs.declared.direction.Direction.TheVariants.{Sent, Received}
 use Rattle.log_rules.specs.declared.entry.Entry.{Entry}
 use Rattle.log_rules.specs.declared.moment.Moment.{Moment}
 use Rattle.log_rules.specs.declared.says.Says.{Says}
-use Rattle.log_rules.specs.declared.says.Says.TheVariants.{Logon, Answer, ResendRequest, GapFill, Reset, Logout, Order, Report, Other}
+use Rattle.log_rules.specs.declared.says.Says.TheVariants.{Logon, Answer, ResendRequest, GapFill, Reset, Logout, Report}
 use Rattle.log_rules.specs.declared.standing.Phase.{Phase}
 use Rattle.log_rules.specs.declared.standing.Phase.TheVariants.{Down, LoggingOn, LoggedOn}
 use Rattle.log_rules.specs.declared.standing.Standing.{Standing}

@@ -1,15 +1,13 @@
 -- A message that was logged is read back.
-use Rattle.std.proofs.Common.{◌≡◌, ℕ, suc, ◌+◌, ◌*◌, ◌/◌, ◌%◌, ◌<◌, ◌≤◌, Bool, true, false, List, [], ◌∷◌, ◌++◌, Option, Some, None, Result, Ok, Err, refl, sym, ap, ◌∙◌, subst, append_assoc, arith, inl, inr, get_or, length}
-use Rattle.std.proofs.lemmas.Bool.{cases_eq, cases_lt, cases_Bool, cond_below, cond_above, lt-ltb, le-ltb, ne_eqb, leb-true, and_parts}
+use Rattle.std.proofs.Common.{◌≡◌, ℕ, suc, ◌+◌, ◌*◌, ◌/◌, ◌%◌, ◌<◌, true, false, List, [], ◌∷◌, ◌++◌, Some, Ok, refl, sym, ap, ◌∙◌, subst, arith, inl, inr, get_or}
+use Rattle.std.proofs.lemmas.Bool.{cases_eq, cases_Bool, ne_eqb}
 use Rattle.std.proofs.lemmas.Bool.Decides.{nat_tests}
 use Rattle.std.proofs.lemmas.Grind.{common_steps}
 use Rattle.desk_words.specs.Printable.{byte_shown, hex_digit, is_printable_byte}
 use Rattle.message_log.specs.Line.{byte_logged, logged}
 use Rattle.log_text.specs.Message.{behind, byte_of_digits, first_digit, hex_value, message_said, read_on, step, stepped}
-use Rattle.log_text.specs.declared.fault.LineFault.{LineFault}
-use Rattle.log_text.specs.declared.step.Escape.TheVariants.{Closed, Backslash, Hex, Digit}
-use Rattle.log_text.specs.declared.step.Step.{Step}
-use Rattle.log_text.specs.declared.step.Step.TheVariants.{Byte, Open}
+use Rattle.log_text.specs.declared.step.Escape.TheVariants.{Closed}
+use Rattle.log_text.specs.declared.step.Step.TheVariants.{Byte}
 
 -- a digit reads back
 pub digit_back : (value : ℕ) → value < 16 → hex_value (hex_digit value) ≡ Some value

@@ -1,11 +1,10 @@
 -- A message that is read byte by byte.
-use Rattle.std.proofs.Common.{◌≡◌, ℕ, ◌+◌, ◌<◌, ◌≤◌, List, [], ◌∷◌, ◌++◌, length, drop, get_or, Result, Ok, Err, refl, sym, ap, ◌∙◌, append_assoc}
+use Rattle.std.proofs.Common.{◌≡◌, ℕ, ◌+◌, ◌<◌, List, [], ◌∷◌, ◌++◌, length, drop, get_or, Result, Ok, Err, refl, sym, ap, ◌∙◌, append_assoc}
 use Rattle.std.proofs.lemmas.List.{drop_more}
 use Rattle.log_text.specs.Message.{behind, read_on, step, stepped}
 use Rattle.log_text.specs.declared.fault.LineFault.{LineFault}
 use Rattle.log_text.specs.declared.step.Escape.{Escape}
 use Rattle.log_text.specs.declared.step.Escape.TheVariants.{Closed}
-use Rattle.log_text.specs.declared.step.Step.{Step}
 use Rattle.log_text.specs.declared.step.Step.TheVariants.{Byte, Open}
 
 -- bytes before bytes
