@@ -17,8 +17,8 @@ pub struct WrongQueue {
     pub place: usize,
 }
 
-/// Whether each worker took the first legs released to the venue at its place, from 0; to one that the run hasn't got none
-/// is released. Where each stands at the place of its venue it did, whatever the threads did.
+/// Whether each worker took the first legs released to the venue at its place, from 0; to one that the run hasn't got
+/// none is released. Where each stands at the place of its venue it did, whatever the threads did.
 pub fn check_queues<L: Run>(locked: LockedDesk<L>, ends: Vec<VenueEnd<L>>) -> Result<(), WrongQueue>
     ensures exact { MatchResult result (λ _. AllTookFirst locked.desk ends.items (length ends.items))
         (λ wrong. IsFirstWrong locked.desk ends.items wrong.place) }

@@ -1,5 +1,5 @@
-//! What callers share when they release sweeps: the desk behind a lock, with the ends of the rings to the venues' workers,
-//! and the seats on which each caller counts the shares that it placed.
+//! What callers share when they release sweeps: the desk behind a lock, with the ends of the rings to the venues'
+//! workers, and the seats on which each caller counts the shares that it placed.
 #![tactic(auto)]
 
 mod caller_seat;

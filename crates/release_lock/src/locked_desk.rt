@@ -26,8 +26,8 @@ use sweep_release::{Desk, Gate, GateFault, Receipt, ReleaseFault, place};
 use venue_queue::Feed;
 
 /// What lies under the lock. Contracts see the desk. It replays from its own history, the seats add up to the shares of
-/// all sweeps released, and what was pushed to a venue is the first of the legs released to it, just as many as have left
-/// the desk.
+/// all sweeps released, and what was pushed to a venue is the first of the legs released to it, just as many as have
+/// left the desk.
 #[derive(Drop)]
 pub struct LockedDesk<L: Run> {
     pub(crate) desk: Desk,
@@ -104,9 +104,9 @@ impl<L: Run> LockedDesk<L> {
         Ok(receipt)
     }
 
-    /// Moves placed legs of a venue into its ring, in order, until none is placed or the ring was full at some moment of
-    /// the call, and gives how many were pushed to it in all. Each leg leaves the desk, taken while the gate is up and
-    /// dropped while it isn't, once it is in the ring. It takes no memory.
+    /// Moves placed legs of a venue into its ring, in order, until none is placed or the ring was full at some moment
+    /// of the call, and gives how many were pushed to it in all. Each leg leaves the desk, taken while the gate is up
+    /// and dropped while it isn't, once it is in the ring. It takes no memory.
     pub fn pump(&mut self, rt: &impl Wait, venue: VenueId) -> u64
         requires { venue < length L.queues }
         ensures desk { Pumps venue self.old self.new }
@@ -125,7 +125,8 @@ impl<L: Run> LockedDesk<L> {
     /// Puts the gate of a drain's venue up, as `Desk::gate_up` does, once every leg released to it was popped: an open
     /// gate stays so, G02 where it was shut, G01 where legs are still placed or in the ring, G03.
     pub fn raise(&mut self, drain: &VenueDrain<L>) -> Result<(), GateFault>
-        ensures answer { Answers GateFault.OutOfMemory (without_room self.old) (raise (without_room self.old) drain.now.venue (length drain.now.popped)) result (without_room self.new) }
+        ensures answer { Answers GateFault.OutOfMemory (without_room self.old)
+            (raise (without_room self.old) drain.now.venue (length drain.now.popped)) result (without_room self.new) }
         ensures replays { Replays self.old × Replays self.new }
     {
         let venue = drain.venue();
@@ -136,8 +137,8 @@ impl<L: Run> LockedDesk<L> {
         self.desk.gate_up(venue)
     }
 
-    /// Lends the desk to a closure that only puts gates up or down or shuts them. It may ask the desk anything; it may not
-    /// release, take or drop.
+    /// Lends the desk to a closure that only puts gates up or down or shuts them. It may ask the desk anything; it may
+    /// not release, take or drop.
     pub fn lend<T, F: FnOnce(&mut Desk) -> T>(&mut self, f: F) -> T
         requires call { F.IsAlwaysCallable f }
         requires turns { (d : ADesk) (r : T) (e : ADesk) → FnOnceReturnsAtMut F.FnOnce f d r e → OnlyTurns d e }
@@ -150,7 +151,8 @@ impl<L: Run> LockedDesk<L> {
 
 /// Places a sweep. In the book it is opened, and nothing else is asked of it.
 fn place_in(desk: &mut Desk, book: &mut Book, sweep: Sweep) -> Result<Receipt, ReleaseFault>
-    ensures placed { PlaceAnswers (kept desk.old book.old) (place_kept (kept desk.old book.old) sweep.legs) result (kept desk.new book.new) }
+    ensures placed { PlaceAnswers (kept desk.old book.old) (place_kept (kept desk.old book.old) sweep.legs) result
+        (kept desk.new book.new) }
     ensures opens { OnlyOpens book.old book.new }
 {
     place(desk, book, sweep)

@@ -15,8 +15,8 @@ use std::sync::Wait;
 use sweep_release::{Desk, Gate};
 use venue_queue::Feed;
 
-/// Moves placed legs of a venue into its ring, in order, until none is placed or the ring was full at some moment. A leg
-/// leaves the desk only once it is in the ring.
+/// Moves placed legs of a venue into its ring, in order, until none is placed or the ring was full at some moment. A
+/// leg leaves the desk only once it is in the ring.
 pub(crate) fn pump(rt: &impl Wait, desk: &mut Desk, venue: VenueId, feed: &mut Feed) -> u64
     requires there { venue < length desk.old.desk.venues }
     requires fed { feed.old.legs ≡ left_to desk.old.desk venue }
@@ -39,7 +39,8 @@ pub(crate) fn pump(rt: &impl Wait, desk: &mut Desk, venue: VenueId, feed: &mut F
 fn let_leave(desk: &mut Desk, venue: VenueId)
     requires there { venue < length desk.old.desk.venues }
     ensures desk { desk.new.desk ≡ (leave desk.old.desk venue).1 }
-    ensures history { desk.new.history ≡ desk.old.history ++ left_entries (leaving desk.old.desk venue) (leave desk.old.desk venue).0 }
+    ensures history { desk.new.history ≡ desk.old.history ++ left_entries (leaving desk.old.desk venue)
+        (leave desk.old.desk venue).0 }
     ensures room { desk.new.room ≡ desk.old.room }
 {
     let _left = match desk.gate(venue) {

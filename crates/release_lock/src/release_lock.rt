@@ -133,7 +133,8 @@ impl<L: Run> ReleaseLock<L> {
     /// it was shut, G01 where legs are still placed or in the ring, G03.
     pub fn raise(&self, rt: &impl Wait, drain: &VenueDrain<L>) -> Result<(), GateFault>
         ensures { (before : ADesk) × (after : ADesk) × Replays before × Replays after
-            × Answers GateFault.OutOfMemory (without_room before) (raise (without_room before) drain.now.venue (length drain.now.popped)) result (without_room after) }
+            × Answers GateFault.OutOfMemory (without_room before)
+            (raise (without_room before) drain.now.venue (length drain.now.popped)) result (without_room after) }
     {
         self.locked.lock(rt).raise(drain)
     }

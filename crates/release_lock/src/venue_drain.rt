@@ -9,8 +9,8 @@ use std::marker::{Model, PhantomData};
 use std::sync::Wait;
 use venue_queue::Drain;
 
-/// The end of a venue's ring that its worker holds. It is of the ring that the run names for the venue. Contracts see the
-/// venue and the legs popped.
+/// The end of a venue's ring that its worker holds. It is of the ring that the run names for the venue. Contracts see
+/// the venue and the legs popped.
 #[derive(Drop)]
 pub struct VenueDrain<L: Run> {
     pub(crate) venue: VenueId,

@@ -11,8 +11,8 @@ use venue_queue::{Drain, Feed, pair};
 /// How many legs a venue's ring has room for.
 const RING_LEGS: usize = 64;
 
-/// The rings of so many venues, through which nothing went, as `ReleaseLock::new` wants them. The only refusal is want of
-/// memory.
+/// The rings of so many venues, through which nothing went, as `ReleaseLock::new` wants them. The only refusal is want
+/// of memory.
 pub fn rings(alloc: Global, venues: u8) -> Result<VecDeque<(Feed, Drain)>, AllocError>
     ensures { IfOk result (λ rings. (length rings.items ≡ venues) × All IsFresh rings.items) }
 {

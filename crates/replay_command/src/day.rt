@@ -12,26 +12,27 @@ use crate::fault::CommandFault;
 use crate::input::read_line;
 use command_line::print;
 use dialect::AnyDialect;
-use event_text::{Before, print_deeds};
+use event_text::{Before, Settled, print_deeds};
 use replay::World;
 use schedule::Event;
 use script::{Line, first_line};
 use std::alloc::Global;
 use std::io::{BufRead, Write};
 
-/// A day that runs: its world, and how many events it had.
+/// A day that runs: its world, how many events it had, and which legs were told as settled.
 #[derive(Drop)]
 struct Day {
     world: World<AnyDialect>,
     events: u64,
+    settled: Settled,
 }
 
-/// Prints an event, as `3 line 7 take 0: S1L1 taken`.
+/// Prints an event, as `3 line 7 drop 0: S1L1 dropped`.
 fn print_step<W: Write>(
     alloc: Global,
     number: u64,
     line: &Line<'_>,
-    deeds: &str,
+    deeds: &[u8],
     out: &mut W,
 ) -> Result<(), CommandFault>
     ensures out { OnOk result (Grows (W.contents out.old) (W.contents out.new)) }
@@ -40,7 +41,9 @@ fn print_step<W: Write>(
     let place = line.number;
     let mut text = format!(in alloc; "{number} line {place} ")?.into_bytes();
     text.extend_from_slice(line.text)?;
-    text.extend_from_slice(format!(in alloc; ": {deeds}\n")?.as_bytes())?;
+    text.extend_from_slice(b": ")?;
+    text.extend_from_slice(deeds)?;
+    text.extend_from_slice(b"\n")?;
     Ok(print(&text, out)?)
 }
 
@@ -57,9 +60,9 @@ fn run_step<W: Write>(
     ensures only { IfErr result (IsOfRun true) }
 {
     day.events = day.events.saturating_add(1);
-    let before = Before::of(&day.world, &event);
+    let before = Before::of(alloc, &day.world, &event)?;
     let told = day.world.happen(event)?;
-    let deeds = print_deeds(alloc, &before, &day.world, told)?;
+    let deeds = print_deeds(alloc, &before, &day.world, &told, &mut day.settled)?;
     print_step(alloc, day.events, line, &deeds, out)
 }
 
@@ -108,7 +111,11 @@ fn run_lines<R: BufRead, W: Write>(
     ensures out { OnOk result (Grows (W.contents out.old) (W.contents out.new)) }
     ensures kept { steps ≡ false → out.new ≡ out.old }
 {
-    let mut day = Day { world, events: 0 };
+    let mut day = Day {
+        world,
+        events: 0,
+        settled: Settled::new(),
+    };
     for number in first..u64::MAX {
         if !read_line(input, buffer)? {
             return Ok(day.world);

@@ -25,9 +25,12 @@ impl Model for Drain {
 
     ghost Value = { Port };
 
-    ghost view = { λ d. record { table = d.pass.table_id; room = ruled_capacity (arc_value d.ring); legs = (known d.pass).popped } };
+    ghost view = { λ d. record
+        { table = d.pass.table_id; room = ruled_capacity (arc_value d.ring); legs = (known d.pass).popped } };
 
-    ghost invariant = { λ d. IsPassOf (arc_value d.ring) d.pass × (known d.pass ≡ hand false true [] (known d.pass).popped) × (d.count ≡ min (length (known d.pass).popped) 18446744073709551615) };
+    ghost invariant = { λ d. IsPassOf (arc_value d.ring) d.pass
+        × (known d.pass ≡ hand false true [] (known d.pass).popped)
+        × (d.count ≡ min (length (known d.pass).popped) 18446744073709551615) };
 }
 
 impl Drain {

@@ -27,16 +27,20 @@ impl Model for Feed {
 
     ghost Value = { Port };
 
-    ghost view = { λ f. record { table = f.pass.table_id; room = ruled_capacity (arc_value f.ring); legs = (known f.pass).pushed } };
+    ghost view = { λ f. record
+        { table = f.pass.table_id; room = ruled_capacity (arc_value f.ring); legs = (known f.pass).pushed } };
 
-    ghost invariant = { λ f. IsPassOf (arc_value f.ring) f.pass × (known f.pass ≡ hand true false (known f.pass).pushed []) × (f.count ≡ min (length (known f.pass).pushed) 18446744073709551615) };
+    ghost invariant = { λ f. IsPassOf (arc_value f.ring) f.pass
+        × (known f.pass ≡ hand true false (known f.pass).pushed [])
+        × (f.count ≡ min (length (known f.pass).pushed) 18446744073709551615) };
 }
 
 impl Feed {
     /// Pushes a leg behind the others. The leg comes back only where the ring was full at some moment of the call. It
     /// may wait for another thread that is in the way.
     pub fn push(&mut self, rt: &impl Wait, leg: PlacedLeg) -> Result<(), PlacedLeg>
-        ensures { MatchResult result (λ _. self.new ≡ with_leg self.old leg) (λ back. (back ≡ leg) × (self.new ≡ self.old) × Held self.old.room (EndsWith self.old.legs)) }
+        ensures { MatchResult result (λ _. self.new ≡ with_leg self.old leg)
+            (λ back. (back ≡ leg) × (self.new ≡ self.old) × Held self.old.room (EndsWith self.old.legs)) }
     {
         self.ring.push_as::<Pushes, _>(rt, &mut self.pass, leg)?;
         self.count = self.count.saturating_add(1);

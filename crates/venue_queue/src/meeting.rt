@@ -25,7 +25,8 @@ pub struct Met {
 pub fn meet(rt: &impl Wait, alloc: Global, feed: Feed, drain: Drain) -> Result<Met, AllocError>
     requires { feed.table ≡ drain.table }
     ensures left { IfOk result (λ met. feed.legs ≡ drain.legs ++ met.left.items) }
-    ensures counts { IfOk result (λ met. (met.pushed ≡ min (length feed.legs) 18446744073709551615) × (met.popped ≡ min (length drain.legs) 18446744073709551615)) }
+    ensures counts { IfOk result (λ met. (met.pushed ≡ min (length feed.legs) 18446744073709551615)
+        × (met.popped ≡ min (length drain.legs) 18446744073709551615)) }
 {
     let Feed {
         ring,
@@ -53,8 +54,8 @@ pub fn meet(rt: &impl Wait, alloc: Global, feed: Feed, drain: Drain) -> Result<M
     })
 }
 
-/// The legs popped are the first of the legs pushed. It takes no memory and waits for nobody, and the legs that are left
-/// in the ring are dropped with it.
+/// The legs popped are the first of the legs pushed. It takes no memory and waits for nobody, and the legs that are
+/// left in the ring are dropped with it.
 pub fn agree(feed: Feed, drain: Drain)
     requires { feed.table ≡ drain.table }
     ensures { IsPrefix drain.legs feed.legs }

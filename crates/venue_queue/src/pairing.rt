@@ -10,7 +10,8 @@ use std::sync::Arc;
 /// An empty ring with room for 1 to 64 legs, as its two ends.
 pub fn pair(alloc: Global, capacity: usize) -> Result<(Feed, Drain), AllocError>
     requires { (0 < capacity) × (capacity ≤ 64) }
-    ensures ring { IfOk result (λ ends. (ends.0.table ≡ ends.1.table) × (ends.0.room ≡ capacity) × (ends.1.room ≡ capacity)) }
+    ensures ring { IfOk result
+        (λ ends. (ends.0.table ≡ ends.1.table) × (ends.0.room ≡ capacity) × (ends.1.room ≡ capacity)) }
     ensures legs { IfOk result (λ ends. (ends.0.legs ≡ []) × (ends.1.legs ≡ [])) }
 {
     let (ring, mut feeding) = Ring::ruled(alloc, capacity)?;
