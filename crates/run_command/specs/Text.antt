@@ -26,6 +26,9 @@ totals_of report = record { placed = report.placed; resolved = report.resolved; 
 abbrev pub booked_text : DeskDay → List ℕ
 booked_text day = flat_map sweep_line day.sweeps.items ++ flat_map doubt_line day.doubts.items
 
--- behind these the shares of the day, and that the audit found nothing wrong
+-- the shares of a day, and that the audit found nothing wrong
+abbrev pub totals_lines : DayReport → List ℕ
+totals_lines report = totals_text (totals_of report) ++ codes "\naudit ok\n"
+
 abbrev pub day_text : DeskDay → List ℕ
-day_text day = booked_text day ++ totals_text (totals_of day.report) ++ 10 ∷ codes "audit ok" ++ 10 ∷ []
+day_text day = booked_text day ++ totals_lines day.report

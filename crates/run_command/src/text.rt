@@ -1,9 +1,9 @@
 //! What `dispatch run` prints at the end of a day.
 ghost use Rattle.std.specs.Prelude.{◌≡◌, ◌++◌, IfOk, OnOk, string_bytes};
 ghost use Rattle.std.specs.List.{flat_map};
-ghost use Rattle.run_command.specs.Text.{day_text, doubt_line, sweep_line, totals_of};
+ghost use Rattle.run_command.specs.Text.{booked_text, day_text, doubt_line, sweep_line, totals_lines, totals_of};
 
-use desk_news::{AUDIT_OK, DayTotals, SweepParts, doubt_line};
+use desk_news::{DayTotals, SweepParts, doubt_line};
 use desk_run::{DeskDay, VenueDoubt};
 use session_worker::DayReport;
 use std::alloc::{AllocError, Global};
@@ -13,12 +13,28 @@ use std::alloc::{AllocError, Global};
 pub fn day_text(alloc: Global, day: &DeskDay) -> Result<Vec<u8>, AllocError>
     ensures { IfOk result (λ text. text.items ≡ day_text day.now) }
 {
+    let mut text = booked_text(alloc, day)?;
+    write_totals(&mut text, day.report)?;
+    Ok(text.into_bytes())
+}
+
+/// A line for each sweep, and one for each venue with legs that stay in doubt.
+fn booked_text(alloc: Global, day: &DeskDay) -> Result<String, AllocError>
+    ensures { IfOk result (λ text. string_bytes text ≡ booked_text day.now) }
+{
     let mut text = String::new(alloc);
     write_sweeps(&mut text, day.sweeps.as_slice())?;
     write_doubts(alloc, &mut text, day.doubts.as_slice())?;
-    let totals = totals_of(day.report);
-    write!(text, "{totals}\n{AUDIT_OK}\n")?;
-    Ok(text.into_bytes())
+    Ok(text)
+}
+
+/// Appends the shares of a day, and that the audit found nothing wrong.
+fn write_totals(text: &mut String, report: DayReport) -> Result<(), AllocError>
+    ensures { OnOk result (string_bytes text.new ≡ string_bytes text.old ++ totals_lines report) }
+{
+    let totals = totals_of(report);
+    write!(text, "{totals}\naudit ok\n")?;
+    Ok(())
 }
 
 /// The shares of a day.
