@@ -1,0 +1,11 @@
+use Rattle.std.proofs.Common.{map}
+use Rattle.bench_wire.proofs.running.run_wire.Given as goal
+
+abbrev pub ghosts-load_at-L-Run : goal.ghosts-load_at-L-Run
+ghosts-load_at-L-Run g a = record { queues = map (λ ends. ends.0.table) a.site.rings.items }
+
+abbrev pub ghosts-load_at-L-Ledger : goal.ghosts-load_at-L-Ledger
+ghosts-load_at-L-Ledger g a = record { name = a.site.callers.name; parts = a.site.callers.parts }
+
+abbrev pub ghosts-load_at-M-Ledger : goal.ghosts-load_at-M-Ledger
+ghosts-load_at-M-Ledger g a = record { name = a.site.workers.name; parts = a.site.workers.parts }
