@@ -19,11 +19,13 @@ class Order:
     number: int
     shares: int
     is_ignored: bool
+    # Microseconds since 1970.
+    taken_at: int = 0
 
 
 def order_of(line):
-    id, venue, number, shares, *ignored = line.split()
-    return Order(id, venue, int(number), int(shares), ignored == ["ignored"])
+    id, venue, number, shares, taken_at, *ignored = line.split()
+    return Order(id, venue, int(number), int(shares), ignored == ["ignored"], int(taken_at))
 
 
 def free_port():

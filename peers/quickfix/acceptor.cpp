@@ -5,8 +5,8 @@
 //   --venues A,B      the comp ids of its sessions
 //   --peer ID         the comp id of the desk
 //   --fill N          how many shares of an order it trades at most
-//   --orders FILE     gets a line for each order that is taken: ClOrdID, comp id of the venue, MsgSeqNum, shares; and
-//                     behind them `ignored` where the order gets no report
+//   --orders FILE     gets a line for each order that is taken: ClOrdID, comp id of the venue, MsgSeqNum, shares, when it
+//                     was taken in microseconds since 1970; and then `ignored` if the order gets no report
 //   --store FOLDER    keeps the numbers of the sessions, for an acceptor that is started again, and their messages
 //   --drop-every N    drops a venue's connection behind each Nth message that it takes; 0 is never, as below
 //   --ignore-every N  gives each Nth order of a venue no report
@@ -26,6 +26,7 @@
 #include <unistd.h>
 
 #include <algorithm>
+#include <chrono>
 #include <fstream>
 #include <iostream>
 #include <sstream>
@@ -63,6 +64,11 @@ class Options {
 
 struct Plan { const long fill, drop_every, ignore_every, test_every; };
 
+long microseconds() {
+  using namespace std::chrono;
+  return duration_cast<std::chrono::microseconds>(system_clock::now().time_since_epoch()).count();
+}
+
 bool is_due(long every, long count) { return every && count % every == 0; }
 
 // What a venue has taken since the start.
@@ -79,7 +85,7 @@ class Exchange : public FIX::NullApplication {
 
   void note(const FIX::Message& order, const SessionID& session, bool is_ignored) {
     orders_file_ << order.getField(11) << ' ' << session.getSenderCompID() << ' ' << order.getHeader().getField(34)
-                 << ' ' << order.getField(38) << (is_ignored ? " ignored" : "") << std::endl;
+                 << ' ' << order.getField(38) << ' ' << microseconds() << (is_ignored ? " ignored" : "") << std::endl;
   }
 
   // The ids of an order and its reports are made of its ClOrdID, so that no acceptor gives one twice.

@@ -1,11 +1,12 @@
 -- The faults of `dispatch check`.
 use Rattle.std.specs.Prelude.{ℕ}
 use Rattle.check_command.specs.declared.fault.CommandFault.{CommandFault}
-use Rattle.check_command.specs.declared.fault.CommandFault.TheVariants.{CommandLine, BadLine, ReadFailed, WriteFailed, OutOfMemory}
+use Rattle.check_command.specs.declared.fault.CommandFault.TheVariants.{CommandLine, BadDesk, BadLine, ReadFailed, WriteFailed, OutOfMemory}
 
 -- the status that tells a fault
 abbrev pub fault_status : CommandFault → ℕ
 fault_status (CommandLine error) = 2
+fault_status BadDesk = 2
 fault_status (BadLine number fault) = 3
 fault_status ReadFailed = 4
 fault_status WriteFailed = 4
@@ -14,5 +15,6 @@ fault_status OutOfMemory = 5
 -- a fault of the command line, or want of memory
 abbrev pub IsOfCommandLine : CommandFault → Type 0
 IsOfCommandLine (CommandLine error) = Unit {0}
+IsOfCommandLine BadDesk = Unit {0}
 IsOfCommandLine OutOfMemory = Unit {0}
 IsOfCommandLine other = ⊥

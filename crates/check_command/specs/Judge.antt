@@ -1,22 +1,29 @@
 -- What a line says of the rules.
-use Rattle.std.specs.Prelude.{◌≡◌, ℕ, Bool, List, Option, Some, None, Result, Ok, Err}
+use Rattle.std.specs.Prelude.{◌≡◌, ℕ, List, Option, Some, None, Result, Ok, Err}
 use Rattle.std.specs.Bool.{MatchBool}
 use Rattle.std.specs.Result.{result_ok}
-use Rattle.std.specs.declared.alloc.AllocError.{AllocError}
 use Rattle.fix_text.specs.Calls.{new_stream}
 use Rattle.fix_text.specs.Reading.{fed, next_read}
 use Rattle.fix_text.specs.Tagged.{Tagged}
+use Rattle.fix_text.specs.Then.{◌>>=◌}
 use Rattle.fix_tags.specs.Reading.{envelope_read}
+use Rattle.fix_tags.specs.Stamp.{StampParts}
 use Rattle.fix_tags.specs.declared.envelope.Envelope.{Envelope}
+use Rattle.message_log.specs.declared.direction.Direction.{Direction}
 use Rattle.log_rules.specs.Checker.{CheckerParts, heard, unread_verdicts, verdicts}
 use Rattle.log_rules.specs.Entry.{entry_of}
+use Rattle.log_rules.specs.declared.entry.Entry.{Entry}
 use Rattle.log_rules.specs.declared.verdict.Verdict.{Verdict}
-use Rattle.log_text.specs.Line.{LineSaid, is_passed_over, line_said}
+use Rattle.log_text.specs.Line.{is_passed_over, line_said}
+use Rattle.log_text.specs.Quickfix.{direction_between, quickfix_said}
 use Rattle.log_text.specs.declared.fault.LineFault.{LineFault}
 use Rattle.log_text.specs.declared.fault.LineFault.TheVariants as line
-use Rattle.log_text.specs.declared.line.LogLine.{LogLine}
 use Rattle.check_command.specs.declared.fault.CommandFault.{CommandFault}
 use Rattle.check_command.specs.declared.fault.CommandFault.TheVariants.{BadLine, OutOfMemory, WriteFailed}
+use Rattle.check_command.specs.declared.form.Form.{Form}
+use Rattle.check_command.specs.declared.form.Form.TheVariants.{Own, Quickfix}
+use Rattle.check_command.specs.declared.judge.Way.{Way}
+use Rattle.check_command.specs.declared.judge.Way.TheVariants.{Said, Names}
 
 -- the message of a frame's fields, if they say one
 abbrev pub message_of : Option (List Tagged) → Option Envelope
@@ -27,40 +34,71 @@ message_of (Some fields) = result_ok (envelope_read fields)
 abbrev pub message_in : List ℕ → Option Envelope
 message_in bytes = message_of (next_read (fed new_stream bytes)).frame
 
--- what a line's message says of each rule
-abbrev pub judged : CheckerParts → LogLine → Option Envelope → List Verdict
-judged c at None = unread_verdicts
-judged c at (Some message) = verdicts c (entry_of at message)
+-- which way a message went: as its line says, or as the names of its ends do
+abbrev pub by_line : Direction → Envelope → Option Direction
+by_line direction message = Some direction
+
+abbrev pub by_names : List ℕ → Envelope → Option Direction
+by_names desk message = direction_between message.sender message.target desk
+
+abbrev pub direction_told : Way → Envelope → Option Direction
+direction_told (Said direction) message = by_line direction message
+direction_told (Names desk) message = by_names desk.now message
+
+abbrev pub entry_by : StampParts → Envelope → Option Direction → Result (Option Entry) LineFault
+entry_by stamp message None = Err line.Parties
+entry_by stamp message (Some direction) =
+    Ok (Some (entry_of (record { stamp = stamp; direction = direction }) message))
+
+-- what is judged of a message, of which is told which way it went: nothing where it can't be read
+abbrev pub entry_told : StampParts → (Envelope → Option Direction) → Option Envelope → Result (Option Entry) LineFault
+entry_told stamp way None = Ok None
+entry_told stamp way (Some message) = entry_by stamp message (way message)
+
+-- what is judged of a line, or its first fault
+abbrev pub line_entry : Form → List ℕ → Result (Option Entry) LineFault
+line_entry Own text = do
+  said ← line_said text
+  entry_told said.stamp (by_line said.direction) (message_in said.message)
+line_entry (Quickfix desk) text = do
+  said ← quickfix_said text
+  entry_told said.stamp (by_names desk) (message_in said.message)
+
+-- what is said of each rule
+abbrev pub judged : CheckerParts → Option Entry → List Verdict
+judged c None = unread_verdicts
+judged c (Some entry) = verdicts c entry
 
 -- what is known behind it
-abbrev pub judged_after : CheckerParts → LogLine → Option Envelope → CheckerParts
-judged_after c at None = c
-judged_after c at (Some message) = heard c (entry_of at message)
+abbrev pub judged_after : CheckerParts → Option Entry → CheckerParts
+judged_after c None = c
+judged_after c (Some entry) = heard c entry
 
--- a message is judged, or memory is refused and nothing changes
-abbrev pub Judges : Option Envelope → LogLine → CheckerParts → CheckerParts → Result (List Verdict) AllocError → Type 0
-Judges message at old new (Ok said) = (said ≡ judged old at message) × (new ≡ judged_after old at message)
-Judges message at old new (Err fault) = new ≡ old
+-- it is judged, or its fault is told, or memory is refused; a fault changes nothing
+abbrev pub Judges : Result (Option Entry) LineFault → CheckerParts → CheckerParts → Result (List Verdict) LineFault → Type 0
+Judges (Ok entry) old new (Ok said) = (said ≡ judged old entry) × (new ≡ judged_after old entry)
+Judges (Err fault) old new (Ok said) = ⊥
+Judges entry old new (Err line.OutOfMemory) = new ≡ old
+Judges entry old new (Err fault) = (new ≡ old) × (entry ≡ Err fault)
 
 -- the fault of a line of this number
 abbrev pub line_fault : ℕ → LineFault → CommandFault
 line_fault number line.OutOfMemory = OutOfMemory
 line_fault number fault = BadLine number fault
 
--- what is known behind a line that says this: it says a message, which is judged
-abbrev pub ChecksAs : Result LineSaid LineFault → CheckerParts → CheckerParts → Type 0
-ChecksAs (Ok said) old new =
-    new ≡ judged_after old (record { stamp = said.stamp; direction = said.direction }) (message_in said.message)
+-- what is known behind a line of which this is judged
+abbrev pub ChecksAs : Result (Option Entry) LineFault → CheckerParts → CheckerParts → Type 0
+ChecksAs (Ok entry) old new = new ≡ judged_after old entry
 ChecksAs (Err fault) old new = ⊥
 
 -- what is known behind a line: it is passed over, or says a message
-abbrev pub Checks : List ℕ → CheckerParts → CheckerParts → Type 0
-Checks text old new = MatchBool (is_passed_over text) (new ≡ old) (ChecksAs (line_said text) old new)
+abbrev pub Checks : Form → List ℕ → CheckerParts → CheckerParts → Type 0
+Checks form text old new = MatchBool (is_passed_over text) (new ≡ old) (ChecksAs (line_entry form text) old new)
 
 -- a line that is at fault is named, with its fault
-abbrev pub NamesBadLine : ℕ → List ℕ → CommandFault → Type 0
-NamesBadLine number text (BadLine at fault) = (at ≡ number) × (line_said text ≡ Err fault)
-NamesBadLine number text _ = Unit {0}
+abbrev pub NamesBadLine : Form → ℕ → List ℕ → CommandFault → Type 0
+NamesBadLine form number text (BadLine at fault) = (at ≡ number) × (line_entry form text ≡ Err fault)
+NamesBadLine form number text _ = Unit {0}
 
 -- what is printed of a line may want memory, or not be written
 abbrev pub IsOfPrinting : CommandFault → Type 0

@@ -1,2 +1,4 @@
 pub mod Fault
 pub mod Judge
+pub mod Shown
+pub mod Json

@@ -3,11 +3,22 @@ ghost use Rattle.std.specs.Prelude.{IfErr};
 ghost use Rattle.check_command.specs.Fault.{IsOfCommandLine};
 
 use crate::fault::CommandFault;
+use crate::form::Form;
 use clap::{Arg, ArgAction, Command};
+use fix_tags::CompId;
 use std::alloc::{AllocError, Global};
 use std::convert::AsStr;
 
 const LOG: &str = "LOG";
+
+const FROM: &str = "from";
+
+const DESK: &str = "desk";
+
+const JSON: &str = "json";
+
+/// The engines of others whose logs are read.
+static ENGINES: [&str; 1] = ["quickfix"];
 
 /// What stands behind the options in the help.
 const OUTPUT: &str = "\
@@ -23,6 +34,39 @@ The exit status is 0, or 8 where a rule is broken.
 Examples:
   dispatch check day/NYSE.log day/ARCA.log";
 
+/// What the words ask for.
+#[derive(Drop)]
+pub(crate) struct Request<'a> {
+    pub paths: Vec<&'a str>,
+    pub form: Form,
+    /// Whether JSON is printed in place of text.
+    pub is_json: bool,
+}
+
+fn from_arg<'a>(alloc: Global) -> Result<Arg<'a>, AllocError> {
+    Arg::new(alloc, FROM)
+        .long(FROM)
+        .value_name("ENGINE")
+        .help("whose logs they are, if not this program's")
+        .value_parser(ENGINES.as_slice())
+        .requires_arg(DESK)
+}
+
+fn desk_arg<'a>(alloc: Global) -> Result<Arg<'a>, AllocError> {
+    Arg::new(alloc, DESK)
+        .long(DESK)
+        .value_name("COMPID")
+        .help("the comp id of the desk, by which a log of another engine is read")
+        .requires_arg(FROM)
+}
+
+fn json_arg<'a>(alloc: Global) -> Arg<'a> {
+    Arg::new(alloc, JSON)
+        .long(JSON)
+        .help("prints an object of JSON for each line")
+        .action(ArgAction::SetTrue)
+}
+
 /// The command `check`.
 pub fn check_command<'a>(alloc: Global) -> Result<Command<'a>, AllocError> {
     Command::new(alloc, "check")
@@ -34,17 +78,43 @@ pub fn check_command<'a>(alloc: Global) -> Result<Command<'a>, AllocError> {
                 .action(ArgAction::Append)
                 .num_args(1..)
                 .required(true),
-        )
+        )?
+        .arg(from_arg(alloc)?)?
+        .arg(desk_arg(alloc)?)?
+        .arg(json_arg(alloc))
 }
 
-/// The logs that the words behind the command's name name.
-pub fn read_words<'a, S: AsStr>(alloc: Global, words: &'a [S]) -> Result<Vec<&'a str>, CommandFault>
+/// The form of the logs of a desk of this name, if one is given; else they are this program's.
+fn form_of(desk: Option<&str>) -> Result<Form, CommandFault>
+    ensures { IfErr result IsOfCommandLine }
+{
+    let Some(desk) = desk else {
+        return Ok(Form::Own);
+    };
+    match CompId::new(desk.as_bytes()) {
+        Some(desk) => Ok(Form::Quickfix { desk }),
+        None => Err(CommandFault::BadDesk),
+    }
+}
+
+/// What the words behind the command's name ask for.
+pub(crate) fn read_words<'a, S: AsStr>(
+    alloc: Global,
+    words: &'a [S],
+) -> Result<Request<'a>, CommandFault>
     ensures { IfErr result IsOfCommandLine }
 {
     let command = check_command(alloc)?.bin_name("dispatch check")?;
     let matches = command.try_get_matches_from(words)?;
-    match matches.get_strs(LOG) {
-        Some(paths) => Ok(Vec::from_slice(alloc, paths)?),
-        None => Ok(Vec::new(alloc)),
-    }
+    let form = form_of(matches.get_str(DESK))?;
+    let paths = match matches.get_strs(LOG) {
+        Some(paths) => Vec::from_slice(alloc, paths)?,
+        None => Vec::new(alloc),
+    };
+    let is_json = matches.get_flag(JSON);
+    Ok(Request {
+        paths,
+        form,
+        is_json,
+    })
 }

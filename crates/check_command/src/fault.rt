@@ -16,6 +16,9 @@ pub enum CommandFault {
     /// The words aren't those of the command line, or ask for help.
     #[error("{0}")]
     CommandLine(clap::Error),
+    /// The name of the desk isn't one.
+    #[error("--desk takes a comp id, 1 to 16 printable characters without spaces")]
+    BadDesk,
     /// This line of the log, counted from 1, says nothing.
     #[error("line {number}: {fault}")]
     BadLine { number: u64, fault: LineFault },
@@ -44,7 +47,7 @@ impl Fault for CommandFault {
 
     fn status(&self) -> u8 {
         match self {
-            CommandFault::CommandLine(_) => 2,
+            CommandFault::CommandLine(_) | CommandFault::BadDesk => 2,
             CommandFault::BadLine { .. } => 3,
             CommandFault::ReadFailed | CommandFault::WriteFailed => 4,
             CommandFault::OutOfMemory => 5,

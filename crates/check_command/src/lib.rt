@@ -3,12 +3,17 @@
 
 mod command;
 mod fault;
+mod finding;
+mod form;
 mod input;
+mod json;
 mod judge;
 mod log_check;
 mod print_log;
+mod shown;
 
 use crate::command::read_words;
+use crate::finding::Printing;
 use crate::print_log::print_log;
 pub use command::check_command;
 use command_line::tell;
@@ -45,13 +50,18 @@ fn check<F: Files, S: AsStr, W: Write>(
     words: &[S],
     out: &mut W,
 ) -> Result<bool, CommandFault> {
-    let paths = read_words(alloc, words)?;
+    let request = read_words(alloc, words)?;
     let mut is_broken = false;
-    for path in &paths {
+    for path in &request.paths {
         let Ok(mut input) = BufReader::new(alloc, open(files, path)?) else {
             return Err(CommandFault::OutOfMemory);
         };
-        if print_log(alloc, path, &mut input, out)? {
+        let printing = Printing {
+            log: path,
+            form: &request.form,
+            is_json: request.is_json,
+        };
+        if print_log(alloc, &printing, &mut input, out)? {
             is_broken = true;
         }
     }

@@ -3,10 +3,11 @@ ghost use Rattle.std.specs.Prelude.{◌≡◌, IfErr, OnOk};
 ghost use Rattle.check_command.specs.Judge.{Checks, IsOfPrinting, NamesBadLine};
 
 use crate::fault::CommandFault;
-use crate::judge::judge;
+use crate::finding::{Printing, finding, summary_of};
+use crate::judge::judge_line;
 use command_line::print;
-use log_rules::{Checker, RULES, Rule, Tally, Verdict};
-use log_text::{is_passed_over, read_line};
+use log_rules::{Checker, RULES, Tally, Verdict};
+use log_text::is_passed_over;
 use std::alloc::{AllocError, Global};
 use std::io::Write;
 
@@ -16,24 +17,6 @@ pub(crate) struct LogCheck {
     checker: Checker,
     message: Vec<u8>,
     tallies: [Tally; 14],
-}
-
-/// The rule that a line breaks, and the line.
-fn broken_text(alloc: Global, rule: Rule, number: u64, line: &[u8]) -> Result<Vec<u8>, AllocError> {
-    let (name, asks, section) = (rule.name(), rule.text(), rule.section());
-    let mut text = format!(in alloc; "line {number} {name}: {asks} ({section})\n  ")?.into_bytes();
-    text.extend_from_slice(line)?;
-    text.push(b'\n')?;
-    Ok(text)
-}
-
-/// How often a rule was held and broken.
-fn tally_text(alloc: Global, rule: Rule, tally: Tally) -> Result<String, AllocError> {
-    let (name, Tally { held, broken }) = (rule.name(), tally);
-    if held == 0 && broken == 0 {
-        return format!(in alloc; "rule {name} not seen\n");
-    }
-    format!(in alloc; "rule {name} held {held} broken {broken}\n")
 }
 
 impl LogCheck {
@@ -49,6 +32,7 @@ impl LogCheck {
     fn count<W: Write>(
         &mut self,
         alloc: Global,
+        printing: &Printing<'_>,
         number: u64,
         line: &[u8],
         verdicts: &[Verdict; 14],
@@ -61,7 +45,7 @@ impl LogCheck {
             let verdict = verdicts[place];
             self.tallies[place] = self.tallies[place].with(verdict);
             if verdict == Verdict::Broken {
-                print(&broken_text(alloc, RULES[place], number, line)?, out)?;
+                print(&finding(alloc, printing, RULES[place], number, line)?, out)?;
             }
         }
         Ok(())
@@ -71,30 +55,41 @@ impl LogCheck {
     pub(crate) fn check_line<W: Write>(
         &mut self,
         alloc: Global,
+        printing: &Printing<'_>,
         number: u64,
         line: &[u8],
         out: &mut W,
     ) -> Result<(), CommandFault>
-        ensures checker { OnOk result (Checks line.now self.old.checker self.new.checker) }
-        ensures named { IfErr result (NamesBadLine number line.now) }
+        ensures checker { OnOk result (Checks printing.now.form.now line.now self.old.checker self.new.checker) }
+        ensures named { IfErr result (NamesBadLine printing.now.form.now number line.now) }
     {
         if is_passed_over(line) {
             return Ok(());
         }
-        let said = match read_line(line, &mut self.message) {
-            Ok(said) => said,
+        let judged = judge_line(
+            alloc,
+            printing.form,
+            line,
+            &mut self.message,
+            &mut self.checker,
+        );
+        let verdicts = match judged {
+            Ok(verdicts) => verdicts,
             Err(fault) => return Err(CommandFault::of_line(number, fault)),
         };
-        let verdicts = judge(alloc, &said, self.message.as_slice(), &mut self.checker)?;
-        self.count(alloc, number, line, &verdicts, out)
+        self.count(alloc, printing, number, line, &verdicts, out)
     }
 
     /// A line for each rule.
-    pub(crate) fn summary(&self, alloc: Global) -> Result<Vec<u8>, AllocError> {
+    pub(crate) fn summary(
+        &self,
+        alloc: Global,
+        printing: &Printing<'_>,
+    ) -> Result<Vec<u8>, AllocError> {
         let mut text = Vec::new(alloc);
         for place in 0..14 {
-            let line = tally_text(alloc, RULES[place], self.tallies[place])?;
-            text.extend_from_slice(line.as_bytes())?;
+            let line = summary_of(alloc, printing, RULES[place], self.tallies[place])?;
+            text.extend_from_slice(&line)?;
         }
         Ok(text)
     }

@@ -1,6 +1,7 @@
 //! What is printed of a log.
 
 use crate::fault::CommandFault;
+use crate::finding::Printing;
 use crate::input::{read_text, without_end};
 use crate::log_check::LogCheck;
 use command_line::print;
@@ -10,6 +11,7 @@ use std::io::{BufRead, Write};
 /// Checks the lines of a log, and prints the rules that they break.
 fn check_lines<R: BufRead, W: Write>(
     alloc: Global,
+    printing: &Printing<'_>,
     input: &mut R,
     out: &mut W,
 ) -> Result<LogCheck, CommandFault> {
@@ -19,7 +21,7 @@ fn check_lines<R: BufRead, W: Write>(
         if !read_text(input, &mut line)? {
             return Ok(log);
         }
-        log.check_line(alloc, number, without_end(&line), out)?;
+        log.check_line(alloc, printing, number, without_end(&line), out)?;
     }
     Err(CommandFault::ReadFailed)
 }
@@ -27,12 +29,15 @@ fn check_lines<R: BufRead, W: Write>(
 /// Prints the rules that the lines of a log break, and then a line for each rule. Answers whether one is broken.
 pub(crate) fn print_log<R: BufRead, W: Write>(
     alloc: Global,
-    path: &str,
+    printing: &Printing<'_>,
     input: &mut R,
     out: &mut W,
 ) -> Result<bool, CommandFault> {
-    print(format!(in alloc; "log {path}\n")?.as_bytes(), out)?;
-    let log = check_lines(alloc, input, out)?;
-    print(&log.summary(alloc)?, out)?;
+    if !printing.is_json {
+        let path = printing.log;
+        print(format!(in alloc; "log {path}\n")?.as_bytes(), out)?;
+    }
+    let log = check_lines(alloc, printing, input, out)?;
+    print(&log.summary(alloc, printing)?, out)?;
     Ok(log.is_broken())
 }

@@ -1,3 +1,4 @@
 mod Booked
-mod Places
 mod LegsInDoubt
+mod NoMismatch
+mod Places

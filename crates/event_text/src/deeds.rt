@@ -1,175 +1,111 @@
 //! What an event did.
 
-use crate::before::{AtVenue, Before};
-use crate::note_text::{answer_text, note_text};
-use dialect::Dialect;
-use leg::Sweep;
-use replay::{Told, World};
-use share_ledger::BookEntry;
-use std::alloc::{AllocError, Global};
-use sweep_release::DeskEntry;
-use world_text::phase_name;
+ghost use Rattle.std.specs.Prelude.{◌≡◌, [], IfOk, OnOk};
+ghost use Rattle.event_text.specs.Deeds.{placed_phrases, refused_phrases};
+ghost use Rattle.event_text.specs.Says.{says};
+ghost use Rattle.event_text.specs.Step.{IsStepText, SaidAt, or_idle, settled_now};
 
-/// What an event did, in words: what it wrote, sent, dropped, withdrew and booked, why it ended a connection, or
-/// `nothing`. It compares the world before the event with that after it; `told` is what the event told besides. The
-/// only refusal is want of memory.
-pub fn print_deeds<D: Dialect + Drop>(
+use crate::at_venue_text::{say_book, say_desk, say_exchange, say_session, say_written};
+use crate::before::{AtVenue, Before};
+use crate::idle_text::IdleText;
+use crate::refusal_text::RefusalText;
+use crate::say::say;
+use crate::settled::Settled;
+use dialect::Dialect;
+use replay::{Refusal, Told, World};
+use std::alloc::{AllocError, Global};
+
+/// What an event did, in words. It compares the world before the event with that after it; `told` is what the event
+/// told besides, and `settled` which legs were told as settled. The only refusal is want of memory.
+pub(crate) fn print_deeds<D: Dialect + Drop>(
     alloc: Global,
     before: &Before,
     world: &World<D>,
-    told: Told,
-) -> Result<String, AllocError> {
-    let mut deeds = Deeds {
-        alloc,
-        text: String::new(alloc),
-    };
-    deeds.add_desk(before, world)?;
-    deeds.add_book(before, world)?;
-    if let Some(at) = &before.at {
-        deeds.add_note(at, world, told)?;
-        deeds.add_frames(at, world)?;
-        deeds.add_phase(at, world)?;
+    told: &Told,
+    settled: &mut Settled,
+) -> Result<Vec<u8>, AllocError>
+    ensures text { IfOk result (λ text. IsStepText settled.old before.now world.now told.now text.items) }
+    ensures settled { OnOk result (settled.new ≡ settled_now world.now settled.old before.now.at) }
+{
+    let mut text = Vec::new(alloc);
+    say_placed(alloc, &mut text, told.placed)?;
+    say_at(alloc, &mut text, before, world, told, settled)?;
+    say_refused(alloc, &mut text, &told.refused)?;
+    if text.is_empty() {
+        return why_idle(alloc, before, world);
     }
-    deeds.add_ending(told)?;
-    deeds.finish()
+    Ok(text)
 }
 
-/// The words for what was done so far.
-#[derive(Drop)]
-struct Deeds {
+/// Says the sweep that was placed, if one was.
+fn say_placed(alloc: Global, text: &mut Vec<u8>, placed: Option<u64>) -> Result<(), AllocError>
+    ensures { OnOk result (text.new.items ≡ says text.old.items (placed_phrases placed)) }
+{
+    match placed {
+        Some(number) => say(
+            text,
+            format!(in alloc; "sweep {number} released")?.as_bytes(),
+        ),
+        None => Ok(()),
+    }
+}
+
+/// Says what was done at the event's venue, if it is at one.
+fn say_at<D: Dialect + Drop>(
     alloc: Global,
-    text: String,
+    text: &mut Vec<u8>,
+    before: &Before,
+    world: &World<D>,
+    told: &Told,
+    settled: &mut Settled,
+) -> Result<(), AllocError>
+    ensures said { OnOk result (SaidAt settled.old before.now world.now told.now text.old.items text.new.items
+        before.now.at) }
+    ensures settled { OnOk result (settled.new ≡ settled_now world.now settled.old before.now.at) }
+{
+    let Some(at) = &before.at else {
+        return Ok(());
+    };
+    say_desk(alloc, text, at, world, told)?;
+    settled.say(alloc, text, world, at.venue)?;
+    say_book(alloc, text, before, at, world, told)?;
+    say_exchange(alloc, text, at, world)?;
+    say_written(alloc, text, at, world)?;
+    say_session(alloc, text, at, world, told)
 }
 
-impl Deeds {
-    fn add(&mut self, deed: &str) -> Result<(), AllocError> {
-        if !self.text.is_empty() {
-            self.text.push_str("; ")?;
+/// Says why a call was refused, if one was.
+fn say_refused(
+    alloc: Global,
+    text: &mut Vec<u8>,
+    refused: &Option<Refusal>,
+) -> Result<(), AllocError>
+    ensures { OnOk result (text.new.items ≡ says text.old.items (refused_phrases refused.now)) }
+{
+    match refused {
+        Some(refusal) => {
+            let refusal = RefusalText(refusal);
+            say(text, format!(in alloc; "{refusal}")?.as_bytes())
         }
-        self.text.push_str(deed)
+        None => Ok(()),
     }
+}
 
-    /// The gates that moved, the sweep that was released and the leg that left.
-    fn add_desk<D: Dialect + Drop>(
-        &mut self,
-        before: &Before,
-        world: &World<D>,
-    ) -> Result<(), AllocError> {
-        for entry in world.desk().history().iter().skip(before.desk_entries) {
-            match entry {
-                DeskEntry::Released(sweep) => self.add_release(world, sweep)?,
-                DeskEntry::Up(_) => self.add("gate up")?,
-                DeskEntry::Down(_) => self.add("gate down")?,
-                DeskEntry::Shut(_) => self.add("gate shut")?,
-                DeskEntry::Taken(_) => self.add_leg(before, "taken")?,
-                DeskEntry::Dropped(_) => self.add_leg(before, "dropped")?,
-            }
-        }
-        Ok(())
-    }
-
-    fn add_release<D: Dialect + Drop>(
-        &mut self,
-        world: &World<D>,
-        sweep: &Sweep,
-    ) -> Result<(), AllocError> {
-        // The legs that a sweep has at a venue are the last ones released to it.
-        let Some(routed) = sweep.legs.as_slice().first() else {
-            return Ok(());
-        };
-        let Some(leg) = world.released(routed.venue).last() else {
-            return Ok(());
-        };
-        let number = leg.id.sweep();
-        self.add(&format!(in self.alloc; "sweep {number} released")?)
-    }
-
-    fn add_leg(&mut self, before: &Before, fate: &str) -> Result<(), AllocError> {
-        let Some(at) = &before.at else {
-            return Ok(());
-        };
-        let Some(leg) = at.next_leg else {
-            return Ok(());
-        };
-        self.add(&format!(in self.alloc; "{leg} {fate}")?)
-    }
-
-    /// The legs that were withdrawn.
-    fn add_book<D: Dialect + Drop>(
-        &mut self,
-        before: &Before,
-        world: &World<D>,
-    ) -> Result<(), AllocError> {
-        for entry in world.book().history().iter().skip(before.book_entries) {
-            if let BookEntry::Withdrawn(leg) = entry {
-                self.add(&format!(in self.alloc; "{leg} withdrawn")?)?;
-            }
-        }
-        Ok(())
-    }
-
-    /// The note that was given to the book, with its answer.
-    fn add_note<D: Dialect + Drop>(
-        &mut self,
-        at: &AtVenue,
-        world: &World<D>,
-        told: Told,
-    ) -> Result<(), AllocError> {
-        let Some(answer) = told.answer else {
-            return Ok(());
-        };
-        let answer = answer_text(answer);
-        for note in world.given(at.venue).iter().skip(at.notes) {
-            let note = note_text(self.alloc, note)?;
-            self.add(&format!(in self.alloc; "{note}: {answer}")?)?;
-        }
-        Ok(())
-    }
-
-    /// The frames that were written.
-    fn add_frames<D: Dialect + Drop>(
-        &mut self,
-        at: &AtVenue,
-        world: &World<D>,
-    ) -> Result<(), AllocError> {
-        for frame in at.frames_to..world.frames_to(at.venue).len() {
-            self.add(&format!(in self.alloc; "frame to {} {} written", at.venue, frame + 1)?)?;
-        }
-        for frame in at.frames_from..world.frames_from(at.venue).len() {
-            self.add(&format!(in self.alloc; "frame from {} {} written", at.venue, frame + 1)?)?;
-        }
-        Ok(())
-    }
-
-    /// The session's phase, if it is another now.
-    fn add_phase<D: Dialect + Drop>(
-        &mut self,
-        at: &AtVenue,
-        world: &World<D>,
-    ) -> Result<(), AllocError> {
-        let now = world.phase(at.venue);
-        if now == at.phase {
-            return Ok(());
-        }
-        let Some(phase) = now else {
-            return Ok(());
-        };
-        let phase = phase_name(phase);
-        self.add(&format!(in self.alloc; "session {phase}")?)
-    }
-
-    /// Why the connection ended.
-    fn add_ending(&mut self, told: Told) -> Result<(), AllocError> {
-        let Some(ended) = told.ended else {
-            return Ok(());
-        };
-        self.add(&format!(in self.alloc; "connection ended: {ended}")?)
-    }
-
-    fn finish(mut self) -> Result<String, AllocError> {
-        if self.text.is_empty() {
-            self.text.push_str("nothing")?;
-        }
-        Ok(self.text)
-    }
+/// Why nothing came of an event.
+fn why_idle<D: Dialect + Drop>(
+    alloc: Global,
+    before: &Before,
+    world: &World<D>,
+) -> Result<Vec<u8>, AllocError>
+    ensures { IfOk result (λ text. text.items ≡ or_idle before.now.at before.now.idle world.now []) }
+{
+    let (Some(AtVenue { venue, .. }), Some(idle)) = (before.at, before.idle) else {
+        return Ok(String::from_str(alloc, "nothing")?.into_bytes());
+    };
+    let idle = IdleText {
+        session: world.session_expects(venue),
+        exchange: world.exchange_expects(venue),
+        idle,
+    };
+    Ok(format!(in alloc; "{idle}")?.into_bytes())
 }

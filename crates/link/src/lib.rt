@@ -2,6 +2,7 @@
 #![tactic(auto)]
 
 mod bell;
+mod dial_error;
 mod got;
 mod link;
 mod link_fault;
@@ -11,6 +12,7 @@ mod tcp_link;
 mod whole;
 
 pub use bell::Bell;
+pub use dial_error::{DialError, LastDial};
 pub use got::Got;
 pub use link::Link;
 pub use link_fault::LinkFault;

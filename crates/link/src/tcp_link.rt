@@ -3,15 +3,18 @@
 ghost use Rattle.std.specs.Prelude.{◌≡◌, length, IfOk};
 ghost use Rattle.link.specs.Counts.{Fits};
 
+use crate::dial_error::LastDial;
 use crate::got::Got;
 use crate::link::Link;
 use crate::link_fault::LinkFault;
 use crate::poller::Poller;
 use crate::rest::Rest;
 use mio::net::TcpStream;
+use std::alloc::Global;
 use std::io;
 use std::io::{ErrorKind, Read, Write};
 use std::net::{Net, Shutdown, SocketAddr};
+use std::sync::Arc;
 use std::time::{Clock, Duration, Instant};
 
 /// How many seconds a dial waits for an answer.
@@ -38,6 +41,7 @@ pub struct TcpLink<'a, N: Net + Clock> {
     // Whether a byte may be there that the poller won't tell of again.
     may_read: bool,
     faults: u64,
+    last_dial: Option<Arc<LastDial, Global>>,
 }
 
 impl<'a, N: Net + Clock> TcpLink<'a, N> {
@@ -53,7 +57,15 @@ impl<'a, N: Net + Clock> TcpLink<'a, N> {
             stream: None,
             may_read: false,
             faults: 0,
+            last_dial: None,
         }
+    }
+
+    /// From now on it tells there why a dial failed.
+    pub fn tell_on(&mut self, last_dial: Arc<LastDial, Global>)
+        ensures { self.new.faults ≡ self.old.faults }
+    {
+        self.last_dial = Some(last_dial);
     }
 
     /// Reads what is there.
@@ -160,7 +172,12 @@ impl<'a, N: Net + Clock> Link for TcpLink<'a, N> {
                 self.may_read = true;
                 Ok(())
             }
-            Err(_) => Err(LinkFault::counted(&mut self.faults)),
+            Err(error) => {
+                if let Some(last_dial) = &self.last_dial {
+                    last_dial.note(error.kind());
+                }
+                Err(LinkFault::counted(&mut self.faults))
+            }
         }
     }
 

@@ -4,6 +4,8 @@ use Rattle.std.specs.List.{flat_map}
 use Rattle.world_text.specs.SweepLine.{shares_line}
 use Rattle.live_day.specs.declared.day.LiveDay.{LiveDay}
 use Rattle.live_day.specs.declared.day.LiveSweep.{LiveSweep}
+use Rattle.live_day.specs.declared.day.LiveVenue.{LiveVenue}
+use Rattle.session_worker.specs.declared.day_report.DayReport.{DayReport}
 
 -- the line of a sweep
 abbrev pub sweep_line : LiveSweep → List ℕ
@@ -13,7 +15,29 @@ sweep_line sweep = shares_line sweep.number sweep.shares (Some sweep.totals)
 abbrev pub sweep_lines : List LiveSweep → List ℕ
 sweep_lines sweeps = flat_map sweep_line sweeps
 
--- and then how many sweeps were given up, and what the audit told
+-- the line of a venue: how often its session was connected, and how many of its legs stay in doubt
+abbrev pub venue_line : LiveVenue → List ℕ
+venue_line venue =
+    codes "venue " ++ decimal venue.number
+    ++ codes " connections " ++ decimal venue.connections
+    ++ codes " doubt " ++ decimal venue.doubts ++ 10 ∷ []
+
+-- a line for each venue
+abbrev pub venue_lines : List LiveVenue → List ℕ
+venue_lines venues = flat_map venue_line venues
+
+-- the shares of all sweeps placed: those that are filled, busted, cancelled or withdrawn, and those that are open
+abbrev pub report_line : DayReport → List ℕ
+report_line report =
+    codes "day placed " ++ decimal report.placed
+    ++ codes " resolved " ++ decimal report.resolved
+    ++ codes " open " ++ decimal report.still_open ++ 10 ∷ []
+
+-- the lines of the sweeps and of the venues, how many sweeps were given up, the shares, and what the audit told
 abbrev pub day_text : LiveDay → List ℕ
 day_text day =
-    sweep_lines day.sweeps.items ++ codes "unplaced " ++ decimal day.unplaced ++ 10 ∷ codes "audit ok" ++ 10 ∷ []
+    sweep_lines day.sweeps.items
+    ++ venue_lines day.venues.items
+    ++ codes "unplaced " ++ decimal day.unplaced ++ 10 ∷ []
+    ++ report_line day.report
+    ++ codes "audit ok" ++ 10 ∷ []

@@ -26,9 +26,10 @@ pub use text::day_text;
 
 /// Runs `dispatch live` on its words, of which the first is the command's own name.
 ///
-/// It runs the day that the options ask for, and writes a line for each sweep, how many were given up, and that the
-/// audit found nothing wrong; faults go to `err`, and that no exchange answered is one. While the day runs `progress`
-/// is told how far it is. The answer is the exit status: 0, or that of the fault.
+/// It runs the day that the options ask for, and writes a line for each sweep and for each venue, how many sweeps were
+/// given up, the shares of all, and that the audit found nothing wrong; faults go to `err`, and that no exchange
+/// answered is one. While the day runs `progress` is told how far it is. The answer is the exit status: 0, or that of
+/// the fault.
 pub fn live_run<S, R, P, W, E>(
     rt: &R,
     alloc: Global,

@@ -1,20 +1,24 @@
 //! What `dispatch live` prints.
 ghost use Rattle.std.specs.Prelude.{◌≡◌, ◌++◌, IfOk, OnOk, string_bytes};
-ghost use Rattle.live_command.specs.LiveText.{day_text, sweep_lines};
+ghost use Rattle.live_command.specs.LiveText.{day_text, report_line, sweep_lines, venue_line, venue_lines};
 
-use live_day::{LiveDay, LiveSweep};
+use live_day::{LiveDay, LiveSweep, LiveVenue};
+use session_worker::DayReport;
 use std::alloc::{AllocError, Global};
 use world_text::write_sweep_line;
 
-/// The text of a day: a line for each sweep, how many were given up, and that the audit found nothing wrong. The only
-/// refusal is want of memory.
+/// The text of a day: a line for each sweep and for each venue, how many sweeps were given up, the shares of all, and
+/// that the audit found nothing wrong. The only refusal is want of memory.
 pub fn day_text(alloc: Global, day: &LiveDay) -> Result<Vec<u8>, AllocError>
     ensures { IfOk result (λ text. text.items ≡ day_text day.now) }
 {
     let mut text = String::new(alloc);
     write_sweeps(&mut text, day.sweeps.as_slice())?;
+    write_venues(&mut text, day.venues.as_slice())?;
     let unplaced = day.unplaced;
-    write!(text, "unplaced {unplaced}\naudit ok\n")?;
+    write!(text, "unplaced {unplaced}\n")?;
+    write_report(&mut text, &day.report)?;
+    write!(text, "audit ok\n")?;
     Ok(text.into_bytes())
 }
 
@@ -26,4 +30,44 @@ fn write_sweeps(text: &mut String, sweeps: &[LiveSweep]) -> Result<(), AllocErro
         write_sweep_line(text, sweep.number, sweep.shares, Some(sweep.totals))?;
     }
     Ok(())
+}
+
+/// Appends the lines of venues.
+fn write_venues(text: &mut String, venues: &[LiveVenue]) -> Result<(), AllocError>
+    ensures { OnOk result (string_bytes text.new ≡ string_bytes text.old ++ venue_lines venues.now) }
+{
+    for venue in venues {
+        write_venue(text, *venue)?;
+    }
+    Ok(())
+}
+
+/// Appends the line of a venue.
+fn write_venue(text: &mut String, venue: LiveVenue) -> Result<(), AllocError>
+    ensures { OnOk result (string_bytes text.new ≡ string_bytes text.old ++ venue_line venue) }
+{
+    let LiveVenue {
+        number,
+        connections,
+        doubts,
+    } = venue;
+    write!(
+        text,
+        "venue {number} connections {connections} doubt {doubts}\n"
+    )
+}
+
+/// Appends the line of the shares of a day.
+fn write_report(text: &mut String, report: &DayReport) -> Result<(), AllocError>
+    ensures { OnOk result (string_bytes text.new ≡ string_bytes text.old ++ report_line report.now) }
+{
+    let DayReport {
+        placed,
+        resolved,
+        still_open,
+    } = *report;
+    write!(
+        text,
+        "day placed {placed} resolved {resolved} open {still_open}\n"
+    )
 }

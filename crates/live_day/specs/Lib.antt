@@ -1,3 +1,4 @@
 pub mod Faults
 pub mod Sweeps
+pub mod Venues
 pub mod Day

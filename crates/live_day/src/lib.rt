@@ -17,9 +17,10 @@ mod running;
 mod signals;
 mod sweeps;
 mod threads;
+mod venues;
 mod workers;
 
-pub use day::{LiveDay, LiveSweep};
+pub use day::{LiveDay, LiveSweep, LiveVenue};
 pub use live_fault::LiveFault;
 pub use live_plan::LivePlan;
 pub use progress::{Progress, SoFar};

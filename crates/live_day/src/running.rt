@@ -18,6 +18,7 @@ use crate::floor::Floor;
 use crate::signals::Signals;
 use crate::sweeps::booked_sweeps;
 use crate::threads::{Cast, Ended, in_threads};
+use crate::venues::left_venues;
 use crate::workers::new_workers;
 use crate::{LiveDay, LiveFault, LivePlan, Progress};
 use exec_collector::Collector;
@@ -145,9 +146,11 @@ fn told<K: Link, L: Run, M: Ledger>(
     let (seats, unplaced) = parted(alloc, callers)?;
     let sweeps = collector.read(rt, |book: &Book| booked_sweeps(alloc, book))?;
     let is_answered = workers.iter().any(|end| end.session.next_in() > 1);
+    let venues = left_venues(alloc, workers.as_slice())?;
     let report = audited(alloc, lock, collector, seats, workers)?;
     Ok(LiveDay {
         sweeps,
+        venues,
         unplaced,
         is_answered,
         report,

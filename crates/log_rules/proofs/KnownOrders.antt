@@ -1,6 +1,6 @@
 -- An order that was sent stays known by its id.
-use Rattle.std.proofs.Common.{◌≡◌, ℕ, zero, suc, Bool, true, false, ◌&&◌, ◌⊎◌, inl, inr, List, [], ◌∷◌, ◌++◌, map, refl, ap, ◌∙◌}
-use Rattle.std.specs.Prelude.{Option, Some, None, is_some, option_and_then, slice_get, nat_le, nat_lt, if◌then◌else◌}
+use Rattle.std.proofs.Common.{◌≡◌, ℕ, Bool, true, false, ◌&&◌, ◌⊎◌, inl, inr, List, [], ◌∷◌, ◌++◌, refl, ap, ◌∙◌}
+use Rattle.std.specs.Prelude.{Option, Some, None, is_some, option_and_then, slice_get, nat_le, if◌then◌else◌}
 use Rattle.std.specs.Str.{bytes_eq}
 use Rattle.std.proofs.lemmas.Slice.Eq.{bytes_eq-Decides}
 use Rattle.message_log.specs.declared.direction.Direction.{Direction}
@@ -10,9 +10,10 @@ use Rattle.log_rules.specs.declared.report_said.ReportSaid.{ReportSaid}
 use Rattle.log_rules.specs.declared.says.Says.{Says}
 use Rattle.log_rules.specs.declared.says.Says.TheVariants.{Logon, ResendRequest, Order, Report}
 use Rattle.log_rules.specs.declared.standing.Standing.{Standing}
-use Rattle.log_rules.specs.Ledger.{LedgerParts, changed_at, changed_with, newest_of, newest_order, order_changed, order_of, report_under, with_order, with_report, with_sums, withdrawn_from}
-use Rattle.log_rules.specs.Order.{OrderParts, new_order, reported, summed_up, withdrawn_by}
+use Rattle.log_rules.specs.Ledger.{LedgerParts, changed_at, changed_with, newest_of, newest_order, order_of, report_under, with_order, with_report, with_sums, withdrawn_from}
+use Rattle.log_rules.specs.Order.{OrderParts, new_order, reported, withdrawn_by}
 use Rattle.log_rules.specs.Standing.{is_due}
+use Rattle.log_rules.proofs.KeepsIds.{newest_changed, newest_mapped, summed_keeps, withdrawn_keeps}
 
 -- there is an order of an id
 abbrev pub Known : List OrderParts → List ℕ → Type 0
@@ -47,38 +48,6 @@ known_last : (orders : List OrderParts) (o : OrderParts) (id : List ℕ) → byt
 known_last [] o id same = some_here None (bytes_eq o.id id) same
 known_last (x ∷ xs) o id same =
     some_later (newest_order (xs ++ o ∷ []) id) (bytes_eq x.id id) (known_last xs o id same)
-
--- a change keeps the ids
-abbrev pub KeepsIds : (OrderParts → OrderParts) → Type 0
-KeepsIds change = (o : OrderParts) → (change o).id ≡ o.id
-
-pub newest_mapped : (change : OrderParts → OrderParts) (orders : List OrderParts) (id : List ℕ) → KeepsIds change
-    → newest_order (map change orders) id ≡ newest_order orders id
-newest_mapped change [] id keeps = refl
-newest_mapped change (o ∷ os) id keeps =
-    ap (λ later. newest_of later (bytes_eq (change o).id id)) (newest_mapped change os id keeps)
-    ∙ ap (λ text. newest_of (newest_order os id) (bytes_eq text id)) (keeps o)
-
-pub newest_changed : (change : OrderParts → OrderParts) (place : ℕ) (orders : List OrderParts) (id : List ℕ) → KeepsIds change
-    → newest_order (order_changed change place orders) id ≡ newest_order orders id
-newest_changed change place [] id keeps = refl
-newest_changed change zero (o ∷ os) id keeps =
-    ap (λ text. newest_of (newest_order os id) (bytes_eq text id)) (keeps o)
-newest_changed change (suc place) (o ∷ os) id keeps =
-    ap (λ later. newest_of later (bytes_eq o.id id)) (newest_changed change place os id keeps)
-
-withdrawn_if : (is_withdrawn : Bool) (o : OrderParts)
-    → (if is_withdrawn then record o { is_withdrawn = true } else o).id ≡ o.id
-withdrawn_if true o = refl
-withdrawn_if false o = refl
-
-pub withdrawn_keeps : (settled expected : ℕ) → KeepsIds (withdrawn_by settled expected)
-withdrawn_keeps settled expected o = withdrawn_if (nat_lt settled o.number && nat_le expected o.number) o
-
-pub summed_keeps : (cum leaves : Option ℕ) → KeepsIds (summed_up cum leaves)
-summed_keeps (Some cum) (Some leaves) o = refl
-summed_keeps (Some cum) None o = refl
-summed_keeps None leaves o = refl
 
 -- of two ledgers, whichever it is
 either : (is_first : Bool) (a b : LedgerParts) (id : List ℕ) → (is_first ≡ true → Known a.orders id)

@@ -1,4 +1,7 @@
-pub mod Newest
+pub mod TextKeys
+pub mod KeepsIds
+pub mod NewestKept
+pub mod FirstReport
 pub mod Partly
 pub mod ChangedAt
 pub mod KnownOrders

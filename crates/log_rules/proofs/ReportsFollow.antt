@@ -19,7 +19,8 @@ use Rattle.log_rules.specs.Order.{OrderParts, new_order, reported, withdrawn_by}
 use Rattle.log_rules.specs.Runs.{FollowOrders, IsOn, IsOneOf, ReportKnown, sent_id}
 use Rattle.log_rules.specs.Standing.{is_due}
 use Rattle.log_rules.specs.Verdict.{held_if}
-use Rattle.log_rules.proofs.KnownOrders.{Known, later_or_here, newest_changed, newest_mapped, some_before, some_here, some_later, summed_keeps, withdrawn_keeps}
+use Rattle.log_rules.proofs.KeepsIds.{newest_changed, newest_mapped, summed_keeps, withdrawn_keeps}
+use Rattle.log_rules.proofs.KnownOrders.{Known, later_or_here, some_before, some_here, some_later}
 
 -- an order that is known with one more was known before, or is that one
 known_or_last : (orders : List OrderParts) (o : OrderParts) (id : List ℕ) → Known (orders ++ o ∷ []) id

@@ -7,7 +7,9 @@ pub mod SessionRules
 pub mod ExchangeRules
 pub mod Order
 pub mod KeptReport
+pub mod Places
 pub mod Ledger
+pub mod Kept
 pub mod LedgerRules
 pub mod Checker
 pub mod Runs

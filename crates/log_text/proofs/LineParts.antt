@@ -7,7 +7,7 @@ use Rattle.message_log.specs.declared.direction.Direction.{Direction}
 use Rattle.log_text.specs.Line.{ReadsLine, direction_said, line_said, said_at_places}
 use Rattle.log_text.specs.Message.{ReadsMessage, message_said}
 use Rattle.log_text.specs.declared.fault.LineFault.{LineFault}
-use Rattle.log_text.specs.declared.fault.LineFault.TheVariants.{Short, Time, Direction as NoDirection, Byte, Escape, OutOfMemory}
+use Rattle.log_text.specs.declared.fault.LineFault.TheVariants.{Short, Time, Direction as NoDirection, Byte, Escape, Mark, Parties, OutOfMemory}
 
 -- all that stands behind a place
 pub rest_at : (place : ℕ) (line : List ℕ) → take (length line - place) (drop place line) ≡ drop place line
@@ -43,4 +43,7 @@ reads_fault line message stamp direction NoDirection long first second last =
     fault_of_parts line stamp direction NoDirection long first second last
 reads_fault line message stamp direction Byte long first second last = fault_of_parts line stamp direction Byte long first second last
 reads_fault line message stamp direction Escape long first second last = fault_of_parts line stamp direction Escape long first second last
+reads_fault line message stamp direction Mark long first second last = fault_of_parts line stamp direction Mark long first second last
+reads_fault line message stamp direction Parties long first second last =
+    fault_of_parts line stamp direction Parties long first second last
 reads_fault line message stamp direction OutOfMemory long first second last = tt

@@ -15,6 +15,10 @@ pub enum LineFault {
     Byte,
     #[error("a backslash before what no log has behind one")]
     Escape,
+    #[error("no ' : ' behind its time")]
+    Mark,
+    #[error("a message that is neither from the desk nor to it")]
+    Parties,
     #[error("out of memory")]
     OutOfMemory,
 }

@@ -10,10 +10,10 @@ use fix_tags::{Stamp, read_stamp};
 use message_log::Direction;
 
 /// The length of `YYYYMMDD-HH:MM:SS.sss`.
-const STAMP_LEN: usize = 21;
+pub(crate) const STAMP_LEN: usize = 21;
 
-/// The length of a stamp with the direction behind it, where the message begins.
-const HEAD_LEN: usize = 24;
+/// The length of a stamp with the mark behind it.
+pub(crate) const HEAD_LEN: usize = 24;
 
 /// When a message was logged, and which way it went.
 #[derive(Clone, Copy, Debug)]

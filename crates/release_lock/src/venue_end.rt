@@ -3,7 +3,7 @@
 ghost use Rattle.std.specs.Prelude.{◌≡◌};
 
 use crate::{Run, VenueDrain};
-use leg::PlacedLeg;
+use leg::{PlacedLeg, VenueId};
 use std::marker::Model;
 
 /// What a venue's worker gives back: its drain, and all that it popped, in order. Contracts see the venue and the legs.
@@ -31,6 +31,13 @@ impl<L: Run> VenueEnd<L> {
         ensures { result ≡ record { venue = drain.venue; taken = taken.items } }
     {
         VenueEnd { drain, taken }
+    }
+
+    /// The venue.
+    pub fn venue(&self) -> VenueId
+        ensures { result ≡ self.now.venue }
+    {
+        self.drain.venue()
     }
 
     /// The legs, in order.

@@ -1,8 +1,9 @@
 -- The calls of a session as events of the world, from what became of the venue.
-use Rattle.std.proofs.Common.{◌≡◌, ℕ, ◌<◌, Bool, true, false, length, Some, Ok, Err, sym, ap, ◌∙◌, if◌then◌else◌}
+use Rattle.std.proofs.Common.{◌≡◌, ℕ, ◌<◌, Bool, true, false, length, Some, None, Ok, Err, refl, sym, ap, ◌∙◌, if◌then◌else◌}
 use Rattle.std.proofs.Math.ListN.{get_or}
 use Rattle.std.specs.Prelude.{OnOk, Result}
 use Rattle.std.specs.Result.{is_ok}
+use Rattle.session_core.specs.declared.session_fault.SessionFault.{SessionFault}
 use Rattle.session_core.specs.Turn.{StepParts}
 use Rattle.session_core.specs.Calling.{SessionAnswer, connect, quiet, silent, close}
 use Rattle.session_core.specs.Onward.{OrUnchanged, IsCall}
@@ -12,6 +13,8 @@ use Rattle.schedule.specs.declared.event.Event.{Event}
 use Rattle.schedule.specs.declared.event.Event.TheVariants as event
 use Rattle.schedule.specs.World.{World, VenueParts, venue_in}
 use Rattle.schedule.specs.Happening.{with_venue, may_connect, connected_world, called_world, closed_world, connects, act_of, acted_world, happens}
+use Rattle.sweep_release.specs.Desk.{shut}
+use Rattle.venue_replay.specs.Ending.{refusal_of}
 use Rattle.venue_replay.specs.AtVenue.{sent, called, acted}
 use Rattle.venue_replay.proofs.ExchangeActs.{act_in_live, acted_is}
 use Rattle.venue_replay.proofs.WorldAfter.{at_there, is_there, with_same, connected_is, called_is}
@@ -26,7 +29,7 @@ at_index w i v before now Now e (Ok done) same low is becomes so =
 at_index w i v before now Now e (Err fault) same low is becomes so = tt
 
 -- a test that holds
-chosen_true : {A : Type 0} (b : Bool) (x y : A) → b ≡ true → (if b then x else y) ≡ x
+pub chosen_true : {A : Type 0} (b : Bool) (x y : A) → b ≡ true → (if b then x else y) ≡ x
 chosen_true b x y is = ap (λ (t : Bool). if t then x else y) is
 
 -- the session was called
@@ -66,13 +69,34 @@ closes_not w v before (Ok step, session) there keeps ok = absurd cc
 closes_not w v before (Err fault, session) there keeps ok =
     (λ k. with_venue w v (record before { session = keeps k })) ∙ with_same w v before there
 
-pub close_refused : (w : World) (v : ℕ) (before now : VenueParts) → venue_in w v ≡ Some before
-    → is_ok (close before.session).0 ≡ false
+not_ok : {X F After : Type 0} (answer : Result X F × After) (fault : F) → Some fault ≡ refusal_of answer
+    → is_ok answer.0 ≡ false
+not_ok (Ok said, after) fault is = absurd cc
+not_ok (Err refused, after) fault is = refl
+
+pub close_refused : (w : World) (v : ℕ) (before now : VenueParts) (fault : SessionFault) → venue_in w v ≡ Some before
+    → Some fault ≡ refusal_of (close before.session)
     → now ≡ called before (close before.session)
     → with_venue w v now ≡ happens w (event.Close v)
-close_refused w v before now there ok is =
+close_refused w v before now fault there refused is =
     ap (with_venue w v) is
-    ∙ (closes_not w v before (close before.session) there (close_keeps before.session) ok
+    ∙ (closes_not w v before (close before.session) there (close_keeps before.session)
+    (not_ok (close before.session) fault refused)
+    ∙ sym (at_there w v before (λ venue. closed_world w v venue (close venue.session)) there))
+
+-- and where it isn't, the gate is shut
+closes : (w : World) (v : ℕ) (before : VenueParts) (answer : SessionAnswer StepParts) → None ≡ refusal_of answer
+    → with_venue (record w { desk = shut w.desk v }) v (called before answer) ≡ closed_world w v before answer
+closes w v before (Ok step, session) not_refused = refl
+closes w v before (Err fault, session) not_refused = absurd cc
+
+pub close_happens : (w : World) (v : ℕ) (before now : VenueParts) → venue_in w v ≡ Some before
+    → None ≡ refusal_of (close before.session)
+    → now ≡ called before (close before.session)
+    → with_venue (record w { desk = shut w.desk v }) v now ≡ happens w (event.Close v)
+close_happens w v before now there not_refused is =
+    ap (with_venue (record w { desk = shut w.desk v }) v) is
+    ∙ (closes w v before (close before.session) not_refused
     ∙ sym (at_there w v before (λ venue. closed_world w v venue (close venue.session)) there))
 
 -- the exchange acts

@@ -4,3 +4,4 @@ pub mod DispatcherHappens
 pub mod Nowhere
 pub mod Theorem
 mod Tells
+mod Placed

@@ -5,17 +5,13 @@ use Rattle.std.specs.Option.{option_map_or}
 use Rattle.std.proofs.lemmas.Bool.Decides.{nat_tests}
 use Rattle.std.proofs.lemmas.Option.{slice_get_past}
 use Rattle.schedule.specs.declared.event.Event.{Event}
-use Rattle.session_core.specs.Calling.{silent}
-use Rattle.leg.specs.Numbered.{numbered}
-use Rattle.schedule.specs.World.{World, VenueParts, venue_in}
+use Rattle.schedule.specs.World.{World, VenueParts, of_venue, venue_in}
 use Rattle.schedule.specs.Happening.{happens}
 use Rattle.schedule.specs.Growing.{named}
 use Rattle.schedule.specs.declared.event.Event.TheVariants as event
 use Rattle.schedule.proofs.Happened.{absent_unchanged}
 use Rattle.replay.specs.declared.told.Told.{Told}
-use Rattle.venue_replay.specs.Hearing.{turn_on}
-use Rattle.replay.specs.Telling.{nothing_told, told_by, told}
-use Rattle.venue_replay.specs.Ending.{ending_of}
+use Rattle.replay.specs.Telling.{nothing_told, told}
 
 pub nowhere : (w : World) (e : Event) (v : ℕ) → named e ≡ Some v → nat_lt v (length w.venues) ≡ false → w ≡ happens w e
 nowhere w e v names gone =
@@ -23,27 +19,26 @@ nowhere w e v names gone =
     sym (absent_unchanged w e v names (slice_get_past w.venues v past))
 
 -- and tells nothing
+of_nowhere : (w : World) (u v : ℕ) (f : VenueParts → Told) → u ≡ v → venue_in w v ≡ None
+    → nothing_told ≡ of_venue w u nothing_told f
+of_nowhere w u v f same gone =
+    sym (ap (λ (venue : Option VenueParts). option_map_or f venue nothing_told) (ap (venue_in w) same ∙ gone))
+
 told_nowhere : (w : World) (e : Event) (v : ℕ) → named e ≡ Some v → venue_in w v ≡ None → nothing_told ≡ told w e
-told_nowhere w (event.Release sweep) v names gone = refl
-told_nowhere w (event.GateUp u) v names gone = refl
+told_nowhere w (event.Release sweep) v names gone = absurd cc
+told_nowhere w (event.GateUp u) v names gone = let same : u ≡ v = cc in of_nowhere w u v _ same gone
 told_nowhere w (event.GateDown u) v names gone = refl
 told_nowhere w (event.Drop u) v names gone = refl
-told_nowhere w (event.Take u) v names gone = refl
-told_nowhere w (event.Connect u) v names gone = refl
+told_nowhere w (event.Take u) v names gone = let same : u ≡ v = cc in of_nowhere w u v _ same gone
+told_nowhere w (event.Connect u) v names gone = let same : u ≡ v = cc in of_nowhere w u v _ same gone
 told_nowhere w (event.ToExchange u frame) v names gone = refl
-told_nowhere w (event.ToDispatcher u frame) v names gone =
-    let same : u ≡ v = cc in
-    let absent : venue_in w u ≡ None = ap (venue_in w) same ∙ gone in
-    sym (ap (λ (venue : Option VenueParts). option_map_or (λ (there : VenueParts). told_by w u (turn_on there (numbered frame there.from_exchange))) venue nothing_told) absent)
+told_nowhere w (event.ToDispatcher u frame) v names gone = let same : u ≡ v = cc in of_nowhere w u v _ same gone
 told_nowhere w (event.Break u) v names gone = refl
 told_nowhere w (event.ExchangeBreak u) v names gone = refl
-told_nowhere w (event.Act u act) v names gone = refl
-told_nowhere w (event.Quiet u) v names gone = refl
-told_nowhere w (event.Silent u) v names gone =
-    let same : u ≡ v = cc in
-    let absent : venue_in w u ≡ None = ap (venue_in w) same ∙ gone in
-    sym (ap (λ (venue : Option VenueParts). record { answer = None; ended = option_map_or (λ (there : VenueParts). ending_of (silent there.session)) venue None }) absent)
-told_nowhere w (event.Close u) v names gone = refl
+told_nowhere w (event.Act u act) v names gone = let same : u ≡ v = cc in of_nowhere w u v _ same gone
+told_nowhere w (event.Quiet u) v names gone = let same : u ≡ v = cc in of_nowhere w u v _ same gone
+told_nowhere w (event.Silent u) v names gone = let same : u ≡ v = cc in of_nowhere w u v _ same gone
+told_nowhere w (event.Close u) v names gone = let same : u ≡ v = cc in of_nowhere w u v _ same gone
 told_nowhere w (event.Abandon u) v names gone = refl
 
 pub nothing_is_told : (w : World) (e : Event) (v : ℕ) → named e ≡ Some v → nat_lt v (length w.venues) ≡ false

@@ -7,6 +7,7 @@ use Rattle.leg.specs.LegId.{LegIdParts}
 use Rattle.leg.specs.declared.leg.Leg.{Leg}
 use Rattle.leg.specs.declared.placed_leg.PlacedLeg.{PlacedLeg}
 use Rattle.dialect.specs.declared.message.Message.{Message}
+use Rattle.session_core.specs.declared.session_fault.SessionFault.{SessionFault}
 use Rattle.session_core.specs.declared.session_fault.SessionFault.TheVariants as fault
 use Rattle.session_core.specs.Session.{SessionParts}
 use Rattle.session_core.specs.Calling.{SessionAnswer, send_leg}
@@ -18,9 +19,14 @@ use Rattle.sweep_release.specs.Desk as desk
 use Rattle.schedule.specs.declared.event.Event.TheVariants as event
 use Rattle.schedule.specs.World.{World, VenueParts, venue_in}
 use Rattle.schedule.specs.Happening.{with_venue, is_session_up, sent_world, taken_world, takes, happens}
+use Rattle.venue_replay.specs.declared.sending.Sending.{Sending}
 use Rattle.venue_replay.specs.declared.sending.Sending.TheVariants.{Sent, NumbersSpent, Refused}
 use Rattle.venue_replay.specs.AtVenue.{sent}
+use Rattle.venue_replay.specs.Ending.{refusal_of}
 use Rattle.venue_replay.specs.Taking.{leg_to_send, outcome_of}
+use Rattle.replay.specs.declared.told.Told.{Told}
+use Rattle.replay.specs.Telling.{by_session, nothing_told, told, told_of_leg}
+use Rattle.replay.proofs.Tells.{told_here}
 use Rattle.venue_replay.proofs.WorldAfter.{at_there, with_same}
 
 -- which leg can be sent at a venue that is there
@@ -73,17 +79,17 @@ unsent : (w : World) (v : ℕ) (venue : VenueParts) (session : SessionParts) →
 unsent w v venue session same there = (λ k. with_venue w v (record venue { session = same k })) ∙ with_same w v venue there
 
 refused_is : (w : World) (d : DeskParts) (v : ℕ) (venue : VenueParts) (id : LegIdParts) (answer : SessionAnswer Message)
-    (Does : Message → SessionParts → Type 0) → Refused ≡ outcome_of answer → OrUnchanged venue.session Does answer
+    (Does : Message → SessionParts → Type 0) (why : SessionFault) → Refused why ≡ outcome_of answer → OrUnchanged venue.session Does answer
     → venue_in w v ≡ Some venue
     → with_venue w v (sent venue answer) ≡ sent_world w d v venue id answer
-refused_is w d v venue id (Ok message, session) Does is keeps there = absurd cc
-refused_is w d v venue id (Err fault.NumbersSpent, session) Does is keeps there = absurd cc
-refused_is w d v venue id (Err fault.NotDown, session) Does is keeps there = unsent w v venue session keeps there
-refused_is w d v venue id (Err fault.Closed, session) Does is keeps there = unsent w v venue session keeps there
-refused_is w d v venue id (Err fault.OutOfMemory, session) Does is keeps there = unsent w v venue session keeps there
-refused_is w d v venue id (Err fault.NotUp, session) Does is keeps there = unsent w v venue session keeps there
-refused_is w d v venue id (Err fault.OrdinalNotGreater, session) Does is keeps there = unsent w v venue session keeps there
-refused_is w d v venue id (Err fault.NotConnected, session) Does is keeps there = unsent w v venue session keeps there
+refused_is w d v venue id (Ok message, session) Does why is keeps there = absurd cc
+refused_is w d v venue id (Err fault.NumbersSpent, session) Does why is keeps there = absurd cc
+refused_is w d v venue id (Err fault.NotDown, session) Does why is keeps there = unsent w v venue session keeps there
+refused_is w d v venue id (Err fault.Closed, session) Does why is keeps there = unsent w v venue session keeps there
+refused_is w d v venue id (Err fault.OutOfMemory, session) Does why is keeps there = unsent w v venue session keeps there
+refused_is w d v venue id (Err fault.NotUp, session) Does why is keeps there = unsent w v venue session keeps there
+refused_is w d v venue id (Err fault.OrdinalNotGreater, session) Does why is keeps there = unsent w v venue session keeps there
+refused_is w d v venue id (Err fault.NotConnected, session) Does why is keeps there = unsent w v venue session keeps there
 
 -- the desk keeps its venues
 one_left_count : (v : ℕ) (d : DeskParts) → length (one_left v d).venues ≡ length d.venues
@@ -126,10 +132,36 @@ module _ (w : World) (v : ℕ) (before now : VenueParts) (placed : PlacedLeg) (t
       (SendsLeg before.session placed.ordinal placed.leg) outcome (send_leg_keeps before.session placed.ordinal placed.leg) there
       ∙ then_happens)
 
-  pub take_refused : Refused ≡ outcome_of (send_leg before.session placed.ordinal placed.leg)
+  pub take_refused : (why : SessionFault) → Refused why ≡ outcome_of (send_leg before.session placed.ordinal placed.leg)
       → with_venue w v now ≡ happens w (event.Take v)
-  take_refused outcome =
+  take_refused why outcome =
       ap (with_venue w v) is
       ∙ (refused_is w (desk.take w.desk v).1 v before placed.leg.id (send_leg before.session placed.ordinal placed.leg)
-      (SendsLeg before.session placed.ordinal placed.leg) outcome (send_leg_keeps before.session placed.ordinal placed.leg) there
+      (SendsLeg before.session placed.ordinal placed.leg) why outcome (send_leg_keeps before.session placed.ordinal placed.leg) there
       ∙ then_happens)
+
+-- what is told of it, by what became of it
+abbrev refusal_in : Sending → Option SessionFault
+refusal_in Sent = None
+refusal_in NumbersSpent = Some fault.NumbersSpent
+refusal_in (Refused why) = Some why
+
+refused_in : (answer : SessionAnswer Message) → refusal_in (outcome_of answer) ≡ refusal_of answer
+refused_in (Ok message, session) = refl
+refused_in (Err fault.NotDown, session) = refl
+refused_in (Err fault.Closed, session) = refl
+refused_in (Err fault.NumbersSpent, session) = refl
+refused_in (Err fault.OutOfMemory, session) = refl
+refused_in (Err fault.NotUp, session) = refl
+refused_in (Err fault.OrdinalNotGreater, session) = refl
+refused_in (Err fault.NotConnected, session) = refl
+
+pub told_of_sending : (w : World) (v : ℕ) (before : VenueParts) (placed : PlacedLeg) → venue_in w v ≡ Some before
+    → leg_to_send w v ≡ Some placed
+    → (outcome : Sending) → outcome ≡ outcome_of (send_leg before.session placed.ordinal placed.leg)
+    → by_session (refusal_in outcome) ≡ told w (event.Take v)
+told_of_sending w v before placed there next outcome is =
+    ap (λ (one : Sending). by_session (refusal_in one)) is
+    ∙ (ap by_session (refused_in (send_leg before.session placed.ordinal placed.leg))
+    ∙ (sym (ap (told_of_leg before) next)
+    ∙ told_here w v before (λ venue. told_of_leg venue (leg_to_send w v)) there))

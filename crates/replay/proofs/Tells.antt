@@ -6,7 +6,7 @@ use Rattle.session_core.specs.Turn.{Turn}
 use Rattle.share_ledger.specs.declared.applied.Applied.{Applied}
 use Rattle.share_ledger.specs.Book.{answer_to}
 use Rattle.schedule.specs.declared.event.Event.TheVariants as event
-use Rattle.schedule.specs.World.{World, VenueParts, venue_in}
+use Rattle.schedule.specs.World.{World, VenueParts, of_venue, venue_in}
 use Rattle.schedule.specs.Happening.{withdrawn_in}
 use Rattle.venue_replay.specs.declared.news.News.{News}
 use Rattle.replay.specs.declared.told.Told.{Told}
@@ -34,17 +34,22 @@ tells_nothing w v n before there says =
 of_turn : (w : World) (v : ℕ) (turn : Option Turn) (news : News) (answer : Option Applied)
     → Some news ≡ option_map news_of turn
     → answer ≡ option_map (answer_to (withdrawn_in w.book news.withdrawn) v) news.note
-    → record { answer = answer; ended = news.ended } ≡ told_by w v turn
+    → record nothing_told { answer = answer; ended = news.ended } ≡ told_by w v turn
 of_turn w v None news answer says is = absurd cc
 of_turn w v (Some turn) news answer says is =
     let same : news ≡ news_of turn = cc in
     let ended : news.ended ≡ turn.step.ended = ap (λ (n : News). n.ended) same in
     let answers = is ∙ ap (λ (n : News). option_map (answer_to (withdrawn_in w.book n.withdrawn) v) n.note) same in
-    λ k. record { answer = answers k; ended = ended k }
+    λ k. record nothing_told { answer = answers k; ended = ended k }
 
 pub tells : (w : World) (v n : ℕ) (before : VenueParts) (news : News) (answer : Option Applied) → venue_in w v ≡ Some before
     → Some news ≡ option_map news_of (turn_on before (numbered n before.from_exchange))
     → answer ≡ option_map (answer_to (withdrawn_in w.book news.withdrawn) v) news.note
-    → record { answer = answer; ended = news.ended } ≡ told w (event.ToDispatcher v n)
+    → record nothing_told { answer = answer; ended = news.ended } ≡ told w (event.ToDispatcher v n)
 tells w v n before news answer there says is =
     of_turn w v (turn_on before (numbered n before.from_exchange)) news answer says is ∙ sym (told_at w v n before there)
+
+-- what is told of a venue that is there
+pub told_here : (w : World) (v : ℕ) (venue : VenueParts) (f : VenueParts → Told) → venue_in w v ≡ Some venue
+    → f venue ≡ of_venue w v nothing_told f
+told_here w v venue f there = sym (ap (λ (o : Option VenueParts). option_map_or f o nothing_told) there)

@@ -131,6 +131,36 @@ impl<D: Dialect + Drop> World<D> {
         }
     }
 
+    /// How many connections the session of a venue had, with the present one; 0 where there is no such venue.
+    pub fn connection(&self, venue: VenueId) -> u64
+        ensures { result ≡ of_venue self.now venue 0 (λ at. at.session.connection) }
+    {
+        match self.venue(venue) {
+            Some(venue) => venue.connection(),
+            None => 0,
+        }
+    }
+
+    /// The number that the session of a venue expects of the exchange's next message; 0 where there is no such venue.
+    pub fn session_expects(&self, venue: VenueId) -> u64
+        ensures { result ≡ of_venue self.now venue 0 (λ at. at.session.expected) }
+    {
+        match self.venue(venue) {
+            Some(venue) => venue.session_expects(),
+            None => 0,
+        }
+    }
+
+    /// The number that the exchange of a venue expects of the session's next message; 0 where there is no such venue.
+    pub fn exchange_expects(&self, venue: VenueId) -> u64
+        ensures { result ≡ of_venue self.now venue 0 (λ at. at.exchange.expected) }
+    {
+        match self.venue(venue) {
+            Some(venue) => venue.exchange_expects(),
+            None => 0,
+        }
+    }
+
     /// How many venues there are, at most 16.
     pub fn venues(&self) -> usize
         ensures value { result ≡ length self.now.venues }

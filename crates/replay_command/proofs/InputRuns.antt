@@ -5,12 +5,14 @@ use Rattle.std.specs.Option.{option_to_list}
 use Rattle.std.specs.Io.BufRead.{take_through, drop_through}
 use Rattle.schedule.specs.declared.event.Event.{Event}
 use Rattle.schedule.specs.World.{World}
-use Rattle.schedule.specs.Happening.{happen, happens}
+use Rattle.schedule.specs.Happening.{happen}
 use Rattle.schedule.specs.Script.{events_of_lines, lines_of, script_of_lines}
 use Rattle.script.specs.Reading.{said_by}
 use Rattle.script.proofs.EventsSoFar.{by_line, events_by_line, onto}
 use Rattle.replay_command.specs.declared.fault.CommandFault.{CommandFault}
 use Rattle.replay_command.specs.declared.fault.CommandFault.TheVariants.{CommandLine, BadLine, NoFile, ReadFailed, WriteFailed, OutOfMemory}
+use Rattle.replay_command.specs.declared.day.Day.{Day}
+use Rattle.replay_command.specs.Steps.{day_after}
 use Rattle.replay_command.specs.Stream.{IsOfInput, IsOfRun, ReadsLine, Checks, GivesEvent, RunsLine, RunsLines, IsFaultOf}
 use Rattle.replay_command.proofs.InputLines.{next_line}
 
@@ -75,7 +77,7 @@ ran steps number now after (Some said) (Err fault) (Ok events) line runs =
 ran steps number now after (Some said) (Err fault) (Err bad) line runs = runs
 
 -- what a line that was read says comes first
-said_first : (venues number : ℕ) (rest read line : List ℕ) (lines : List (List ℕ)) (behind : Option (List ℕ))
+pub said_first : (venues number : ℕ) (rest read line : List ℕ) (lines : List (List ℕ)) (behind : Option (List ℕ))
     → ReadsLine true read behind rest → lines_of read ≡ line ∷ lines
     → events_of_lines venues number (lines_of rest)
     ≡ by_line number (said_by venues line) (events_of_lines venues (number + 1) (lines_of (drop_through 10 rest)))
@@ -137,14 +139,14 @@ pub line_not_given : (steps : Bool) (number : ℕ) (now after : World) (said : O
 line_not_given steps number now after None fault is = is
 line_not_given steps number now after (Some said) fault is = subst (IsOfRun steps) (sym is) tt
 
-pub event_runs : (steps : Bool) (number : ℕ) (now after : World) (said : Option (Option Event)) (event : Event)
+pub event_runs : (steps : Bool) (number : ℕ) (now after : Day) (said : Option (Option Event)) (event : Event)
     (result : Result (Unit {0}) CommandFault) → steps ≡ true → GivesEvent (Ok (Some event)) number said
-    → OnOk result (after ≡ happens now event) → IfErr result (IsOfRun true)
-    → RunsLine steps result number now after said
-event_runs steps number now after None event result on gives happens only = absurd gives
-event_runs steps number now after (Some said) event (Ok done) on gives happens only =
-    happens ∙ ap (λ (e : Option Event). happen (option_to_list e) now) gives
-event_runs steps number now after (Some said) event (Err fault) on gives happens only =
+    → OnOk result (after ≡ day_after now event) → IfErr result (IsOfRun true)
+    → RunsLine steps result number now.world after.world said
+event_runs steps number now after None event result on gives happened only = absurd gives
+event_runs steps number now after (Some said) event (Ok done) on gives happened only =
+    ap (λ (day : Day). day.world) happened ∙ ap (λ (e : Option Event). happen (option_to_list e) now.world) gives
+event_runs steps number now after (Some said) event (Err fault) on gives happened only =
     subst (λ (b : Bool). IsOfRun b fault) (sym on) only
 
 -- the same of lines that are read and not run

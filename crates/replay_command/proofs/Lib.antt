@@ -2,4 +2,5 @@ pub mod Grown
 pub mod InputBegins
 pub mod InputLines
 pub mod InputRuns
+pub mod StepsPrinted
 pub mod DayEnds

@@ -1,4 +1,5 @@
 pub mod Fault
 pub mod Asked
+pub mod Steps
 pub mod Stream
 pub mod Running

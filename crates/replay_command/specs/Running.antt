@@ -2,7 +2,7 @@
 use Rattle.std.specs.Prelude.{◌≡◌, ◌⊎◌, ℕ, List, true, Option, IfSome, is_none, Result, Ok, Err}
 use Rattle.std.specs.Io.KnownBytes.{Keeps}
 use Rattle.clap.specs.declared.parser.matches.ArgMatches.{ArgMatches}
-use Rattle.schedule.specs.Script.{ScriptParts, script_of}
+use Rattle.schedule.specs.Script.{script_of}
 use Rattle.command_line.specs.ExitStatus.{exit_status}
 use Rattle.replay_command.specs.declared.asked.Asked.{Asked}
 use Rattle.replay_command.specs.declared.asked.Task.{Task}
@@ -12,11 +12,10 @@ use Rattle.replay_command.specs.Asked.{IsAsked}
 use Rattle.replay_command.specs.Fault.{IsOfCommandLine, fault_status}
 use Rattle.replay_command.specs.Stream.{EndsCheck, EndsRun}
 
--- how what is asked for ends on a text that says this script, or has this first bad line
-abbrev pub EndsTask : Task → Option (List ℕ) → Option (List ℕ) → Result ScriptParts ℕ → {A : Type 0}
-    → Result A CommandFault → Type 0
-EndsTask Check before after said done = EndsCheck before after said done
-EndsTask (Run shown) before after said done = EndsRun shown before after said done
+-- how what is asked for ends on a text
+abbrev pub EndsTask : Task → Option (List ℕ) → Option (List ℕ) → List ℕ → {A : Type 0} → Result A CommandFault → Type 0
+EndsTask Check before after text done = EndsCheck before after (script_of text) done
+EndsTask (Run shown) before after text done = EndsRun shown text before after (script_of text) done
 
 -- the words are refused, and nothing is printed
 abbrev pub IsRefused : Option (List ℕ) → Option (List ℕ) → {A : Type 0} → Result A CommandFault → Type 0
@@ -27,7 +26,7 @@ IsRefused before after (Err fault) = IsOfCommandLine fault × Keeps before after
 abbrev pub EndsAsked : Option (List ℕ) → Option (List ℕ) → Option (List ℕ) → Asked → {A : Type 0}
     → Result A CommandFault → Type 0
 EndsAsked input before after asked done =
-    is_none asked.file ≡ true → IfSome input (λ bytes. EndsTask asked.task before after (script_of bytes) done)
+    is_none asked.file ≡ true → IfSome input (λ bytes. EndsTask asked.task before after bytes done)
 
 -- how a run ends: its words are refused, or it does what they ask for
 abbrev pub EndsReplay : Option (List ℕ) → Option (List ℕ) → Option (List ℕ) → {A : Type 0} → Result A CommandFault

@@ -1,5 +1,5 @@
 -- What becomes of a script that is read and run line by line.
-use Rattle.std.specs.Prelude.{◌≡◌, ℕ, ◌<◌, Bool, true, false, ◌||◌, List, [], ◌∷◌, ◌++◌, length, codes, Option, Some, None, Result, Ok, Err}
+use Rattle.std.specs.Prelude.{◌≡◌, ℕ, ◌<◌, Bool, true, false, List, [], ◌∷◌, ◌++◌, length, codes, Option, Some, None, IfSome, Result, Ok, Err}
 use Rattle.std.specs.Option.{option_to_list}
 use Rattle.std.specs.Io.BufRead.{take_through, drop_through}
 use Rattle.std.specs.Io.KnownBytes.{Appends, Keeps}
@@ -13,6 +13,7 @@ use Rattle.replay_command.specs.declared.fault.CommandFault.{CommandFault}
 use Rattle.replay_command.specs.declared.fault.CommandFault.TheVariants.{BadLine, ReadFailed, WriteFailed, OutOfMemory}
 use Rattle.replay_command.specs.declared.begun.Begun.{Begun}
 use Rattle.replay_command.specs.declared.shown.Shown.{Shown}
+use Rattle.replay_command.specs.Steps.{AreStepsOf, event_lines, said_lines}
 
 -- the input can't be read, or not be kept
 abbrev pub IsOfInput : CommandFault → Type 0
@@ -45,6 +46,10 @@ abbrev pub Begins : Result Begun CommandFault → Option (List ℕ) → Result S
 Begins (Ok begun) left script = (rest : List ℕ) × (left ≡ Some rest)
     × (script ≡ with_events begun.head (events_of_lines (length begun.head.venues) begun.number (lines_of rest)))
 Begins (Err fault) left script = IsFaultOf false fault script
+
+-- the lines behind the first are those that are left
+abbrev pub LeavesLines : Begun → Option (List ℕ) → List ℕ → Type 0
+LeavesLines begun left text = IfSome left (λ rest. event_lines text ≡ said_lines begun.number (lines_of rest))
 
 -- what a line says is given: nothing, where it is passed over, or its event; or it is bad
 abbrev pub GivesEvent : Result (Option Event) CommandFault → ℕ → Option (Option Event) → Type 0
@@ -91,20 +96,30 @@ last_lines false w = printed w
 abbrev pub replayed : Bool → ScriptParts → List ℕ
 replayed summary script = last_lines summary (run script.next script.max_number script.events)
 
--- lines are printed last, and nothing before them unless steps or frames are shown
-abbrev pub PrintsLast : Shown → Option (List ℕ) → Option (List ℕ) → List ℕ → Type 0
-PrintsLast shown before after lines =
-    (text : List ℕ) × Appends before after text × ShowsLast (shown.steps || shown.frames) text lines
+-- the steps are printed, where they are shown
+abbrev pub StepsShown : Bool → ScriptParts → List ℕ → List ℕ → Type 0
+StepsShown true script text steps = AreStepsOf script text steps
+StepsShown false script text steps = steps ≡ []
 
--- how a run on an input ends, by the bytes that the output held before and holds after: the world or its sums are printed
--- last, or the first bad line is named. Only the input, memory and the output can fail besides, and nothing is printed but where steps
--- are shown or the output fails
-abbrev pub EndsRun : Shown → Option (List ℕ) → Option (List ℕ) → Result ScriptParts ℕ → {A : Type 0} → Result A CommandFault
-    → Type 0
-EndsRun shown before after (Ok script) (Ok done) = PrintsLast shown before after (replayed shown.summary script)
-EndsRun shown before after (Err line) (Ok done) = ⊥
-EndsRun shown before after (Ok script) (Err WriteFailed) = Unit {0}
-EndsRun shown before after said (Err fault) =
+-- the steps are printed first, where they are shown, and these lines last; between them stand frames, where those are
+-- shown
+abbrev pub PrintsDay : Shown → ScriptParts → List ℕ → Option (List ℕ) → Option (List ℕ) → List ℕ → Type 0
+PrintsDay shown script text before after lines =
+    (steps : List ℕ) × (rest : List ℕ) × Appends before after (steps ++ rest)
+    × StepsShown shown.steps script text steps
+    × ShowsLast shown.frames rest lines
+
+-- how a run on a text ends, by the script that it says or its first bad line, and by the bytes that the output held
+-- before and holds after: the steps are printed where they are shown, and then the world or its sums; or the first bad
+-- line is named. Only the input, memory and the output can fail besides, and nothing is printed but where steps are
+-- shown or the output fails
+abbrev pub EndsRun : Shown → List ℕ → Option (List ℕ) → Option (List ℕ) → Result ScriptParts ℕ → {A : Type 0}
+    → Result A CommandFault → Type 0
+EndsRun shown text before after (Ok script) (Ok done) =
+    PrintsDay shown script text before after (replayed shown.summary script)
+EndsRun shown text before after (Err line) (Ok done) = ⊥
+EndsRun shown text before after (Ok script) (Err WriteFailed) = Unit {0}
+EndsRun shown text before after said (Err fault) =
     IsFaultOf shown.steps fault said × (shown.steps ≡ false → Keeps before after)
 
 -- how a check of an input ends: it is told that the text is a script, or the first bad line is named. Only the input,

@@ -53,7 +53,7 @@ pub fn replay_command<'a>(alloc: Global) -> Result<Command<'a>, AllocError> {
         .arg(flag(
             alloc,
             STEPS,
-            "first prints each event, as it happens, with what it did",
+            "first prints each event, as it happens, with what it did or why it did nothing",
         ))?
         .arg(flag(
             alloc,

@@ -1,9 +1,9 @@
 //! A day that runs, line by line.
-ghost use Rattle.std.specs.Prelude.{◌≡◌, ◌≤◌, false, true, IfErr, IfSome, OnOk};
-ghost use Rattle.schedule.specs.Happening.{happens};
+ghost use Rattle.std.specs.Prelude.{◌≡◌, ◌≤◌, ◌<◌, ◌+◌, ◌-◌, ◌^◌, ℕ, List, false, true, IfErr, IfOk, IfSome, OnOk};
+ghost use Rattle.std.specs.Io.KnownBytes.{Appends};
 ghost use Rattle.schedule.specs.Script.{events_of_lines, lines_of, script_of};
 ghost use Rattle.script.specs.Reading.{said_by};
-ghost use Rattle.command_line.specs.Output.{Grows};
+ghost use Rattle.replay_command.specs.Steps.{AreDeeds, PrintsLine, PrintsLines, PrintsSteps, dawn, day_after, step_line};
 ghost use Rattle.replay_command.specs.Stream.{IsOfRun, RunsLine, RunsLines, RunsScript};
 
 use crate::begun::{Begun, begin};
@@ -12,35 +12,65 @@ use crate::fault::CommandFault;
 use crate::input::read_line;
 use command_line::print;
 use dialect::AnyDialect;
-use event_text::{Before, print_deeds};
+use event_text::{Settled, tell_event};
 use replay::World;
 use schedule::Event;
 use script::{Line, first_line};
-use std::alloc::Global;
+use std::alloc::{AllocError, Global};
 use std::io::{BufRead, Write};
 
-/// A day that runs: its world, and how many events it had.
+/// A day that runs: its world, how many events it had, and which legs were told as settled.
 #[derive(Drop)]
 struct Day {
     world: World<AnyDialect>,
     events: u64,
+    settled: Settled,
 }
 
-/// Prints an event, as `3 line 7 take 0: S1L1 taken`.
-fn print_step<W: Write>(
+impl Day {
+    /// A day before its first event.
+    fn new(world: World<AnyDialect>) -> Day
+        ensures { result ≡ dawn world }
+    {
+        Day {
+            world,
+            events: 0,
+            settled: Settled::new(),
+        }
+    }
+}
+
+/// A step, as `3 line 7 drop 0: S1L1 dropped`, with its end.
+fn step_line(
     alloc: Global,
     number: u64,
     line: &Line<'_>,
-    deeds: &str,
-    out: &mut W,
-) -> Result<(), CommandFault>
-    ensures out { OnOk result (Grows (W.contents out.old) (W.contents out.new)) }
-    ensures only { IfErr result (IsOfRun true) }
+    deeds: &[u8],
+) -> Result<Vec<u8>, AllocError>
+    ensures { IfOk result (λ text. text.items ≡ step_line number line.now.number line.now.text.now deeds.now) }
 {
     let place = line.number;
     let mut text = format!(in alloc; "{number} line {place} ")?.into_bytes();
     text.extend_from_slice(line.text)?;
-    text.extend_from_slice(format!(in alloc; ": {deeds}\n")?.as_bytes())?;
+    text.extend_from_slice(b": ")?;
+    text.extend_from_slice(deeds)?;
+    text.extend_from_slice(b"\n")?;
+    Ok(text)
+}
+
+/// Prints a step.
+fn print_step<W: Write>(
+    alloc: Global,
+    number: u64,
+    line: &Line<'_>,
+    deeds: &[u8],
+    out: &mut W,
+) -> Result<(), CommandFault>
+    ensures out { OnOk result (Appends (W.contents out.old) (W.contents out.new)
+        (step_line number line.now.number line.now.text.now deeds.now)) }
+    ensures only { IfErr result (IsOfRun true) }
+{
+    let text = step_line(alloc, number, line, deeds)?;
     Ok(print(&text, out)?)
 }
 
@@ -52,14 +82,15 @@ fn run_step<W: Write>(
     day: &mut Day,
     out: &mut W,
 ) -> Result<(), CommandFault>
-    ensures world { OnOk result (day.new.world ≡ happens day.old.world event) }
-    ensures out { OnOk result (Grows (W.contents out.old) (W.contents out.new)) }
+    requires room { day.old.events < 2 ^ 64 - 1 }
+    ensures day { OnOk result (day.new ≡ day_after day.old event) }
+    ensures step { OnOk result ((deeds : List ℕ) × AreDeeds day.old event deeds
+        × Appends (W.contents out.old) (W.contents out.new)
+        (step_line (day.old.events + 1) line.now.number line.now.text.now deeds)) }
     ensures only { IfErr result (IsOfRun true) }
 {
-    day.events = day.events.saturating_add(1);
-    let before = Before::of(&day.world, &event);
-    let told = day.world.happen(event)?;
-    let deeds = print_deeds(alloc, &before, &day.world, told)?;
+    day.events += 1;
+    let deeds = tell_event(alloc, &mut day.world, event, &mut day.settled)?;
     print_step(alloc, day.events, line, &deeds, out)
 }
 
@@ -74,9 +105,12 @@ fn run_line<W: Write>(
 ) -> Result<(), CommandFault>
     requires low { 1 ≤ venues }
     requires high { venues ≤ 16 }
+    requires room { day.old.events < 2 ^ 64 - 1 }
     ensures runs { RunsLine steps result line.now.number day.old.world day.new.world
         (said_by venues line.now.text.now) }
-    ensures out { OnOk result (Grows (W.contents out.old) (W.contents out.new)) }
+    ensures count { OnOk result (day.new.events ≤ day.old.events + 1) }
+    ensures prints { steps ≡ true → OnOk result (PrintsLine day.old day.new line.now.number line.now.text.now
+        (said_by venues line.now.text.now) (W.contents out.old) (W.contents out.new)) }
     ensures kept { steps ≡ false → out.new ≡ out.old }
 {
     let Some(event) = event_of_line(alloc, venues, line.number, line.text)? else {
@@ -105,10 +139,12 @@ fn run_lines<R: BufRead, W: Write>(
     requires high { venues ≤ 16 }
     ensures world { IfSome (R.remaining input.old) (λ bytes.
         RunsLines steps result world (events_of_lines venues first (lines_of bytes))) }
-    ensures out { OnOk result (Grows (W.contents out.old) (W.contents out.new)) }
+    ensures prints { steps ≡ true → OnOk result (IfSome (R.remaining input.old) (λ bytes.
+        PrintsLines (dawn world) first (lines_of bytes) (events_of_lines venues first (lines_of bytes))
+        (W.contents out.old) (W.contents out.new))) }
     ensures kept { steps ≡ false → out.new ≡ out.old }
 {
-    let mut day = Day { world, events: 0 };
+    let mut day = Day::new(world);
     for number in first..u64::MAX {
         if !read_line(input, buffer)? {
             return Ok(day.world);
@@ -131,7 +167,8 @@ pub fn run_input<R: BufRead, W: Write>(
     out: &mut W,
 ) -> Result<World<AnyDialect>, CommandFault>
     ensures world { IfSome (R.remaining input.old) (λ bytes. RunsScript steps result (script_of bytes)) }
-    ensures out { OnOk result (Grows (W.contents out.old) (W.contents out.new)) }
+    ensures prints { steps ≡ true → OnOk result (IfSome (R.remaining input.old) (λ bytes.
+        PrintsSteps (script_of bytes) bytes (W.contents out.old) (W.contents out.new))) }
     ensures kept { steps ≡ false → out.new ≡ out.old }
 {
     let mut buffer = Vec::new(alloc);

@@ -2,7 +2,6 @@
 #![tactic(auto)]
 
 ghost use Rattle.std.specs.Prelude.{IfSome};
-ghost use Rattle.schedule.specs.Script.{script_of};
 ghost use Rattle.replay_command.specs.Running.{EndsReplay, EndsTask, ExitsSo};
 
 mod asked;
@@ -83,7 +82,7 @@ pub fn replay_input<R: Read, W: Write>(
     out: &mut W,
 ) -> Result<(), CommandFault>
     ensures { IfSome (R.remaining input.old) (λ bytes.
-        EndsTask task (W.contents out.old) (W.contents out.new) (script_of bytes) result) }
+        EndsTask task (W.contents out.old) (W.contents out.new) bytes result) }
 {
     match task {
         Task::Check => print_check(alloc, input, out),

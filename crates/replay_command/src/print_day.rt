@@ -40,7 +40,7 @@ pub fn print_day<R: Read, W: Write>(
     out: &mut W,
 ) -> Result<(), CommandFault>
     ensures { IfSome (R.remaining input.old) (λ bytes.
-        EndsRun shown (W.contents out.old) (W.contents out.new) (script_of bytes) result) }
+        EndsRun shown bytes (W.contents out.old) (W.contents out.new) (script_of bytes) result) }
 {
     let Ok(mut input) = BufReader::new(alloc, input) else {
         return Err(CommandFault::OutOfMemory);

@@ -3,7 +3,7 @@
 /// What `dispatch replay` prints of a day.
 #[derive(Clone, Copy, Debug)]
 pub struct Shown {
-    /// Each event with what it did, as it happens.
+    /// Each event, as it happens, with what it did or why it did nothing.
     pub steps: bool,
     /// Each frame that was written.
     pub frames: bool,

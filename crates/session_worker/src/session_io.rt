@@ -16,6 +16,7 @@ ghost use Rattle.session_worker.specs.Events.{IsIdle};
 use crate::Pace;
 use crate::reading::{Heard, hear};
 use crate::redial::Redial;
+use crate::reporter::Reporter;
 use crate::timer::Timer;
 use clock::Clock;
 use dialect::Dialect;
@@ -23,10 +24,12 @@ use fix_tags::Config;
 use fix_text::FrameReader;
 use leg::{PlacedLeg, VenueId};
 use link::{Got, Link, write_whole};
-use session_core::{Frames, Phase, Session, SessionFault, Step};
+use session_core::{Ended, Frames, Phase, Session, SessionFault, Step};
 use std::alloc::Global;
 use std::marker::Model;
+use std::sync::Arc;
 use std::time::Duration;
+use venue_board::{Loss, Progress, VenueBoard};
 
 /// How many bytes a read takes at most.
 const READ_SIZE: usize = 4096;
@@ -37,8 +40,8 @@ const LEAST_REST: u64 = 1;
 /// How many it lasts at most, so that a worker whose bell nobody rings comes back to its gate.
 const LONGEST_REST: u64 = 1_000;
 
-/// A session, the link over which it speaks, since when nothing was written and nothing heard, and when it is dialled
-/// again. Contracts see the session, what the link tells, and what the reader has.
+/// A session, the link over which it speaks, since when nothing was written and nothing heard, when it is dialled
+/// again, and whom it tells how far it is. Contracts see the session, what the link tells, and what the reader has.
 #[derive(Drop)]
 pub(crate) struct SessionIo<K: Link, C: Clock + Drop> {
     alloc: Global,
@@ -48,6 +51,7 @@ pub(crate) struct SessionIo<K: Link, C: Clock + Drop> {
     reader: FrameReader,
     timer: Timer,
     redial: Redial,
+    reporter: Reporter,
 }
 
 impl<K: Link, C: Clock + Drop> Model for SessionIo<K, C> {
@@ -80,6 +84,7 @@ impl<K: Link, C: Clock + Drop> SessionIo<K, C> {
             reader: FrameReader::new(alloc),
             timer,
             redial: Redial::new(pace, u64::from(venue.number())),
+            reporter: Reporter::new(),
         }
     }
 
@@ -96,8 +101,16 @@ impl<K: Link, C: Clock + Drop> SessionIo<K, C> {
             reader: _,
             timer: _,
             redial: _,
+            reporter: _,
         } = self;
         (session, link)
+    }
+
+    /// From now on it tells on this board how far it is.
+    pub(crate) fn tell_on(&mut self, board: Arc<VenueBoard, Global>)
+        ensures { self.new ≡ self.old }
+    {
+        self.reporter.tell_on(board);
     }
 
     pub(crate) fn phase(&self) -> Phase
@@ -138,22 +151,24 @@ impl<K: Link, C: Clock + Drop> SessionIo<K, C> {
         self.session.abandon();
     }
 
-    /// The connection is given up.
-    pub(crate) fn break_off(&mut self)
+    /// The connection is given up, for this reason.
+    pub(crate) fn break_off(&mut self, why: Loss)
         ensures session { self.new.session ≡ broken self.old.session }
         ensures wire { Tells self.old.wire self.new.wire Stays }
         ensures stream { self.new.stream ≡ self.old.stream }
     {
         self.session.broken();
+        self.reporter.tell(Progress::Down(why));
         let _ = self.link.shut();
     }
 
-    /// The session ended the connection: the link ends it too.
-    pub(crate) fn hang_up(&mut self)
+    /// The connection has ended for the session, for this reason: the link ends it too.
+    pub(crate) fn hang_up(&mut self, why: Loss)
         ensures session { self.new.session ≡ self.old.session }
         ensures wire { Tells self.old.wire self.new.wire Stays }
         ensures stream { self.new.stream ≡ self.old.stream }
     {
+        self.reporter.tell(Progress::Down(why));
         let _ = self.link.shut();
     }
 
@@ -164,7 +179,7 @@ impl<K: Link, C: Clock + Drop> SessionIo<K, C> {
     {
         match write_whole(&mut self.link, frame) {
             Ok(()) => self.timer.wrote(),
-            Err(_) => self.break_off(),
+            Err(_) => self.break_off(Loss::WriteFailed),
         }
     }
 
@@ -177,7 +192,7 @@ impl<K: Link, C: Clock + Drop> SessionIo<K, C> {
         for frame in &frames {
             match write_whole(&mut self.link, frame.as_slice()) {
                 Ok(()) => self.timer.wrote(),
-                Err(_) => return self.break_off(),
+                Err(_) => return self.break_off(Loss::WriteFailed),
             }
         }
     }
@@ -191,7 +206,10 @@ impl<K: Link, C: Clock + Drop> SessionIo<K, C> {
         self.redial.dialled();
         match self.link.dial() {
             Ok(()) => self.log_on(dialect),
-            Err(_) => true,
+            Err(_) => {
+                self.reporter.refused();
+                true
+            }
         }
     }
 
@@ -210,11 +228,11 @@ impl<K: Link, C: Clock + Drop> SessionIo<K, C> {
                 true
             }
             Err(SessionFault::NumbersSpent) => {
-                self.hang_up();
+                self.hang_up(Loss::NumbersSpent);
                 false
             }
             Err(_) => {
-                self.break_off();
+                self.break_off(Loss::OutOfMemory);
                 true
             }
         }
@@ -235,7 +253,7 @@ impl<K: Link, C: Clock + Drop> SessionIo<K, C> {
                 true
             }
             Err(SessionFault::OutOfMemory) => {
-                self.break_off();
+                self.break_off(Loss::OutOfMemory);
                 false
             }
             Err(_) => false,
@@ -250,7 +268,7 @@ impl<K: Link, C: Clock + Drop> SessionIo<K, C> {
         let stamp = self.clock.now();
         match self.session.close(dialect, &stamp) {
             Ok(step) => self.write_all(step.out),
-            Err(SessionFault::OutOfMemory) => self.break_off(),
+            Err(SessionFault::OutOfMemory) => self.break_off(Loss::OutOfMemory),
             Err(_) => {}
         }
     }
@@ -263,7 +281,7 @@ impl<K: Link, C: Clock + Drop> SessionIo<K, C> {
         self.timer.read();
         match self.reader.feed(bytes) {
             Ok(()) => {}
-            Err(_) => self.break_off(),
+            Err(_) => self.break_off(Loss::OutOfMemory),
         }
     }
 
@@ -277,8 +295,8 @@ impl<K: Link, C: Clock + Drop> SessionIo<K, C> {
         match self.link.read(&mut buf) {
             Ok(Got::Bytes(count)) => self.take_in(&buf[..count]),
             Ok(Got::Nothing) => {}
-            Ok(Got::End) => self.break_off(),
-            Err(_) => self.break_off(),
+            Ok(Got::End) => self.break_off(Loss::PeerClosed),
+            Err(_) => self.break_off(Loss::ReadFailed),
         }
     }
 
@@ -298,11 +316,11 @@ impl<K: Link, C: Clock + Drop> SessionIo<K, C> {
                 Some(step)
             }
             Heard::Malformed => {
-                self.hang_up();
+                self.hang_up(Loss::Ended(Ended::Malformed));
                 None
             }
             Heard::OutOfMemory => {
-                self.break_off();
+                self.break_off(Loss::OutOfMemory);
                 None
             }
         }
@@ -315,6 +333,8 @@ impl<K: Link, C: Clock + Drop> SessionIo<K, C> {
         self.timer.begin_turn(self.clock.millis());
         if self.session.phase() == Phase::Down {
             self.redial.found_down(self.timer.now());
+            let pause = self.redial.millis_left(self.timer.now());
+            self.reporter.found_down(pause);
         }
     }
 
@@ -323,6 +343,37 @@ impl<K: Link, C: Clock + Drop> SessionIo<K, C> {
         ensures { self.new ≡ self.old }
     {
         self.redial.came_up();
+    }
+
+    /// Tells that orders are taken.
+    pub(crate) fn tell_up(&self) {
+        self.reporter.tell(Progress::Up);
+    }
+
+    /// Tells how many legs were taken and how many are in doubt, if that was told so long ago.
+    pub(crate) fn tell_legs_if_due(&mut self, taken: u64)
+        ensures { self.new ≡ self.old }
+    {
+        if self.reporter.is_due(self.timer.now()) {
+            self.tell_legs(taken);
+        }
+    }
+
+    /// Tells how many legs were taken and how many are in doubt.
+    pub(crate) fn tell_legs(&mut self, taken: u64)
+        ensures { self.new ≡ self.old }
+    {
+        let SessionIo {
+            alloc: _,
+            link: _,
+            clock: _,
+            session,
+            reader: _,
+            timer,
+            redial: _,
+            reporter,
+        } = self;
+        reporter.count(session, taken, timer.now(), timer.received());
     }
 
     /// The milliseconds that the clock tells.
@@ -375,7 +426,7 @@ impl<K: Link, C: Clock + Drop> SessionIo<K, C> {
         match self.session.quiet(dialect, &stamp) {
             Ok(step) => Some(step),
             Err(SessionFault::OutOfMemory) => {
-                self.break_off();
+                self.break_off(Loss::OutOfMemory);
                 None
             }
             Err(_) => None,
@@ -394,7 +445,7 @@ impl<K: Link, C: Clock + Drop> SessionIo<K, C> {
         match self.session.silent(dialect, &stamp) {
             Ok(step) => Some(step),
             Err(SessionFault::OutOfMemory) => {
-                self.break_off();
+                self.break_off(Loss::OutOfMemory);
                 None
             }
             Err(_) => None,

@@ -89,6 +89,13 @@ impl Timer {
         self.moment
     }
 
+    /// The moment of the last message, or that at which the connection was made.
+    pub fn received(&self) -> u64
+        ensures { result ≡ self.now.received }
+    {
+        self.received
+    }
+
     /// A connection begins.
     pub fn dialled(&mut self)
         ensures { self.new ≡ record self.old { written = self.old.moment; received = self.old.moment } }

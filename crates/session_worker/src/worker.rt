@@ -18,8 +18,9 @@ use link::Link;
 use release_lock::{ReleaseLock, Run, VenueDrain};
 use std::alloc::Global;
 use std::marker::Model;
-use std::sync::Wait;
 use std::sync::ledger::Ledger;
+use std::sync::{Arc, Wait};
+use venue_board::VenueBoard;
 
 /// The worker of one venue: its dialect, and its session over its link, the end of the venue's ring, and its seat.
 /// Contracts see the dialect, and the worker's parts as its events change them.
@@ -64,6 +65,15 @@ impl<D: Dialect + Drop, K: Link, C: Clock + Drop, L: Run, M: Ledger> Worker<D, K
                 raised: true,
             },
         }
+    }
+
+    /// The same worker, which tells on this board how far it is.
+    pub fn telling_on(self, board: Arc<VenueBoard, Global>) -> Worker<D, K, C, L, M>
+        ensures { result ≡ self }
+    {
+        let mut worker = self;
+        worker.state.io.tell_on(board);
+        worker
     }
 
     /// Takes its turns, until one leaves the session closed or it has rested so often; then the session is over, the

@@ -28,6 +28,7 @@ use std::alloc::AllocError;
 use std::marker::Model;
 use std::sync::Wait;
 use std::sync::ledger::Ledger;
+use venue_board::Loss;
 
 /// In how many rounds a turn drains a ring at most.
 const DRAIN_ROUNDS: usize = 8;
@@ -156,9 +157,12 @@ impl<K: Link, C: Clock + Drop, L: Run, M: Ledger> WorkerState<K, C, L, M> {
         ensures took { self.new.took ≡ self.old.took }
         ensures seat { self.new.seat.parts ≡ self.old.seat.parts }
     {
-        if self.takings.count() != taken || !self.io.is_idle() {
+        let count = self.takings.count();
+        if count != taken || !self.io.is_idle() {
+            self.io.tell_legs_if_due(count);
             return false;
         }
+        self.io.tell_legs(count);
         self.io.rest();
         true
     }
@@ -273,6 +277,9 @@ impl<K: Link, C: Clock + Drop, L: Run, M: Ledger> WorkerState<K, C, L, M> {
         }
         self.io.came_up();
         self.raised = self.takings.raise(rt, lock).is_ok();
+        if self.raised {
+            self.io.tell_up();
+        }
         self.raised
     }
 
@@ -290,7 +297,7 @@ impl<K: Link, C: Clock + Drop, L: Run, M: Ledger> WorkerState<K, C, L, M> {
         match next_leg(rt, lock, &mut self.takings) {
             Ok(next) => self.send(rt, dialect, collector, next),
             Err(_) => {
-                self.io.break_off();
+                self.io.break_off(Loss::OutOfMemory);
                 false
             }
         }
@@ -338,7 +345,7 @@ impl<K: Link, C: Clock + Drop, L: Run, M: Ledger> WorkerState<K, C, L, M> {
         match self.drain(rt, lock, collector) {
             Drained::Everything => {}
             Drained::SomeLeft => {}
-            Drained::NoRoom => self.io.break_off(),
+            Drained::NoRoom => self.io.break_off(Loss::OutOfMemory),
         }
     }
 
@@ -394,8 +401,8 @@ impl<K: Link, C: Clock + Drop, L: Run, M: Ledger> WorkerState<K, C, L, M> {
             return;
         }
         self.io.write_all(out);
-        if ended.is_some() {
-            self.io.hang_up();
+        if let Some(why) = ended {
+            self.io.hang_up(Loss::Ended(why));
         }
     }
 
@@ -429,7 +436,7 @@ impl<K: Link, C: Clock + Drop, L: Run, M: Ledger> WorkerState<K, C, L, M> {
                 true
             }
             Err(_) => {
-                self.io.break_off();
+                self.io.break_off(Loss::OutOfMemory);
                 false
             }
         }

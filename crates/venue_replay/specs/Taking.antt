@@ -19,4 +19,4 @@ leg_to_send w v =
 abbrev pub outcome_of : SessionAnswer Message → Sending
 outcome_of (Ok message, session) = Sent
 outcome_of (Err fault.NumbersSpent, session) = NumbersSpent
-outcome_of (Err other, session) = Refused
+outcome_of (Err other, session) = Refused other

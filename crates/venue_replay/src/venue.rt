@@ -82,6 +82,27 @@ impl<D: Dialect + Drop> Venue<D> {
         self.session.phase()
     }
 
+    /// How many connections the session had, with the present one.
+    pub fn connection(&self) -> u64
+        ensures { result ≡ self.now.session.connection }
+    {
+        self.session.connection()
+    }
+
+    /// The number that the session expects of the exchange's next message.
+    pub fn session_expects(&self) -> u64
+        ensures { result ≡ self.now.session.expected }
+    {
+        self.session.next_in()
+    }
+
+    /// The number that the exchange expects of the session's next message.
+    pub fn exchange_expects(&self) -> u64
+        ensures { result ≡ self.now.exchange.expected }
+    {
+        self.exchange.expected()
+    }
+
     /// Whether the session is up.
     pub fn is_up(&self) -> bool
         ensures { result ≡ is_session_up self.now.session.phase }

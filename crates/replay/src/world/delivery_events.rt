@@ -46,6 +46,7 @@ impl<D: Dialect + Drop> World<D> {
         Ok(Told {
             answer,
             ended: news.ended,
+            ..Told::NOTHING
         })
     }
 }

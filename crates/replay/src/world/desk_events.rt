@@ -1,10 +1,12 @@
 //! What happens at the desk and in the book alone.
 
-ghost use Rattle.std.specs.Prelude.{◌≡◌, ◌<◌, length, OnOk};
+ghost use Rattle.std.specs.Prelude.{◌≡◌, ◌<◌, length, IfOk, OnOk};
 ghost use Rattle.schedule.specs.declared.event.Event.TheVariants as event;
 ghost use Rattle.schedule.specs.Happening.{happens};
+ghost use Rattle.replay.specs.Telling.{told};
 
 use super::World;
+use crate::Told;
 use dialect::Dialect;
 use leg::{Sweep, VenueId};
 use std::alloc::AllocError;
@@ -12,26 +14,29 @@ use sweep_release::{GateFault, ReleaseFault, place};
 
 impl<D: Dialect + Drop> World<D> {
     /// A sweep is released at the desk and opened in the book, or neither.
-    pub(crate) fn release(&mut self, sweep: Sweep) -> Result<(), AllocError>
-        ensures { OnOk result (self.new ≡ happens self.old (event.Release sweep)) }
+    pub(crate) fn release(&mut self, sweep: Sweep) -> Result<Told, AllocError>
+        ensures world { OnOk result (self.new ≡ happens self.old (event.Release sweep)) }
+        ensures told { IfOk result (λ answer. answer ≡ told self.old (event.Release sweep)) }
     {
-        match place(&mut self.desk, &mut self.book, sweep) {
+        let placed = place(&mut self.desk, &mut self.book, sweep);
+        match placed {
             Err(ReleaseFault::OutOfMemory) => Err(AllocError),
-            _ => Ok(()),
+            _ => Ok(Told::by_release(placed)),
         }
     }
 
     /// The gate of a venue whose session is up goes up, if it may.
-    pub(crate) fn gate_up(&mut self, venue: VenueId) -> Result<(), AllocError>
+    pub(crate) fn gate_up(&mut self, venue: VenueId) -> Result<Told, AllocError>
         requires { venue < length self.old.venues }
-        ensures { OnOk result (self.new ≡ happens self.old (event.GateUp venue)) }
+        ensures world { OnOk result (self.new ≡ happens self.old (event.GateUp venue)) }
+        ensures told { IfOk result (λ answer. answer ≡ told self.old (event.GateUp venue)) }
     {
         if !self.at(venue).is_up() {
-            return Ok(());
+            return Ok(Told::NOTHING);
         }
         match self.desk.gate_up(venue) {
             Err(GateFault::OutOfMemory) => Err(AllocError),
-            _ => Ok(()),
+            put => Ok(Told::by_gate(put)),
         }
     }
 

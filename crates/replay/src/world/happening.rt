@@ -65,22 +65,22 @@ impl<D: Dialect + Drop> World<D> {
         ensures told { IfOk result (λ answer. answer ≡ told self.old event) }
     {
         match event {
-            Event::Release(sweep) => self.release(sweep)?,
-            Event::GateUp(venue) => self.gate_up(venue)?,
+            Event::Release(sweep) => return self.release(sweep),
+            Event::GateUp(venue) => return self.gate_up(venue),
             Event::GateDown(venue) => self.gate_down(venue),
             Event::Drop(venue) => self.drop_next(venue),
-            Event::Take(venue) => self.take(venue)?,
-            Event::Connect(venue) => self.connect(venue)?,
+            Event::Take(venue) => return self.take(venue),
+            Event::Connect(venue) => return self.connect(venue),
             Event::ToExchange { venue, frame } => self.deliver_to_exchange(venue, frame)?,
             Event::ToDispatcher { venue, frame } => {
                 return self.deliver_to_dispatcher(venue, frame);
             }
             Event::Break(venue) => self.break_off(venue),
             Event::ExchangeBreak(venue) => self.drop_connection(venue),
-            Event::Act { venue, act } => self.act(venue, &act)?,
-            Event::Quiet(venue) => self.quiet(venue)?,
+            Event::Act { venue, act } => return self.act(venue, &act),
+            Event::Quiet(venue) => return self.quiet(venue),
             Event::Silent(venue) => return self.silent(venue),
-            Event::Close(venue) => self.close(venue)?,
+            Event::Close(venue) => return self.close(venue),
             Event::Abandon(venue) => self.abandon(venue),
         }
         Ok(Told::NOTHING)

@@ -14,22 +14,26 @@ use sweep_release::Gate;
 
 impl<D: Dialect + Drop> World<D> {
     /// The session connects, if the gate isn't up and nothing is placed.
-    pub(crate) fn connect(&mut self, venue: VenueId) -> Result<(), AllocError>
+    pub(crate) fn connect(&mut self, venue: VenueId) -> Result<Told, AllocError>
         requires { venue < length self.old.venues }
-        ensures { OnOk result (self.new ≡ happens self.old (event.Connect venue)) }
+        ensures world { OnOk result (self.new ≡ happens self.old (event.Connect venue)) }
+        ensures told { IfOk result (λ answer. answer ≡ told self.old (event.Connect venue)) }
     {
         if !self.may_connect(venue) {
-            return Ok(());
+            return Ok(Told::NOTHING);
         }
-        self.venues[usize::from(venue.number())].connect()
+        let refused = self.venues[usize::from(venue.number())].connect()?;
+        Ok(Told::by_session(refused))
     }
 
     /// The session wrote nothing for a while.
-    pub(crate) fn quiet(&mut self, venue: VenueId) -> Result<(), AllocError>
+    pub(crate) fn quiet(&mut self, venue: VenueId) -> Result<Told, AllocError>
         requires { venue < length self.old.venues }
-        ensures { OnOk result (self.new ≡ happens self.old (event.Quiet venue)) }
+        ensures world { OnOk result (self.new ≡ happens self.old (event.Quiet venue)) }
+        ensures told { IfOk result (λ answer. answer ≡ told self.old (event.Quiet venue)) }
     {
-        self.venues[usize::from(venue.number())].quiet()
+        let refused = self.venues[usize::from(venue.number())].quiet()?;
+        Ok(Told::by_session(refused))
     }
 
     /// The session heard nothing for a while.
@@ -39,21 +43,23 @@ impl<D: Dialect + Drop> World<D> {
         ensures told { IfOk result (λ answer. answer ≡ told self.old (event.Silent venue)) }
     {
         let ended = self.venues[usize::from(venue.number())].silent()?;
-        Ok(Told {
-            answer: None,
-            ended,
-        })
+        Ok(Told::by_silence(ended))
     }
 
     /// The session is to close; where that isn't refused the gate is shut.
-    pub(crate) fn close(&mut self, venue: VenueId) -> Result<(), AllocError>
+    pub(crate) fn close(&mut self, venue: VenueId) -> Result<Told, AllocError>
         requires { venue < length self.old.venues }
-        ensures { OnOk result (self.new ≡ happens self.old (event.Close venue)) }
+        ensures world { OnOk result (self.new ≡ happens self.old (event.Close venue)) }
+        ensures told { IfOk result (λ answer. answer ≡ told self.old (event.Close venue)) }
     {
-        if self.venues[usize::from(venue.number())].close()? {
-            self.desk.shut(venue);
+        let refused = self.venues[usize::from(venue.number())].close()?;
+        match refused {
+            Some(fault) => Ok(Told::by_session(Some(fault))),
+            None => {
+                self.desk.shut(venue);
+                Ok(Told::NOTHING)
+            }
         }
-        Ok(())
     }
 
     /// Whether a session may connect: the gate isn't up and nothing is placed.

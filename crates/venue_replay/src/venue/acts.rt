@@ -1,9 +1,10 @@
 //! What the exchange of a venue does by itself.
 
-ghost use Rattle.std.specs.Prelude.{◌≡◌, OnOk};
+ghost use Rattle.std.specs.Prelude.{◌≡◌, IfOk, OnOk};
 ghost use Rattle.exchange_core.specs.Frames.{ActGives};
 ghost use Rattle.schedule.specs.Happening.{act_of};
 ghost use Rattle.venue_replay.specs.AtVenue.{acted, IsActInRange};
+ghost use Rattle.venue_replay.specs.Ending.{refusal_of};
 ghost use Rattle.venue_replay.specs.Kept.{last_connection};
 
 use super::Venue;
@@ -16,10 +17,11 @@ use schedule::Act;
 use std::alloc::{AllocError, Global};
 
 impl<D: Dialect + Drop> Venue<D> {
-    /// The exchange acts, if it may. What it writes goes into its live connection, which is that of its last frame. The
-    /// only refusal is want of memory.
-    pub fn act(&mut self, act: &Act) -> Result<(), AllocError>
-        ensures { OnOk result (self.new ≡ acted self.old (act_of act.now self.old.exchange)) }
+    /// The exchange acts, if it may. What it writes goes into its live connection, which is that of its last frame. It
+    /// gives the exchange's refusal, if it refuses; want of memory is this call's own.
+    pub fn act(&mut self, act: &Act) -> Result<Option<ExchangeFault>, AllocError>
+        ensures now { OnOk result (self.new ≡ acted self.old (act_of act.now self.old.exchange)) }
+        ensures refused { IfOk result (λ refused. refused ≡ refusal_of (act_of act.now self.old.exchange)) }
     {
         let alloc = *self.given.allocator();
         match perform(alloc, &self.dialect, &mut self.exchange, act, &stamp()) {
@@ -28,11 +30,11 @@ impl<D: Dialect + Drop> Venue<D> {
                     unreachable!()
                 };
                 self.from_exchange.push(Frame { connection, bytes })?;
-                Ok(())
+                Ok(None)
             }
-            Ok(None) => Ok(()),
+            Ok(None) => Ok(None),
             Err(ExchangeFault::OutOfMemory) => Err(AllocError),
-            Err(_) => Ok(()),
+            Err(fault) => Ok(Some(fault)),
         }
     }
 }

@@ -2,9 +2,8 @@
 
 ghost use Rattle.std.specs.Prelude.{◌≡◌, OnOk, IfOk};
 ghost use Rattle.session_core.specs.Calling.{connect, quiet, silent, close};
-ghost use Rattle.std.specs.Result.{is_ok};
 ghost use Rattle.venue_replay.specs.AtVenue.{sent, called};
-ghost use Rattle.venue_replay.specs.Ending.{ending_of};
+ghost use Rattle.venue_replay.specs.Ending.{ending_of, refusal_of};
 
 use super::Venue;
 use crate::frame::Frame;
@@ -15,37 +14,43 @@ use session_core::{Ended, SessionFault};
 use std::alloc::AllocError;
 
 impl<D: Dialect + Drop> Venue<D> {
-    /// The session connects, if it may: its Logon is written. The only refusal is want of memory.
-    pub fn connect(&mut self) -> Result<(), AllocError>
-        ensures { OnOk result (self.new ≡ sent self.old (connect self.old.session)) }
+    /// The session connects, if it may: its Logon is written. It gives the session's refusal, if it refuses; want of
+    /// memory is this call's own.
+    pub fn connect(&mut self) -> Result<Option<SessionFault>, AllocError>
+        ensures now { OnOk result (self.new ≡ sent self.old (connect self.old.session)) }
+        ensures refused { IfOk result (λ refused. refused ≡ refusal_of (connect self.old.session)) }
     {
         match self.session.connect(&self.dialect, &stamp()) {
             Ok(bytes) => {
                 let connection = self.session.connection();
                 self.to_exchange.push(Frame { connection, bytes })?;
-                Ok(())
+                Ok(None)
             }
             Err(SessionFault::OutOfMemory) => Err(AllocError),
-            Err(_) => Ok(()),
+            Err(fault) => Ok(Some(fault)),
         }
     }
 
-    /// Nothing was written for a while. The only refusal is want of memory.
-    pub fn quiet(&mut self) -> Result<(), AllocError>
-        ensures { OnOk result (self.new ≡ called self.old (quiet self.old.session)) }
+    /// Nothing was written for a while. It gives the session's refusal, if it refuses; want of memory is this call's
+    /// own.
+    pub fn quiet(&mut self) -> Result<Option<SessionFault>, AllocError>
+        ensures now { OnOk result (self.new ≡ called self.old (quiet self.old.session)) }
+        ensures refused { IfOk result (λ refused. refused ≡ refusal_of (quiet self.old.session)) }
     {
         match self.session.quiet(&self.dialect, &stamp()) {
             Ok(step) => {
                 let connection = self.session.connection();
-                keep(&mut self.to_exchange, connection, step.out.into_vec())
+                keep(&mut self.to_exchange, connection, step.out.into_vec())?;
+                Ok(None)
             }
             Err(SessionFault::OutOfMemory) => Err(AllocError),
-            Err(_) => Ok(()),
+            Err(fault) => Ok(Some(fault)),
         }
     }
 
-    /// Nothing was heard for a while: why the connection ended, if it did. The only refusal is want of memory.
-    pub fn silent(&mut self) -> Result<Option<Ended>, AllocError>
+    /// Nothing was heard for a while. It gives why the connection ended, if it did, or the session's refusal; want of
+    /// memory is this call's own.
+    pub fn silent(&mut self) -> Result<Result<Option<Ended>, SessionFault>, AllocError>
         ensures now { OnOk result (self.new ≡ called self.old (silent self.old.session)) }
         ensures ended { IfOk result (λ ended. ended ≡ ending_of (silent self.old.session)) }
     {
@@ -53,26 +58,26 @@ impl<D: Dialect + Drop> Venue<D> {
             Ok(step) => {
                 let connection = self.session.connection();
                 keep(&mut self.to_exchange, connection, step.out.into_vec())?;
-                Ok(step.ended)
+                Ok(Ok(step.ended))
             }
             Err(SessionFault::OutOfMemory) => Err(AllocError),
-            Err(_) => Ok(None),
+            Err(fault) => Ok(Err(fault)),
         }
     }
 
-    /// The session is to close: whether that wasn't refused. The only refusal of this call is want of memory.
-    pub fn close(&mut self) -> Result<bool, AllocError>
+    /// The session is to close. It gives the session's refusal, if it refuses; want of memory is this call's own.
+    pub fn close(&mut self) -> Result<Option<SessionFault>, AllocError>
         ensures now { OnOk result (self.new ≡ called self.old (close self.old.session)) }
-        ensures done { IfOk result (λ done. done ≡ is_ok (close self.old.session).0) }
+        ensures refused { IfOk result (λ refused. refused ≡ refusal_of (close self.old.session)) }
     {
         match self.session.close(&self.dialect, &stamp()) {
             Ok(step) => {
                 let connection = self.session.connection();
                 keep(&mut self.to_exchange, connection, step.out.into_vec())?;
-                Ok(true)
+                Ok(None)
             }
             Err(SessionFault::OutOfMemory) => Err(AllocError),
-            Err(_) => Ok(false),
+            Err(fault) => Ok(Some(fault)),
         }
     }
 }

@@ -30,7 +30,7 @@ impl<D: Dialect + Drop> Venue<D> {
             }
             Err(SessionFault::OutOfMemory) => Err(AllocError),
             Err(SessionFault::NumbersSpent) => Ok(Sending::NumbersSpent),
-            Err(_) => Ok(Sending::Refused),
+            Err(fault) => Ok(Sending::Refused(fault)),
         }
     }
 }

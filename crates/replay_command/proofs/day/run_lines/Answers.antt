@@ -1,12 +1,28 @@
-use Rattle.std.proofs.Common.{rules, ◌≡◌, Bool, ◌∷◌, Result, Err, sym, ap, subst, ◌∙◌}
+use Rattle.std.proofs.Common.{rules, arith, refl, ◌≡◌, ◌≤◌, Bool, ◌∷◌, Result, Err, sym, ap, subst, ◌∙◌}
 use Rattle.std.specs.Prelude.{IfSome}
 use Rattle.schedule.specs.Script.{events_of_lines, lines_of}
 use Rattle.schedule.specs.World.{World}
 use Rattle.replay_command.specs.Stream.{ReadsLine, RunsLines}
 use Rattle.replay_command.specs.declared.fault.CommandFault.{CommandFault}
-use Rattle.replay_command.proofs.Grown.{grows-trans}
-use Rattle.replay_command.proofs.InputRuns.{ended, goes_on, run_fails}
+use Rattle.replay_command.specs.declared.day.Day.{Day}
+use Rattle.replay_command.specs.Steps.{dawn}
+use Rattle.replay_command.proofs.StepsPrinted.{LeftToPrint, all_to_print, printed_all, prints_on}
+use Rattle.replay_command.proofs.InputRuns.{LeftToRun, all_left, ended, goes_on, run_fails}
 use Rattle.replay_command.proofs.day.run_lines.Goals as goal
+
+pub loop-number-init : goal.loop-number-init
+loop-number-init g c =
+    let left = g.R.Read.remaining c.args.input.now in
+    let out = g.W.Write.contents c.args.out.now in
+    let day = dawn c.args.world in
+    record {
+      left = subst (λ (d : Day). LeftToRun c.args.steps c.args.venues left c.args.first d.world left c.args.first c.args.world)
+          (sym c.new-day.ensures) (all_left c.args.steps c.args.venues c.args.first c.args.world left);
+      count = subst (λ (d : Day). d.events ≤ c.args.first) (sym c.new-day.ensures) (omega arith);
+      prints = λ on. subst (λ (d : Day). LeftToPrint c.args.venues left c.args.first d out left c.args.first day out)
+          (sym c.new-day.ensures) (all_to_print c.args.venues c.args.first day left out);
+      kept = λ off. refl;
+    }
 
 pub returns-then-not-branch-clause-world : goal.returns-then-not-branch-clause-world
 returns-then-not-branch-clause-world g c =
@@ -44,7 +60,22 @@ loop-number-preserved g c =
           c.loop-number.day.world c.run_line.new.day.world c.args.world reads
           (ap lines_of (sym c.deref.ensures.value) ∙ c.first_line.ensures.lines) c.in_ok-run_line.ensures.runs
           c.loop-number.invariant.left;
-      grown = grows-trans (g.W.Write.contents c.args.out.now) (g.W.Write.contents c.loop-number.out)
-          (g.W.Write.contents c.run_line.new.out) c.loop-number.invariant.grown c.in_ok-run_line.ensures.out;
+      count = omega (arith, c.in_ok-run_line.ensures.count, c.loop-number.invariant.count);
+      prints = λ on. prints_on c.args.venues c.loop-number.number c.args.first left behind
+          (g.R.Read.remaining c.args.input.now) (g.W.Write.contents c.args.out.now) (g.W.Write.contents c.loop-number.out)
+          (g.W.Write.contents c.run_line.new.out) read c.first_line.result.0.now (lines_of c.first_line.result.1.now)
+          c.loop-number.day c.run_line.new.day (dawn c.args.world) reads
+          (ap lines_of (sym c.deref.ensures.value) ∙ c.first_line.ensures.lines) (c.in_ok-run_line.ensures.prints on)
+          (c.loop-number.invariant.prints on);
       kept = λ off. c.in_ok-run_line.ensures.kept off ∙ c.loop-number.invariant.kept off;
     }
+
+pub returns-then-not-branch-clause-prints : goal.returns-then-not-branch-clause-prints
+returns-then-not-branch-clause-prints g c on =
+    let left = g.R.Read.remaining c.loop-number.input in
+    let behind = g.R.Read.remaining c.read_line.new.input in
+    let read = c.read_line.new.buffer.items in
+    let reads = subst (λ (b : Bool). IfSome left (ReadsLine b read behind)) c.if-not-branch.true c.in_ok-read_line.ensures.line in
+    printed_all c.args.venues c.loop-number.number c.args.first left behind (g.R.Read.remaining c.args.input.now)
+    (g.W.Write.contents c.args.out.now) (g.W.Write.contents c.loop-number.out) read c.loop-number.day (dawn c.args.world) reads
+    (c.loop-number.invariant.prints on)

@@ -1,7 +1,8 @@
-use Rattle.std.proofs.Common.{rules, ◌≡◌, Ok, List, ℕ, sym, ap, subst}
+use Rattle.std.proofs.Common.{rules, ◌≡◌, true, Ok, List, ℕ, sym, ap, subst}
 use Rattle.std.specs.Prelude.{IfSome}
 use Rattle.std.specs.Io.KnownBytes.{Appends}
 use Rattle.schedule.specs.Script.{script_of}
+use Rattle.replay_command.specs.Steps.{PrintsSteps}
 use Rattle.replay_command.specs.Stream.{RunsScript}
 use Rattle.replay_command.proofs.DayEnds.{day_printed}
 use Rattle.replay_command.proofs.print_day.print_day.Goals as goal
@@ -14,6 +15,8 @@ returns g c =
     let after = g.W.Write.contents c.print.new.out in
     let w = c.in_ok-world.world in
     let runs : IfSome bytes (λ all. RunsScript c.args.shown.steps (Ok w) (script_of all)) = search rules in
-    day_printed tt c.args.shown bytes before between after w c.in_ok-text.text.items runs c.in_ok-world.ensures.out
+    let prints : c.args.shown.steps ≡ true → IfSome bytes (λ all. PrintsSteps (script_of all) all before between) =
+    λ on. let printed = c.in_ok-world.ensures.prints on in search rules in
+    day_printed tt c.args.shown bytes before between after w c.in_ok-text.text.items runs prints
     (λ off. ap g.W.Write.contents (c.in_ok-world.ensures.kept off)) c.in_ok-text.ensures
     (subst (λ (t : List ℕ). Appends between after t) c.deref.ensures.value c.in_ok-print.ensures.ok)

@@ -58,6 +58,6 @@ returns-clause-told g c =
     let before : VenueParts = c.index_mut.result.now in
     let low : v < length w.venues = subst (λ (world : World). v < length world.venues) (sym c.self.view_is) c.requires in
     let there = is_there w.venues c.from-at.result v before (c.from-at.ensures ∙ c.number.ensures.value) low c.index_mut.ensures.value in
-    let answer : Told = record { answer = c.in_ok-answer.answer; ended = c.in-Some.news.ended } in
+    let answer : Told = record nothing_told { answer = c.in_ok-answer.answer; ended = c.in-Some.news.ended } in
     subst (λ (world : World). answer ≡ told world (event.ToDispatcher v n)) c.self.view_is
     (tells w v n before c.in-Some.news c.in_ok-answer.answer there (sym c.in-Some.is ∙ c.in_ok-news.ensures.told) c.in_ok-answer.ensures.answer)

@@ -1,20 +1,36 @@
-use Rattle.std.proofs.Common.{◌≡◌, ◌<◌, length, sym, subst, ◌∙◌}
-use Rattle.std.specs.Prelude.{OnOk}
+use Rattle.std.proofs.Common.{◌≡◌, ◌<◌, length, sym, ap, subst, ◌∙◌}
 use Rattle.session_core.specs.Calling.{quiet}
 use Rattle.schedule.specs.declared.event.Event.TheVariants as event
 use Rattle.schedule.specs.World.{World, VenueParts}
 use Rattle.schedule.specs.Happening.{with_venue, happens}
-use Rattle.venue_replay.specs.AtVenue.{called}
-use Rattle.replay.proofs.EventsHappen.{at_index, quiet_happens}
+use Rattle.replay.specs.Telling.{by_session, told}
+use Rattle.venue_replay.specs.Ending.{refusal_of}
+use Rattle.venue_replay.proofs.WorldAfter.{is_there}
+use Rattle.replay.proofs.EventsHappen.{quiet_happens}
+use Rattle.replay.proofs.Tells.{told_here}
 use Rattle.replay.proofs.world.World.quiet.Goals as goal
 
-pub returns : goal.returns
-returns g c =
+pub returns-clause-world : goal.returns-clause-world
+returns-clause-world g c =
     let w : World = record { desk = c.self.inside.desk.desk; book = c.self.inside.book; venues = c.self.inside.venues.items } in
     let v = c.args.venue in
     let before : VenueParts = c.index_mut.result.now in
     let now : VenueParts = c.quiet.new.self in
     let low : v < length w.venues = subst (λ (world : World). v < length world.venues) (sym c.self.view_is) c.requires in
-    subst (λ (world : World). OnOk c.quiet.result (with_venue w c.from.result now ≡ happens world (event.Quiet v))) c.self.view_is
-    (at_index w c.from.result v before now (now ≡ called before (quiet before.session)) (event.Quiet v) c.quiet.result
-    (c.from.ensures ∙ c.number.ensures.value) low c.index_mut.ensures.value c.quiet.ensures (quiet_happens w v before now))
+    let same = c.from.ensures ∙ c.number.ensures.value in
+    let there = is_there w.venues c.from.result v before same low c.index_mut.ensures.value in
+    subst (λ (world : World). with_venue w c.from.result now ≡ happens world (event.Quiet v)) c.self.view_is
+    ((λ k. with_venue w (same k) now) ∙ quiet_happens w v before now there c.in_ok-refused.ensures.now)
+
+pub returns-clause-told : goal.returns-clause-told
+returns-clause-told g c =
+    let w : World = record { desk = c.self.inside.desk.desk; book = c.self.inside.book; venues = c.self.inside.venues.items } in
+    let v = c.args.venue in
+    let before : VenueParts = c.index_mut.result.now in
+    let low : v < length w.venues = subst (λ (world : World). v < length world.venues) (sym c.self.view_is) c.requires in
+    let same = c.from.ensures ∙ c.number.ensures.value in
+    let there = is_there w.venues c.from.result v before same low c.index_mut.ensures.value in
+    subst (λ (world : World). c.by_session.result ≡ told world (event.Quiet v)) c.self.view_is
+    (c.by_session.ensures
+    ∙ (ap by_session c.in_ok-refused.ensures.refused
+    ∙ told_here w v before (λ venue. by_session (refusal_of (quiet venue.session))) there))

@@ -1,14 +1,13 @@
-use Rattle.std.proofs.Common.{◌≡◌, ◌<◌, length, Option, Some, None, sym, ap, subst, ◌∙◌}
-use Rattle.std.specs.Option.{option_map_or}
+use Rattle.std.proofs.Common.{◌≡◌, ◌<◌, length, sym, ap, subst, ◌∙◌}
 use Rattle.session_core.specs.Calling.{silent}
 use Rattle.schedule.specs.declared.event.Event.TheVariants as event
-use Rattle.schedule.specs.World.{World, VenueParts, venue_in}
+use Rattle.schedule.specs.World.{World, VenueParts}
 use Rattle.schedule.specs.Happening.{with_venue, happens}
-use Rattle.replay.specs.declared.told.Told.{Told}
-use Rattle.replay.specs.Telling.{told}
+use Rattle.replay.specs.Telling.{by_silence, told}
 use Rattle.venue_replay.specs.Ending.{ending_of}
-use Rattle.replay.proofs.EventsHappen.{silent_happens}
 use Rattle.venue_replay.proofs.WorldAfter.{is_there}
+use Rattle.replay.proofs.EventsHappen.{silent_happens}
+use Rattle.replay.proofs.Tells.{told_here}
 use Rattle.replay.proofs.world.World.silent.Goals as goal
 
 pub returns-clause-world : goal.returns-clause-world
@@ -29,10 +28,9 @@ returns-clause-told g c =
     let v = c.args.venue in
     let before : VenueParts = c.index_mut.result.now in
     let low : v < length w.venues = subst (λ (world : World). v < length world.venues) (sym c.self.view_is) c.requires in
-    let there : venue_in w v ≡ Some before =
-    is_there w.venues c.from.result v before (c.from.ensures ∙ c.number.ensures.value) low c.index_mut.ensures.value in
-    let answer : Told = record { answer = None; ended = c.in_ok-ended.ended } in
-    let ends = c.in_ok-ended.ensures.ended
-    ∙ sym (ap (λ (o : Option VenueParts). option_map_or (λ (venue : VenueParts). ending_of (silent venue.session)) o None) there) in
-    subst (λ (world : World). answer ≡ told world (event.Silent v)) c.self.view_is
-    (λ k. record { answer = None; ended = ends k })
+    let same = c.from.ensures ∙ c.number.ensures.value in
+    let there = is_there w.venues c.from.result v before same low c.index_mut.ensures.value in
+    subst (λ (world : World). c.by_silence.result ≡ told world (event.Silent v)) c.self.view_is
+    (c.by_silence.ensures
+    ∙ (ap by_silence c.in_ok-ended.ensures.ended
+    ∙ told_here w v before (λ venue. by_silence (ending_of (silent venue.session))) there))

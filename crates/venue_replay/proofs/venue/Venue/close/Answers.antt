@@ -1,12 +1,15 @@
-use Rattle.std.proofs.Common.{◌≡◌, refl, subst}
+use Rattle.std.proofs.Common.{◌≡◌, Some, None, rules, refl, subst}
 use Rattle.dialect.specs.Wording.{Decoding, Encoding}
 use Rattle.dialect.proofs.FrameBack.{agrees_of}
 use Rattle.session_core.specs.Calling.{close}
 use Rattle.session_core.specs.Given.{IsStep}
+use Rattle.session_core.specs.declared.session_fault.SessionFault.{SessionFault}
 use Rattle.session_core.proofs.Promised.{close_sound, close_writable}
 use Rattle.schedule.specs.World.{VenueParts}
 use Rattle.venue_replay.specs.Network.{all_said}
 use Rattle.venue_replay.specs.AtVenue.{called}
+use Rattle.venue_replay.specs.Ending.{refusal_of}
+use Rattle.venue_replay.proofs.Endings.{not_refused, refused_so}
 use Rattle.venue_replay.proofs.SessionCalls.{given_sound, still_kept, step_kept, step_said}
 use Rattle.venue_replay.proofs.venue.Venue.close.Goals as goal
 
@@ -57,3 +60,18 @@ returns-in_ok-keep-in-Ok-clause-now g c =
     (step_said w r agrees before v.to_exchange.items c.keep.new.kept.items c.stamp.result c.connection-connection.result
     (close v.session) c.in-Ok.step c.into_vec.result.items c.close.new.self refl c.stamp.ensures c.in-Ok.ensures
     (close_writable v.session c.self.invariant.session) c.into_vec.ensures c.connection-connection.ensures c.in_ok-keep-in-Ok.ensures.ok)
+
+pub returns-in_ok-keep-in-Ok-clause-refused : goal.returns-in_ok-keep-in-Ok-clause-refused
+returns-in_ok-keep-in-Ok-clause-refused g c =
+    let v = c.self.inside in
+    let w : Encoding = (g.D.Dialect.wording v.dialect).encoding in
+    subst (λ (venue : VenueParts). None ≡ refusal_of (close venue.session)) c.self.view_is
+    (not_refused (IsStep w c.stamp.result) v.session c.close.new.self (close v.session) c.in-Ok.step c.in-Ok.ensures)
+
+pub returns-in-Err-clause-refused : goal.returns-in-Err-clause-refused
+returns-in-Err-clause-refused g c =
+    let v = c.self.inside in
+    let w : Encoding = (g.D.Dialect.wording v.dialect).encoding in
+    let other : c.in-Err.fault ≡ SessionFault.OutOfMemory → ⊥ = search rules in
+    subst (λ (venue : VenueParts). Some c.in-Err.fault ≡ refusal_of (close venue.session)) c.self.view_is
+    (refused_so (IsStep w c.stamp.result) v.session c.close.new.self (close v.session) c.in-Err.fault other c.in-Err.ensures)

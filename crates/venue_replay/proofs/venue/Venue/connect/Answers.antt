@@ -1,14 +1,17 @@
-use Rattle.std.proofs.Common.{◌≡◌, ℕ, refl, subst}
+use Rattle.std.proofs.Common.{◌≡◌, ℕ, Some, None, rules, refl, subst}
 use Rattle.std.specs.Global.{Vec}
 use Rattle.dialect.specs.Framed.{IsFramed}
 use Rattle.dialect.specs.Wording.{Decoding, Encoding}
 use Rattle.dialect.specs.Outgoing.{alone}
 use Rattle.dialect.proofs.FrameBack.{agrees_of}
+use Rattle.session_core.specs.declared.session_fault.SessionFault.{SessionFault}
 use Rattle.session_core.specs.Calling.{connect}
 use Rattle.session_core.proofs.Promised.{connect_sound, connect_writable}
 use Rattle.schedule.specs.World.{VenueParts}
 use Rattle.venue_replay.specs.Network.{all_said}
 use Rattle.venue_replay.specs.AtVenue.{sent}
+use Rattle.venue_replay.specs.Ending.{refusal_of}
+use Rattle.venue_replay.proofs.Endings.{not_refused, refused_so}
 use Rattle.venue_replay.proofs.SessionCalls.{given_sound, still_kept, message_kept, message_said}
 use Rattle.venue_replay.proofs.venue.Venue.connect.Goals as goal
 
@@ -30,8 +33,8 @@ invariant_of-self-in-Ok g c =
     (connect_sound s c.self.invariant.session) (connect_writable s c.self.invariant.session) c.connection-connection.ensures
     c.in_ok-push-in-Ok.ensures.items
 
-pub returns-in_ok-push-in-Ok : goal.returns-in_ok-push-in-Ok
-returns-in_ok-push-in-Ok g c =
+pub returns-in_ok-push-in-Ok-clause-now : goal.returns-in_ok-push-in-Ok-clause-now
+returns-in_ok-push-in-Ok-clause-now g c =
     let v = c.self.inside in
     let w : Encoding = (g.D.Dialect.wording v.dialect).encoding in
     let r : Decoding = (g.D.Dialect.wording v.dialect).decoding in
@@ -49,3 +52,18 @@ returns-in_ok-push-in-Ok g c =
     (message_said w r agrees before v.to_exchange.items c.push.new.self.items c.stamp.result c.connection-connection.result
     (connect v.session) c.in-Ok.bytes c.connect.new.self refl c.stamp.ensures c.in-Ok.ensures
     (connect_writable v.session c.self.invariant.session) c.connection-connection.ensures c.in_ok-push-in-Ok.ensures.items)
+
+pub returns-in_ok-push-in-Ok-clause-refused : goal.returns-in_ok-push-in-Ok-clause-refused
+returns-in_ok-push-in-Ok-clause-refused g c =
+    let v = c.self.inside in
+    let w : Encoding = (g.D.Dialect.wording v.dialect).encoding in
+    subst (λ (venue : VenueParts). None ≡ refusal_of (connect venue.session)) c.self.view_is
+    (not_refused (λ m (frame : Vec ℕ). IsFramed w c.stamp.result (alone m) frame.items) v.session c.connect.new.self (connect v.session) c.in-Ok.bytes c.in-Ok.ensures)
+
+pub returns-in-Err-clause-refused : goal.returns-in-Err-clause-refused
+returns-in-Err-clause-refused g c =
+    let v = c.self.inside in
+    let w : Encoding = (g.D.Dialect.wording v.dialect).encoding in
+    let other : c.in-Err.fault ≡ SessionFault.OutOfMemory → ⊥ = search rules in
+    subst (λ (venue : VenueParts). Some c.in-Err.fault ≡ refusal_of (connect venue.session)) c.self.view_is
+    (refused_so (λ m (frame : Vec ℕ). IsFramed w c.stamp.result (alone m) frame.items) v.session c.connect.new.self (connect v.session) c.in-Err.fault other c.in-Err.ensures)

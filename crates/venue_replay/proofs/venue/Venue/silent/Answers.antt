@@ -1,4 +1,4 @@
-use Rattle.std.proofs.Common.{◌≡◌, None, rules, refl, subst}
+use Rattle.std.proofs.Common.{◌≡◌, Ok, Err, rules, refl, subst}
 use Rattle.dialect.specs.Wording.{Decoding, Encoding}
 use Rattle.dialect.proofs.FrameBack.{agrees_of}
 use Rattle.session_core.specs.declared.session_fault.SessionFault.{SessionFault}
@@ -73,7 +73,7 @@ pub returns-in_ok-keep-in-Ok-clause-ended : goal.returns-in_ok-keep-in-Ok-clause
 returns-in_ok-keep-in-Ok-clause-ended g c =
     let v = c.self.inside in
     let w : Encoding = (g.D.Dialect.wording v.dialect).encoding in
-    subst (λ (venue : VenueParts). c.in-Ok.step.ended ≡ ending_of (silent venue.session)) c.self.view_is
+    subst (λ (venue : VenueParts). Ok c.in-Ok.step.ended ≡ ending_of (silent venue.session)) c.self.view_is
     (said_ending w c.stamp.result v.session c.silent.new.self (silent v.session) c.in-Ok.step c.in-Ok.ensures)
 
 pub returns-in-Err-clause-now : goal.returns-in-Err-clause-now
@@ -88,15 +88,15 @@ returns-in-Err-clause-now g c =
       from_exchange = all_said r v.from_exchange.items;
       given = v.given.items;
     } in
-    let other : c.in-Err.field-0 ≡ SessionFault.OutOfMemory → ⊥ = search rules in
+    let other : c.in-Err.fault ≡ SessionFault.OutOfMemory → ⊥ = search rules in
     let now : VenueParts = record before { session = c.silent.new.self } in
     subst (λ (venue : VenueParts). now ≡ called venue (silent venue.session)) c.self.view_is
-    (called_refused w c.stamp.result before (silent v.session) c.in-Err.field-0 c.silent.new.self other c.in-Err.ensures)
+    (called_refused w c.stamp.result before (silent v.session) c.in-Err.fault c.silent.new.self other c.in-Err.ensures)
 
 pub returns-in-Err-clause-ended : goal.returns-in-Err-clause-ended
 returns-in-Err-clause-ended g c =
     let v = c.self.inside in
     let w : Encoding = (g.D.Dialect.wording v.dialect).encoding in
-    let other : c.in-Err.field-0 ≡ SessionFault.OutOfMemory → ⊥ = search rules in
-    subst (λ (venue : VenueParts). None ≡ ending_of (silent venue.session)) c.self.view_is
-    (no_ending w c.stamp.result v.session c.silent.new.self (silent v.session) c.in-Err.field-0 other c.in-Err.ensures)
+    let other : c.in-Err.fault ≡ SessionFault.OutOfMemory → ⊥ = search rules in
+    subst (λ (venue : VenueParts). Err c.in-Err.fault ≡ ending_of (silent venue.session)) c.self.view_is
+    (no_ending w c.stamp.result v.session c.silent.new.self (silent v.session) c.in-Err.fault other c.in-Err.ensures)

@@ -1,0 +1,4 @@
+pub mod Fault
+pub mod Folder
+pub mod Header
+pub mod Piece

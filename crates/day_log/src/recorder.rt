@@ -1,0 +1,125 @@
+//! What notes the messages of a link.
+
+ghost use Rattle.std.specs.Prelude.{◌≡◌};
+ghost use Rattle.day_log.specs.Piece.{new_piece, splits};
+
+use crate::piece::Piece;
+use crate::traffic::Traffic;
+use crate::venue_log::VenueLog;
+use clock::Clock;
+use fix_tags::Stamp;
+use message_log::Direction;
+use std::alloc::Global;
+use std::sync::{Arc, Wait};
+
+/// Notes what goes over a link: it counts it, and puts a line for each message into a log, if one is kept. Where the
+/// log's lock is held it waits; the other one that takes it, the thread that writes, holds it for a moment only.
+#[derive(Drop)]
+pub struct Recorder<'a, R: Wait, C: Clock + Drop> {
+    rt: &'a R,
+    clock: C,
+    traffic: Arc<Traffic, Global>,
+    log: Option<Arc<VenueLog, Global>>,
+    sent: Piece,
+    received: Piece,
+}
+
+/// Notes a message that ended in the log, if one is kept, and begins the next.
+fn end_message<R: Wait>(
+    rt: &R,
+    log: Option<&VenueLog>,
+    stamp: &Stamp,
+    direction: Direction,
+    piece: &mut Piece,
+)
+    ensures { piece.new ≡ new_piece }
+{
+    if let Some(log) = log {
+        log.note(rt, stamp, direction, piece.text());
+    }
+    piece.begin();
+}
+
+/// Reads bytes that went one way, with the message that is under way there, and hands on each message that ends in
+/// them. It says how many these were.
+fn note<R: Wait>(
+    rt: &R,
+    log: Option<&VenueLog>,
+    stamp: &Stamp,
+    direction: Direction,
+    piece: &mut Piece,
+    bytes: &[u8],
+) -> u64
+    ensures { (result, piece.new) ≡ splits piece.old bytes.now }
+{
+    let mut messages: u64 = 0;
+    let mut rest = bytes;
+    while !rest.is_empty() {
+        let taken = piece.take(rest);
+        rest = rest.split_at(taken.count).1;
+        if taken.is_whole {
+            messages = messages.saturating_add(1);
+            end_message(rt, log, stamp, direction, piece);
+        }
+    }
+    messages
+}
+
+impl<'a, R: Wait, C: Clock + Drop> Recorder<'a, R, C> {
+    /// Nothing went over the link yet. Without a log, what goes over it is counted, and no line is made.
+    pub fn new(
+        rt: &'a R,
+        clock: C,
+        traffic: Arc<Traffic, Global>,
+        log: Option<Arc<VenueLog, Global>>,
+    ) -> Recorder<'a, R, C> {
+        Recorder {
+            rt,
+            clock,
+            traffic,
+            log,
+            sent: Piece::new(),
+            received: Piece::new(),
+        }
+    }
+
+    /// A new connection began. What was under way on the one before is no message.
+    pub(crate) fn dialled(&mut self) {
+        self.traffic.count_connection();
+        self.sent.begin();
+        self.received.begin();
+    }
+
+    /// No connection could be had.
+    pub(crate) fn refused(&mut self) {
+        self.traffic.count_refused_dial();
+    }
+
+    /// The link took these bytes.
+    pub(crate) fn sent(&mut self, bytes: &[u8]) {
+        let stamp = self.clock.now();
+        let messages = note(
+            self.rt,
+            self.log.as_deref(),
+            &stamp,
+            Direction::Sent,
+            &mut self.sent,
+            bytes,
+        );
+        self.traffic.count_sent(bytes.len() as u64, messages);
+    }
+
+    /// The link gave these bytes.
+    pub(crate) fn received(&mut self, bytes: &[u8]) {
+        let stamp = self.clock.now();
+        let messages = note(
+            self.rt,
+            self.log.as_deref(),
+            &stamp,
+            Direction::Received,
+            &mut self.received,
+            bytes,
+        );
+        self.traffic.count_received(bytes.len() as u64, messages);
+    }
+}

@@ -1,0 +1,81 @@
+//! What went over the link of a venue, in numbers.
+
+use std::sync::atomic::{AtomicU64, Ordering};
+
+/// What went over the link of a venue since the day began, in numbers that one thread counts and others read. Each of
+/// them may be read while the next is counted, so they need not be of one moment.
+#[derive(Drop)]
+pub struct Traffic {
+    messages_sent: AtomicU64,
+    messages_received: AtomicU64,
+    bytes_sent: AtomicU64,
+    bytes_received: AtomicU64,
+    connections: AtomicU64,
+    refused_dials: AtomicU64,
+}
+
+impl Traffic {
+    /// Nothing went over the link yet.
+    pub fn new() -> Traffic {
+        Traffic {
+            messages_sent: AtomicU64::new(0),
+            messages_received: AtomicU64::new(0),
+            bytes_sent: AtomicU64::new(0),
+            bytes_received: AtomicU64::new(0),
+            connections: AtomicU64::new(0),
+            refused_dials: AtomicU64::new(0),
+        }
+    }
+
+    /// How many messages the link took whole.
+    pub fn messages_sent(&self) -> u64 {
+        self.messages_sent.load(Ordering::SeqCst)
+    }
+
+    /// How many messages it gave, each of which ends with its CheckSum (10), whether valid or not.
+    pub fn messages_received(&self) -> u64 {
+        self.messages_received.load(Ordering::SeqCst)
+    }
+
+    /// How many bytes it took.
+    pub fn bytes_sent(&self) -> u64 {
+        self.bytes_sent.load(Ordering::SeqCst)
+    }
+
+    /// How many bytes it gave.
+    pub fn bytes_received(&self) -> u64 {
+        self.bytes_received.load(Ordering::SeqCst)
+    }
+
+    /// How many dials were answered.
+    pub fn connections(&self) -> u64 {
+        self.connections.load(Ordering::SeqCst)
+    }
+
+    /// How many dials failed.
+    pub fn refused_dials(&self) -> u64 {
+        self.refused_dials.load(Ordering::SeqCst)
+    }
+
+    /// Counts a dial that was answered.
+    pub(crate) fn count_connection(&self) {
+        self.connections.fetch_add(1, Ordering::SeqCst);
+    }
+
+    /// Counts a dial that failed.
+    pub(crate) fn count_refused_dial(&self) {
+        self.refused_dials.fetch_add(1, Ordering::SeqCst);
+    }
+
+    /// Counts what the link took: so many bytes, which completed so many messages.
+    pub(crate) fn count_sent(&self, bytes: u64, messages: u64) {
+        self.bytes_sent.fetch_add(bytes, Ordering::SeqCst);
+        self.messages_sent.fetch_add(messages, Ordering::SeqCst);
+    }
+
+    /// Counts what it gave: so many bytes, which completed so many messages.
+    pub(crate) fn count_received(&self, bytes: u64, messages: u64) {
+        self.bytes_received.fetch_add(bytes, Ordering::SeqCst);
+        self.messages_received.fetch_add(messages, Ordering::SeqCst);
+    }
+}

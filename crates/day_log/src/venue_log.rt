@@ -1,0 +1,86 @@
+//! The lines of a log between the thread that puts them and the one that writes them.
+
+ghost use Rattle.std.specs.Prelude.{◌≡◌, IfSome, IsSomeAnd};
+ghost use Rattle.message_log.specs.Line.{line_text};
+
+use crate::counts::LogCounts;
+use fix_tags::Stamp;
+use message_log::{Direction, LogQueue, log_line};
+use std::alloc::Global;
+use std::sync::{Mutex, Wait};
+
+/// How many bytes of lines wait to be written, at most.
+const ROOM: usize = 1_048_576;
+
+/// The lines of one log, of a venue or of the desk, that wait to be written, 1 MiB of them at most, behind a lock. No
+/// line is made and nothing is written while the lock is held.
+#[derive(Drop)]
+pub struct VenueLog {
+    alloc: Global,
+    queue: Mutex<LogQueue>,
+}
+
+/// The line of a message that has a text. None where it has none, or there is no memory for its line.
+fn line_of(
+    alloc: Global,
+    stamp: &Stamp,
+    direction: Direction,
+    message: Option<&[u8]>,
+) -> Option<Vec<u8>>
+    ensures { IfSome result (λ line. IsSomeAnd message.entry (λ text.
+        line.items ≡ line_text stamp.now direction text.now)) }
+{
+    match message {
+        Some(text) => log_line(alloc, stamp, direction, text).ok(),
+        None => None,
+    }
+}
+
+impl VenueLog {
+    /// No line waits yet. It takes no memory.
+    pub fn new(alloc: Global) -> VenueLog {
+        VenueLog {
+            alloc,
+            queue: Mutex::new(LogQueue::new(alloc, ROOM)),
+        }
+    }
+
+    /// Puts the line of a message behind those that wait. It is lost, and counted so, where the message has no text, or
+    /// there is no room or memory for its line.
+    pub fn note(
+        &self,
+        rt: &impl Wait,
+        stamp: &Stamp,
+        direction: Direction,
+        message: Option<&[u8]>,
+    ) {
+        match line_of(self.alloc, stamp, direction, message) {
+            Some(line) => self.put(rt, line.as_slice()),
+            None => self.queue.lock(rt).lose(),
+        }
+    }
+
+    fn put(&self, rt: &impl Wait, line: &[u8]) {
+        let _ = self.queue.lock(rt).put(line);
+    }
+
+    /// Hands over the lines that wait, in order; none where there is none.
+    pub(crate) fn take(&self, rt: &impl Wait) -> Option<Vec<u8>> {
+        self.queue.lock(rt).take()
+    }
+
+    /// Counts the lines that were handed over as kept where they were written, else as lost.
+    pub(crate) fn settle(&self, rt: &impl Wait, is_written: bool) {
+        self.queue.lock(rt).settle(is_written);
+    }
+
+    /// How many lines are kept, lost and waiting, all at one moment.
+    pub fn counts(&self, rt: &impl Wait) -> LogCounts {
+        let queue = self.queue.lock(rt);
+        LogCounts {
+            kept: queue.kept(),
+            lost: queue.lost(),
+            waiting: queue.waiting(),
+        }
+    }
+}

@@ -1,0 +1,2 @@
+pub mod SaidMore
+pub mod Heads

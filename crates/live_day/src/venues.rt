@@ -1,0 +1,41 @@
+//! The venues of a day, as their workers left them.
+
+ghost use Rattle.std.specs.Prelude.{◌≡◌, map, IfOk};
+ghost use Rattle.live_day.specs.Venues.{venue_left};
+
+use crate::day::LiveVenue;
+use link::Link;
+use release_lock::Run;
+use session_worker::WorkerEnd;
+use std::alloc::{AllocError, Global};
+use std::sync::ledger::Ledger;
+
+/// The venues of these workers, in order. The only refusal is want of memory.
+pub fn left_venues<K: Link, L: Run, M: Ledger>(
+    alloc: Global,
+    ends: &[WorkerEnd<K, L, M>],
+) -> Result<Vec<LiveVenue>, AllocError>
+    ensures { IfOk result (λ venues. venues.items ≡ map (λ e. venue_left e.parts) ends.now) }
+{
+    let mut venues = Vec::new(alloc);
+    for end in ends {
+        let venue = left_venue(alloc, end)?;
+        venues.push(venue)?;
+    }
+    Ok(venues)
+}
+
+/// The venue of a worker.
+fn left_venue<K: Link, L: Run, M: Ledger>(
+    alloc: Global,
+    end: &WorkerEnd<K, L, M>,
+) -> Result<LiveVenue, AllocError>
+    ensures { IfOk result (λ venue. venue ≡ venue_left end.now.parts) }
+{
+    let doubts = end.in_doubt(alloc)?;
+    Ok(LiveVenue {
+        number: u64::from(end.took.venue().number()),
+        connections: end.session.connection(),
+        doubts: doubts.len() as u64,
+    })
+}

@@ -1,0 +1,93 @@
+//! The reports that came.
+
+ghost use Rattle.std.specs.Prelude.{◌≡◌, ◌++◌, ◌∷◌, [], option_and_then, slice_get, OnOk, OnErr};
+ghost use Rattle.std.specs.Option.{option_map};
+ghost use Rattle.log_rules.specs.KeptReport.{kept_report};
+ghost use Rattle.log_rules.specs.Ledger.{has_report_in, report_under, shares_of_exec};
+
+use crate::kept_report::KeptReport;
+use crate::number_places::NumberPlaces;
+use crate::report_said::ReportSaid;
+use crate::text_places::TextPlaces;
+use std::alloc::{AllocError, Global};
+use std::marker::Model;
+
+/// The reports that came, in their order. Under each number, and under each ExecID (17), the place of its first report
+/// is kept.
+#[derive(Debug, Drop)]
+pub(crate) struct Reports {
+    alloc: Global,
+    items: Vec<KeptReport>,
+    by_number: NumberPlaces,
+    by_exec: TextPlaces,
+}
+
+impl Model for Reports {
+    ghost use Rattle.std.specs.Prelude.{List};
+    ghost use Rattle.log_rules.specs.KeptReport.{ReportParts};
+
+    ghost Value = { List ReportParts };
+
+    ghost view = { λ r. r.items.items };
+
+    ghost use Rattle.log_rules.specs.Kept.{KeepsExecs, KeepsNumbers};
+
+    ghost invariant = { λ r. KeepsNumbers r.by_number r.items.items × KeepsExecs r.by_exec r.items.items };
+}
+
+impl Reports {
+    pub(crate) fn new(alloc: Global) -> Reports
+        ensures { result ≡ [] }
+    {
+        Reports {
+            alloc,
+            items: Vec::new(alloc),
+            by_number: NumberPlaces::new(alloc),
+            by_exec: TextPlaces::new(alloc),
+        }
+    }
+
+    /// The report at a place.
+    fn at(&self, place: Option<usize>) -> Option<&KeptReport>
+        ensures { option_map (λ report. report.now) result ≡ option_and_then (slice_get self.now) place }
+    {
+        self.items.get(place?)
+    }
+
+    /// The first report that came under this number.
+    pub(crate) fn under(&self, number: u64) -> Option<&KeptReport>
+        ensures { option_map (λ report. report.now) result ≡ report_under number self.now }
+    {
+        self.at(self.by_number.get(number))
+    }
+
+    /// How many shares the first report of this ExecID (17) says were traded.
+    pub(crate) fn shares_of(&self, exec: &[u8]) -> Option<u64>
+        ensures { result ≡ shares_of_exec exec.now self.now }
+    {
+        let report = self.at(self.by_exec.get(exec))?;
+        Some(report.shares())
+    }
+
+    /// Whether a report came under a number of a range.
+    pub(crate) fn has_in(&self, from: u64, to: u64) -> bool
+        ensures { result ≡ has_report_in from to self.now }
+    {
+        self.by_number.has_in(from, to)
+    }
+
+    /// A report is behind the others. A refused growth changes nothing.
+    pub(crate) fn push(&mut self, number: u64, said: &ReportSaid<'_>) -> Result<(), AllocError>
+        ensures ok { OnOk result (self.new ≡ self.old ++ kept_report number said.now ∷ []) }
+        ensures err { OnErr result (self.new ≡ self.old) }
+    {
+        let report = KeptReport::new(self.alloc, number, said)?;
+        let exec = Vec::from_slice(self.alloc, said.exec.as_bytes())?;
+        self.items.reserve(1)?;
+        self.by_exec.reserve()?;
+        self.by_number.keep(number, self.items.len())?;
+        self.by_exec.keep(exec, self.items.len());
+        self.items.push_reserved(report);
+        Ok(())
+    }
+}

@@ -1,0 +1,77 @@
+"""Makes the pictures of docs/page.md in docs/images: each state of the desk's page in light and in dark, with the
+stand-in behind it. Needs Debian's chromium and pngquant."""
+
+import subprocess
+import sys
+import time
+from pathlib import Path
+
+import checks
+import mock
+from browser import Browser, Page
+
+FOLDER = Path(__file__).resolve().parents[2] / "docs" / "images"
+MOST_BYTES = 100_000
+
+
+def take(page, name):
+    """A picture in light and one in dark, each of 256 colours."""
+    for scheme in ("light", "dark"):
+        page.scheme(scheme)
+        time.sleep(0.3)
+        path = FOLDER / f"page_{name}_{scheme}.png"
+        page.picture(path)
+        subprocess.run(["pngquant", "--force", "--strip", "--output", path, "192", path], check=True)
+        if path.stat().st_size > MOST_BYTES:
+            sys.exit(f"{path} has more than {MOST_BYTES} bytes")
+    page.scheme("light")
+
+
+def wait(page, script, what):
+    page.until(script, what)
+    time.sleep(0.2)
+
+
+def take_all(browser):
+    day = mock.morning()
+    page = Page(browser, f"{mock.Server(day).base}/")
+    wait(page, "typeof following === 'boolean' && following", "it follows")
+    take(page, "morning")
+    mock.troubles(day)
+    page.run("turn(2)")
+    wait(page, "document.querySelectorAll('tr.leg').length === 4", "its legs")
+    take(page, "troubles")
+    checks.fill_leg(page, 0, "ARCA", "buy", 100, "IBM", "187.5")
+    checks.press(page, "#add")
+    checks.fill_leg(page, 1, "NYSE", "buy", 2500, "BRK.B", "412.25")
+    checks.press(page, "#send")
+    wait(page, "document.querySelector('#ask').open", "it is asked back")
+    take(page, "asked_back")
+    checks.press(page, "#ask-yes")
+    wait(page, "document.querySelector('#answer').textContent.startsWith('Refused')", "it is refused")
+    take(page, "refused")
+    day.takes_streams = False
+    day.cut_streams()
+    wait(page, "document.querySelector('#banner').textContent.startsWith('Events were lost')", "the loss")
+    take(page, "events_lost")
+    page.size(400, 850)
+    take(page, "narrow")
+    page.size(1440, 900)
+    day.takes_streams = True
+    wait(page, "following", "it follows again")
+    day.close()
+    wait(page, "document.querySelector('#standing').textContent === 'Day closed'", "the end")
+    take(page, "closed")
+
+
+def main():
+    FOLDER.mkdir(exist_ok=True)
+    browser = Browser()
+    try:
+        take_all(browser)
+    finally:
+        browser.close()
+
+
+if __name__ == "__main__":
+    main()
