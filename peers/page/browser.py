@@ -147,7 +147,12 @@ class Page:
         return answer["result"].get("value")
 
     def until(self, script, what, within=WITHIN):
-        """Waits until an expression is true."""
+        """Waits until an expression is true, and what the page knows by then is drawn."""
+        value = self.wait(script, what, within)
+        self.wait("typeof drawing === 'boolean' && !drawing", "the page draws", within)
+        return value
+
+    def wait(self, script, what, within):
         end = time.monotonic() + within
         while time.monotonic() < end:
             if value := self.run(script):

@@ -129,7 +129,7 @@ def opens_a_sweep(trial):
     settled(lambda: (page.key("Home"), expect(page.run(first), True, "to the first")))
     page.key("End")
     page.key("Enter")
-    expect(page.run(legs), 0, "it is closed again")
+    page.until(f"{legs} === 0", "it is closed again")
 
 
 def compare_legs(trial, number):
@@ -229,6 +229,7 @@ def says_why_refused(trial):
     page.until("document.querySelector('#answer').textContent.startsWith('Refused')", "it is refused")
     words = f"R04 {venue}: its gate is down"
     expect(text(page, "#answer"), f"Refused: {words}", "the answer")
+    page.until("document.querySelectorAll('#refusals li').length > 0", "it is listed")
     time.sleep(0.5)
     listed = page.run("[...document.querySelectorAll('#refusals li')].map(line => line.textContent)")
     expect(sum(words in line for line in listed), 1, "it is listed once")
@@ -289,6 +290,14 @@ def says_when_it_lost_events(trial):
         page.until("following", "the page follows again", 40)
         return
     day = trial.day
+    try:
+        lose_events(page, day)
+    finally:
+        day.answers = day.takes_streams = True
+    page.until("following && document.querySelector('#banner').hidden", "it follows again")
+
+
+def lose_events(page, day):
     day.takes_streams = False
     day.cut_streams()
     page.until("document.querySelector('#standing').textContent.startsWith('Events lost since')", "the loss is said")
@@ -317,9 +326,11 @@ def says_when_an_answer_is_lost(trial):
     page.until("document.querySelector('#ask').open", "it is asked back")
     day.answers = False
     press(page, "#ask-yes")
-    page.until("document.querySelector('#answer').textContent.startsWith('No answer came')", "it says so")
+    try:
+        page.until("document.querySelector('#answer').textContent.startsWith('No answer came')", "it says so")
+    finally:
+        day.answers = True
     expect("may have been placed" in text(page, "#answer"), True, "what may be")
-    day.answers = True
     page.until("following && document.querySelector('#banner').hidden", "it follows again")
 
 
@@ -472,10 +483,12 @@ def stays_at_home(trial):
     expect(foreign, [], "requests to others")
     expect(page.complaints, [], "complaints")
     expect(page.run("fetch('http://127.0.0.1:9/').then(() => 'let', () => 'refused')"), "refused", "another origin")
-    time.sleep(0.3)
+    settled(lambda: expect(complains_of_policy(page), True, "it was the page's policy that refused it"))
+
+
+def complains_of_policy(page):
     page.gather()
-    expect(any("Content Security Policy" in words or "violates" in words for words in page.complaints), True,
-           "it was the page's policy that refused it")
+    return any("Content Security Policy" in words or "violates" in words for words in page.complaints)
 
 
 def closes_the_day(trial):

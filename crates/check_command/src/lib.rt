@@ -1,4 +1,9 @@
 //! `dispatch check`: the logs of venues are read, and each rule that a message breaks is told.
+//!
+//! Promises:
+//! - `LogCheck::check_line` judges the message of a line, the first valid frame in its bytes, exactly as the rules
+//!   do (`Checks`), or names the line with its own fault (`NamesBadLine`). What is printed of it, the counts and the
+//!   status aren't said.
 #![tactic(auto)]
 
 mod command;

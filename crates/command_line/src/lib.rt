@@ -1,4 +1,7 @@
 //! What the commands of the program share: how a run ends, and how bytes and frames are read and written.
+//!
+//! Promises:
+//! - What is shown of a frame is read back as that frame (`bytes_of`).
 #![tactic(auto)]
 
 mod exit_status;

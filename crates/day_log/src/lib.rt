@@ -1,4 +1,14 @@
 //! The logs of a desk's day: a link that notes what goes over it, the day's folder, and the thread that writes.
+//!
+//! Promises:
+//! - A `LoggedLink` keeps the laws of `Link` with the traffic of the link that it hands its calls to. What goes one
+//!   way over a connection is split into messages exactly as stated (`split_on`): a message ends with its field
+//!   CheckSum (10). Each frame that is written is one message with all its bytes, whatever follows it
+//!   (`written_frames_are_messages`). The line at the head of a venue's log, the names of the files and the text of
+//!   each fault are the stated ones (`header_text`, `file_text`, `fault_text`).
+//! - `open_logs` gives a log for each venue and one for the lines, and answers `NameTaken` exactly where a venue is
+//!   called `sweeps`. What is put under a log's lock, that a file is there or isn't, and that the writer's thread
+//!   comes to write are said nowhere: what it writes of a batch is `LogWriter`'s promise.
 #![tactic(auto)]
 
 mod counts;

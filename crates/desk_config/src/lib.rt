@@ -1,4 +1,13 @@
 //! The file of a desk: its TOML is read into the desk's configuration, or its first fault is named.
+//!
+//! Promises:
+//! - `read_config` answers every text with exactly the configuration that its TOML spells (`config_in`), or with the
+//!   first fault in order, by place and key; with TOML's own fault only where it is no TOML; or memory was wanted
+//!   (`AnswersText`). The venues that it gives are 1 to 16, no two of one name, and no two with the same address and
+//!   comp ids (clause `apart`). What is said of each fault is the stated text (`config_fault_text`), but of TOML's
+//!   own.
+//!
+//! See `docs/run.md`.
 #![tactic(auto)]
 
 mod address;

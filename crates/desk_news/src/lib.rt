@@ -1,4 +1,9 @@
 //! What a desk is told, a line each: news of sweeps and venues, how they stand, and what the day came to.
+//!
+//! Promises:
+//! - News of sweeps and venues, how both stand, the legs of a venue that stay in doubt, and what the day came to are
+//!   exactly the stated texts (`news_text`, `status_text`, `doubt_text`, `day_text`). A text of others stands in
+//!   them as it is shown: printable, and no more than 200 characters of it.
 #![tactic(auto)]
 
 mod cause;

@@ -1,6 +1,20 @@
 //! A desk's day: a worker for each venue of its file, an exchange inside the process for each that is simulated, and
 //! one caller that takes lines, releases their sweeps and answers them; what changes is told meanwhile, and at the end
 //! the day is audited.
+//!
+//! Promises:
+//! - `run_day` is refused for want of an address, a socket, a thread or memory alone, since the audit finds no
+//!   mismatch, whatever the threads do. The sweeps that it tells at the end are all those of a book that its own
+//!   history leads to.
+//! - Each sweep is answered with what the desk and the book did (`release`), under the name of the venue that is to
+//!   blame.
+//! - Each worker is that of the venue at its place in the file. A simulated exchange begins as one with the comp ids
+//!   of its venue, and fills as the file says; that it has the dialect is only tested.
+//! - Of a worker the legs told in doubt are those that its session has so (`legs_in_doubt`, private).
+//! - That lines are answered in their order, what is told while the day runs, that a worker dials its venue's
+//!   address, that a second `close` gives the day up, and that a day ends, is only tested.
+//!
+//! See `docs/run.md`.
 #![tactic(auto)]
 
 mod address;

@@ -1,4 +1,27 @@
 //! How venues spell an order, and a report on it, in the fields of a message.
+//!
+//! Promises:
+//! - The trait `Dialect` and its laws (`IsWording`), for orders and reports: each leg and moment in range, and each
+//!   report, has fields that may be written for it; they read back as it, and fit a message in at most 1,000 bytes;
+//!   an order carries the mark of a sweep, `59=3` and its own moment (60); a report's 37, 39, 151 and 14 are what
+//!   its exchange knows. Two legs, or two reports, that differ have different fields (`orders_tell_legs_apart`,
+//!   `reports_tell_apart`). Generic code knows a dialect by these laws alone. `write_order` may want memory only
+//!   where the list has no room for sixteen more fields.
+//! - What differs between venues is a `Spelling`: a leg's number, the mark, a price and a symbol. Every spelling is
+//!   a dialect, proved once; orders and reports are read as exactly `order_read_of` and `report_read_of`, with the
+//!   first fault in order (V01 to V04), and a mark that isn't written isn't read. A refusal to write leaves the list
+//!   as it was.
+//! - `Plain`, `Split4` and `Coded` are spellings, and `AnyDialect` is any one of them, chosen when the program runs.
+//! - The bytes of a message in a dialect (`IsFramed`): there are such bytes for every message in range, writing it
+//!   is refused for want of memory alone, and of every stream that begins with them the next frame is seen as
+//!   exactly that message (`writable_messages_are_framed`, `writable_messages_fit`, `frames_read_back`).
+//! - `write_message`, the one writer for both ends of a session, gives exactly such bytes of a message, in any
+//!   dialect and with any stamp: a message in range is refused for want of memory alone. `append_message` gives them
+//!   behind what a buffer holds, and a refusal leaves that as it was. `see` reads an envelope as exactly the message
+//!   that it is (`seen`), takes no memory, and what it gives is in range (`IsRead`) with nothing asked of its
+//!   caller. `read_order` and `read_report` give legs and reports in range, in every dialect.
+//! - `ExecId`, `OrderId`, `LastPx`, `Fill` and `OrderView` can't be made out of range, and a `Report` is made of
+//!   them.
 #![tactic(auto)]
 
 mod any_dialect;

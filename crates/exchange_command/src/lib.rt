@@ -1,4 +1,12 @@
 //! `dispatch exchange`: a simulated exchange as a program of its own, on a port of this machine.
+//!
+//! Promises:
+//! - `exchange_run` ends with the status of what it did (`ExitsSo`): its words were refused and nothing is printed;
+//!   or the exchange is the one that its options ask for, or the first bad value in their order is named
+//!   (`plan_of`). Then it prints the line of its port, and at its end that of a count, and nothing else. It fails
+//!   only for want of a port, a client, memory or the output (`EndsPlan`).
+//! - Not said: what is read and written on a connection, that the count is that of the orders which came, and that
+//!   it ends.
 #![tactic(auto)]
 
 ghost use Rattle.std.specs.Prelude.{◌≡◌, IfErr};

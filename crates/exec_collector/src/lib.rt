@@ -1,4 +1,20 @@
 //! The book behind a lock, and the seats on which the venues' workers count the shares that they resolve.
+//!
+//! Promises:
+//! - What lies under the lock, `CountedBook`, replays from its own history, and its seats add up to what all its
+//!   venues have resolved, each time the lock is got (its invariant). Its `apply` and `withdraw` answer as the book
+//!   does, and the seat gains exactly what ceased to be open. Those of `Collector` take the lock and promise what
+//!   the seat gains: by a trade that moves its own shares, by a first report or a bust none, by a withdrawal all the
+//!   leg's shares; any other answer gains none, and a refusal leaves the seat unchanged. Of a note that ends a leg
+//!   (cancel, reject, expire, refuse) the clause says only that the seat's amount doesn't fall, and not by how much
+//!   it rises: the exact amount is promised of `CountedBook`, under the lock.
+//! - `totals` is that of a book that replays.
+//! - `lend` and `lend_beside` take closures that only open sweeps.
+//! - `check_count` is `Ok` exactly where the seats add up to what is resolved, and always is with every part of the
+//!   ledger.
+//! - That a lock is ever got is claimed nowhere.
+//!
+//! See `docs/locks.md`.
 #![tactic(auto)]
 
 mod collector;

@@ -1,5 +1,22 @@
 //! The messages of a FIX 4.4 session as envelopes, and the values of their fields: how each is read
 //! and written.
+//!
+//! Promises:
+//! - Each value has one equation for reading, on every text, and one for writing: numbers, shares, prices (short,
+//!   and with four decimals), flags, time stamps, comp ids. What is written is read back: `laws`.
+//! - `write_envelope` appends the frame of `envelope_fields`, or refuses as `envelope_refusal` says: the first bad
+//!   tag in written order (M01), then M02; M03 only where the buffer had no room for the frame. A refusal leaves the
+//!   buffer as it was. Of every stream that begins with what it wrote, the next frame is read as the message itself,
+//!   and the stream goes on behind it: its clause `reads_back`, and the law `written_messages_read_back`.
+//! - `read_envelope` is `envelope_read`, for every list of fields and every body: the message where there is one,
+//!   else the first fault in order (M04, M05). It takes no memory: an application message's fields stay where the
+//!   frame has them, and `AppFields` looks them up there. Whatever it gives is in the ranges of `docs/formats.md`
+//!   (`in_range`), and is what the fields say, field by field (`says`). An `EnvelopeRef` is only made of what was
+//!   read from a frame: each part is in its range, and no text of it holds SOH (`IsRead`), which whoever is handed
+//!   one knows by `body`.
+//! - An application message whose fields can be written and take at most 3,000 bytes, and whose kind and number are
+//!   in range, is refused under no header: `laws::application_messages_fit`. A message that isn't refused takes at
+//!   most `MAX_FRAME` bytes: `laws::written_messages_are_short`.
 #![tactic(auto)]
 
 mod app_fields;

@@ -1,4 +1,11 @@
 //! The vocabulary of an order: plain values, each with an exact range.
+//!
+//! Promises:
+//! - The constructors of `Symbol`, `Terms`, `LegId` and `VenueId` accept exactly their ranges, and nothing else
+//!   makes such a value.
+//! - The five parts of a `Split` always add up to the leg's shares; `fill`, `cancel_rest`, `withdraw` and `bust` are
+//!   one equation each, with the refusal, and a refusal changes nothing.
+//! - The printed forms of a symbol, a leg's number and a leg are the stated texts.
 #![tactic(auto)]
 
 mod fault;

@@ -1,4 +1,15 @@
 //! What a worker needs of a connection, a connection over TCP, and the bell that ends its rests.
+//!
+//! Promises:
+//! - The trait `Link` and its laws: no call answers a fault without counting it, a rest counts none and moves no
+//!   byte, a read that gives bytes and a write of bytes move one at least, and a link that tells its traffic has
+//!   after each call exactly the bytes more that the call took or gave.
+//! - `write_whole` writes all bytes, in order and each once; a fault comes only of the link, and then the first of
+//!   them were taken, and not all.
+//! - `TcpLink` is a link over TCP that tells no traffic: of it the counts alone are proved.
+//! - That a read of it doesn't wait, that a rest ends, and that a `Bell` ends it, is only tested.
+//!
+//! See `docs/worker.md`.
 #![tactic(auto)]
 
 mod bell;

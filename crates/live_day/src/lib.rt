@@ -1,5 +1,15 @@
 //! A day of the whole dispatcher over loopback: simulated exchanges, a worker for each, and callers that release
 //! sweeps, all in threads of their own; and the audit of it.
+//!
+//! Promises:
+//! - `run_live` is refused for want of a socket, a thread or memory alone, since the audit finds no mismatch,
+//!   whatever the threads do.
+//! - The sweeps that it tells are all those of a book that its own history leads to. That the parts of each add up
+//!   to its shares is a clause of the private function that lists them.
+//! - The shares placed, as the audit found them, are those of the sweeps that weren't given up, 10 for each venue.
+//! - That the book's sweeps are those that callers placed, and that a day ends, is only tested.
+//!
+//! See `docs/live.md`.
 #![tactic(auto)]
 
 mod bells;

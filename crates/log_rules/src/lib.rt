@@ -1,5 +1,16 @@
 //! What the messages of a log say of the rules: a day's messages are gone through once, and each rule that one of them
 //! breaks is named.
+//!
+//! Promises:
+//! - Each of the thirteen rules over readable messages is a definition (`SessionRules.antt`, `ExchangeRules.antt`,
+//!   `LedgerRules.antt`), over how the two ends stand and over the orders and reports so far (`Standing.antt`,
+//!   `Ledger.antt`).
+//! - `Checker::hear` answers for a message exactly what they say of it (`verdicts`), and is then exactly what is
+//!   known behind it (`heard`). Where memory is refused it is as it was.
+//! - Where no message of a log breaks `sent-once`, no two of its orders have one ClOrdID (`orders_are_sent_once`).
+//!   Where none breaks `known-order`, each report is on an order that was sent before it (`reports_follow_orders`).
+//! - Not said: that memory is refused only where the system does so, and that a day of this session against an
+//!   exchange that keeps the rules breaks none.
 #![tactic(auto)]
 
 mod checker;

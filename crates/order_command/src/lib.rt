@@ -1,4 +1,22 @@
 //! `dispatch order`: a leg becomes an order frame, and a frame is read back.
+//!
+//! Promises:
+//! - `write_order_frame`: in every dialect, what is written is the frame of an order for the leg, with the header's
+//!   own moment (`IsOrderFrame`). It refuses nothing: the room that an order takes (`OrderRoom`) is had before, and
+//!   `OrderRoom::new` alone may want memory.
+//! - `order_run` ends with the status of what it did (`ExitsSo`): its words were refused and nothing is printed, or
+//!   what they ask for is printed: the frame and the leg of the request that the options make, or the leg of the
+//!   input's first frame; or the first fault is named. What the words match is the command line parser's.
+//! - `read_order_frame` is `order_read_from` for any stream: the leg of the first frame, by the reader, the envelope
+//!   and the dialect, or the fault. Want of memory is answered only where a frame is there that has more than 64
+//!   fields. Its clause `order`: the frame of an order for a leg, in every dialect, is read back as that leg.
+//! - What is printed are the lines of the frame of the request and of the leg that was read from that frame
+//!   (`order_text`, `print_order`). The request is the one that the options make, or the first bad value in their
+//!   order (`request_of`). Its moment is that of `--at`, or else the stamp that the clock told. A fault never ends
+//!   in status 0 (`status`).
+//! - With `--raw` it prints the bytes of that frame. With `--read` it prints the leg of the first frame of its
+//!   input, or tells the fault for which there is none, and then prints nothing (`print_leg`). Of what the input
+//!   gives its first 65,536 bytes are read (`read_up_to`).
 #![tactic(auto)]
 
 ghost use Rattle.std.specs.Prelude.{IfOk};

@@ -1,5 +1,23 @@
 //! What callers share when they release sweeps: the desk behind a lock, with the ends of the rings to the venues'
 //! workers, and the seats on which each caller counts the shares that it placed.
+//!
+//! Promises:
+//! - What lies under the lock, `LockedDesk`, replays from its own history, its seats add up to the shares of all
+//!   sweeps released, and what was pushed to a venue's ring is the first of the legs released to it, just as many as
+//!   left the desk, each time the lock is got (its invariant).
+//! - `release` is `place` under both locks, with its answers, and the seat gains exactly the sweep's shares, by a
+//!   refusal nothing; then each venue of the sweep's legs is pumped, by a refusal none.
+//! - `pump` moves placed legs into the ring, in order, and stops only where none is placed or the ring was full;
+//!   `raise` puts a gate up, and answers G01 until every released leg was popped.
+//! - `with` takes closures that only turn gates.
+//! - `check_placed` is `Ok` exactly where the seats add up to the shares placed, and always is with all 1,024 parts.
+//! - `check_queues` is `Ok` exactly where each worker took the first legs released to the venue at its place, names
+//!   the first that didn't, and always is `Ok` with the ends in order.
+//! - `is_shut` and `is_behind` tell without the lock what the last call that had it noted of a venue; that the note
+//!   is right is tested by the days of the trials, and promised nowhere.
+//! - That a lock is ever got, or a leg ever pumped, is claimed nowhere.
+//!
+//! See `docs/locks.md`.
 #![tactic(auto)]
 
 mod caller_seat;

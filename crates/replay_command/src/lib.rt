@@ -1,4 +1,21 @@
 //! `dispatch replay`: a script is read, its day runs, and what became of each leg is printed.
+//!
+//! Promises:
+//! - `replay_run` ends with the status of what it did (`ExitsSo`): its words were refused and nothing is printed, or
+//!   what they ask for is done. Which words ask for what, and for a file, is the command line parser's and its
+//!   reader's, and only tested. What is done with an input that is given is `replay_input`'s clause (`EndsTask`), on
+//!   the script of the whole input.
+//! - With `--steps` the steps come first, a line for each of the script's events in their order, with its number,
+//!   the number and the text of its line, and what it did as `event_text` defines it (`AreSteps`).
+//! - The world's lines come last, or with `--summary` its sums (`summed` in `world_text`), of exactly the world that
+//!   the script's events lead to, and nothing else is printed unless frames are shown; or the first bad line is
+//!   named. Only the input, memory and the output can fail besides, and nothing was printed then unless the output
+//!   failed or steps are shown (`EndsRun`).
+//! - With `--check` it is told that the text is a script, or its first bad line (`EndsCheck`).
+//! - It reads line by line and keeps none but the last, which is code and no clause.
+//! - Not said: that it reads nothing behind a bad line, what `--frames` prints between, which is only tested, which
+//!   steps were printed where a fault ends the run, and what the system gives or takes. The clauses are of readers
+//!   and writers that tell their bytes, as those over memory do, and standard streams and files tell none.
 #![tactic(auto)]
 
 ghost use Rattle.std.specs.Prelude.{IfSome};

@@ -1,5 +1,11 @@
 //! The whole core in one thread: a world of desk, book, sessions and exchanges, and the events that move it. Its rules
 //! are definitions, in `specs/`.
+//!
+//! Promises:
+//! - The sweep theorem of the world of many venues: `the_sweep_theorem_holds`, `what_is_settled_stays_settled`.
+//!   `what_holds_of_each_venue` and `sums_hold_whatever_happens` are parts of the first.
+//! - An event changes one venue alone, and what was written, accepted and reported stands.
+//! - The worked scripts compute.
 #![tactic(auto)]
 
 mod act;

@@ -1,5 +1,25 @@
 //! The worker of one venue: it owns the session with the venue's exchange and the link, takes the venue's legs from its
 //! ring, sends them, reads the exchange, books what comes, and ends with the day. Beside it the audit of a whole day.
+//!
+//! Promises:
+//! - `Worker::run`: there is a list of events, calls of its session and legs taken, by which its session is that after
+//!   these calls, from the start on, and the legs that it took are just those of the events, in order. A leg is handed
+//!   to the session only where that is up, and dropped only where it isn't or no number is left. It ended as `Closed`
+//!   exactly where the last turn left the session closed, else as `TurnLimit` or `Stopped`. So whatever is promised of
+//!   a session over any calls holds of a worker's, whatever its link gives.
+//! - Where the link tells its traffic, the same events say what went over it. A connection is dialled just before each
+//!   Connect. The messages that the session receives on it are the first ones of the bytes read on it, in order, none
+//!   left out. The frames of the session's answer to each call are written, whole and once and in order, or the first
+//!   bytes of them, and then the connection is given up. Nothing else is written.
+//! - `WorkerEnd::in_doubt` gives exactly the ordinals of the legs taken that the session has in doubt.
+//! - `run_all` promises the same of each of its workers, in order.
+//! - `audit` is `Ok` exactly where each worker took the first legs released to the venue at its place, the workers'
+//!   seats add up to what the book has resolved and the callers' to what the desk placed; else it names the first
+//!   that isn't so, or answers A04, where there is no memory to take the ends apart. With all seats and one end for
+//!   each venue, in order, it names none, whatever the threads did.
+//! - That a leg is ever taken, sent or settled is claimed nowhere.
+//!
+//! See `docs/worker.md`; of the audit `docs/locks.md`.
 #![tactic(auto)]
 
 mod audit_fault;

@@ -1,4 +1,11 @@
 //! A world as text: a line for each venue, and then one for each sweep. What they say is defined in crate `schedule`.
+//!
+//! Promises:
+//! - `print_world` gives exactly the text of the definition, `printed` in `schedule`, for every world: a line for
+//!   each venue, and then one for each sweep.
+//! - `print_summary` gives exactly its sums, `summed` in `specs/Summary.antt`: how many legs each venue has of each
+//!   kind, and what became of the shares of all sweeps.
+//! - The only refusal is want of memory. Not said: that memory is wanted only where a growth was refused.
 #![tactic(auto)]
 
 mod leg_list;
