@@ -7,7 +7,7 @@ _dispatch_options() {
         order) echo --dialect --sweep --leg --symbol --side --shares --price --number --from --to --at --raw --read --help ;;
         replay) echo --steps --frames --summary --check --help ;;
         check) echo --help ;;
-        live) echo --venues --callers --sweeps --cut --turns --cut-short --help ;;
+        live) echo --venues --callers --sweeps --cut --turns --cut-short --stop-on-input --help ;;
         run) echo --check --patience --quiet --help ;;
         exchange) echo --port --sender --target --dialect --fill --cut --lose --help ;;
     esac
@@ -16,7 +16,7 @@ _dispatch_options() {
 # Whether an option takes a value of a command.
 _dispatch_takes_value() {
     case $1:$2 in
-        *:--help | order:--raw | order:--read | live:--cut-short | replay:* | check:* | run:--check | run:--quiet) return 1 ;;
+        *:--help | order:--raw | order:--read | live:--cut-short | live:--stop-on-input | replay:* | check:* | run:--check | run:--quiet) return 1 ;;
         *:--*) return 0 ;;
         *) return 1 ;;
     esac

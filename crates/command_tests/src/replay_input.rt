@@ -1,7 +1,7 @@
 //! An input that fails where a file wouldn't.
 
 use replay_command::replay_run;
-use std::io::{self, Read};
+use std::io::{self, IsTerminal, Read, Write};
 
 /// An input that gives a first line, and then fails.
 #[derive(Drop)]
@@ -22,11 +22,37 @@ impl Read for Broken {
     }
 }
 
+/// What was written to standard error, which is a terminal or not.
+#[derive(Drop)]
+struct Screen {
+    text: Vec<u8>,
+    is_terminal: bool,
+}
+
+impl Write for Screen {
+    fn write(&mut self, buf: &[u8]) -> io::Result<usize> {
+        self.text.write(buf)
+    }
+
+    fn flush(&mut self) -> io::Result<()> {
+        self.text.flush()
+    }
+}
+
+impl IsTerminal for Screen {
+    fn is_terminal(&self) -> bool {
+        self.is_terminal
+    }
+}
+
 #[test]
 fn an_input_that_cannot_be_read_is_told(rt: HostRuntime) {
     let alloc = rt.alloc();
     let mut out = Vec::new(alloc);
-    let mut err = Vec::new(alloc);
+    let mut err = Screen {
+        text: Vec::new(alloc),
+        is_terminal: false,
+    };
     let status = replay_run(
         &rt,
         alloc,
@@ -36,6 +62,47 @@ fn an_input_that_cannot_be_read_is_told(rt: HostRuntime) {
         &mut err,
     );
     assert_eq!(rt; status, 4);
-    assert_eq!(rt; err.as_slice(), &b"dispatch: read failed\n"[..]);
+    assert_eq!(rt; err.text.as_slice(), &b"dispatch: read failed\n"[..]);
     assert!(rt; out.is_empty());
+}
+
+/// A script of two mebibytes of comments, 16 bytes each, and its first line behind them.
+fn long_script(rt: &HostRuntime) -> Vec<u8> {
+    let mut script = Vec::new(rt.alloc());
+    for _ in 0..131_072 {
+        script.extend_from_slice(b"# 0123456789abc\n").unwrap();
+    }
+    script.extend_from_slice(b"venues 1000 plain\n").unwrap();
+    script
+}
+
+#[test]
+fn a_terminal_is_told_how_far_a_long_script_is_read(rt: HostRuntime) {
+    let alloc = rt.alloc();
+    let script = long_script(&rt);
+    for (is_terminal, told) in [
+        (
+            true,
+            &b"dispatch: 65536 lines read\ndispatch: 131072 lines read\n"[..],
+        ),
+        (false, &b""[..]),
+    ] {
+        let mut out = Vec::new(alloc);
+        let mut err = Screen {
+            text: Vec::new(alloc),
+            is_terminal,
+        };
+        let words = ["replay", "--check"];
+        let status = replay_run(
+            &rt,
+            alloc,
+            &words,
+            &mut script.as_slice(),
+            &mut out,
+            &mut err,
+        );
+        assert_eq!(rt; status, 0);
+        assert_eq!(rt; out.as_slice(), &b"script ok\n"[..]);
+        assert_eq!(rt; err.text.as_slice(), told);
+    }
 }

@@ -22,13 +22,13 @@ pub const VERSION_LINE: &[u8] = b"dispatch 1.0.0\n";
 /// What stands behind the commands in the help.
 const EXAMPLES: &str = "\
 Examples:
-  dispatch order --dialect plain --sweep 12 --leg 3 --symbol BRK.B --side buy --shares 100 --price 102500 \\
-    --number 4 --from A --to B
+  dispatch run examples/desk.toml < examples/morning.sweeps
+  dispatch live --venues 2 --callers 2 --sweeps 5 --cut 3 --turns 10000
   dispatch replay < day.script
   dispatch check day/NYSE.log
-  dispatch live --venues 2 --callers 2 --sweeps 5 --cut 3 --turns 10000
-  dispatch run examples/desk.toml < examples/morning.sweeps
   dispatch exchange --port 9001 --sender NYSE --target DESK --fill 60
+  dispatch order --dialect plain --sweep 12 --leg 3 --symbol BRK.B --side buy --shares 100 --price 102500 \\
+    --number 4 --from A --to B
 
 The exit status is 0, or 2 for the command line, 3 for a bad value, line or frame, 4 for a failed read or write or where
 there is no socket or thread, 5 for memory, 6 for an audit that fails, 7 for a day that is given up, 8 for a rule that
@@ -42,12 +42,12 @@ fn program<'a>(alloc: Global) -> Result<Command<'a>, AllocError> {
         .version(VERSION)
         .after_help(EXAMPLES)
         .subcommand_required(true)
-        .subcommand(order_command(alloc)?)?
+        .subcommand(run_command(alloc)?)?
+        .subcommand(live_command(alloc)?)?
         .subcommand(replay_command(alloc)?)?
         .subcommand(check_command(alloc)?)?
-        .subcommand(live_command(alloc)?)?
-        .subcommand(run_command(alloc)?)?
-        .subcommand(exchange_command(alloc)?)
+        .subcommand(exchange_command(alloc)?)?
+        .subcommand(order_command(alloc)?)
 }
 
 /// The help that lists the commands, where the words name none of them.

@@ -15,15 +15,14 @@ use check_command::check_run;
 use clock::{Clock, UtcClock};
 use command_line::{finish, print, tell};
 use exchange_command::exchange_run;
-use live_command::{ProgressLines, live_run};
-use live_day::Progress;
+use live_command::live_run;
 use order_command::order_run;
 use replay_command::replay_run;
 use run_command::run_run;
 use std::alloc::Global;
 use std::convert::AsStr;
 use std::fs::Files;
-use std::io::{Read, Write};
+use std::io::{IsTerminal, Read, Write};
 use std::net::{Net, TcpListener, TcpStream};
 use std::os::fd::AsRawFd;
 use std::process::ExitCode;
@@ -52,13 +51,13 @@ fn print_version<W: Write>(out: &mut W) -> Result<(), ProgramFault> {
 }
 
 /// Runs the command that the words ask for, and gives the exit status.
-fn run<S, H, C, P, R, W, E>(
+fn run<S, H, C, R, T, W, E>(
     rt: &H,
     alloc: Global,
     words: &[S],
     clock: &mut C,
-    progress: P,
     input: &mut R,
+    screen: T,
     out: &mut W,
     err: &mut E,
 ) -> u8
@@ -71,10 +70,10 @@ where
         + time::Clock
         + Sync,
     C: Clock,
-    P: Progress + Drop + Send,
     R: Read + AsRawFd,
+    T: Write + IsTerminal + Drop + Send,
     W: Write + Send,
-    E: Write,
+    E: Write + IsTerminal,
 {
     match words {
         [_, command, ..] if command.as_str() == "order" => {
@@ -87,7 +86,7 @@ where
             check_run(rt, alloc, &words[1..], out, err)
         }
         [_, command, ..] if command.as_str() == "live" => {
-            live_run(rt, alloc, &words[1..], progress, out, err)
+            live_run(rt, alloc, &words[1..], input, screen, out, err)
         }
         [_, command, ..] if command.as_str() == "run" => {
             run_run(rt, alloc, &words[1..], input, out, err)
@@ -112,8 +111,8 @@ fn main(rt: HostRuntime) -> ExitCode {
             rt.alloc(),
             words.as_slice(),
             &mut clock,
-            ProgressLines(rt.stderr()),
             &mut input,
+            rt.stderr(),
             &mut out,
             &mut err,
         ),

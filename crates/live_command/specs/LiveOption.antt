@@ -32,3 +32,4 @@ pub record AreOptions (matches : ArgMatches) (options : Options) : Type 0 where
   pub cut : matched matches Cut ≡ Some options.cut.now
   pub turns : matched matches Turns ≡ Some options.turns.now
   pub cuts_short : IsFlag matches (codes "cut-short") options.cuts_short
+  pub stops_on_input : IsFlag matches (codes "stop-on-input") options.stops_on_input

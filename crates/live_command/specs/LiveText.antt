@@ -15,12 +15,13 @@ sweep_line sweep = shares_line sweep.number sweep.shares (Some sweep.totals)
 abbrev pub sweep_lines : List LiveSweep → List ℕ
 sweep_lines sweeps = flat_map sweep_line sweeps
 
--- the line of a venue: how often its session was connected, and how many of its legs stay in doubt
+-- the line of a venue: how often its session was connected, how many of its legs stay in doubt, and how many were lost
 abbrev pub venue_line : LiveVenue → List ℕ
 venue_line venue =
     codes "venue " ++ decimal venue.number
     ++ codes " connections " ++ decimal venue.connections
-    ++ codes " doubt " ++ decimal venue.doubts ++ 10 ∷ []
+    ++ codes " doubt " ++ decimal venue.doubts
+    ++ codes " lost " ++ decimal venue.lost ++ 10 ∷ []
 
 -- a line for each venue
 abbrev pub venue_lines : List LiveVenue → List ℕ

@@ -11,6 +11,9 @@ use std::convert::AsStr;
 /// The flag that has the gates shut while orders are under way.
 const CUT_SHORT: &str = "cut-short";
 
+/// The flag that has the day heed its input.
+const STOP_ON_INPUT: &str = "stop-on-input";
+
 /// What stands behind the options in the help.
 const EXAMPLES: &str = "\
 Each sweep is an order of 10 shares for each venue, of which the exchange trades 6 and cancels 4. A worker reads what
@@ -31,6 +34,8 @@ pub struct Options<'a> {
     pub cut: &'a str,
     pub turns: &'a str,
     pub cuts_short: bool,
+    /// Whether the day is cut short once there is something to read on standard input, or that ends.
+    pub stops_on_input: bool,
 }
 
 /// The command `live`, with its options.
@@ -46,12 +51,25 @@ pub fn live_command<'a>(alloc: Global) -> Result<Command<'a>, AllocError> {
             .default_value(option.default_value());
         command = command.arg(arg)?;
     }
-    command.after_help(EXAMPLES).arg(
-        Arg::new(alloc, CUT_SHORT)
-            .long(CUT_SHORT)
-            .help("shuts the gates once all sweeps are placed, and doesn't wait for what is open")
-            .action(ArgAction::SetTrue),
-    )
+    command
+        .after_help(EXAMPLES)
+        .arg(flag(
+            alloc,
+            CUT_SHORT,
+            "shuts the gates once all sweeps are placed, and doesn't wait for what is open",
+        ))?
+        .arg(flag(
+            alloc,
+            STOP_ON_INPUT,
+            "cuts the day short at a line of standard input, or at its end, and prints what there is",
+        ))
+}
+
+fn flag<'a>(alloc: Global, name: &'a str, help: &'a str) -> Arg<'a> {
+    Arg::new(alloc, name)
+        .long(name)
+        .help(help)
+        .action(ArgAction::SetTrue)
 }
 
 fn value<'a>(matches: &ArgMatches<'a>, option: LiveOption) -> Result<&'a str, CommandFault>
@@ -75,6 +93,7 @@ fn options_of<'a>(matches: &ArgMatches<'a>) -> Result<Options<'a>, CommandFault>
         cut: value(matches, LiveOption::Cut)?,
         turns: value(matches, LiveOption::Turns)?,
         cuts_short: matches.get_flag(CUT_SHORT),
+        stops_on_input: matches.get_flag(STOP_ON_INPUT),
     })
 }
 

@@ -50,10 +50,11 @@ fn write_venue(text: &mut String, venue: LiveVenue) -> Result<(), AllocError>
         number,
         connections,
         doubts,
+        lost,
     } = venue;
     write!(
         text,
-        "venue {number} connections {connections} doubt {doubts}\n"
+        "venue {number} connections {connections} doubt {doubts} lost {lost}\n"
     )
 }
 

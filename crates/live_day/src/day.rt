@@ -23,6 +23,8 @@ pub struct LiveVenue {
     pub connections: u64,
     /// How many of its legs stay in doubt: they were sent, and the exchange may have them or not.
     pub doubts: u64,
+    /// How many of its legs were lost: they were sent, a connection broke, and the exchange never takes them.
+    pub lost: u64,
 }
 
 /// What became of a day.

@@ -43,6 +43,13 @@ impl<L: Run, M: Ledger> Floor<L, M> {
         }
     }
 
+    /// Gives the day up, once, if it is to be cut short.
+    fn heed<P: Progress>(&self, rt: &impl Wait, progress: &mut P) {
+        if !self.signals.is_ending() && progress.is_stopped() {
+            self.give_up(rt);
+        }
+    }
+
     /// Waits until these threads have ended, and tells how far the day is once a second.
     fn watch<R: Wait + Clock, P: Progress>(&self, rt: &R, running: &Running, progress: &mut P) {
         for _ in rt.forever() {
@@ -50,6 +57,7 @@ impl<L: Run, M: Ledger> Floor<L, M> {
                 if running.is_over() {
                     return;
                 }
+                self.heed(rt, progress);
                 thread::sleep(rt, Duration::from_millis(LOOK_MILLIS));
             }
             progress.tell(self.so_far(rt));
@@ -79,6 +87,7 @@ impl<L: Run, M: Ledger> Floor<L, M> {
             }
             idle_looks = if now == resolved { idle_looks + 1 } else { 0 };
             resolved = now;
+            self.heed(rt, progress);
             thread::sleep(rt, Duration::from_millis(LOOK_MILLIS));
             if look % LOOKS == LOOKS - 1 {
                 progress.tell(self.so_far(rt));
@@ -87,7 +96,8 @@ impl<L: Run, M: Ledger> Floor<L, M> {
     }
 
     /// Tells how far the day is until it ends. Once the callers have ended and, unless the day is to be cut short, no
-    /// share is open, it shuts the gates, so that the workers end.
+    /// share is open, it shuts the gates, so that the workers end. Where the day is stopped the callers give up what
+    /// isn't placed.
     pub fn keep<R: Wait + Clock, P: Progress + Drop>(&self, rt: &R, progress: P) {
         let mut progress = progress;
         self.watch(rt, &self.signals.callers, &mut progress);

@@ -1,11 +1,13 @@
 //! The venues of a day, as their workers left them.
 
 ghost use Rattle.std.specs.Prelude.{◌≡◌, map, IfOk};
-ghost use Rattle.live_day.specs.Venues.{venue_left};
+ghost use Rattle.live_day.specs.Venues.{lost_of, venue_left};
 
 use crate::day::LiveVenue;
+use leg::{LegState, PlacedLeg};
 use link::Link;
 use release_lock::Run;
+use session_core::Session;
 use session_worker::WorkerEnd;
 use std::alloc::{AllocError, Global};
 use std::sync::ledger::Ledger;
@@ -37,5 +39,15 @@ fn left_venue<K: Link, L: Run, M: Ledger>(
         number: u64::from(end.took.venue().number()),
         connections: end.session.connection(),
         doubts: doubts.len() as u64,
+        lost: lost(&end.session, end.took.taken()),
     })
+}
+
+/// How many of these legs a session has withdrawn.
+fn lost(session: &Session, legs: &[PlacedLeg]) -> u64
+    ensures { result ≡ lost_of session.now legs.now }
+{
+    legs.iter()
+        .filter(|leg| session.leg_state(leg.ordinal) == Some(LegState::Withdrawn))
+        .count() as u64
 }

@@ -12,6 +12,10 @@ struct Untold;
 
 impl Progress for Untold {
     fn tell(&mut self, _so_far: SoFar) {}
+
+    fn is_stopped(&mut self) -> bool {
+        false
+    }
 }
 
 /// The shares of a sweep that are filled, cancelled, withdrawn or open.

@@ -25,9 +25,8 @@ const RAW: &str = "raw";
 
 /// What stands behind the options in the help.
 const EXAMPLES: &str = "\
-Prints the frame with | for SOH (a | and a \\ of its own as \\| and \\\\), and the leg in a line behind it. --read takes
-a frame
-as it is, or as it is printed, and looks at the first 65536 bytes. A number is a whole number;
+Prints the frame with | for SOH (a | and a \\ of its own as \\| and \\\\), and the leg in a line behind it. --read
+takes a frame as it is, or as it is printed, and looks at the first 65536 bytes. A number is a whole number;
 zeros may stand before it.
 
 Examples:

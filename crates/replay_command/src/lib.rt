@@ -32,6 +32,7 @@ mod frames;
 mod input;
 mod print_day;
 mod shown;
+mod told_input;
 
 use crate::command::read_words;
 use crate::print_day::{print_check, print_day};
@@ -43,15 +44,17 @@ pub use shown::Shown;
 use std::alloc::Global;
 use std::convert::AsStr;
 use std::fs::{self, Files};
-use std::io::{self, Read, Write};
+use std::io::{self, IsTerminal, Read, Write};
+use told_input::ToldInput;
 
 /// Runs `dispatch replay` on its words, of which the first is the command's own name.
 ///
 /// It reads a script from the file that the words name, or else from `input`, and runs it as it is read, so that a bad
 /// line ends it at once. It writes to `out` the lines of the world at the end, behind what the options ask for; with
-/// `--check` it runs nothing. Faults go to `err`. Without `--steps` nothing is written before the script's end. The
+/// `--check` it runs nothing. Faults go to `err`, and where that is a terminal it is told there how far a long script
+/// is read, unless its steps are shown. Without `--steps` nothing is written to `out` before the script's end. The
 /// answer is the exit status: 0, or that of the fault.
-pub fn replay_run<F: Files, S: AsStr, R: Read, W: Write, E: Write>(
+pub fn replay_run<F: Files, S: AsStr, R: Read, W: Write, E: Write + IsTerminal>(
     files: &F,
     alloc: Global,
     words: &[S],
@@ -61,22 +64,41 @@ pub fn replay_run<F: Files, S: AsStr, R: Read, W: Write, E: Write>(
 ) -> u8
     ensures { ExitsSo (R.remaining input.old) (W.contents out.old) (W.contents out.new) result }
 {
-    finish(replay(files, alloc, words, input, out), err)
+    let done = replay(files, alloc, words, input, out, err);
+    finish(done, err)
 }
 
-fn replay<F: Files, S: AsStr, R: Read, W: Write>(
+fn replay<F: Files, S: AsStr, R: Read, W: Write, E: Write + IsTerminal>(
     files: &F,
     alloc: Global,
     words: &[S],
     input: &mut R,
     out: &mut W,
+    err: &mut E,
 ) -> Result<(), CommandFault>
     ensures { EndsReplay (R.remaining input.old) (W.contents out.old) (W.contents out.new) result }
 {
     let asked = read_words(alloc, words)?;
     match asked.file {
-        None => replay_input(alloc, asked.task, input, out),
-        Some(path) => replay_input(alloc, asked.task, &mut open(files, path)?, out),
+        None => replay_told(alloc, asked.task, input, out, err),
+        Some(path) => replay_told(alloc, asked.task, &mut open(files, path)?, out, err),
+    }
+}
+
+/// Does with the script of an input what is asked for, and tells how far it is read, unless the steps do.
+fn replay_told<R: Read, W: Write, E: Write + IsTerminal>(
+    alloc: Global,
+    task: Task,
+    input: &mut R,
+    out: &mut W,
+    err: &mut E,
+) -> Result<(), CommandFault>
+    ensures { IfSome (R.remaining input.old) (λ bytes.
+        EndsTask task (W.contents out.old) (W.contents out.new) bytes result) }
+{
+    match task {
+        Task::Run(shown) if shown.steps => replay_input(alloc, task, input, out),
+        _ => replay_input(alloc, task, &mut ToldInput::new(input, err), out),
     }
 }
 
