@@ -6,7 +6,7 @@ _dispatch_options() {
     case $1 in
         order) echo --dialect --sweep --leg --symbol --side --shares --price --number --from --to --at --raw --read --help ;;
         replay) echo --steps --frames --summary --check --help ;;
-        check) echo --help ;;
+        check) echo --from --desk --json --help ;;
         live) echo --venues --callers --sweeps --cut --turns --cut-short --stop-on-input --help ;;
         run) echo --check --patience --quiet --help ;;
         exchange) echo --port --sender --target --dialect --fill --cut --lose --help ;;
@@ -16,7 +16,8 @@ _dispatch_options() {
 # Whether an option takes a value of a command.
 _dispatch_takes_value() {
     case $1:$2 in
-        *:--help | order:--raw | order:--read | live:--cut-short | live:--stop-on-input | replay:* | check:* | run:--check | run:--quiet) return 1 ;;
+        *:--help | order:--raw | order:--read | live:--cut-short | live:--stop-on-input) return 1 ;;
+        replay:* | check:--json | run:--check | run:--quiet) return 1 ;;
         *:--*) return 0 ;;
         *) return 1 ;;
     esac
@@ -33,6 +34,7 @@ _dispatch() {
         case $before in
             --dialect) mapfile -t COMPREPLY < <(compgen -W 'plain split coded' -- "$word") ;;
             --side) mapfile -t COMPREPLY < <(compgen -W 'buy sell' -- "$word") ;;
+            --from) [ "$command" != check ] || mapfile -t COMPREPLY < <(compgen -W 'quickfix' -- "$word") ;;
         esac
         return
     fi

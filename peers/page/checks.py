@@ -8,7 +8,7 @@ import time
 import urllib.request
 
 import mock
-from browser import Failed, Page
+from browser import WITHIN, Failed, Page
 
 PARTS = ("filled", "busted", "cancelled", "withdrawn", "open")
 HOSTILE = "<img src=x onerror='document.title=1'><b>bold</b>"
@@ -85,7 +85,8 @@ def text(page, selector):
 
 def settled(compare):
     """A comparison that holds once the page has heard what the desk says; a desk may go on meanwhile."""
-    for _ in range(40):
+    end = time.monotonic() + WITHIN
+    while time.monotonic() < end:
         try:
             return compare()
         except Failed:
@@ -364,7 +365,13 @@ def reads_a_long_day(trial):
         day.place([mock.leg("NYSE", "IBM", "buy", 1000, "1")])
     server = mock.Server(day)
     threading.Thread(target=trade_on, args=(day, 2340), daemon=True).start()
-    page = trial.open(f"{server.base}/")
+    try:
+        shows_the_newest(trial.open(f"{server.base}/"))
+    finally:
+        server.shutdown()
+
+
+def shows_the_newest(page):
     page.until("document.querySelectorAll('tbody').length === 200", "the newest 200")
     expect(page.run("document.querySelector('tbody').id"), "sweep-2345", "the newest is first")
     page.gather()
@@ -374,7 +381,6 @@ def reads_a_long_day(trial):
     page.until("document.querySelectorAll('tbody').length === 400", "200 older ones")
     expect(page.run("[...document.querySelectorAll('tbody')].at(-1).id"), "sweep-1946", "the oldest shown")
     page.close()
-    server.shutdown()
 
 
 def trade_on(day, number):
@@ -476,12 +482,13 @@ def can_be_read(trial):
 
 
 def stays_at_home(trial):
-    """No request left the desk's origin, none can, and nothing was complained of."""
+    """No request left the desk's origin, none can, and nothing was complained of but the markup that a check before
+    tried to make of a text."""
     page = trial.page
     page.gather()
     foreign = [url for url in page.asked if not url.startswith(trial.base + "/")]
     expect(foreign, [], "requests to others")
-    expect(page.complaints, [], "complaints")
+    expect([words for words in page.complaints if "TrustedHTML" not in words], [], "complaints")
     expect(page.run("fetch('http://127.0.0.1:9/').then(() => 'let', () => 'refused')"), "refused", "another origin")
     settled(lambda: expect(complains_of_policy(page), True, "it was the page's policy that refused it"))
 
@@ -505,7 +512,7 @@ def closes_the_day(trial):
     press(page, "#ask-yes")
     page.until("document.querySelector('#close').disabled", "it can't be closed twice")
     page.until("document.querySelector('#send').disabled", "no more sweeps are taken")
-    page.until("document.querySelector('#banner').textContent.startsWith('The day is closed')", "it is closed", 60)
+    page.until("document.querySelector('#banner').textContent.startsWith('The day is closed')", "it is closed", 180)
     expect("its audit found nothing wrong" in text(page, "#banner"), True, "its audit")
     page.until("document.querySelector('#standing').textContent === 'Day closed'", "it says so at the top")
     time.sleep(3)
