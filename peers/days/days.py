@@ -2,6 +2,7 @@
 
 import time
 from dataclasses import dataclass, field
+from random import Random
 from subprocess import TimeoutExpired
 
 from days.acceptor import Acceptor
@@ -60,6 +61,36 @@ DAYS = (
         seed=5,
     ),
 )
+
+
+def random_day(seed):
+    """A day with things that go wrong, all of it by a seed."""
+    random = Random(seed)
+    venues = random.choice((1, 2, 3, 5, 8, 16))
+    faults = {
+        name: random.randint(least, 15)
+        for name, least in (("drop-every", 5), ("ignore-every", 3), ("test-every", 3))
+        if random.random() < 0.4
+    }
+    weather = Weather(
+        most_delay=random.choice((0, 0.002, 0.005)),
+        most_piece=random.choice((0, 0, 60, 400)),
+        stall_chance=random.choice((0, 0, 0.002)),
+        stall=0.6,
+        bytes_to_cut=random.choice((0, 0, 8_000, 20_000)),
+    )
+    stops = random.choice((0, 0, 0, 1, 3))
+    return Day(
+        f"random {seed}",
+        venues=venues,
+        sweeps=random.randint(20, 80),
+        most_legs=random.randint(1, 12),
+        is_wide=random.random() < 0.3,
+        faults=faults,
+        weather=weather if stops or random.random() < 0.7 else None,
+        stops=stops,
+        seed=seed,
+    )
 
 
 @dataclass(frozen=True)
