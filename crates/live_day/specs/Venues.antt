@@ -20,7 +20,7 @@ lost_of s legs = count_by (λ leg. is_withdrawn (leg_state s leg.ordinal)) legs
 
 -- the venue's number, how often a worker's session was connected, and of the legs that it took how many stay in doubt, and
 -- how many were lost
-abbrev pub venue_left : WorkerParts → LiveVenue
+unfoldable pub venue_left : WorkerParts → LiveVenue
 venue_left worker = record {
   number = worker.took.venue;
   connections = worker.session.connection;

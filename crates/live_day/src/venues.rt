@@ -28,6 +28,7 @@ pub fn left_venues<K: Link, L: Run, M: Ledger>(
 }
 
 /// The venue of a worker.
+#[tactic(auto, unfolding(crate::specs::Venues::venue_left))]
 fn left_venue<K: Link, L: Run, M: Ledger>(
     alloc: Global,
     end: &WorkerEnd<K, L, M>,
