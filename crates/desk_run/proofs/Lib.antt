@@ -1,4 +1,5 @@
 mod Booked
+mod Changed
 mod LegsInDoubt
 mod NoMismatch
 mod Places

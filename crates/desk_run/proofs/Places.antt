@@ -9,7 +9,7 @@ use Rattle.release_lock.specs.Queues.{DrainParts, new_drains, Took, AreInOrder}
 use Rattle.dialect.specs.Wording.{Wording}
 use Rattle.session_worker.specs.Events.{WorkerParts}
 use Rattle.session_worker.specs.Ends.{WorkerStart, WorkerLeft, queues_of, seats_of, AllRan}
-use Rattle.desk_run.specs.Places.{Place, place, new_place, new_places}
+use Rattle.desk_run.specs.Places.{Place, place, place_of, new_place, new_places}
 
 -- each worker that ran keeps its place
 pub kept_places : {D : Type 0} (wording : D → Wording) (workers : List (WorkerStart D)) (ends : List WorkerLeft)
@@ -111,10 +111,9 @@ all_parts venues ends kept =
     ∙ (one_each (new_drains venues) ∙ drains_length venues))
 
 -- a worker that was made of a new seat has the place of its drain
-pub is_new : (made given : WorkerParts) (drain : DrainParts) (seat : Seat) → made ≡ given
-    → place given ≡ record { venue = drain.venue; parts = seat.parts } → seat ≡ new_seat → place made ≡ new_place drain
-is_new made given drain seat is given_is same =
-    ap place is ∙ (given_is ∙ ap (λ (s : Seat). record { venue = drain.venue; parts = s.parts }) same)
+pub is_new : (made : WorkerParts) (drain : DrainParts) (seat : Seat) → place made ≡ place_of drain.venue seat.parts
+    → seat ≡ new_seat → place made ≡ new_place drain
+is_new made drain seat is same = is ∙ ap (λ (s : Seat). place_of drain.venue s.parts) same
 
 -- one worker more was made, of the first drain left
 pub one_made : {A : Type 0} (where_is : A → Place) (made : List A) (worker : A) (drain : DrainParts)

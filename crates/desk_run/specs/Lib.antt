@@ -4,5 +4,5 @@ pub mod Places
 pub mod Venues
 pub mod Release
 pub mod Standing
-pub mod Status
+pub mod Changes
 pub mod Doubts

@@ -8,12 +8,15 @@ pub record Place : Type 0 where
   pub venue : ℕ
   pub parts : ℕ
 
+abbrev pub place_of : ℕ → ℕ → Place
+place_of venue parts = record { venue = venue; parts = parts }
+
 abbrev pub place : WorkerParts → Place
-place worker = record { venue = worker.took.venue; parts = worker.seat.parts }
+place worker = place_of worker.took.venue worker.seat.parts
 
 -- the place of the worker of a new drain, whose seat has one part
 abbrev pub new_place : DrainParts → Place
-new_place drain = record { venue = drain.venue; parts = 1 }
+new_place drain = place_of drain.venue 1
 
 -- the places of so many workers, one for each venue, in order
 abbrev pub new_places : ℕ → List Place

@@ -1,29 +1,59 @@
--- How a venue stands, as its gate shows it.
-use Rattle.std.specs.Prelude.{Bool, true, false, codes}
+-- How a venue stands: by what its worker told of its session, whether its gate is shut, and the dial that failed last.
+use Rattle.std.specs.Prelude.{ℕ, Bool, true, false, ◌||◌, List, Option, Some, None, codes, if◌then◌else◌}
+use Rattle.session_core.specs.declared.ended.Ended.TheVariants.{PeerLogout}
+use Rattle.link.specs.declared.dial_error.DialError.{DialError}
+use Rattle.link.specs.declared.dial_error.DialError.TheVariants.{Refused, TimedOut, HostUnreachable, NetworkUnreachable, Other}
+use Rattle.venue_board.specs.declared.loss.Loss.{Loss}
+use Rattle.venue_board.specs.declared.loss.Loss.TheVariants as loss
+use Rattle.venue_board.specs.declared.progress.Progress.{Progress}
+use Rattle.venue_board.specs.declared.progress.Progress.TheVariants as progress
 use Rattle.desk_news.specs.declared.cause.Cause.{Cause}
-use Rattle.desk_news.specs.declared.cause.Cause.TheVariants.{Lost}
+use Rattle.desk_news.specs.declared.cause.Cause.TheVariants.{Ended, Lost}
 use Rattle.desk_news.specs.declared.venue_state.VenueState.{VenueState}
 use Rattle.desk_news.specs.declared.venue_state.VenueState.TheVariants as state
 use Rattle.desk_words.specs.Printable.{shown}
-use Rattle.sweep_release.specs.declared.gate.Gate.{Gate}
-use Rattle.sweep_release.specs.declared.gate.Gate.TheVariants as gate
 use Rattle.desk_run.specs.declared.standing.Standing.{Standing}
-use Rattle.desk_run.specs.declared.standing.Standing.TheVariants.{Dialled, Up, Down, Closed}
+use Rattle.desk_run.specs.declared.standing.Standing.TheVariants.{Dialled, Up, Down, Unreachable, Closed, Closing}
 
--- how a venue stands that has this gate, and was up before or not
-abbrev pub standing_of : Gate → Bool → Standing
-standing_of gate.Up was_up = Up
-standing_of gate.Down true = Down
-standing_of gate.Down false = Dialled
-standing_of gate.Shut was_up = Closed
+-- whether the exchange logged out, which ends its session for the day
+abbrev pub is_logout : Loss → Bool
+is_logout (loss.Ended PeerLogout) = true
+is_logout other = false
 
--- why a session isn't up any more, as far as a gate shows it
-abbrev pub session_ended : Cause
-session_ended = Lost (shown 200 (codes "its session ended"))
+-- why the last dial failed; one of which nothing is known failed otherwise than for a reason that has a name
+abbrev pub error_or_other : Option DialError → DialError
+error_or_other (Some error) = error
+error_or_other None = Other
 
--- what a desk is told of it
-abbrev pub state_of : Standing → VenueState
-state_of Dialled = state.Dialled
-state_of Up = state.Up
-state_of Down = state.Down session_ended
-state_of Closed = state.Closed session_ended
+-- how a venue stands whose worker told this, whose gate is shut or not, and whose last dial failed so
+abbrev pub standing_of : Progress → Bool → Option DialError → Standing
+standing_of (progress.Down why) is_shut error = if is_shut || is_logout why then Closed why else Down why
+standing_of progress.Dialled is_shut error = if is_shut then Closing else Dialled
+standing_of progress.Up is_shut error = if is_shut then Closing else Up
+standing_of progress.Unreachable is_shut error = if is_shut then Closing else Unreachable (error_or_other error)
+
+-- why a connection ended, as a desk is told
+abbrev pub cause_of : Loss → Cause
+cause_of (loss.Ended ended) = Ended ended
+cause_of loss.PeerClosed = Lost (shown 200 (codes "it closed the connection"))
+cause_of loss.ReadFailed = Lost (shown 200 (codes "read failed"))
+cause_of loss.WriteFailed = Lost (shown 200 (codes "write failed"))
+cause_of loss.OutOfMemory = Lost (shown 200 (codes "out of memory"))
+cause_of loss.NumbersSpent = Lost (shown 200 (codes "no number is left for a logon"))
+
+-- why a dial failed, as a desk is told
+abbrev pub dial_text : DialError → List ℕ
+dial_text Refused = shown 200 (codes "connection refused")
+dial_text TimedOut = shown 200 (codes "timed out")
+dial_text HostUnreachable = shown 200 (codes "host unreachable")
+dial_text NetworkUnreachable = shown 200 (codes "network unreachable")
+dial_text Other = shown 200 (codes "dial failed")
+
+-- what a desk is told of it, where the pause before the next dial lasts so many seconds
+abbrev pub state_of : Standing → ℕ → VenueState
+state_of Dialled seconds = state.Dialled
+state_of Up seconds = state.Up
+state_of (Down why) seconds = state.Down (cause_of why)
+state_of (Unreachable error) seconds = state.Unreachable (dial_text error) seconds
+state_of (Closed why) seconds = state.Closed (cause_of why)
+state_of Closing seconds = state.Closed (Lost (shown 200 (codes "the day is closing")))

@@ -5,7 +5,8 @@ ghost use Rattle.std.specs.Prelude.{◌≤◌, length};
 use crate::bells::Bells;
 use crate::exchange::Serve;
 use crate::signals::{Manner, Signals};
-use crate::standing::{Standing, standing_in};
+use crate::standing::Standing;
+use crate::venue_view::{Seen, VenueView};
 use crate::voice::Voice;
 use desk_words::VenueName;
 use exec_collector::Collector;
@@ -18,7 +19,6 @@ use std::sync::Wait;
 use std::sync::ledger::Ledger;
 use std::thread;
 use std::time::{Clock, Duration};
-use sweep_release::Desk;
 
 /// How many milliseconds pass between two looks whether the venues are up.
 const LOOK_MILLIS: u64 = 5;
@@ -31,6 +31,8 @@ const LOOKS: u64 = 400;
 pub struct Floor<L: Run, M: Ledger, W: Write + Drop> {
     /// The names of the venues, each at the place that is its number.
     pub names: Vec<VenueName>,
+    /// What is seen of them, in the same order.
+    pub views: Vec<VenueView>,
     pub manner: Manner,
     pub lock: ReleaseLock<L>,
     pub collector: Collector<M>,
@@ -44,18 +46,19 @@ pub struct Floor<L: Run, M: Ledger, W: Write + Drop> {
 }
 
 impl<L: Run, M: Ledger, W: Write + Drop> Floor<L, M, W> {
-    /// How the venue at a place stands, if there is one.
-    pub fn standing(&self, rt: &impl Wait, place: usize) -> Option<Standing> {
+    /// What is seen of the venue at a place, if there is one. It waits for no lock.
+    pub fn seen(&self, place: usize) -> Option<Seen> {
         let venue = VenueId::new(u8::try_from(place).ok()?).ok()?;
-        self.lock
-            .with(rt, |desk: &mut Desk| standing_in(desk, venue))
+        let view = self.views.get(place)?;
+        Some(view.seen(venue, self.lock.is_shut(venue)))
     }
 
     /// Whether each venue is up.
-    fn are_up(&self, rt: &impl Wait) -> bool {
+    fn are_up(&self) -> bool {
         for place in 0..self.names.len() {
-            if self.standing(rt, place) != Some(Standing::Up) {
-                return false;
+            match self.seen(place) {
+                Some(seen) if seen.standing == Standing::Up => {}
+                _ => return false,
             }
         }
         true
@@ -64,7 +67,7 @@ impl<L: Run, M: Ledger, W: Write + Drop> Floor<L, M, W> {
     /// Waits until each venue is up, but no longer than two seconds.
     pub fn await_venues<R: Wait + Clock>(&self, rt: &R) {
         for _ in 0..LOOKS {
-            if self.signals.is_ending() || self.are_up(rt) {
+            if self.signals.is_ending() || self.are_up() {
                 return;
             }
             thread::sleep(rt, Duration::from_millis(LOOK_MILLIS));

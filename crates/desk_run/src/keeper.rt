@@ -2,6 +2,7 @@
 
 use crate::floor::Floor;
 use crate::news::Told;
+use crate::talk_fault::TalkFault;
 use release_lock::Run;
 use std::alloc::Global;
 use std::io::Write;
@@ -31,7 +32,7 @@ enum Until {
 }
 
 /// Tells what changes until the workers have ended. Once the day is closing it waits until no share is open, as long as
-/// the patience goes; then the workers are told to stop.
+/// the patience goes; then it tells once more what changed, and the workers are told to stop.
 pub fn keep<L: Run, M: Ledger, W: Write + Drop, R: Wait + Clock>(
     rt: &R,
     alloc: Global,
@@ -45,6 +46,7 @@ pub fn keep<L: Run, M: Ledger, W: Write + Drop, R: Wait + Clock>(
     let patience = floor.manner.patience.saturating_mul(LOOKS_A_SECOND);
     watch(rt, floor, &mut told, Until::Closing, u64::MAX);
     watch(rt, floor, &mut told, Until::Resolved, patience);
+    tell(rt, floor, &mut told);
     floor.stop();
     watch(rt, floor, &mut told, Until::Ended, u64::MAX);
 }
@@ -84,7 +86,8 @@ fn watch<L: Run, M: Ledger, W: Write + Drop, R: Wait + Clock>(
     }
 }
 
-/// Tells what changed; where the output can't be written, nothing is told any more.
+/// Tells what changed; where the output can't be written, nothing is told any more. What memory is wanted for is told
+/// at a later look.
 fn tell<L: Run, M: Ledger, W: Write + Drop>(
     rt: &impl Wait,
     floor: &Floor<L, M, W>,
@@ -93,7 +96,8 @@ fn tell<L: Run, M: Ledger, W: Write + Drop>(
     let Some(news) = told else {
         return;
     };
-    if news.tell(rt, floor).is_err() {
-        *told = None;
+    match news.tell(rt, floor) {
+        Ok(()) | Err(TalkFault::OutOfMemory) => {}
+        Err(_) => *told = None,
     }
 }

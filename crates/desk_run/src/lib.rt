@@ -11,6 +11,12 @@
 //! - Each worker is that of the venue at its place in the file. A simulated exchange begins as one with the comp ids
 //!   of its venue, and fills as the file says; that it has the dialect is only tested.
 //! - Of a worker the legs told in doubt are those that its session has so (`legs_in_doubt`, private).
+//! - How a venue stands follows from what its worker told last, its gate and the dial that failed last, by the stated
+//!   definition, and so does what is told of it (`standing_of`, `Standing::state`, private). What a look finds there
+//!   isn't said, as other threads write it.
+//! - The entries of the book's history that a look goes through give exactly the sweeps that they are about
+//!   (`note_entries`, private). That each entry is gone through once, and that a sweep is told when its parts change,
+//!   is only tested.
 //! - That lines are answered in their order, what is told while the day runs, that a worker dials its venue's
 //!   address, that a second `close` gives the day up, and that a day ends, is only tested.
 //!
@@ -20,6 +26,7 @@
 mod address;
 mod bells;
 mod caller;
+mod changes;
 mod day;
 mod day_fault;
 mod doubts;
@@ -39,6 +46,7 @@ mod status;
 mod sweeps;
 mod talk_fault;
 mod threads;
+mod venue_view;
 mod voice;
 mod workers;
 

@@ -4,6 +4,7 @@ ghost use Rattle.std.specs.Prelude.{◌≡◌};
 ghost use Rattle.desk_news.specs.declared.news.News.TheVariants as news;
 ghost use Rattle.desk_run.specs.Standing.{state_of};
 
+use crate::changes::Changes;
 use crate::floor::Floor;
 use crate::standing::Standing;
 use crate::sweeps::sweep_now;
@@ -24,18 +25,47 @@ pub struct Told {
     venues: Vec<Standing>,
     // What was told of each sweep, by its number.
     sweeps: Vec<Totals>,
-    // The sweeps up to this number are whole, and told.
-    whole: usize,
+    // The sweeps that changed since then.
+    changes: Changes,
 }
 
-/// The news of how a venue stands.
-pub fn venue_news(name: &VenueName, standing: Standing) -> News
-    ensures { result ≡ news.Venue name.now (state_of standing) }
+/// The news of how a venue stands, where the pause before its next dial lasts so many seconds.
+fn venue_news(name: &VenueName, standing: Standing, seconds: u64) -> News
+    ensures { result ≡ news.Venue name.now (state_of standing seconds) }
 {
     News::Venue {
         venue: name.clone().unwrap(),
-        state: standing.state(),
+        state: standing.state(seconds),
     }
+}
+
+/// Whether the totals of the sweep at a place differ from what was told of it, and notes them.
+fn notes(told: &mut Vec<Totals>, place: usize, totals: Totals) -> Result<bool, TalkFault> {
+    match told.get_mut(place) {
+        None => told.push(totals)?,
+        Some(before) if *before == totals => return Ok(false),
+        Some(before) => *before = totals,
+    }
+    Ok(true)
+}
+
+/// Tells the parts of the sweep of this number, if they differ from what was told of it, and notes them.
+fn tell_sweep<L: Run, M: Ledger, W: Write + Drop>(
+    rt: &impl Wait,
+    floor: &Floor<L, M, W>,
+    told: &mut Vec<Totals>,
+    number: u64,
+) -> Result<(), TalkFault> {
+    let Some(place) = number.checked_sub(1) else {
+        return Ok(());
+    };
+    let Some(sweep) = sweep_now(rt, &floor.collector, number) else {
+        return Ok(());
+    };
+    if notes(told, place as usize, sweep.totals)? {
+        floor.voice.say(rt, &News::Sweep(sweep))?;
+    }
+    Ok(())
 }
 
 impl Told {
@@ -44,7 +74,7 @@ impl Told {
         Told {
             venues: Vec::new(alloc),
             sweeps: Vec::new(alloc),
-            whole: 0,
+            changes: Changes::new(alloc),
         }
     }
 
@@ -61,23 +91,6 @@ impl Told {
         Ok(true)
     }
 
-    /// Tells how a venue stands, if that changed.
-    fn tell_venue<L: Run, M: Ledger, W: Write + Drop>(
-        &mut self,
-        rt: &impl Wait,
-        floor: &Floor<L, M, W>,
-        place: usize,
-        name: &VenueName,
-    ) -> Result<(), TalkFault> {
-        let Some(standing) = floor.standing(rt, place) else {
-            return Ok(());
-        };
-        if self.notes_venue(place, standing)? {
-            floor.voice.say(rt, &venue_news(name, standing))?;
-        }
-        Ok(())
-    }
-
     /// Tells that venues stand otherwise.
     fn tell_venues<L: Run, M: Ledger, W: Write + Drop>(
         &mut self,
@@ -85,19 +98,16 @@ impl Told {
         floor: &Floor<L, M, W>,
     ) -> Result<(), TalkFault> {
         for (place, name) in floor.names.iter().enumerate() {
-            self.tell_venue(rt, floor, place, name)?;
+            let Some(seen) = floor.seen(place) else {
+                continue;
+            };
+            if self.notes_venue(place, seen.standing)? {
+                floor
+                    .voice
+                    .say(rt, &venue_news(name, seen.standing, seen.seconds))?;
+            }
         }
         Ok(())
-    }
-
-    /// Whether the totals of a sweep differ from what was told of it, and notes them.
-    fn notes(&mut self, place: usize, totals: Totals) -> Result<bool, TalkFault> {
-        match self.sweeps.get_mut(place) {
-            None => self.sweeps.push(totals)?,
-            Some(told) if *told == totals => return Ok(false),
-            Some(told) => *told = totals,
-        }
-        Ok(true)
     }
 
     /// Tells each sweep whose parts changed.
@@ -106,22 +116,21 @@ impl Told {
         rt: &impl Wait,
         floor: &Floor<L, M, W>,
     ) -> Result<(), TalkFault> {
-        for place in self.whole..usize::MAX {
-            let number = place as u64 + 1;
-            let Some(sweep) = sweep_now(rt, &floor.collector, number) else {
-                return Ok(());
-            };
-            if self.notes(place, sweep.totals)? {
-                floor.voice.say(rt, &News::Sweep(sweep))?;
-            }
-            if self.whole == place && sweep.totals.still_open == 0 {
-                self.whole = place + 1;
-            }
+        let Told {
+            venues: _,
+            sweeps,
+            changes,
+        } = self;
+        changes.look(rt, &floor.collector)?;
+        for number in changes.sweeps() {
+            tell_sweep(rt, floor, sweeps, *number)?;
         }
+        changes.told();
         Ok(())
     }
 
-    /// Tells what changed: of venues until the workers are told to stop.
+    /// Tells what changed: of venues until the workers are told to stop. What wasn't told for want of memory is told
+    /// the next time, if it differs then from what was told before.
     pub fn tell<L: Run, M: Ledger, W: Write + Drop>(
         &mut self,
         rt: &impl Wait,

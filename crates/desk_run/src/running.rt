@@ -23,6 +23,7 @@ use crate::opening::open_places;
 use crate::signals::{Manner, Signals};
 use crate::sweeps::booked_sweeps;
 use crate::threads::{Cast, Ended, in_threads};
+use crate::venue_view::VenueView;
 use crate::voice::Voice;
 use crate::workers::new_workers;
 use desk_config::Venue;
@@ -119,7 +120,9 @@ where
     let places = open_places(rt, alloc, venues)?;
     let mut bells = Bells::new(alloc);
     let addrs = places.addrs.as_slice();
-    let workers = new_workers(rt, alloc, venues, addrs, drains, seats, &mut bells)?;
+    let views = views_of(alloc, venues)?;
+    let seen = views.as_slice();
+    let workers = new_workers(rt, alloc, venues, addrs, seen, drains, seats, &mut bells)?;
     let cast = Cast {
         exchanges: places.exchanges,
         workers,
@@ -127,6 +130,7 @@ where
     };
     let floor = Floor {
         names: names_of(alloc, venues)?,
+        views,
         manner,
         lock,
         collector,
@@ -151,6 +155,17 @@ fn names_of(alloc: Global, venues: &[Venue]) -> Result<Vec<VenueName>, AllocErro
     Ok(names)
 }
 
+/// What is seen of venues before their workers are made, in order.
+fn views_of(alloc: Global, venues: &[Venue]) -> Result<Vec<VenueView>, AllocError>
+    ensures { IfOk result (λ views. length views.items ≡ length venues.now) }
+{
+    let mut views = Vec::new(alloc);
+    'each: for _ in 0..venues.len() {
+        views.push(VenueView::new(alloc)?)?;
+    }
+    Ok(views)
+}
+
 /// What became of a day whose threads have ended.
 fn told<K: Link, L: Run, M: Ledger, W: Write + Drop>(
     rt: &impl Wait,
@@ -166,6 +181,7 @@ fn told<K: Link, L: Run, M: Ledger, W: Write + Drop>(
 {
     let Floor {
         names,
+        views: _,
         manner: _,
         lock,
         collector,

@@ -1,30 +1,48 @@
 //! What `status` is answered.
 
-ghost use Rattle.std.specs.Prelude.{Some};
-ghost use Rattle.desk_run.specs.Status.{status_text};
+ghost use Rattle.std.specs.Prelude.{◌≡◌, length};
+ghost use Rattle.release_lock.specs.Locked.{OnlyTurns};
+ghost use Rattle.sweep_release.specs.Released.{released};
 
 use crate::floor::Floor;
-use crate::news::venue_news;
 use crate::sweeps::sweep_now;
 use crate::talk_fault::TalkFault;
-use desk_news::News;
+use desk_news::{Status, VenueStatus};
+use desk_words::VenueName;
+use leg::VenueId;
 use release_lock::Run;
-use std::fmt;
 use std::io::Write;
 use std::sync::Wait;
 use std::sync::ledger::Ledger;
+use sweep_release::Desk;
 
-/// A line of the answer to `status`: how a venue or a sweep stands, as news has it.
-#[derive(Drop)]
-struct StatusLine(News);
+/// How many legs were released to a venue.
+fn released_to(desk: &mut Desk, venue: VenueId) -> u64
+    ensures value { result ≡ length (released venue desk.old.desk.sweeps) }
+    ensures turns { OnlyTurns desk.old desk.new }
+{
+    desk.released(venue).len() as u64
+}
 
-impl fmt::Display for StatusLine {
-    ghost output = { λ line. Some (status_text line.0) };
-
-    fn fmt<W: fmt::Write>(&self, f: &mut fmt::Formatter<W>) -> fmt::Result {
-        let news = &self.0;
-        write!(f, "status {news}")
-    }
+/// How a venue of this name and place stands, if there is one.
+fn venue_status<L: Run, M: Ledger, W: Write + Drop>(
+    rt: &impl Wait,
+    floor: &Floor<L, M, W>,
+    place: usize,
+    name: &VenueName,
+) -> Option<VenueStatus> {
+    let seen = floor.seen(place)?;
+    let venue = seen.venue;
+    let released = floor
+        .lock
+        .with(rt, |desk: &mut Desk| released_to(desk, venue));
+    Some(VenueStatus {
+        venue: name.clone().unwrap(),
+        unsent: released.saturating_sub(seen.taken),
+        doubt: seen.doubts,
+        lost: 0,
+        state: seen.standing.state(seen.seconds),
+    })
 }
 
 /// Answers `status`: a line for each venue, and one for each sweep that isn't whole.
@@ -33,10 +51,8 @@ pub fn tell_status<L: Run, M: Ledger, W: Write + Drop>(
     floor: &Floor<L, M, W>,
 ) -> Result<(), TalkFault> {
     for (place, name) in floor.names.iter().enumerate() {
-        if let Some(standing) = floor.standing(rt, place) {
-            floor
-                .voice
-                .say(rt, &StatusLine(venue_news(name, standing)))?;
+        if let Some(status) = venue_status(rt, floor, place, name) {
+            floor.voice.say(rt, &Status::Venue(status))?;
         }
     }
     for number in 1..u64::MAX {
@@ -44,7 +60,7 @@ pub fn tell_status<L: Run, M: Ledger, W: Write + Drop>(
             return Ok(());
         };
         if sweep.totals.still_open > 0 {
-            floor.voice.say(rt, &StatusLine(News::Sweep(sweep)))?;
+            floor.voice.say(rt, &Status::Sweep(sweep))?;
         }
     }
     Ok(())

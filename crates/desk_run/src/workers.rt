@@ -4,12 +4,13 @@ ghost use Rattle.std.specs.Prelude.{◌≡◌, [], length, replicate, IfOk, IfEr
 ghost use Rattle.exec_collector.specs.Seats.{new_seat};
 ghost use Rattle.release_lock.specs.Queues.{new_drains};
 ghost use Rattle.desk_run.specs.Faults.{IsNoMismatch};
-ghost use Rattle.desk_run.specs.Places.{place, new_places};
+ghost use Rattle.desk_run.specs.Places.{place, place_of, new_places};
 
 use crate::bells::Bells;
 use crate::day_fault::DayFault;
 use crate::floor::Floor;
 use crate::session::desk_end;
+use crate::venue_view::VenueView;
 use clock::{Clock, UtcClock};
 use desk_config::Venue;
 use dialect::AnyDialect;
@@ -17,7 +18,7 @@ use exec_collector::WorkerSeat;
 use link::{Link, Poller, Rest, TcpLink};
 use release_lock::{Run, VenueDrain};
 use session_worker::{Pace, Worker, WorkerEnd, run_all_until};
-use std::alloc::Global;
+use std::alloc::{AllocError, Global};
 use std::collections::VecDeque;
 use std::io::Write;
 use std::net::{Net, SocketAddr};
@@ -29,18 +30,20 @@ use std::time;
 /// The worker of a venue.
 pub type DeskWorker<'a, R, L, M> = Worker<AnyDialect, TcpLink<'a, R>, UtcClock<'a, R>, L, M>;
 
-/// The workers of these venues, in order, each with the drain and the seat at its place, and linked to its address. The
-/// bell of each is added to these.
+/// The workers of these venues, in order, each with the drain and the seat at its place, linked to its address, and
+/// seen in its view. The bell of each is added to these.
 pub fn new_workers<'a, L: Run, M: Ledger, R: Net + time::Clock>(
     rt: &'a R,
     alloc: Global,
     venues: &[Venue],
     addrs: &[SocketAddr],
+    views: &[VenueView],
     drains: Vec<VenueDrain<L>>,
     seats: Vec<WorkerSeat<M>>,
     bells: &mut Bells,
 ) -> Result<Vec<DeskWorker<'a, R, L, M>>, DayFault>
     requires addrs { length addrs.now ≡ length venues.now }
+    requires views { length views.now ≡ length venues.now }
     requires drains { drains.items ≡ new_drains (length venues.now) }
     requires seats { seats.items ≡ replicate (length venues.now) new_seat }
     ensures new { IfOk result (λ workers. map (λ w. place w.parts) workers.items
@@ -57,31 +60,55 @@ pub fn new_workers<'a, L: Run, M: Ledger, R: Net + time::Clock>(
         let Some(seat) = seats.pop_front() else {
             unreachable!()
         };
-        let link = new_link(rt, alloc, addrs[workers.len()], bells)?;
-        let clock = UtcClock::new(rt);
-        let dialect = venue.session.dialect;
-        let end = desk_end(venue);
-        workers.push(Worker::new(alloc, dialect, link, clock, end, seat, drain, Pace::Time))?;
+        let place = workers.len();
+        let view = &views[place];
+        let link = new_link(rt, alloc, addrs[place], view, bells)?;
+        workers.push(new_worker(rt, alloc, venue, view, link, drain, seat)?)?;
     }
     Ok(workers)
 }
 
-/// A link to an address, whose bell is added to these.
+/// The worker of a venue over a link, with this drain and seat, which tells on the board of this view.
+fn new_worker<'a, L: Run, M: Ledger, R: Net + time::Clock>(
+    rt: &'a R,
+    alloc: Global,
+    venue: &Venue,
+    view: &VenueView,
+    link: TcpLink<'a, R>,
+    drain: VenueDrain<L>,
+    seat: WorkerSeat<M>,
+) -> Result<DeskWorker<'a, R, L, M>, AllocError>
+    requires { drain.popped ≡ [] }
+    ensures { IfOk result (λ worker. place worker.parts ≡ place_of drain.venue seat.parts) }
+{
+    let board = view.board()?;
+    let clock = UtcClock::new(rt);
+    let dialect = venue.session.dialect;
+    let end = desk_end(venue);
+    let worker = Worker::new(alloc, dialect, link, clock, end, seat, drain, Pace::Time);
+    Ok(worker.telling_on(board))
+}
+
+/// A link to an address, which tells in this view why it can't be dialled, and whose bell is added to these.
 fn new_link<'a, R: Net + time::Clock>(
     rt: &'a R,
     alloc: Global,
     addr: SocketAddr,
+    view: &VenueView,
     bells: &mut Bells,
 ) -> Result<TcpLink<'a, R>, DayFault>
-    ensures { IfErr result (λ fault. fault ≡ DayFault.NoSocket) }
+    ensures { IfErr result IsNoMismatch }
 {
+    let last_dial = view.last_dial()?;
     let Ok(poller) = Poller::new(rt, alloc) else {
         return Err(DayFault::NoSocket);
     };
-    match bells.add(&poller) {
-        Ok(()) => Ok(TcpLink::new(rt, addr, poller, Rest::Sleep)),
-        Err(_) => Err(DayFault::NoSocket),
+    if bells.add(&poller).is_err() {
+        return Err(DayFault::NoSocket);
     }
+    let mut link = TcpLink::new(rt, addr, poller, Rest::Sleep);
+    link.tell_on(last_dial);
+    Ok(link)
 }
 
 /// Runs the workers until their sessions are over, or given up. Then the day closes, if it wasn't closing already.

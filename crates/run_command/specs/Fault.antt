@@ -2,10 +2,13 @@
 use Rattle.std.specs.Prelude.{ℕ}
 use Rattle.command_line.specs.declared.input.InputFault.{InputFault}
 use Rattle.command_line.specs.declared.input.InputFault.TheVariants as input
+use Rattle.desk_config.specs.declared.fault.ConfigFault.{ConfigFault}
+use Rattle.desk_config.specs.declared.fault.ConfigFault.TheVariants as config
 use Rattle.desk_run.specs.declared.day_fault.DayFault.{DayFault}
 use Rattle.desk_run.specs.declared.day_fault.DayFault.TheVariants as day
 use Rattle.desk_run.specs.declared.talk_fault.TalkFault.{TalkFault}
 use Rattle.desk_run.specs.declared.talk_fault.TalkFault.TheVariants as talk
+use Rattle.toml.specs.Errors.{IsMemory}
 use Rattle.run_command.specs.declared.fault.CommandFault.{CommandFault}
 use Rattle.run_command.specs.declared.fault.CommandFault.TheVariants.{
   CommandLine,
@@ -73,3 +76,14 @@ day_fault day.OutOfMemory = OutOfMemory
 day_fault day.MismatchQueue = MismatchQueue
 day_fault day.MismatchShares = MismatchShares
 day_fault day.MismatchPlaced = MismatchPlaced
+
+-- a file gives no configuration for want of memory
+abbrev pub WantsMemory : ConfigFault → Type 0
+WantsMemory (config.Toml error) = IsMemory error
+WantsMemory (config.Key fault) = ⊥
+WantsMemory config.OutOfMemory = Unit {0}
+
+-- want of memory isn't told as a fault of the file
+abbrev pub IsToldSo : CommandFault → Type 0
+IsToldSo (BadFile name fault) = ¬ WantsMemory fault
+IsToldSo other = Unit {0}

@@ -1,25 +1,54 @@
 //! A desk's file is read.
 
-ghost use Rattle.std.specs.Prelude.{IfOk};
+ghost use Rattle.std.specs.Prelude.{◌↔◌, IsTrue, IfErr, IfOk};
 ghost use Rattle.desk_config.specs.Apart.{AreVenues};
+ghost use Rattle.run_command.specs.Fault.{IsToldSo, WantsMemory};
 
 use crate::fault::CommandFault;
 use command_line::read_up_to;
-use desk_config::{DeskConfig, read_config};
+use desk_config::{ConfigFault, DeskConfig, read_config};
 use std::alloc::Global;
 use std::fs::Files;
+use std::io::ErrorKind;
 use std::{fs, str};
 
 /// The most bytes of a file.
 const MAX_FILE: u64 = 1_048_576;
 
+/// Whether a file gives no configuration for want of memory.
+fn wants_memory(fault: &ConfigFault) -> bool
+    ensures { IsTrue result ↔ WantsMemory fault.now }
+{
+    match fault {
+        ConfigFault::Toml(error) => error.is_memory(),
+        ConfigFault::Key(_) => false,
+        ConfigFault::OutOfMemory => true,
+    }
+}
+
+/// The fault of a file of this name. Want of memory is none of the file's.
+fn file_fault(name: String, fault: ConfigFault) -> CommandFault
+    ensures { IsToldSo result }
+{
+    if wants_memory(&fault) {
+        CommandFault::OutOfMemory
+    } else {
+        CommandFault::BadFile { name, fault }
+    }
+}
+
 /// The configuration that the file of a name has. One that asks for logs or a page is refused, since the day has
 /// neither.
 pub fn read_file<R: Files>(rt: &R, alloc: Global, name: &str) -> Result<DeskConfig, CommandFault>
-    ensures { IfOk result (λ config. AreVenues config.venues.items) }
+    ensures venues { IfOk result (λ config. AreVenues config.venues.items) }
+    ensures memory { IfErr result IsToldSo }
 {
-    let Ok(mut file) = fs::open(rt, name) else {
-        return Err(CommandFault::NoFile(String::from_str(alloc, name)?));
+    let mut file = match fs::open(rt, name) {
+        Ok(file) => file,
+        Err(error) if error.kind() == ErrorKind::OutOfMemory => {
+            return Err(CommandFault::OutOfMemory);
+        }
+        Err(_) => return Err(CommandFault::NoFile(String::from_str(alloc, name)?)),
     };
     let bytes = read_up_to(alloc, MAX_FILE, &mut file)?;
     let Ok(text) = str::from_utf8(bytes.as_slice()) else {
@@ -30,6 +59,6 @@ pub fn read_file<R: Files>(rt: &R, alloc: Global, name: &str) -> Result<DeskConf
         Ok(config) if config.log.is_some() => Err(CommandFault::NotServed { name, key: "log" }),
         Ok(config) if config.page.is_some() => Err(CommandFault::NotServed { name, key: "page" }),
         Ok(config) => Ok(config),
-        Err(fault) => Err(CommandFault::BadFile { name, fault }),
+        Err(fault) => Err(file_fault(name, fault)),
     }
 }

@@ -1,4 +1,12 @@
 //! `dispatch run`: the day of a desk's file runs, against real exchanges and simulated ones.
+//!
+//! Promises:
+//! - The exit status is 0, or that of the fault (`run_run`). A fault of the words or of the file prints nothing.
+//! - What is printed behind a day is exactly the stated text of what became of it (`day_text`).
+//! - Want of memory while the file is read is never told as a fault of the file (`file_fault`, private).
+//! - That `--check` prints the file's venues, and that a day runs as the command line asks, is only tested.
+//!
+//! See `docs/run.md`.
 #![tactic(auto)]
 
 ghost use Rattle.std.specs.Prelude.{IfErr};

@@ -24,8 +24,8 @@ loop-venue-init g c =
       seats_left = omega (arith, seats_are, same);
     }
 
-pub new-requires : goal.new-requires
-new-requires g c =
+pub new_worker-requires : goal.new_worker-requires
+new_worker-requires g c =
     let drain = c.in-Some.drain in
     let drains = c.pop_front.new.self.items in
     All-head (λ (d : DrainParts). d.popped ≡ []) drain drains
@@ -47,10 +47,10 @@ loop-venue-preserved g c =
     let seats_left = so_far.seats_left in
     let a_new : seat ≡ new_seat = All-head (λ (s : Seat). s ≡ new_seat) seat seats
     (All-same (λ (s : Seat). s ≡ new_seat) (seat ∷ seats) c.loop-venue.seats.items (sym first_seat) so_far.new_seats) in
-    let made = is_new _ _ drain seat c.new.ensures.parts refl a_new in
+    let made = is_new c.in_ok-new_worker.field-0.parts drain seat c.in_ok-new_worker.ensures a_new in
     record {
       made_are = rw c.in_ok-push.ensures.items
-          (one_made _ c.loop-venue.workers.items c.new.result drain c.loop-venue.drains.items drains _ made first_drain so_far.made_are);
+          (one_made _ c.loop-venue.workers.items c.in_ok-new_worker.field-0 drain c.loop-venue.drains.items drains _ made first_drain so_far.made_are);
       none_popped = All-rest (λ (d : DrainParts). d.popped ≡ []) drain drains c.loop-venue.drains.items first_drain so_far.none_popped;
       new_seats = All-rest (λ (s : Seat). s ≡ new_seat) seat seats c.loop-venue.seats.items first_seat so_far.new_seats;
       made = search rules;

@@ -1,0 +1,63 @@
+//! What the threads of a day see of a venue.
+
+use crate::standing::{Standing, standing_of};
+use leg::VenueId;
+use link::LastDial;
+use std::alloc::{AllocError, Global};
+use std::sync::Arc;
+use venue_board::VenueBoard;
+
+/// How many milliseconds are a second.
+const SECOND: u64 = 1_000;
+
+/// What is seen of a venue at a moment.
+#[derive(Clone, Copy, Debug, PartialEq, Eq)]
+pub struct Seen {
+    pub venue: VenueId,
+    pub standing: Standing,
+    /// How many seconds the pause before the next dial lasts, a part of one counted as a whole.
+    pub seconds: u64,
+    /// How many legs its worker has taken.
+    pub taken: u64,
+    /// How many of them are in doubt.
+    pub doubts: u64,
+}
+
+/// What the threads of a day see of a venue: what its worker tells on its board, and why its link couldn't be dialled.
+#[derive(Drop)]
+pub struct VenueView {
+    board: Arc<VenueBoard, Global>,
+    last_dial: Arc<LastDial, Global>,
+}
+
+impl VenueView {
+    /// Of a venue whose worker has told nothing.
+    pub fn new(alloc: Global) -> Result<VenueView, AllocError> {
+        Ok(VenueView {
+            board: Arc::new(alloc, VenueBoard::new())?,
+            last_dial: Arc::new(alloc, LastDial::new())?,
+        })
+    }
+
+    /// The board for its worker to tell on.
+    pub fn board(&self) -> Result<Arc<VenueBoard, Global>, AllocError> {
+        self.board.clone()
+    }
+
+    /// Where its link tells why a dial failed.
+    pub fn last_dial(&self) -> Result<Arc<LastDial, Global>, AllocError> {
+        self.last_dial.clone()
+    }
+
+    /// What is seen of the venue of this number now, whose gate is shut or not.
+    pub fn seen(&self, venue: VenueId, is_shut: bool) -> Seen {
+        let board = &self.board;
+        Seen {
+            venue,
+            standing: standing_of(board.progress(), is_shut, self.last_dial.error()),
+            seconds: board.pause().div_ceil(SECOND),
+            taken: board.taken(),
+            doubts: board.doubts(),
+        }
+    }
+}
