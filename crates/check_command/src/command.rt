@@ -17,6 +17,8 @@ const DESK: &str = "desk";
 
 const JSON: &str = "json";
 
+const LEGS: &str = "legs";
+
 /// The engines of others whose logs are read.
 static ENGINES: [&str; 1] = ["quickfix"];
 
@@ -28,6 +30,9 @@ Blank lines and lines that begin with # are passed over. Printed are, for each l
   log PATH
   line N RULE: what the rule asks for (where the standard has it), and the line below it
   rule RULE held N broken N           or `not seen`, for each rule
+and with --legs, for each order and then for each sweep:
+  leg S1L1 taken number 3 sent 1 IBM buy 100 10.25 filled 60 busted 0 cancelled 40 withdrawn 0 open 0
+  sweep 1 legs 100 filled 60 busted 0 cancelled 40 withdrawn 0 open 0
 
 The exit status is 0, or 8 where a rule is broken.
 
@@ -41,6 +46,8 @@ pub(crate) struct Request<'a> {
     pub form: Form,
     /// Whether JSON is printed in place of text.
     pub is_json: bool,
+    /// Whether it is told what became of each leg.
+    pub keeps_legs: bool,
 }
 
 fn from_arg<'a>(alloc: Global) -> Result<Arg<'a>, AllocError> {
@@ -67,6 +74,13 @@ fn json_arg<'a>(alloc: Global) -> Arg<'a> {
         .action(ArgAction::SetTrue)
 }
 
+fn legs_arg<'a>(alloc: Global) -> Arg<'a> {
+    Arg::new(alloc, LEGS)
+        .long(LEGS)
+        .help("tells what became of each leg, and of each sweep")
+        .action(ArgAction::SetTrue)
+}
+
 /// The command `check`.
 pub fn check_command<'a>(alloc: Global) -> Result<Command<'a>, AllocError> {
     Command::new(alloc, "check")
@@ -81,6 +95,7 @@ pub fn check_command<'a>(alloc: Global) -> Result<Command<'a>, AllocError> {
         )?
         .arg(from_arg(alloc)?)?
         .arg(desk_arg(alloc)?)?
+        .arg(legs_arg(alloc))?
         .arg(json_arg(alloc))
 }
 
@@ -112,9 +127,11 @@ pub(crate) fn read_words<'a, S: AsStr>(
         None => Vec::new(alloc),
     };
     let is_json = matches.get_flag(JSON);
+    let keeps_legs = matches.get_flag(LEGS);
     Ok(Request {
         paths,
         form,
         is_json,
+        keeps_legs,
     })
 }

@@ -4,6 +4,8 @@
 //! - `LogCheck::check_line` judges the message of a line, the first valid frame in its bytes, exactly as the rules
 //!   do (`Checks`), or names the line with its own fault (`NamesBadLine`). What is printed of it, the counts and the
 //!   status aren't said.
+//! - What is told of a log's orders and sweeps as text is exactly the text of the definition (`legs_text`), over what
+//!   is known behind its lines. Of the same as JSON only each line's form is said (`json_line`).
 #![tactic(auto)]
 
 mod command;
@@ -13,6 +15,7 @@ mod form;
 mod input;
 mod json;
 mod judge;
+mod legs_json;
 mod log_check;
 mod print_log;
 mod shown;
@@ -65,6 +68,7 @@ fn check<F: Files, S: AsStr, W: Write>(
             log: path,
             form: &request.form,
             is_json: request.is_json,
+            keeps_legs: request.keeps_legs,
         };
         if print_log(alloc, &printing, &mut input, out)? {
             is_broken = true;
