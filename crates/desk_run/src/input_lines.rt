@@ -1,7 +1,7 @@
 //! The lines of an input.
 
-use crate::readiness::Readiness;
 use crate::talk_fault::TalkFault;
+use readiness::Readiness;
 use std::alloc::Global;
 use std::io::{self, BufRead, BufReader, ErrorKind, Read};
 use std::net::Net;

@@ -36,7 +36,6 @@ mod input_lines;
 mod keeper;
 mod news;
 mod opening;
-mod readiness;
 mod release;
 mod running;
 mod session;
