@@ -7,6 +7,8 @@ use crate::input_lines::{InputLines, Next};
 use crate::release::release;
 use crate::status::tell_status;
 use crate::talk_fault::TalkFault;
+use clock::UtcClock;
+use day_log::LineLog;
 use release_lock::{CallerSeat, Run};
 use std::alloc::Global;
 use std::io::{Read, Write};
@@ -39,7 +41,7 @@ pub fn take_lines<L: Run, M: Ledger, W: Write + Drop, I: Read + Drop, R: Wait + 
     let mut seat = seat;
     let mut lines = lines;
     floor.await_venues(rt);
-    let broken_off = match answer_lines(rt, alloc, floor, &mut seat, &mut lines) {
+    let broken_off = match log_lines(rt, alloc, floor, &mut seat, &mut lines) {
         Ok(()) => None,
         Err(fault) => Some(fault),
     };
@@ -47,10 +49,9 @@ pub fn take_lines<L: Run, M: Ledger, W: Write + Drop, I: Read + Drop, R: Wait + 
     CallerEnd { seat, broken_off }
 }
 
-/// Takes and answers lines to the end of the input. Once the workers have ended only those are answered still that were
-/// read with the ones before.
-fn answer_lines<L: Run, M: Ledger, W: Write + Drop, I: Read + Drop>(
-    rt: &impl Wait,
+/// Takes and answers lines to the end of the input, and logs them, if a log is kept.
+fn log_lines<L: Run, M: Ledger, W: Write + Drop, I: Read + Drop, R: Wait + Clock>(
+    rt: &R,
     alloc: Global,
     floor: &Floor<L, M, W>,
     seat: &mut CallerSeat<L>,
@@ -58,12 +59,35 @@ fn answer_lines<L: Run, M: Ledger, W: Write + Drop, I: Read + Drop>(
 ) -> Result<(), TalkFault>
     ensures { seat.new.parts ≡ seat.old.parts }
 {
+    let mut log = LineLog::new(rt, alloc, UtcClock::new(rt), floor.line_log()?);
+    answer_lines(rt, alloc, floor, seat, lines, &mut log)
+}
+
+/// Takes and answers lines to the end of the input. Once the workers have ended only those are answered still that were
+/// read with the ones before.
+fn answer_lines<'a, L, M, W, I, R, C>(
+    rt: &'a R,
+    alloc: Global,
+    floor: &Floor<L, M, W>,
+    seat: &mut CallerSeat<L>,
+    lines: &mut InputLines<I>,
+    log: &mut LineLog<'a, R, C>,
+) -> Result<(), TalkFault>
+where
+    L: Run,
+    M: Ledger,
+    W: Write + Drop,
+    I: Read + Drop,
+    R: Wait,
+    C: clock::Clock + Drop,
+    ensures { seat.new.parts ≡ seat.old.parts }
+{
     for _ in rt.forever() {
         if floor.signals.is_ending() && !lines.has_more() {
             return Ok(());
         }
         match lines.next(Duration::from_millis(LOOK_MILLIS))? {
-            Next::Line => answer_line(rt, alloc, floor, seat, lines)?,
+            Next::Line => answer_line(rt, alloc, floor, seat, lines, log)?,
             Next::Nothing => {}
             Next::End => return Ok(()),
         }
@@ -72,32 +96,41 @@ fn answer_lines<L: Run, M: Ledger, W: Write + Drop, I: Read + Drop>(
 }
 
 /// Answers the line that was read last.
-fn answer_line<L: Run, M: Ledger, W: Write + Drop, I: Read + Drop>(
-    rt: &impl Wait,
+fn answer_line<'a, L, M, W, I, R, C>(
+    rt: &'a R,
     alloc: Global,
     floor: &Floor<L, M, W>,
     seat: &mut CallerSeat<L>,
     lines: &InputLines<I>,
+    log: &mut LineLog<'a, R, C>,
 ) -> Result<(), TalkFault>
+where
+    L: Run,
+    M: Ledger,
+    W: Write + Drop,
+    I: Read + Drop,
+    R: Wait,
+    C: clock::Clock + Drop,
     ensures { seat.new.parts ≡ seat.old.parts }
 {
+    log.taken(lines.line());
     match read_line(alloc, floor.names.as_slice(), lines.line()) {
         Ok(Command::Nothing) => Ok(()),
         Ok(Command::Close) => {
             floor.close();
             Ok(())
         }
-        Ok(Command::Status) => tell_status(rt, floor),
-        Ok(Command::Sweep(_)) if floor.signals.is_closing() => floor
-            .voice
-            .say(rt, &Answer::Closing),
+        Ok(Command::Status) => tell_status(rt, floor, log),
+        Ok(Command::Sweep(_)) if floor.signals.is_closing() => {
+            floor.answer(rt, log, &Answer::Closing)
+        }
         Ok(Command::Sweep(sweep)) => {
             let answer = release(rt, floor, sweep, seat);
-            floor.voice.say(rt, &answer)
+            floor.answer(rt, log, &answer)
         }
         Err(fault) => {
             let number = lines.number();
-            floor.voice.say(rt, &Answer::BadLine { number, fault })
+            floor.answer(rt, log, &Answer::BadLine { number, fault })
         }
     }
 }

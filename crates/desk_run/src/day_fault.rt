@@ -4,16 +4,20 @@ ghost use Rattle.std.specs.Prelude.{◌≡◌};
 ghost use Rattle.desk_run.specs.declared.day_fault.DayFault.TheVariants.{OutOfMemory};
 ghost use Rattle.desk_run.specs.Faults.{run_fault};
 
+use day_log::LogFault;
 use session_worker::RunFault;
 use std::alloc::{AllocError, AllocFailed};
 use thiserror::Error;
 
 /// Why a day can't be run, or its audit fails. All its threads have ended.
-#[derive(Clone, Copy, Debug, PartialEq, Eq, Error)]
+#[derive(Debug, PartialEq, Eq, Drop, Error)]
 pub enum DayFault {
     /// The address of the venue at this place, from 0, is no address that can be dialled: its host isn't known.
     #[error("no address")]
     NoAddress(usize),
+    /// The logs of the day can't be begun.
+    #[error("{0}")]
+    NoLogs(LogFault),
     /// No socket for a simulated exchange to listen on can be had.
     #[error("no socket")]
     NoSocket,

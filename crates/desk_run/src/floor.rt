@@ -6,17 +6,20 @@ use crate::bells::Bells;
 use crate::exchange::Serve;
 use crate::signals::{Manner, Signals};
 use crate::standing::Standing;
+use crate::talk_fault::TalkFault;
 use crate::venue_view::{Seen, VenueView};
 use crate::voice::Voice;
+use day_log::{LineLog, VenueLog};
 use desk_words::VenueName;
 use exec_collector::Collector;
 use leg::VenueId;
 use release_lock::{ReleaseLock, Run};
 use session_worker::Stop;
-use std::alloc::AllocError;
+use std::alloc::{AllocError, Global};
+use std::fmt::Display;
 use std::io::Write;
-use std::sync::Wait;
 use std::sync::ledger::Ledger;
+use std::sync::{Arc, Wait};
 use std::thread;
 use std::time::{Clock, Duration};
 
@@ -37,6 +40,8 @@ pub struct Floor<L: Run, M: Ledger, W: Write + Drop> {
     pub lock: ReleaseLock<L>,
     pub collector: Collector<M>,
     pub voice: Voice<W>,
+    /// The log of the lines that are taken and answered, if one is kept.
+    pub line_log: Option<Arc<VenueLog, Global>>,
     pub signals: Signals,
     /// What wakes the workers.
     pub bells: Bells,
@@ -71,6 +76,25 @@ impl<L: Run, M: Ledger, W: Write + Drop> Floor<L, M, W> {
                 return;
             }
             thread::sleep(rt, Duration::from_millis(LOOK_MILLIS));
+        }
+    }
+
+    /// Answers a line, in the log too.
+    pub fn answer<'a, T: Display, R: Wait, C: clock::Clock + Drop>(
+        &self,
+        rt: &'a R,
+        log: &mut LineLog<'a, R, C>,
+        answer: &T,
+    ) -> Result<(), TalkFault> {
+        log.answered(answer);
+        self.voice.say(rt, answer)
+    }
+
+    /// The log of the lines, if one is kept.
+    pub fn line_log(&self) -> Result<Option<Arc<VenueLog, Global>>, AllocError> {
+        match &self.line_log {
+            Some(log) => Ok(Some(log.clone()?)),
+            None => Ok(None),
         }
     }
 

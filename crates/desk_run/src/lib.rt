@@ -3,7 +3,7 @@
 //! the day is audited.
 //!
 //! Promises:
-//! - `run_day` is refused for want of an address, a socket, a thread or memory alone, since the audit finds no
+//! - `run_day` is refused for want of an address, a log, a socket, a thread or memory alone, since the audit finds no
 //!   mismatch, whatever the threads do. The sweeps that it tells at the end are all those of a book that its own
 //!   history leads to.
 //! - Each sweep is answered with what the desk and the book did (`release`), under the name of the venue that is to
@@ -17,6 +17,8 @@
 //! - The entries of the book's history that a look goes through give exactly the sweeps that they are about
 //!   (`note_entries`, private). That each entry is gone through once, and that a sweep is told when its parts change,
 //!   is only tested.
+//! - That the logs of a day, where it keeps any, hold its messages and lines is only tested; what they are, and that no
+//!   fault of a log reaches a session, is said by `day_log`.
 //! - That lines are answered in their order, what is told while the day runs, that a worker dials its venue's
 //!   address, that a second `close` gives the day up, and that a day ends, is only tested.
 //!
@@ -34,6 +36,7 @@ mod exchange;
 mod floor;
 mod input_lines;
 mod keeper;
+mod logs;
 mod news;
 mod opening;
 mod release;

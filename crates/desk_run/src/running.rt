@@ -19,6 +19,7 @@ use crate::day_fault::DayFault;
 use crate::doubts::{doubts_of, is_given_up};
 use crate::floor::Floor;
 use crate::input_lines::{DeskInput, InputLines};
+use crate::logs::begin_logs;
 use crate::opening::open_places;
 use crate::signals::{Manner, Signals};
 use crate::sweeps::booked_sweeps;
@@ -26,6 +27,7 @@ use crate::threads::{Cast, Ended, in_threads};
 use crate::venue_view::VenueView;
 use crate::voice::Voice;
 use crate::workers::new_workers;
+use day_log::VenueLog;
 use desk_config::Venue;
 use desk_words::VenueName;
 use exec_collector::Collector;
@@ -35,11 +37,12 @@ use session_worker::{AuditFault, DayReport, Stop, WorkerEnd, audit};
 use share_ledger::Book;
 use std::alloc::{AllocError, Global};
 use std::collections::VecDeque;
+use std::fs::{File, Files};
 use std::io::{Read, Write};
 use std::marker::Brand;
 use std::net::{Net, TcpListener, TcpStream};
-use std::sync::Wait;
 use std::sync::ledger::{Blank, Ledger};
+use std::sync::{Arc, Wait};
 use std::thread::Threads;
 use std::time::Clock;
 use venue_queue::{Drain, Feed};
@@ -47,17 +50,25 @@ use venue_queue::{Drain, Feed};
 /// Runs a day of these venues, and audits it. The lines of the input are taken by one caller, in order, and answered on
 /// `out`, where changes are told too. It closes with the end of the input, or at `close`: then it waits until no share
 /// is open, as long as the patience goes, the gates are shut, what is placed and unsent is withdrawn, and the sessions
-/// log out. A session that isn't over ten seconds later, or at a second `close`, is given up.
+/// log out. A session that isn't over ten seconds later, or at a second `close`, is given up. Where a folder is named
+/// the messages of each venue and the lines are logged there, in files that aren't there yet; they are begun once each
+/// exchange's address is known.
 pub fn run_day<R, I, W>(
     rt: &R,
     alloc: Global,
     venues: &[Venue],
     manner: Manner,
+    folder: Option<&str>,
     input: DeskInput<I>,
     out: W,
 ) -> Result<DeskDay, DayFault>
 where
-    R: Net<Listener = TcpListener, Stream = TcpStream> + Threads + Wait + Clock + Sync,
+    R: Net<Listener = TcpListener, Stream = TcpStream>
+        + Files<File = File>
+        + Threads
+        + Wait
+        + Clock
+        + Sync,
     I: Read + Drop,
     W: Write + Drop + Send,
     requires { AreVenues venues.now }
@@ -74,6 +85,7 @@ where
         alloc,
         venues,
         manner,
+        folder,
         Blank::new(1024),
         Blank::new(u64::from(count)),
         rings,
@@ -88,6 +100,7 @@ fn named_day<L, M, R, I, W>(
     alloc: Global,
     venues: &[Venue],
     manner: Manner,
+    folder: Option<&str>,
     caller: Blank,
     workers: Blank,
     rings: VecDeque<(Feed, Drain)>,
@@ -97,7 +110,12 @@ fn named_day<L, M, R, I, W>(
 where
     L: Run + Send + Sync,
     M: Ledger + Send + Sync,
-    R: Net<Listener = TcpListener, Stream = TcpStream> + Threads + Wait + Clock + Sync,
+    R: Net<Listener = TcpListener, Stream = TcpStream>
+        + Files<File = File>
+        + Threads
+        + Wait
+        + Clock
+        + Sync,
     I: Read + Drop,
     W: Write + Drop + Send,
     requires venues { (1 ≤ length venues.now) × (length venues.now ≤ 16) }
@@ -120,13 +138,15 @@ where
     let places = open_places(rt, alloc, venues)?;
     let mut bells = Bells::new(alloc);
     let addrs = places.addrs.as_slice();
-    let views = views_of(alloc, venues)?;
+    let logs = begin_logs(rt, alloc, folder, venues)?;
+    let views = views_of(alloc, venues, logs.venues)?;
     let seen = views.as_slice();
     let workers = new_workers(rt, alloc, venues, addrs, seen, drains, seats, &mut bells)?;
     let cast = Cast {
         exchanges: places.exchanges,
         workers,
         seat,
+        writers: logs.writers,
     };
     let floor = Floor {
         names: names_of(alloc, venues)?,
@@ -135,6 +155,7 @@ where
         lock,
         collector,
         voice,
+        line_log: logs.lines,
         signals: Signals::new(),
         bells,
         stop: Stop::new(),
@@ -155,13 +176,18 @@ fn names_of(alloc: Global, venues: &[Venue]) -> Result<Vec<VenueName>, AllocErro
     Ok(names)
 }
 
-/// What is seen of venues before their workers are made, in order.
-fn views_of(alloc: Global, venues: &[Venue]) -> Result<Vec<VenueView>, AllocError>
+/// What is seen of venues before their workers are made, in order, each with its log, if there is one.
+fn views_of(
+    alloc: Global,
+    venues: &[Venue],
+    logs: Vec<Arc<VenueLog, Global>>,
+) -> Result<Vec<VenueView>, AllocError>
     ensures { IfOk result (λ views. length views.items ≡ length venues.now) }
 {
+    let mut logs = VecDeque::from(logs);
     let mut views = Vec::new(alloc);
     'each: for _ in 0..venues.len() {
-        views.push(VenueView::new(alloc)?)?;
+        views.push(VenueView::new(alloc, logs.pop_front())?)?;
     }
     Ok(views)
 }
@@ -186,6 +212,7 @@ fn told<K: Link, L: Run, M: Ledger, W: Write + Drop>(
         lock,
         collector,
         voice: _,
+        line_log: _,
         signals: _,
         bells: _,
         stop: _,

@@ -7,6 +7,8 @@ ghost use Rattle.sweep_release.specs.Released.{released};
 use crate::floor::Floor;
 use crate::sweeps::sweep_now;
 use crate::talk_fault::TalkFault;
+use clock::Clock;
+use day_log::LineLog;
 use desk_news::{Status, VenueStatus};
 use desk_words::VenueName;
 use leg::VenueId;
@@ -32,6 +34,7 @@ fn venue_status<L: Run, M: Ledger, W: Write + Drop>(
     name: &VenueName,
 ) -> Option<VenueStatus> {
     let seen = floor.seen(place)?;
+    let lost = floor.views.get(place)?.lost(rt);
     let venue = seen.venue;
     let released = floor
         .lock
@@ -40,19 +43,20 @@ fn venue_status<L: Run, M: Ledger, W: Write + Drop>(
         venue: name.clone().unwrap(),
         unsent: released.saturating_sub(seen.taken),
         doubt: seen.doubts,
-        lost: 0,
+        lost,
         state: seen.standing.state(seen.seconds),
     })
 }
 
 /// Answers `status`: a line for each venue, and one for each sweep that isn't whole.
-pub fn tell_status<L: Run, M: Ledger, W: Write + Drop>(
-    rt: &impl Wait,
+pub fn tell_status<'a, L: Run, M: Ledger, W: Write + Drop, R: Wait, C: Clock + Drop>(
+    rt: &'a R,
     floor: &Floor<L, M, W>,
+    log: &mut LineLog<'a, R, C>,
 ) -> Result<(), TalkFault> {
     for (place, name) in floor.names.iter().enumerate() {
         if let Some(status) = venue_status(rt, floor, place, name) {
-            floor.voice.say(rt, &Status::Venue(status))?;
+            floor.answer(rt, log, &Status::Venue(status))?;
         }
     }
     for number in 1..u64::MAX {
@@ -60,7 +64,7 @@ pub fn tell_status<L: Run, M: Ledger, W: Write + Drop>(
             return Ok(());
         };
         if sweep.totals.still_open > 0 {
-            floor.voice.say(rt, &Status::Sweep(sweep))?;
+            floor.answer(rt, log, &Status::Sweep(sweep))?;
         }
     }
     Ok(())

@@ -12,12 +12,14 @@ use crate::input_lines::InputLines;
 use crate::keeper::keep;
 use crate::workers::run_workers;
 use clock::Clock;
+use day_log::{FileWriter, write_until};
 use dialect::AnyDialect;
 use link::Link;
 use release_lock::{CallerSeat, Run};
 use session_worker::{Worker, WorkerEnd};
 use std::alloc::{AllocError, Global};
 use std::collections::VecDeque;
+use std::fs::File;
 use std::io::{Read, Write};
 use std::sync::Wait;
 use std::sync::ledger::Ledger;
@@ -30,6 +32,8 @@ pub struct Cast<X, K: Link, C: Clock + Drop, L: Run, M: Ledger> {
     pub exchanges: Vec<X>,
     pub workers: Vec<Worker<AnyDialect, K, C, L, M>>,
     pub seat: CallerSeat<L>,
+    /// What writes the logs; none where none is kept.
+    pub writers: Vec<FileWriter<File>>,
 }
 
 /// What its threads leave.
@@ -39,8 +43,9 @@ pub struct Ended<K: Link, L: Run, M: Ledger> {
     pub caller: CallerEnd<L>,
 }
 
-/// Runs a day: its exchanges, its workers and its keeper, each in a thread of its own, and the caller in this one. Once
-/// the workers have ended the exchanges are stopped. Where a thread is refused, those that run are told so.
+/// Runs a day: its exchanges, the writer of its logs, its workers and its keeper, each in a thread of its own, and the
+/// caller in this one. Once the workers and the caller have ended the exchanges and the writer are stopped, which
+/// writes what waits before it ends. Where a thread is refused, those that run are told so.
 pub fn in_threads<X, K, C, L, M, W, I, R>(
     rt: &R,
     alloc: Global,
@@ -66,10 +71,11 @@ where
         exchanges,
         workers,
         seat,
+        writers,
     } = cast;
     let (served, ended) = join(
         rt,
-        || run_exchanges(rt, alloc, floor, exchanges),
+        || run_exchanges(rt, alloc, floor, exchanges, writers),
         || -> Result<Ended<K, L, M>, DayFault>
             ensures workers { IfOk result (λ ended. map (λ e. place e.parts) ended.workers.items
                 ≡ map (λ w. place w.parts) workers.items) }
@@ -81,19 +87,21 @@ where
     ended
 }
 
-/// Runs the exchanges until they are stopped. The only refusals are want of memory and of threads.
+/// Runs the exchanges and the writer of the logs until they are stopped. The only refusals are want of memory and of
+/// threads.
 fn run_exchanges<X, L, M, W, R>(
     rt: &R,
     alloc: Global,
     floor: &Floor<L, M, W>,
     exchanges: Vec<X>,
+    writers: Vec<FileWriter<File>>,
 ) -> Result<(), DayFault>
 where
     X: Serve + Drop + Send,
     L: Run + Send + Sync,
     M: Ledger + Send + Sync,
     W: Write + Drop + Send,
-    R: Threads + Wait + Sync,
+    R: Threads + Wait + time::Clock + Sync,
     ensures { IfErr result IsNoMismatch }
 {
     thread::scope(
@@ -102,6 +110,13 @@ where
         |scope| -> Result<(), DayFault>
             ensures { IfErr result IsNoMismatch }
         {
+            if !writers.is_empty() {
+                let writer = scope.spawn(move || write_until(rt, writers, &floor.signals.is_over));
+                if writer.is_err() {
+                    floor.give_up();
+                    return Err(DayFault::NoThread);
+                }
+            }
             let mut exchanges = VecDeque::from(exchanges);
             let mut handles = Vec::new(alloc);
             while let Some(exchange) = exchanges.pop_front() {

@@ -1,10 +1,11 @@
 //! What the threads of a day see of a venue.
 
 use crate::standing::{Standing, standing_of};
+use day_log::VenueLog;
 use leg::VenueId;
 use link::LastDial;
 use std::alloc::{AllocError, Global};
-use std::sync::Arc;
+use std::sync::{Arc, Wait};
 use venue_board::VenueBoard;
 
 /// How many milliseconds are a second.
@@ -23,19 +24,22 @@ pub struct Seen {
     pub doubts: u64,
 }
 
-/// What the threads of a day see of a venue: what its worker tells on its board, and why its link couldn't be dialled.
+/// What the threads of a day see of a venue: what its worker tells on its board, why its link couldn't be dialled, and
+/// the log of its messages, if one is kept.
 #[derive(Drop)]
 pub struct VenueView {
     board: Arc<VenueBoard, Global>,
     last_dial: Arc<LastDial, Global>,
+    log: Option<Arc<VenueLog, Global>>,
 }
 
 impl VenueView {
     /// Of a venue whose worker has told nothing.
-    pub fn new(alloc: Global) -> Result<VenueView, AllocError> {
+    pub fn new(alloc: Global, log: Option<Arc<VenueLog, Global>>) -> Result<VenueView, AllocError> {
         Ok(VenueView {
             board: Arc::new(alloc, VenueBoard::new())?,
             last_dial: Arc::new(alloc, LastDial::new())?,
+            log,
         })
     }
 
@@ -47,6 +51,22 @@ impl VenueView {
     /// Where its link tells why a dial failed.
     pub fn last_dial(&self) -> Result<Arc<LastDial, Global>, AllocError> {
         self.last_dial.clone()
+    }
+
+    /// The log of its messages, if one is kept.
+    pub fn log(&self) -> Result<Option<Arc<VenueLog, Global>>, AllocError> {
+        match &self.log {
+            Some(log) => Ok(Some(log.clone()?)),
+            None => Ok(None),
+        }
+    }
+
+    /// How many lines of its log were lost: 0 where none is kept. It may wait for the log's lock.
+    pub fn lost(&self, rt: &impl Wait) -> u64 {
+        match &self.log {
+            Some(log) => log.counts(rt).lost,
+            None => 0,
+        }
     }
 
     /// What is seen of the venue of this number now, whose gate is shut or not.

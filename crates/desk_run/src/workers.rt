@@ -12,6 +12,7 @@ use crate::floor::Floor;
 use crate::session::desk_end;
 use crate::venue_view::VenueView;
 use clock::{Clock, UtcClock};
+use day_log::{LoggedLink, Recorder, Traffic};
 use desk_config::Venue;
 use dialect::AnyDialect;
 use exec_collector::WorkerSeat;
@@ -22,17 +23,20 @@ use std::alloc::{AllocError, Global};
 use std::collections::VecDeque;
 use std::io::Write;
 use std::net::{Net, SocketAddr};
-use std::sync::Wait;
 use std::sync::ledger::Ledger;
+use std::sync::{Arc, Wait};
 use std::thread::Threads;
 use std::time;
 
+/// The link of a venue's worker, whose messages are logged.
+pub type DeskLink<'a, R> = LoggedLink<'a, R, TcpLink<'a, R>, UtcClock<'a, R>>;
+
 /// The worker of a venue.
-pub type DeskWorker<'a, R, L, M> = Worker<AnyDialect, TcpLink<'a, R>, UtcClock<'a, R>, L, M>;
+pub type DeskWorker<'a, R, L, M> = Worker<AnyDialect, DeskLink<'a, R>, UtcClock<'a, R>, L, M>;
 
 /// The workers of these venues, in order, each with the drain and the seat at its place, linked to its address, and
 /// seen in its view. The bell of each is added to these.
-pub fn new_workers<'a, L: Run, M: Ledger, R: Net + time::Clock>(
+pub fn new_workers<'a, L: Run, M: Ledger, R: Net + Wait + time::Clock>(
     rt: &'a R,
     alloc: Global,
     venues: &[Venue],
@@ -69,12 +73,12 @@ pub fn new_workers<'a, L: Run, M: Ledger, R: Net + time::Clock>(
 }
 
 /// The worker of a venue over a link, with this drain and seat, which tells on the board of this view.
-fn new_worker<'a, L: Run, M: Ledger, R: Net + time::Clock>(
+fn new_worker<'a, L: Run, M: Ledger, R: Net + Wait + time::Clock>(
     rt: &'a R,
     alloc: Global,
     venue: &Venue,
     view: &VenueView,
-    link: TcpLink<'a, R>,
+    link: DeskLink<'a, R>,
     drain: VenueDrain<L>,
     seat: WorkerSeat<M>,
 ) -> Result<DeskWorker<'a, R, L, M>, AllocError>
@@ -89,17 +93,19 @@ fn new_worker<'a, L: Run, M: Ledger, R: Net + time::Clock>(
     Ok(worker.telling_on(board))
 }
 
-/// A link to an address, which tells in this view why it can't be dialled, and whose bell is added to these.
-fn new_link<'a, R: Net + time::Clock>(
+/// A link to an address, which tells in this view why it can't be dialled, and whose bell is added to these. Its
+/// messages are logged where the view has a log.
+fn new_link<'a, R: Net + Wait + time::Clock>(
     rt: &'a R,
     alloc: Global,
     addr: SocketAddr,
     view: &VenueView,
     bells: &mut Bells,
-) -> Result<TcpLink<'a, R>, DayFault>
+) -> Result<DeskLink<'a, R>, DayFault>
     ensures { IfErr result IsNoMismatch }
 {
     let last_dial = view.last_dial()?;
+    let recorder = new_recorder(rt, alloc, view)?;
     let Ok(poller) = Poller::new(rt, alloc) else {
         return Err(DayFault::NoSocket);
     };
@@ -108,7 +114,17 @@ fn new_link<'a, R: Net + time::Clock>(
     }
     let mut link = TcpLink::new(rt, addr, poller, Rest::Sleep);
     link.tell_on(last_dial);
-    Ok(link)
+    Ok(LoggedLink::new(link, recorder))
+}
+
+/// What notes the messages of a venue in its log, if one is kept.
+fn new_recorder<'a, R: Wait + time::Clock>(
+    rt: &'a R,
+    alloc: Global,
+    view: &VenueView,
+) -> Result<Recorder<'a, R, UtcClock<'a, R>>, AllocError> {
+    let traffic = Arc::new(alloc, Traffic::new())?;
+    Ok(Recorder::new(rt, UtcClock::new(rt), traffic, view.log()?))
 }
 
 /// Runs the workers until their sessions are over, or given up. Then the day closes, if it wasn't closing already.

@@ -21,7 +21,7 @@ use replay_command::replay_run;
 use run_command::run_run;
 use std::alloc::Global;
 use std::convert::AsStr;
-use std::fs::Files;
+use std::fs::{File, Files};
 use std::io::{IsTerminal, Read, Write};
 use std::net::{Net, TcpListener, TcpStream};
 use std::os::fd::AsRawFd;
@@ -64,7 +64,7 @@ fn run<S, H, C, R, T, W, E>(
 where
     S: AsStr,
     H: Net<Listener = TcpListener, Stream = TcpStream>
-        + Files
+        + Files<File = File>
         + Threads
         + Wait
         + time::Clock

@@ -9,6 +9,7 @@ use Rattle.run_command.specs.declared.fault.CommandFault.TheVariants.{
   NotText,
   BadFile,
   NotServed,
+  NoLogs,
   NoAddress,
   ReadFailed,
   WriteFailed,
@@ -30,6 +31,7 @@ said_of said (NoFile name) it = it
 said_of said (NotText name) it = it
 said_of said (BadFile name fault) it = it
 said_of said (NotServed name key) it = it
+said_of said (NoLogs fault) it = tt
 said_of said (NoAddress place) it = tt
 said_of said ReadFailed it = tt
 said_of said WriteFailed it = tt
@@ -50,6 +52,7 @@ of_day said (NoFile name) it = absurd it
 of_day said (NotText name) it = absurd it
 of_day said (BadFile name fault) it = absurd it
 of_day said (NotServed name key) it = absurd it
+of_day said (NoLogs fault) it = tt
 of_day said (NoAddress place) it = tt
 of_day said ReadFailed it = tt
 of_day said WriteFailed it = tt

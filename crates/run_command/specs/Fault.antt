@@ -4,6 +4,8 @@ use Rattle.command_line.specs.declared.input.InputFault.{InputFault}
 use Rattle.command_line.specs.declared.input.InputFault.TheVariants as input
 use Rattle.desk_config.specs.declared.fault.ConfigFault.{ConfigFault}
 use Rattle.desk_config.specs.declared.fault.ConfigFault.TheVariants as config
+use Rattle.day_log.specs.declared.fault.LogFault.{LogFault}
+use Rattle.day_log.specs.declared.fault.LogFault.TheVariants as log
 use Rattle.desk_run.specs.declared.day_fault.DayFault.{DayFault}
 use Rattle.desk_run.specs.declared.day_fault.DayFault.TheVariants as day
 use Rattle.desk_run.specs.declared.talk_fault.TalkFault.{TalkFault}
@@ -18,6 +20,7 @@ use Rattle.run_command.specs.declared.fault.CommandFault.TheVariants.{
   NotText,
   BadFile,
   NotServed,
+  NoLogs,
   NoAddress,
   ReadFailed,
   WriteFailed,
@@ -29,6 +32,15 @@ use Rattle.run_command.specs.declared.fault.CommandFault.TheVariants.{
   MismatchPlaced,
   GivenUp,
 }
+
+-- the status that tells why the logs of a day can't be begun
+abbrev pub log_status : LogFault → ℕ
+log_status log.NameTaken = 3
+log_status (log.Exists file) = 3
+log_status (log.CantLook file) = 4
+log_status log.NoFolder = 4
+log_status (log.CantWrite file) = 4
+log_status log.OutOfMemory = 5
 
 -- the status that tells a fault
 abbrev pub fault_status : CommandFault → ℕ
@@ -44,6 +56,7 @@ fault_status ReadFailed = 4
 fault_status WriteFailed = 4
 fault_status NoSocket = 4
 fault_status NoThread = 4
+fault_status (NoLogs fault) = log_status fault
 fault_status OutOfMemory = 5
 fault_status MismatchQueue = 6
 fault_status MismatchShares = 6
@@ -70,6 +83,7 @@ talk_fault talk.OutOfMemory = OutOfMemory
 -- the fault of a day that can't be run, or whose audit fails
 abbrev pub day_fault : DayFault → CommandFault
 day_fault (day.NoAddress place) = NoAddress place
+day_fault (day.NoLogs fault) = NoLogs fault
 day_fault day.NoSocket = NoSocket
 day_fault day.NoThread = NoThread
 day_fault day.OutOfMemory = OutOfMemory

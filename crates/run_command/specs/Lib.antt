@@ -1,3 +1,4 @@
 pub mod Fault
 pub mod Text
 pub mod Running
+pub mod Folder

@@ -1,10 +1,11 @@
 //! Why `dispatch run` failed.
 ghost use Rattle.std.specs.Prelude.{◌≡◌};
 ghost use Rattle.run_command.specs.declared.fault.CommandFault.TheVariants.{OutOfMemory, WriteFailed};
-ghost use Rattle.run_command.specs.Fault.{IsOfCommandLine, fault_status, day_fault, input_fault, talk_fault};
+ghost use Rattle.run_command.specs.Fault.{IsOfCommandLine, fault_status, log_status, day_fault, input_fault, talk_fault};
 
 use clap::error::ErrorKind;
 use command_line::{Fault, InputFault};
+use day_log::LogFault;
 use desk_config::ConfigFault;
 use desk_run::{DayFault, TalkFault};
 use std::alloc::AllocError;
@@ -35,6 +36,9 @@ pub enum CommandFault {
     /// The file asks for what no day has yet.
     #[error("{name}: [desk]: {key} is not served")]
     NotServed { name: String, key: &'static str },
+    /// The logs of the day can't be begun in their folder.
+    #[error("log: {0}")]
+    NoLogs(LogFault),
     /// The host of the venue at this place, from 0, isn't known.
     #[error("no address for venue {0}, counted from 0")]
     NoAddress(usize),
@@ -64,6 +68,29 @@ pub enum CommandFault {
     GivenUp,
 }
 
+/// The status that tells why the logs of a day can't be begun: 3 where the file asks for what can't be, 4 where the
+/// system refuses it.
+fn log_status(fault: &LogFault) -> u8
+    ensures { result ≡ log_status fault.now }
+{
+    match fault {
+        LogFault::NameTaken | LogFault::Exists(_) => 3,
+        LogFault::CantLook(_) | LogFault::NoFolder | LogFault::CantWrite(_) => 4,
+        LogFault::OutOfMemory => 5,
+    }
+}
+
+/// What is wanted where the logs of a day can't be begun, if there is more to say.
+fn log_reason(fault: &LogFault) -> Option<&'static str> {
+    match fault {
+        LogFault::NameTaken => Some("give the venue another name"),
+        LogFault::Exists(_) => Some(
+            "no log is written over: name another folder, or move the file",
+        ),
+        _ => None,
+    }
+}
+
 impl Fault for CommandFault {
     ghost status_of = { fault_status };
 
@@ -80,6 +107,7 @@ impl Fault for CommandFault {
             | CommandFault::WriteFailed
             | CommandFault::NoSocket
             | CommandFault::NoThread => 4,
+            CommandFault::NoLogs(fault) => log_status(fault),
             CommandFault::OutOfMemory => 5,
             CommandFault::MismatchQueue
             | CommandFault::MismatchShares
@@ -91,9 +119,8 @@ impl Fault for CommandFault {
     fn reason(&self) -> Option<&'static str> {
         match self {
             CommandFault::BadPatience => Some("a whole number from 0 to 86400 is wanted"),
-            CommandFault::NotServed { .. } => Some(
-                "take the key away: this version has neither logs nor a page",
-            ),
+            CommandFault::NotServed { .. } => Some("take the key away: this version has no page"),
+            CommandFault::NoLogs(fault) => log_reason(fault),
             CommandFault::GivenUp => Some(
                 "a session didn't log out in time, or legs stay in doubt",
             ),
@@ -170,6 +197,7 @@ impl From<DayFault> for CommandFault {
     fn from(fault: DayFault) -> CommandFault {
         match fault {
             DayFault::NoAddress(place) => CommandFault::NoAddress(place),
+            DayFault::NoLogs(fault) => CommandFault::NoLogs(fault),
             DayFault::NoSocket => CommandFault::NoSocket,
             DayFault::NoThread => CommandFault::NoThread,
             DayFault::OutOfMemory => CommandFault::OutOfMemory,

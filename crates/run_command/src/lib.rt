@@ -4,6 +4,7 @@
 //! - The exit status is 0, or that of the fault (`run_run`). A fault of the words or of the file prints nothing.
 //! - What is printed behind a day is exactly the stated text of what became of it (`day_text`).
 //! - Want of memory while the file is read is never told as a fault of the file (`file_fault`, private).
+//! - The folder of the logs is that which the file names, from the file's own folder on (`folder_of`, private).
 //! - That `--check` prints the file's venues, and that a day runs as the command line asks, is only tested.
 //!
 //! See `docs/run.md`.
@@ -16,19 +17,21 @@ ghost use Rattle.run_command.specs.Running.{EndsRun, ExitsSo, IsOfDay};
 mod check;
 mod fault;
 mod file;
+mod folder;
 mod options;
 mod text;
 
 use crate::check::check_text;
 use crate::file::read_file;
+use crate::folder::folder_of;
 use command_line::{finish, print};
 use desk_config::DeskConfig;
 use desk_run::{DeskInput, Manner, run_day};
 pub use fault::CommandFault;
 pub use options::{Options, read_options, run_command};
-use std::alloc::Global;
+use std::alloc::{AllocError, Global};
 use std::convert::AsStr;
-use std::fs::Files;
+use std::fs::{File, Files};
 use std::io::{Read, Write};
 use std::net::{Net, TcpListener, TcpStream};
 use std::os::fd::AsRawFd;
@@ -53,7 +56,12 @@ pub fn run_run<S, R, I, W, E>(
 ) -> u8
 where
     S: AsStr,
-    R: Net<Listener = TcpListener, Stream = TcpStream> + Files + Threads + Wait + Clock + Sync,
+    R: Net<Listener = TcpListener, Stream = TcpStream>
+        + Files<File = File>
+        + Threads
+        + Wait
+        + Clock
+        + Sync,
     I: Read + AsRawFd,
     W: Write + Send,
     E: Write,
@@ -72,7 +80,12 @@ fn run<S, R, I, W>(
 ) -> Result<(), CommandFault>
 where
     S: AsStr,
-    R: Net<Listener = TcpListener, Stream = TcpStream> + Files + Threads + Wait + Clock + Sync,
+    R: Net<Listener = TcpListener, Stream = TcpStream>
+        + Files<File = File>
+        + Threads
+        + Wait
+        + Clock
+        + Sync,
     I: Read + AsRawFd,
     W: Write + Send,
     ensures { EndsRun (W.contents out.old) (W.contents out.new) result }
@@ -82,20 +95,47 @@ where
     if options.checks {
         return Ok(print(&check_text(alloc, &config)?, out)?);
     }
-    run_config(rt, alloc, &config, options.manner, input, out)
+    let folder = log_folder(alloc, options.file, &config)?;
+    run_config(
+        rt,
+        alloc,
+        &config,
+        options.manner,
+        folder.as_deref(),
+        input,
+        out,
+    )
 }
 
-/// Runs the day of a configuration.
+/// The folder of the logs that the configuration of a file asks for, if it does.
+fn log_folder(
+    alloc: Global,
+    file: &str,
+    config: &DeskConfig,
+) -> Result<Option<String>, AllocError> {
+    match &config.log {
+        Some(folder) => Ok(Some(folder_of(alloc, file, folder.as_str())?)),
+        None => Ok(None),
+    }
+}
+
+/// Runs the day of a configuration, with its logs in a folder, if it has one.
 fn run_config<R, I, W>(
     rt: &R,
     alloc: Global,
     config: &DeskConfig,
     manner: Manner,
+    folder: Option<&str>,
     input: &mut I,
     out: &mut W,
 ) -> Result<(), CommandFault>
 where
-    R: Net<Listener = TcpListener, Stream = TcpStream> + Threads + Wait + Clock + Sync,
+    R: Net<Listener = TcpListener, Stream = TcpStream>
+        + Files<File = File>
+        + Threads
+        + Wait
+        + Clock
+        + Sync,
     I: Read + AsRawFd,
     W: Write + Send,
     requires { AreVenues config.now.venues.items }
@@ -108,6 +148,7 @@ where
         alloc,
         config.venues.as_slice(),
         manner,
+        folder,
         input,
         &mut *out,
     )?;

@@ -1,4 +1,4 @@
-use Rattle.std.proofs.Common.{◌≡◌, ◌≤◌, ◌+◌, ◌++◌, ◌∙◌, ap, arith}
+use Rattle.std.proofs.Common.{◌++◌, ◌∙◌, ap, arith}
 use Rattle.std.specs.Prelude.{option_to_list}
 use Rattle.desk_run.proofs.Changed.{changed_more, opened_more}
 use Rattle.desk_run.proofs.changes.note_entries.Goals as goal
