@@ -4,8 +4,8 @@
 //! - `LogCheck::check_line` judges the message of a line, the first valid frame in its bytes, exactly as the rules
 //!   do (`Checks`), or names the line with its own fault (`NamesBadLine`). What is printed of it, the counts and the
 //!   status aren't said.
-//! - What is told of a log's orders and sweeps as text is exactly the text of the definition (`legs_text`), over what
-//!   is known behind its lines. Of the same as JSON only each line's form is said (`json_line`).
+//! - The text of what became of a log's orders and sweeps is `legs_text` of `log_legs`, over what is known behind its
+//!   lines. That it is then printed isn't said, and of the same as JSON only each line's form (`json_line`).
 #![tactic(auto)]
 
 mod command;
