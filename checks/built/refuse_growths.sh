@@ -1,5 +1,8 @@
 # Sourced by the checks that refuse a program each growth of memory in turn.
 
+# How long a run may take. One that takes longer is ended, with status 124.
+most_seconds=${most_seconds:-600}
+
 place=$(mktemp -d)
 trap 'rm -rf "$place"' EXIT
 clang -O2 -shared -fPIC -o "$place/refuse_growth.so" checks/built/refuse_growth.c || exit 1
@@ -14,7 +17,7 @@ refuse_each_growth() {
     growths=0
     while :; do
         rm -f "$place/met"
-        REFUSED=$((growths + 1)) MET=$place/met LD_PRELOAD=$place/refuse_growth.so "$@" \
+        timeout "$most_seconds" env REFUSED=$((growths + 1)) MET="$place/met" LD_PRELOAD="$place/refuse_growth.so" "$@" \
             < "$input" > "$place/out" 2> "$place/err"
         "$judge" $((growths + 1)) $?
         [ -e "$place/met" ] || break
