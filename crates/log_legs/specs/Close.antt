@@ -12,9 +12,9 @@ abbrev pub close_after : Close → Direction → Says → Close
 close_after close Sent (Logon heart reset next) = Open
 close_after Open Sent Logout = Asked
 close_after Asked Received Logout = Closed
-close_after close direction says = close
+close_after state direction says = state
 
 -- whether an order would be sent behind the Logout
 abbrev pub is_over : Close → Bool
 is_over Open = false
-is_over close = true
+is_over state = true
