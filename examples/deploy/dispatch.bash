@@ -6,7 +6,7 @@ _dispatch_options() {
     case $1 in
         order) echo --dialect --sweep --leg --symbol --side --shares --price --number --from --to --at --raw --read --help ;;
         replay) echo --steps --frames --summary --check --help ;;
-        check) echo --from --desk --json --help ;;
+        check) echo --from --desk --json --legs --help ;;
         live) echo --venues --callers --sweeps --cut --turns --cut-short --stop-on-input --help ;;
         run) echo --check --patience --quiet --help ;;
         exchange) echo --port --sender --target --dialect --fill --cut --lose --help ;;

@@ -8,6 +8,7 @@ from subprocess import TimeoutExpired
 from days.acceptor import Acceptor
 from days.compare import day_faults
 from days.desk import Desk, Late, file_of
+from days.logs import log_faults
 from days.proxy import Proxy, Weather
 from days.sweeps import sweeps_of, wide_sweeps_of
 
@@ -145,6 +146,7 @@ def play(day, dispatch, acceptor_program, folder):
         desk.rest(QUIET)
         status = desk.close()
         faults += day_faults(placed, acceptor.orders(), FILL, status, desk.lines)
+        faults += log_faults(dispatch, folder, venues)
     except (Late, RuntimeError, OSError, TimeoutExpired) as fault:
         faults += [str(fault), *desk.errors()]
     finally:

@@ -11,6 +11,9 @@ from days.acceptor import DESK
 # How long a refused sweep waits before it is tried again, in seconds.
 PAUSE = 0.02
 
+# The folder of the message logs, from the desk's file on.
+LOGS = "logs"
+
 ENDED = "dispatch run ended while it was asked for a sweep"
 
 
@@ -20,7 +23,7 @@ class Late(Exception):
 
 def file_of(venues, port, heartbeat):
     """The desk's file, for venues that one exchange serves at a port."""
-    tables = [f'[desk]\nsender = "{DESK}"\n']
+    tables = [f'[desk]\nsender = "{DESK}"\nlog = "{LOGS}"\n']
     for venue in venues:
         tables.append(
             f'[[venue]]\nname = "{venue}"\ntarget = "{venue}"\naddress = "127.0.0.1:{port}"\nheartbeat = {heartbeat}\n'

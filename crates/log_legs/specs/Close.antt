@@ -9,12 +9,12 @@ use Rattle.log_legs.specs.declared.close.Close.TheVariants.{Open, Asked, Closed}
 
 -- a connection is open until the session logs out, and closed once the exchange answered that
 abbrev pub close_after : Close → Direction → Says → Close
-close_after close Sent (Logon heart reset next) = Open
+close_after before Sent (Logon heart reset next) = Open
 close_after Open Sent Logout = Asked
 close_after Asked Received Logout = Closed
-close_after state direction says = state
+close_after before direction says = before
 
 -- whether an order would be sent behind the Logout
 abbrev pub is_over : Close → Bool
 is_over Open = false
-is_over state = true
+is_over other = true
