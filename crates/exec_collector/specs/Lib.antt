@@ -1,3 +1,4 @@
 pub mod Resolved
 pub mod Seats
+pub mod Noted
 pub mod Calls

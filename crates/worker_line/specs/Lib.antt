@@ -1,4 +1,4 @@
-pub mod Booked
 pub mod Happening
 pub mod WorkerTheorem
+pub mod Shares
 pub mod Example

@@ -2,6 +2,7 @@
 
 ghost use Rattle.dialect.specs.Wording.{Decoding};
 ghost use Rattle.worker_line.specs.Example.{IsFilledOver};
+ghost use Rattle.worker_line.specs.Shares.{TheSharesTheorem};
 ghost use Rattle.worker_line.specs.WorkerTheorem.{TheDayTheorem, TheRunTheorem, TheWorkerTheorem};
 
 use dialect::Dialect;
@@ -23,6 +24,13 @@ pub fn a_running_worker_is_a_line<D: Dialect>(dialect: &D)
 /// released.
 pub fn a_worker_at_work_is_a_line()
     ensures { TheWorkerTheorem }
+{}
+
+/// Of each worker of such a day that began with an empty seat, where the book's history has of the venue just the notes
+/// that the book took on that seat: the parts of each of the venue's legs in the book are what the share rule makes of
+/// the notes given on it, which are those of the exchange's own numbers, and of its withdrawal.
+pub fn the_shares_of_an_audited_day_are_by_the_rule<D: Dialect>(dialect: &D)
+    ensures { TheSharesTheorem (D.wording dialect.now) }
 {}
 
 /// A worked history: of two legs that were sent before a break the exchange has taken only the first. The premises of

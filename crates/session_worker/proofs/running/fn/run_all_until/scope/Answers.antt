@@ -1,4 +1,15 @@
 use Rattle.std.proofs.Common.{◌≡◌, rules, List, length, sym, subst, ◌∙◌, arith}
+use denote.Param.Send.{sendable}
+use Rattle.std.proofs.Crossing.{crosses}
+use Rattle.exec_collector.proofs.Sent.{seat_send}
+use Rattle.exec_collector.proofs.collector.Collector.TheSendSync as collector
+use Rattle.release_lock.proofs.release_lock.ReleaseLock.TheSendSync as lock
+use Rattle.release_lock.proofs.venue_end.VenueEnd.TheSendSync as took
+use Rattle.session_core.proofs.session.Session.TheSendSync as session
+use Rattle.session_worker.proofs.session_io.SessionIo.TheSendSync as io
+use Rattle.session_worker.proofs.takings.Takings.TheSendSync as takings
+use Rattle.session_worker.proofs.stop.Stop.TheSendSync as stop
+use Rattle.session_worker.proofs.end_reason.EndReason.TheSendSync as reason
 use Rattle.session_worker.specs.Ends.{WorkerLeft, AllRan}
 use Rattle.session_worker.proofs.Ran.{all_ran, all_started, nothing_left, has_room}
 use Rattle.session_worker.proofs.running.fn.run_all_until.scope.Goals as goal
@@ -20,3 +31,13 @@ returns-in-Ok-join_promised g c =
 pub push_reserved-requires : goal.push_reserved-requires
 push_reserved-requires g c =
     has_room c.reserve.result _ _ c.reserve.ensures.ok (sym c.is_err.ensures.value ∙ c.if-is_err.false)
+
+-- a worker and its end may go to another thread: a seat may, and their other parts
+pub spawn_with-requires-send-F : goal.spawn_with-requires-send-F
+spawn_with-requires-send-F g c κs within =
+    search (sendable, crosses, seat_send, io.the_send, takings.the_send, lock.the_sync, collector.the_sync, stop.the_sync)
+    depth 60 fits 50000
+
+pub spawn_with-requires-send-T : goal.spawn_with-requires-send-T
+spawn_with-requires-send-T g c κs within =
+    search (sendable, crosses, seat_send, session.the_send, took.the_send, reason.the_send) depth 60 fits 50000
