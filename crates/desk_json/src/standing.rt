@@ -1,0 +1,49 @@
+//! How sweeps, legs, venues and the day stand.
+
+use desk_news::{DayTotals, SweepParts, VenueStatus};
+use desk_words::VenueName;
+use leg::{LegId, LegState, Terms, Totals};
+
+/// How a venue stands, and what came and went over its connections.
+#[derive(Debug, PartialEq, Eq, Drop)]
+pub struct VenueRow {
+    pub status: VenueStatus,
+    /// How many connections it had in this day.
+    pub connections: u64,
+    /// How many dials failed.
+    pub refused_dials: u64,
+    /// Messages sent and received.
+    pub sent: u64,
+    pub received: u64,
+    /// How many milliseconds ago the last message came; none where no message came yet.
+    pub heard_ms_ago: Option<u64>,
+}
+
+/// How a leg stands.
+#[derive(Debug, PartialEq, Eq, Drop)]
+pub struct LegRow {
+    pub id: LegId,
+    pub venue: VenueName,
+    pub terms: Terms,
+    /// What became of its shares.
+    pub totals: Totals,
+    pub state: LegState,
+}
+
+/// Some of the day's sweeps, with its sums and whether it takes sweeps still.
+#[derive(Debug, Drop)]
+pub struct SweepsPage {
+    /// By rising number.
+    pub sweeps: Vec<SweepParts>,
+    pub day: DayTotals,
+    pub is_closing: bool,
+}
+
+/// The legs of a sweep.
+#[derive(Debug, Drop)]
+pub struct SweepLegs {
+    /// The sweep's number.
+    pub sweep: u64,
+    /// By their places.
+    pub legs: Vec<LegRow>,
+}
