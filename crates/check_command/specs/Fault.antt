@@ -1,12 +1,13 @@
 -- The faults of `dispatch check`.
 use Rattle.std.specs.Prelude.{ℕ}
 use Rattle.check_command.specs.declared.fault.CommandFault.{CommandFault}
-use Rattle.check_command.specs.declared.fault.CommandFault.TheVariants.{CommandLine, BadDesk, BadLine, ReadFailed, WriteFailed, OutOfMemory}
+use Rattle.check_command.specs.declared.fault.CommandFault.TheVariants.{CommandLine, BadDesk, BadName, BadLine, ReadFailed, WriteFailed, OutOfMemory}
 
 -- the status that tells a fault
 abbrev pub fault_status : CommandFault → ℕ
 fault_status (CommandLine error) = 2
 fault_status BadDesk = 2
+fault_status BadName = 2
 fault_status (BadLine number fault) = 3
 fault_status ReadFailed = 4
 fault_status WriteFailed = 4

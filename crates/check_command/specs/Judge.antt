@@ -10,7 +10,8 @@ use Rattle.fix_tags.specs.Reading.{envelope_read}
 use Rattle.fix_tags.specs.Stamp.{StampParts}
 use Rattle.fix_tags.specs.declared.envelope.Envelope.{Envelope}
 use Rattle.message_log.specs.declared.direction.Direction.{Direction}
-use Rattle.log_rules.specs.Checker.{CheckerParts, heard, unread_verdicts, verdicts}
+use Rattle.log_legs.specs.Legs.{WatchParts, watched}
+use Rattle.log_rules.specs.Checker.{unread_verdicts, verdicts}
 use Rattle.log_rules.specs.Entry.{entry_of}
 use Rattle.log_rules.specs.declared.entry.Entry.{Entry}
 use Rattle.log_rules.specs.declared.verdict.Verdict.{Verdict}
@@ -65,17 +66,17 @@ line_entry (Quickfix desk) text = do
   entry_told said.stamp (by_names desk) (message_in said.message)
 
 -- what is said of each rule
-abbrev pub judged : CheckerParts → Option Entry → List Verdict
-judged c None = unread_verdicts
-judged c (Some entry) = verdicts c entry
+abbrev pub judged : WatchParts → Option Entry → List Verdict
+judged w None = unread_verdicts
+judged w (Some entry) = verdicts w.checker entry
 
 -- what is known behind it
-abbrev pub judged_after : CheckerParts → Option Entry → CheckerParts
-judged_after c None = c
-judged_after c (Some entry) = heard c entry
+abbrev pub judged_after : WatchParts → Option Entry → WatchParts
+judged_after w None = w
+judged_after w (Some entry) = watched w entry
 
 -- it is judged, or its fault is told, or memory is refused; a fault changes nothing
-abbrev pub Judges : Result (Option Entry) LineFault → CheckerParts → CheckerParts → Result (List Verdict) LineFault → Type 0
+abbrev pub Judges : Result (Option Entry) LineFault → WatchParts → WatchParts → Result (List Verdict) LineFault → Type 0
 Judges (Ok entry) old new (Ok said) = (said ≡ judged old entry) × (new ≡ judged_after old entry)
 Judges (Err fault) old new (Ok said) = ⊥
 Judges entry old new (Err line.OutOfMemory) = new ≡ old
@@ -87,12 +88,12 @@ line_fault number line.OutOfMemory = OutOfMemory
 line_fault number fault = BadLine number fault
 
 -- what is known behind a line of which this is judged
-abbrev pub ChecksAs : Result (Option Entry) LineFault → CheckerParts → CheckerParts → Type 0
+abbrev pub ChecksAs : Result (Option Entry) LineFault → WatchParts → WatchParts → Type 0
 ChecksAs (Ok entry) old new = new ≡ judged_after old entry
 ChecksAs (Err fault) old new = ⊥
 
 -- what is known behind a line: it is passed over, or says a message
-abbrev pub Checks : Form → List ℕ → CheckerParts → CheckerParts → Type 0
+abbrev pub Checks : Form → List ℕ → WatchParts → WatchParts → Type 0
 Checks form text old new = MatchBool (is_passed_over text) (new ≡ old) (ChecksAs (line_entry form text) old new)
 
 -- a line that is at fault is named, with its fault

@@ -3,6 +3,7 @@ ghost use Rattle.std.specs.Prelude.{IfErr};
 ghost use Rattle.check_command.specs.Fault.{IsOfCommandLine};
 
 use crate::fault::CommandFault;
+use crate::finding::Printing;
 use crate::form::Form;
 use clap::{Arg, ArgAction, Command};
 use fix_tags::CompId;
@@ -17,6 +18,8 @@ const DESK: &str = "desk";
 
 const JSON: &str = "json";
 
+const LEGS: &str = "legs";
+
 /// The engines of others whose logs are read.
 static ENGINES: [&str; 1] = ["quickfix"];
 
@@ -28,11 +31,18 @@ Blank lines and lines that begin with # are passed over. Printed are, for each l
   log PATH
   line N RULE: what the rule asks for (where the standard has it), and the line below it
   rule RULE held N broken N           or `not seen`, for each rule
+and with --legs, for each order and then for each sweep:
+  leg S1L1 taken number 3 sent 1 IBM buy 100 10.25 filled 60 busted 0 cancelled 40 withdrawn 0 open 0
+  sweep 1 legs 100 filled 60 busted 0 cancelled 40 withdrawn 0 open 0
+With sweeps.log among the logs, behind all of them what the day came to, for each sweep that was placed, and then
+whether each sentence of the sweep theorem holds, or where it doesn't:
+  sentence order holds                or `broken PATH line N: what it says`, and the line below it
 
-The exit status is 0, or 8 where a rule is broken.
+The exit status is 0, or 8 where a rule or a sentence is broken.
 
 Examples:
-  dispatch check day/NYSE.log day/ARCA.log";
+  dispatch check day/NYSE.log day/ARCA.log
+  dispatch check day/*.log";
 
 /// What the words ask for.
 #[derive(Drop)]
@@ -41,6 +51,21 @@ pub(crate) struct Request<'a> {
     pub form: Form,
     /// Whether JSON is printed in place of text.
     pub is_json: bool,
+    /// Whether it is told what became of each leg.
+    pub tells_legs: bool,
+}
+
+impl<'a> Request<'a> {
+    /// How what is said of a log is printed, of a day's where the day is judged too.
+    pub(crate) fn printing<'b>(&'b self, log: &'b str, is_of_day: bool) -> Printing<'b> {
+        Printing {
+            log,
+            form: &self.form,
+            is_json: self.is_json,
+            tells_legs: self.tells_legs,
+            keeps_legs: self.tells_legs || is_of_day,
+        }
+    }
 }
 
 fn from_arg<'a>(alloc: Global) -> Result<Arg<'a>, AllocError> {
@@ -67,6 +92,13 @@ fn json_arg<'a>(alloc: Global) -> Arg<'a> {
         .action(ArgAction::SetTrue)
 }
 
+fn legs_arg<'a>(alloc: Global) -> Arg<'a> {
+    Arg::new(alloc, LEGS)
+        .long(LEGS)
+        .help("tells what became of each leg, and of each sweep")
+        .action(ArgAction::SetTrue)
+}
+
 /// The command `check`.
 pub fn check_command<'a>(alloc: Global) -> Result<Command<'a>, AllocError> {
     Command::new(alloc, "check")
@@ -74,13 +106,14 @@ pub fn check_command<'a>(alloc: Global) -> Result<Command<'a>, AllocError> {
         .after_help(OUTPUT)
         .arg(
             Arg::new(alloc, LOG)
-                .help("the logs, each of one venue's day")
+                .help("the logs, each of one venue's day, and sweeps.log")
                 .action(ArgAction::Append)
                 .num_args(1..)
                 .required(true),
         )?
         .arg(from_arg(alloc)?)?
         .arg(desk_arg(alloc)?)?
+        .arg(legs_arg(alloc))?
         .arg(json_arg(alloc))
 }
 
@@ -112,9 +145,11 @@ pub(crate) fn read_words<'a, S: AsStr>(
         None => Vec::new(alloc),
     };
     let is_json = matches.get_flag(JSON);
+    let tells_legs = matches.get_flag(LEGS);
     Ok(Request {
         paths,
         form,
         is_json,
+        tells_legs,
     })
 }

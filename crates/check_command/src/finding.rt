@@ -15,6 +15,10 @@ pub(crate) struct Printing<'a> {
     pub form: &'a Form,
     /// Whether JSON is printed in place of text.
     pub is_json: bool,
+    /// Whether it is told what became of each leg.
+    pub tells_legs: bool,
+    /// Whether orders are kept: it is told what became of them, or they are judged with the day.
+    pub keeps_legs: bool,
 }
 
 /// The rule that a line breaks, and the line.
@@ -26,14 +30,14 @@ fn broken_text(alloc: Global, rule: Rule, number: u64, line: &[u8]) -> Result<Ve
     Ok(text)
 }
 
-fn text<'a>(name: &'a str, text: &'a str) -> Member<'a> {
+pub(crate) fn text<'a>(name: &'a str, text: &'a str) -> Member<'a> {
     Member {
         name,
         value: Value::Text(text.as_bytes()),
     }
 }
 
-fn number(name: &str, number: u64) -> Member<'_> {
+pub(crate) fn number(name: &str, number: u64) -> Member<'_> {
     Member {
         name,
         value: Value::Number(number),

@@ -1,6 +1,7 @@
 //! The lines of a log.
 
 use crate::fault::CommandFault;
+use std::alloc::Global;
 use std::io::{BufRead, ErrorKind};
 
 /// Reads the next line of a log, with its end, in the place of what the buffer has; or tells that there is none.
@@ -22,4 +23,22 @@ pub(crate) fn without_end(line: &[u8]) -> &[u8] {
         [text @ .., b'\n'] => text,
         text => text,
     }
+}
+
+/// The line of this number, from 1, without its end; an empty one where there are fewer.
+pub(crate) fn read_line_at<R: BufRead>(
+    alloc: Global,
+    input: &mut R,
+    number: u64,
+) -> Result<Vec<u8>, CommandFault> {
+    let mut line = Vec::new(alloc);
+    for _ in 0..number {
+        if !read_text(input, &mut line)? {
+            line.clear();
+            return Ok(line);
+        }
+    }
+    let length = without_end(&line).len();
+    line.truncate(length);
+    Ok(line)
 }

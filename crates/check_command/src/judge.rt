@@ -7,6 +7,7 @@ ghost use Rattle.check_command.specs.Judge.{Judges, direction_told, entry_told, 
 use crate::form::Form;
 use fix_tags::{CompId, EnvelopeRef, Stamp, read_envelope};
 use fix_text::{Frame, FrameReader};
+use log_legs::Watch;
 use log_rules::{Checker, Entry, Verdict};
 use log_text::{LineFault, LogLine, direction_between, read_line, read_quickfix};
 use message_log::Direction;
@@ -36,15 +37,15 @@ fn judge_message(
     stamp: Stamp,
     way: &Way<'_>,
     message: &EnvelopeRef<'_>,
-    checker: &mut Checker,
+    watch: &mut Watch,
 ) -> Result<[Verdict; 14], LineFault>
-    ensures { Judges (entry_told stamp (direction_told way.now) (Some message.now)) checker.old checker.new result }
+    ensures { Judges (entry_told stamp (direction_told way.now) (Some message.now)) watch.old watch.new result }
 {
     let Some(direction) = direction_of(way, message) else {
         return Err(LineFault::Parties);
     };
     let line = LogLine { stamp, direction };
-    match checker.hear(&Entry::new(&line, message)) {
+    match watch.hear(&Entry::new(&line, message)) {
         Ok(verdicts) => Ok(verdicts),
         Err(_) => Err(LineFault::OutOfMemory),
     }
@@ -55,13 +56,13 @@ fn judge_frame(
     stamp: Stamp,
     way: &Way<'_>,
     frame: &Frame<'_>,
-    checker: &mut Checker,
+    watch: &mut Watch,
 ) -> Result<[Verdict; 14], LineFault>
     ensures { Judges (entry_told stamp (direction_told way.now) (message_of (Some (fields_in frame.now))))
-        checker.old checker.new result }
+        watch.old watch.new result }
 {
     match read_envelope(frame) {
-        Ok(message) => judge_message(stamp, way, &message, checker),
+        Ok(message) => judge_message(stamp, way, &message, watch),
         Err(_) => Ok(Checker::unread()),
     }
 }
@@ -72,16 +73,16 @@ fn judge(
     stamp: Stamp,
     way: &Way<'_>,
     bytes: &[u8],
-    checker: &mut Checker,
+    watch: &mut Watch,
 ) -> Result<[Verdict; 14], LineFault>
-    ensures { Judges (entry_told stamp (direction_told way.now) (message_in bytes.now)) checker.old checker.new result }
+    ensures { Judges (entry_told stamp (direction_told way.now) (message_in bytes.now)) watch.old watch.new result }
 {
     let mut reader = FrameReader::new(alloc);
     if reader.feed(bytes).is_err() {
         return Err(LineFault::OutOfMemory);
     }
     match reader.next() {
-        Ok(Some(frame)) => judge_frame(stamp, way, &frame, checker),
+        Ok(Some(frame)) => judge_frame(stamp, way, &frame, watch),
         Ok(None) => Ok(Checker::unread()),
         Err(_) => Err(LineFault::OutOfMemory),
     }
@@ -92,9 +93,9 @@ fn judge_own(
     alloc: Global,
     line: &[u8],
     buffer: &mut Vec<u8>,
-    checker: &mut Checker,
+    watch: &mut Watch,
 ) -> Result<[Verdict; 14], LineFault>
-    ensures { Judges (line_entry Own line.now) checker.old checker.new result }
+    ensures { Judges (line_entry Own line.now) watch.old watch.new result }
 {
     let said = match read_line(line, buffer) {
         Ok(said) => said,
@@ -105,7 +106,7 @@ fn judge_own(
         said.stamp,
         &Way::Said(said.direction),
         buffer.as_slice(),
-        checker,
+        watch,
     )
 }
 
@@ -114,15 +115,15 @@ fn judge_quickfix(
     alloc: Global,
     desk: &CompId,
     line: &[u8],
-    checker: &mut Checker,
+    watch: &mut Watch,
 ) -> Result<[Verdict; 14], LineFault>
-    ensures { Judges (line_entry (Quickfix desk.now) line.now) checker.old checker.new result }
+    ensures { Judges (line_entry (Quickfix desk.now) line.now) watch.old watch.new result }
 {
     let said = match read_quickfix(line) {
         Ok(said) => said,
         Err(fault) => return Err(fault),
     };
-    judge(alloc, said.stamp, &Way::Names(desk), said.message, checker)
+    judge(alloc, said.stamp, &Way::Names(desk), said.message, watch)
 }
 
 /// What the message of a line says of each rule, in the order of `RULES`. It is put into the buffer where the line has
@@ -132,12 +133,12 @@ pub(crate) fn judge_line(
     form: &Form,
     line: &[u8],
     buffer: &mut Vec<u8>,
-    checker: &mut Checker,
+    watch: &mut Watch,
 ) -> Result<[Verdict; 14], LineFault>
-    ensures { Judges (line_entry form.now line.now) checker.old checker.new result }
+    ensures { Judges (line_entry form.now line.now) watch.old watch.new result }
 {
     match form {
-        Form::Own => judge_own(alloc, line, buffer, checker),
-        Form::Quickfix { desk } => judge_quickfix(alloc, desk, line, checker),
+        Form::Own => judge_own(alloc, line, buffer, watch),
+        Form::Quickfix { desk } => judge_quickfix(alloc, desk, line, watch),
     }
 }

@@ -5,8 +5,10 @@ ghost use Rattle.check_command.specs.Judge.{Checks, IsOfPrinting, NamesBadLine};
 use crate::fault::CommandFault;
 use crate::finding::{Printing, finding, summary_of};
 use crate::judge::judge_line;
+use crate::log_notes::LogNotes;
 use command_line::print;
-use log_rules::{Checker, RULES, Tally, Verdict};
+use log_legs::Watch;
+use log_rules::{RULES, Tally, Verdict};
 use log_text::is_passed_over;
 use std::alloc::{AllocError, Global};
 use std::io::Write;
@@ -14,17 +16,25 @@ use std::io::Write;
 /// A log that is checked: what is known behind the lines that were read, and how often each rule was held and broken.
 #[derive(Drop)]
 pub(crate) struct LogCheck {
-    checker: Checker,
+    watch: Watch,
     message: Vec<u8>,
     tallies: [Tally; 14],
+    notes: LogNotes,
 }
 
 impl LogCheck {
-    pub(crate) fn new(alloc: Global) -> LogCheck {
+    /// Nothing is read yet; the orders are kept where they are asked for.
+    pub(crate) fn new(alloc: Global, keeps_legs: bool) -> LogCheck {
+        let watch = if keeps_legs {
+            Watch::of_legs(alloc)
+        } else {
+            Watch::of_rules(alloc)
+        };
         LogCheck {
-            checker: Checker::new(alloc),
+            watch,
             message: Vec::new(alloc),
             tallies: [Tally::new(); 14],
+            notes: LogNotes::new(alloc),
         }
     }
 
@@ -38,12 +48,13 @@ impl LogCheck {
         verdicts: &[Verdict; 14],
         out: &mut W,
     ) -> Result<(), CommandFault>
-        ensures checker { self.new.checker ≡ self.old.checker }
+        ensures watch { self.new.watch ≡ self.old.watch }
         ensures only { IfErr result IsOfPrinting }
     {
         for place in 0..14 {
             let verdict = verdicts[place];
             self.tallies[place] = self.tallies[place].with(verdict);
+            self.notes.note_verdict(place, verdict, number);
             if verdict == Verdict::Broken {
                 print(&finding(alloc, printing, RULES[place], number, line)?, out)?;
             }
@@ -60,7 +71,7 @@ impl LogCheck {
         line: &[u8],
         out: &mut W,
     ) -> Result<(), CommandFault>
-        ensures checker { OnOk result (Checks printing.now.form.now line.now self.old.checker self.new.checker) }
+        ensures watch { OnOk result (Checks printing.now.form.now line.now self.old.watch self.new.watch) }
         ensures named { IfErr result (NamesBadLine printing.now.form.now number line.now) }
     {
         if is_passed_over(line) {
@@ -71,12 +82,15 @@ impl LogCheck {
             printing.form,
             line,
             &mut self.message,
-            &mut self.checker,
+            &mut self.watch,
         );
         let verdicts = match judged {
             Ok(verdicts) => verdicts,
             Err(fault) => return Err(CommandFault::of_line(number, fault)),
         };
+        if printing.keeps_legs {
+            self.notes.note_order(self.watch.leg_count(), number)?;
+        }
         self.count(alloc, printing, number, line, &verdicts, out)
     }
 
@@ -92,6 +106,18 @@ impl LogCheck {
             text.extend_from_slice(&line)?;
         }
         Ok(text)
+    }
+
+    /// What is known behind the lines, and where things stand in them.
+    pub(crate) fn into_parts(self) -> (Watch, LogNotes) {
+        (self.watch, self.notes)
+    }
+
+    /// What is known behind the lines.
+    pub(crate) fn watch(&self) -> &Watch
+        ensures { result.now ≡ self.now.watch }
+    {
+        &self.watch
     }
 
     /// Whether a rule is broken.

@@ -3,8 +3,10 @@
 use crate::fault::CommandFault;
 use crate::finding::Printing;
 use crate::input::{read_text, without_end};
+use crate::legs_json::legs_json;
 use crate::log_check::LogCheck;
 use command_line::print;
+use log_legs::{Watch, legs_text};
 use std::alloc::Global;
 use std::io::{BufRead, Write};
 
@@ -15,7 +17,7 @@ fn check_lines<R: BufRead, W: Write>(
     input: &mut R,
     out: &mut W,
 ) -> Result<LogCheck, CommandFault> {
-    let mut log = LogCheck::new(alloc);
+    let mut log = LogCheck::new(alloc, printing.keeps_legs);
     let mut line = Vec::new(alloc);
     for number in 1..u64::MAX {
         if !read_text(input, &mut line)? {
@@ -26,18 +28,38 @@ fn check_lines<R: BufRead, W: Write>(
     Err(CommandFault::ReadFailed)
 }
 
-/// Prints the rules that the lines of a log break, and then a line for each rule. Answers whether one is broken.
+/// Prints what became of the orders of a log, and of its sweeps.
+fn print_legs<W: Write>(
+    alloc: Global,
+    printing: &Printing<'_>,
+    watch: &Watch,
+    out: &mut W,
+) -> Result<(), CommandFault> {
+    let lines = if printing.is_json {
+        legs_json(alloc, printing.log, watch)?
+    } else {
+        legs_text(alloc, watch)?
+    };
+    print(&lines, out)?;
+    Ok(())
+}
+
+/// Prints the rules that the lines of a log break, then a line for each rule, and then, where it is asked for, what
+/// became of its orders.
 pub(crate) fn print_log<R: BufRead, W: Write>(
     alloc: Global,
     printing: &Printing<'_>,
     input: &mut R,
     out: &mut W,
-) -> Result<bool, CommandFault> {
+) -> Result<LogCheck, CommandFault> {
     if !printing.is_json {
         let path = printing.log;
         print(format!(in alloc; "log {path}\n")?.as_bytes(), out)?;
     }
     let log = check_lines(alloc, printing, input, out)?;
     print(&log.summary(alloc, printing)?, out)?;
-    Ok(log.is_broken())
+    if printing.tells_legs {
+        print_legs(alloc, printing, log.watch(), out)?;
+    }
+    Ok(log)
 }

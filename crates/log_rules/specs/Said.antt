@@ -49,7 +49,14 @@ number_at fields tag = option_and_then number_of (value_of fields tag)
 -- an order of an id (11)
 abbrev pub order_with : List Tagged → Option (List ℕ) → Says
 order_with fields None = Other
-order_with fields (Some id) = Order (record { id = id; shares = unwrap_or (number_at fields 38) 0 })
+order_with fields (Some id) = Order (record {
+  id = id;
+  shares = unwrap_or (number_at fields 38) 0;
+  symbol = value_of fields 55;
+  suffix = value_of fields 65;
+  side = value_of fields 54;
+  price = value_of fields 44;
+})
 
 -- an order, which has an id
 abbrev pub order_said : List Tagged → Says

@@ -1,12 +1,14 @@
 //! A log is gone through, message by message.
 
 ghost use Rattle.std.specs.Prelude.{◌≡◌, ◌∷◌, [], IfOk, OnOk, OnErr};
+ghost use Rattle.log_rules.specs.Ledger.{newest_order, shares_of_exec};
 ghost use Rattle.log_rules.specs.Checker.{heard, new_checker, number_of_report, unread_verdicts, verdicts};
 
 use crate::entry::Entry;
 use crate::exchange_rules::{fence_answered, logon_answered, logout_answered, resend_asked};
 use crate::ledger::Ledger;
 use crate::ledger_rules::{known_order, not_withdrawn, one_use, sent_once, sums_add_up};
+use crate::order::Order;
 use crate::says::Says;
 use crate::session_rules::{gap_fills, heartbeats, logon_first, sent_numbers};
 use crate::standing::Standing;
@@ -82,6 +84,34 @@ impl Checker {
         let mut verdicts = [Verdict::Unasked; 14];
         verdicts[0] = Verdict::Broken;
         verdicts
+    }
+
+    /// How the two ends stand.
+    pub fn standing(&self) -> &Standing
+        ensures { result.now ≡ self.now.standing }
+    {
+        &self.standing
+    }
+
+    /// The orders that were sent, in their order.
+    pub fn orders(&self) -> &[Order]
+        ensures { result.now ≡ self.now.ledger.orders }
+    {
+        self.ledger.orders()
+    }
+
+    /// The place of the newest order of this ClOrdID (11).
+    pub fn place_of(&self, id: &[u8]) -> Option<usize>
+        ensures { result ≡ newest_order self.now.ledger.orders id.now }
+    {
+        self.ledger.place_of(id)
+    }
+
+    /// How many shares the first report of this ExecID (17) says were traded.
+    pub fn shares_of_exec(&self, exec: &[u8]) -> Option<u64>
+        ensures { result ≡ shares_of_exec exec.now self.now.ledger.reports }
+    {
+        self.ledger.shares_of_exec(exec)
     }
 
     /// What the next message says of each rule, in the order of `RULES`. Where memory is refused, nothing changes.

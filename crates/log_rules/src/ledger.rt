@@ -2,7 +2,7 @@
 
 ghost use Rattle.std.specs.Prelude.{◌≡◌, [], OnOk, OnErr};
 ghost use Rattle.std.specs.Option.{option_map};
-ghost use Rattle.log_rules.specs.Ledger.{changed_by, has_report_in, order_of, report_under, shares_of_exec, with_order, with_report};
+ghost use Rattle.log_rules.specs.Ledger.{changed_by, has_report_in, newest_order, order_of, report_under, shares_of_exec, with_order, with_report};
 
 use crate::entry::Entry;
 use crate::kept_report::KeptReport;
@@ -40,6 +40,20 @@ impl Ledger {
             orders: Orders::new(alloc),
             reports: Reports::new(alloc),
         }
+    }
+
+    /// The orders, in their order.
+    pub(crate) fn orders(&self) -> &[Order]
+        ensures { result.now ≡ self.now.orders }
+    {
+        self.orders.as_slice()
+    }
+
+    /// The place of the newest order of this id.
+    pub(crate) fn place_of(&self, id: &[u8]) -> Option<usize>
+        ensures { result ≡ newest_order self.now.orders id.now }
+    {
+        self.orders.place_of(id)
     }
 
     /// The order of this id.

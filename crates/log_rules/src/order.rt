@@ -10,7 +10,7 @@ use std::marker::Model;
 
 /// An order that was sent, and what the reports on it add up to.
 #[derive(Debug, Drop)]
-pub(crate) struct Order {
+pub struct Order {
     id: Vec<u8>,
     number: u64,
     cum: u64,
@@ -47,14 +47,14 @@ impl Order {
     }
 
     /// ClOrdID (11).
-    pub(crate) fn id(&self) -> &[u8]
+    pub fn id(&self) -> &[u8]
         ensures { result.now ≡ self.now.id }
     {
         self.id.as_slice()
     }
 
     /// The number that it was sent under.
-    pub(crate) fn number(&self) -> u64
+    pub fn number(&self) -> u64
         ensures { result ≡ self.now.number }
     {
         self.number
@@ -75,7 +75,7 @@ impl Order {
     }
 
     /// Whether the exchange asked for it again while it was in doubt, so that it is never accepted.
-    pub(crate) fn is_withdrawn(&self) -> bool
+    pub fn is_withdrawn(&self) -> bool
         ensures { result ≡ self.now.is_withdrawn }
     {
         self.is_withdrawn

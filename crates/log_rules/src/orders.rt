@@ -61,6 +61,19 @@ impl Orders {
         }
     }
 
+    pub(crate) fn as_slice(&self) -> &[Order]
+        ensures { result.now ≡ self.now }
+    {
+        self.items.as_slice()
+    }
+
+    /// The place of the newest order of this id.
+    pub(crate) fn place_of(&self, id: &[u8]) -> Option<usize>
+        ensures { result ≡ newest_order self.now id.now }
+    {
+        self.by_id.get(id)
+    }
+
     /// The newest order of this id.
     pub(crate) fn get(&self, id: &[u8]) -> Option<&Order>
         ensures { option_map (λ order. order.now) result ≡ order_of self.now id.now }

@@ -1,6 +1,7 @@
 //! What a body says.
 
 ghost use Rattle.std.specs.Prelude.{◌≡◌};
+ghost use Rattle.fix_text.specs.Tagged.{value_of};
 ghost use Rattle.log_rules.specs.Said.{application_said, bust_of, fence_number, happening_of, heartbeat_said, number_at, order_said, report_said, report_of, said_by, session_said, trade_of};
 
 use crate::order_said::OrderSaid;
@@ -19,6 +20,14 @@ const EXEC_REF_ID: u32 = 19;
 const LAST_QTY: u32 = 32;
 
 const ORDER_QTY: u32 = 38;
+
+const PRICE: u32 = 44;
+
+const SIDE: u32 = 54;
+
+const SYMBOL: u32 = 55;
+
+const SYMBOL_SFX: u32 = 65;
 
 const EXEC_TYPE: u32 = 150;
 
@@ -81,6 +90,12 @@ fn number_at(fields: &AppFields<'_>, tag: u32) -> Option<u64>
     read_number(fields.get(tag)?)
 }
 
+fn text_at<'a>(fields: &AppFields<'a>, tag: u32) -> Option<TextRef<'a>>
+    ensures { result ≡ value_of fields.now tag }
+{
+    Some(TextRef::new(fields.get(tag)?))
+}
+
 fn order_said<'a>(fields: &AppFields<'a>) -> Says<'a>
     ensures { result ≡ order_said fields.now }
 {
@@ -90,6 +105,10 @@ fn order_said<'a>(fields: &AppFields<'a>) -> Says<'a>
     Says::Order(OrderSaid {
         id: TextRef::new(id),
         shares: number_at(fields, ORDER_QTY).unwrap_or(0),
+        symbol: text_at(fields, SYMBOL),
+        suffix: text_at(fields, SYMBOL_SFX),
+        side: text_at(fields, SIDE),
+        price: text_at(fields, PRICE),
     })
 }
 

@@ -1,0 +1,154 @@
+//! An order of a log, and what became of its shares.
+
+ghost use Rattle.std.specs.Prelude.{◌≡◌, option_and_then, IfOk};
+ghost use Rattle.fix_tags.specs.Price.{price_of};
+ghost use Rattle.log_legs.specs.KeptLeg.{new_leg, reported, sent_again, side_said, symbol_said};
+
+use crate::share_move::Move;
+use crate::share_parts::ShareParts;
+use fix_tags::{TextRef, read_price};
+use leg::Side;
+use log_rules::OrderSaid;
+use std::alloc::{AllocError, Global};
+use std::marker::Model;
+
+/// An order of a log, and what became of its shares.
+#[derive(Debug, Drop)]
+pub(crate) struct KeptLeg {
+    symbol: Vec<u8>,
+    side: Option<Side>,
+    price: Option<u64>,
+    sent: u64,
+    is_reported: bool,
+    parts: ShareParts,
+}
+
+impl Model for KeptLeg {
+    ghost use Rattle.log_legs.specs.KeptLeg.{LegParts};
+
+    ghost Value = { LegParts };
+
+    ghost view = { λ leg. record {
+      symbol = leg.symbol.items;
+      side = leg.side;
+      price = leg.price;
+      sent = leg.sent;
+      is_reported = leg.is_reported;
+      parts = leg.parts;
+    } };
+}
+
+/// The symbol with its suffix behind a point, or nothing where there is none.
+fn symbol_of(
+    alloc: Global,
+    symbol: &Option<TextRef<'_>>,
+    suffix: &Option<TextRef<'_>>,
+) -> Result<Vec<u8>, AllocError>
+    ensures { IfOk result (λ text. text.items ≡ symbol_said symbol.now suffix.now) }
+{
+    let mut text = Vec::new(alloc);
+    let Some(symbol) = symbol else {
+        return Ok(text);
+    };
+    text.extend_from_slice(symbol.as_bytes())?;
+    if let Some(suffix) = suffix {
+        text.push(b'.')?;
+        text.extend_from_slice(suffix.as_bytes())?;
+    }
+    Ok(text)
+}
+
+/// The side of a value of tag 54.
+fn side_of(side: &Option<TextRef<'_>>) -> Option<Side>
+    ensures { result ≡ side_said side.now }
+{
+    let Some(side) = side else {
+        return None;
+    };
+    match side.as_bytes() {
+        b"1" => Some(Side::Buy),
+        b"2" => Some(Side::Sell),
+        _ => None,
+    }
+}
+
+/// The price of a value of tag 44.
+fn price_of(price: &Option<TextRef<'_>>) -> Option<u64>
+    ensures { result ≡ option_and_then price_of price.now }
+{
+    let Some(price) = price else {
+        return None;
+    };
+    read_price(price.as_bytes())
+}
+
+impl KeptLeg {
+    /// An order that is sent for the first time: all of its shares are open.
+    pub(crate) fn new(alloc: Global, said: &OrderSaid<'_>) -> Result<KeptLeg, AllocError>
+        ensures { IfOk result (λ leg. leg ≡ new_leg said.now) }
+    {
+        Ok(KeptLeg {
+            symbol: symbol_of(alloc, &said.symbol, &said.suffix)?,
+            side: side_of(&said.side),
+            price: price_of(&said.price),
+            sent: 1,
+            is_reported: false,
+            parts: ShareParts::new(said.shares),
+        })
+    }
+
+    /// It is sent once more.
+    pub(crate) fn send_again(&mut self)
+        ensures { self.new ≡ sent_again self.old }
+    {
+        self.sent = self.sent.saturating_add(1);
+    }
+
+    /// A report on it is counted.
+    pub(crate) fn report(&mut self, change: Move)
+        ensures { self.new ≡ reported change self.old }
+    {
+        self.is_reported = true;
+        self.parts.apply(change);
+    }
+
+    /// The symbol with its suffix, and nothing where there is none.
+    pub(crate) fn symbol(&self) -> &[u8]
+        ensures { result.now ≡ self.now.symbol }
+    {
+        self.symbol.as_slice()
+    }
+
+    pub(crate) fn side(&self) -> Option<Side>
+        ensures { result ≡ self.now.side }
+    {
+        self.side
+    }
+
+    /// The price in ten-thousandths of a dollar, where it is one.
+    pub(crate) fn price(&self) -> Option<u64>
+        ensures { result ≡ self.now.price }
+    {
+        self.price
+    }
+
+    /// How often it was sent.
+    pub(crate) fn sent(&self) -> u64
+        ensures { result ≡ self.now.sent }
+    {
+        self.sent
+    }
+
+    /// Whether a report on it was counted.
+    pub(crate) fn is_reported(&self) -> bool
+        ensures { result ≡ self.now.is_reported }
+    {
+        self.is_reported
+    }
+
+    pub(crate) fn parts(&self) -> &ShareParts
+        ensures { result.now ≡ self.now.parts }
+    {
+        &self.parts
+    }
+}

@@ -1,0 +1,70 @@
+//! What a message does to the orders of a log.
+
+ghost use Rattle.std.specs.Prelude.{◌≡◌, IfOk};
+ghost use Rattle.log_rules.specs.Ledger.{newest_order};
+ghost use Rattle.log_legs.specs.Parts.{move_of};
+ghost use Rattle.log_legs.specs.Legs.{leg_heard, order_heard, report_heard};
+
+use crate::kept_leg::KeptLeg;
+use crate::share_move::Move;
+use log_rules::{Checker, Entry, OrderSaid, ReportSaid, Says};
+use message_log::Direction;
+use std::alloc::{AllocError, Global};
+
+/// What a message does to the orders of a log. An order is named by its place among those that were sent.
+#[derive(Debug, Drop)]
+pub(crate) enum LegHeard {
+    Nothing,
+    /// A Logon resets the numbers.
+    Reset,
+    /// An order is sent for the first time.
+    First(KeptLeg),
+    /// The order at this place is sent once more.
+    Again(usize),
+    /// A report on the order at this place is counted.
+    Moves(usize, Move),
+}
+
+fn order_heard(
+    alloc: Global,
+    place: Option<usize>,
+    said: &OrderSaid<'_>,
+) -> Result<LegHeard, AllocError>
+    ensures { IfOk result (λ heard. heard ≡ order_heard place said.now) }
+{
+    match place {
+        Some(place) => Ok(LegHeard::Again(place)),
+        None => Ok(LegHeard::First(KeptLeg::new(alloc, said)?)),
+    }
+}
+
+fn report_heard(checker: &Checker, said: &ReportSaid<'_>) -> LegHeard
+    ensures { result ≡ report_heard (newest_order checker.now.ledger.orders said.now.id)
+        (move_of checker.now.ledger.reports said.now.happened) }
+{
+    match checker.place_of(said.id.as_bytes()) {
+        Some(place) => LegHeard::Moves(place, Move::of(checker, &said.happened)),
+        None => LegHeard::Nothing,
+    }
+}
+
+impl LegHeard {
+    /// What a message does, where this is known before it.
+    pub(crate) fn new(
+        alloc: Global,
+        checker: &Checker,
+        entry: &Entry<'_>,
+    ) -> Result<LegHeard, AllocError>
+        ensures { IfOk result (λ heard. heard ≡ leg_heard checker.now entry.now) }
+    {
+        match (entry.direction, &entry.says) {
+            (Direction::Sent, Says::Logon { reset, .. }) if *reset => Ok(LegHeard::Reset),
+            (Direction::Sent, Says::Order(said)) => {
+                order_heard(alloc, checker.place_of(said.id.as_bytes()), said)
+            }
+            (Direction::Received, Says::Report(said)) if checker.standing().is_due(entry.number) =>
+                { Ok(report_heard(checker, said)) }
+            _ => Ok(LegHeard::Nothing),
+        }
+    }
+}
