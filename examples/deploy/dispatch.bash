@@ -17,7 +17,7 @@ _dispatch_options() {
 _dispatch_takes_value() {
     case $1:$2 in
         *:--help | order:--raw | order:--read | live:--cut-short | live:--stop-on-input) return 1 ;;
-        replay:* | check:--json | run:--check | run:--quiet) return 1 ;;
+        replay:* | check:--json | check:--legs | run:--check | run:--quiet) return 1 ;;
         *:--*) return 0 ;;
         *) return 1 ;;
     esac
