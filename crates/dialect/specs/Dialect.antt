@@ -14,7 +14,8 @@ abbrev pub Appends : (List Tagged → Type 0) → List Tagged → List Tagged �
 Appends Holds old new = (more : List Tagged) × Holds more × (new ≡ old ++ more)
 
 -- what a call says that pushes fields of which this holds: they are taken, or some fields where it is refused memory
-abbrev pub PushesSuch : {S : Type 0} → TakingOf S → (List Tagged → Type 0) → S → S → Result (Unit {0}) AllocError → Type 0
+abbrev pub PushesSuch : {S : Type 0} → TakingOf S → (List Tagged → Type 0) → S → S → Result (Unit {0}) AllocError
+    → Type 0
 PushesSuch Takes Holds old new result =
     MatchResult result (λ _. (more : List Tagged) × Holds more × Takes old new more) (λ _. Grows Takes old new)
 

@@ -64,7 +64,8 @@ AppendsApp IsWritten m stamp kind old new =
 
 -- new is old with the frame of a message of the session behind it
 abbrev pub AppendsSession : Message → SessionBody → StampParts → List ℕ → List ℕ → Type 0
-AppendsSession m says stamp old new = new ≡ old ++ frame_text (envelope_fields (envelope_of m (body.Session says)) stamp)
+AppendsSession m says stamp old new =
+    new ≡ old ++ frame_text (envelope_fields (envelope_of m (body.Session says)) stamp)
 
 -- new is old with the one frame of this message behind it
 abbrev pub AppendsFrame : Encoding → StampParts → Outgoing → List ℕ → List ℕ → Type 0

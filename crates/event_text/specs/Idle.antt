@@ -78,11 +78,13 @@ idle_of w (event.Drop v) = of_drop w v
 idle_of w (event.Take v) = of_take w v
 idle_of w (event.Connect v) = of_connect w v
 idle_of w (event.ToExchange v frame) =
-    Some (of_frame_to (of_venue w v [] (λ venue. venue.from_exchange)) (of_venue w v 0 (λ venue. venue.exchange.expected))
+    Some (of_frame_to (of_venue w v [] (λ venue. venue.from_exchange))
+    (of_venue w v 0 (λ venue. venue.exchange.expected))
     (numbered frame (of_venue w v [] (λ venue. venue.to_exchange))))
 idle_of w (event.ToDispatcher v frame) =
     Some (of_frame_from (is_connected_in (phase_of w v)) (of_venue w v 0 (λ venue. venue.session.connection))
-    (of_venue w v 0 (λ venue. venue.session.expected)) (numbered frame (of_venue w v [] (λ venue. venue.from_exchange))))
+    (of_venue w v 0 (λ venue. venue.session.expected))
+    (numbered frame (of_venue w v [] (λ venue. venue.from_exchange))))
 idle_of w (event.Break v) = Some NotConnected
 idle_of w (event.ExchangeBreak v) = Some NoExchange
 idle_of w (event.Act v act) = of_act act

@@ -106,8 +106,10 @@ test_id number = codes "X" ++ decimal number
 
 -- a TestRequest is written under the next number
 abbrev pub tested : ExchangeParts → Answer
-tested x =
-    (next_message x (Session (TestRequest (test_id (next_own_number x.own)))) ∷ [], record x { own = x.own ++ Admin ∷ [] })
+tested x = (
+  next_message x (Session (TestRequest (test_id (next_own_number x.own)))) ∷ [],
+  record x { own = x.own ++ Admin ∷ [] },
+)
 
 -- the peer is asked for a sign of life, where a connection is live
 abbrev pub test_answer : ExchangeParts → Option LiveConnection → Result Answer ExchangeFault

@@ -83,7 +83,8 @@ having_asked connection number = Some (record { connection = connection; asked =
 
 -- a Logon is answered by a Logon with the interval it asked for ("Logon": the interval is echoed)
 abbrev pub with_logon : ExchangeParts → ℕ → Option ℕ → Answer
-with_logon x heart next = (next_message x (Session (Logon heart false next)) ∷ [], record x { own = x.own ++ Admin ∷ [] })
+with_logon x heart next =
+    (next_message x (Session (Logon heart false next)) ∷ [], record x { own = x.own ++ Admin ∷ [] })
 
 -- and then asks for what is missing, under the number after it
 abbrev pub with_logon_and_request : ExchangeParts → ℕ → ℕ → Answer
@@ -121,8 +122,10 @@ order_taken x leg =
 
 -- an order that can't be read is refused by its number
 abbrev pub order_refused : ExchangeParts → Answer
-order_refused x =
-    (next_message x (Session (Reject x.expected)) ∷ [], record (expecting_next x) { own = x.own ++ Refused x.expected ∷ [] })
+order_refused x = (
+  next_message x (Session (Reject x.expected)) ∷ [],
+  record (expecting_next x) { own = x.own ++ Refused x.expected ∷ [] },
+)
 
 -- a Logout is answered by a Logout, and ends the connection
 abbrev pub logout_taken : ExchangeParts → Answer
@@ -133,7 +136,8 @@ logout_taken x = (
 
 -- a TestRequest is answered by a Heartbeat with its id
 abbrev pub test_taken : ExchangeParts → List ℕ → Answer
-test_taken x id = (next_message x (Session (Heartbeat (Some id))) ∷ [], record (expecting_next x) { own = x.own ++ Admin ∷ [] })
+test_taken x id =
+    (next_message x (Session (Heartbeat (Some id))) ∷ [], record (expecting_next x) { own = x.own ++ Admin ∷ [] })
 
 -- the message of the expected number
 abbrev pub due_taken : ExchangeParts → Content → Answer

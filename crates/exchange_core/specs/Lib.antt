@@ -1,15 +1,21 @@
+-- The rules of any exchange.
 pub mod Acceptance
+pub mod Keeping
+-- Our exchange and its calls.
 pub mod Order
 pub mod Own
 pub mod Exchange
 pub mod Acts
-pub mod Keeping
+pub mod Plan
+pub mod Resending
+-- What a call hands its caller.
+pub mod Turn
+pub mod Frames
+-- What every call keeps.
 pub mod Shares
 pub mod Told
 pub mod Sound
-pub mod Kept
-pub mod Plan
-pub mod Frames
-pub mod Turn
-pub mod Resending
+-- Worked days.
 pub mod Rows
+-- How an exchange is kept.
+pub mod Kept

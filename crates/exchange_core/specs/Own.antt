@@ -64,7 +64,8 @@ resent config run number (Reported report view ∷ own) =
     closing_fill config run number
     ++ execution_report config number true report view ∷ resent config None (suc number) own
 resent config run number (Refused refused ∷ own) =
-    closing_fill config run number ++ again config number (Session (Reject refused)) ∷ resent config None (suc number) own
+    closing_fill config run number ++ again config number (Session (Reject refused))
+    ∷ resent config None (suc number) own
 
 -- what the request for a range is answered with
 abbrev pub resent_answer : ConfigParts → List Own → ℕ → ℕ → List Outgoing

@@ -55,13 +55,14 @@ cut_off h = record {
   exchange = drop_connection h.exchange;
 }
 
--- where reading stops, and whether the connection is still there then: no frame is left, or the connection is cut behind
--- the message of this number
+-- where reading stops, and whether the connection is still there then: no frame is left, or the connection is cut
+-- behind the message of this number
 abbrev pub Stops : Manner → ℕ → Hearing → Bool → Hearing → Type 0
 Stops how cut_after h true after = ((next_read h.stream).frame ≡ None) × (after ≡ next_heard how h)
 Stops how cut_after h false after = (h.messages ≡ cut_after) × (after ≡ cut_off h)
 
 -- some frames are read, one after the other, up to there
-pub record Hears (how : Manner) (cut_after : ℕ) (before : Hearing) (is_connected : Bool) (after : Hearing) : Type 0 where
+pub record Hears (how : Manner) (cut_after : ℕ) (before : Hearing) (is_connected : Bool) (after : Hearing)
+    : Type 0 where
   pub count : ℕ
   pub stops : Stops how cut_after (heard_times how count before) is_connected after

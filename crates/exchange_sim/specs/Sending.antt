@@ -35,7 +35,8 @@ pub record Reports (w : Encoding) (place shares : ℕ) (px : List ℕ) (x : Exch
   pub traded_at : StampParts
   pub traded : Sends w traded_at (messages_of (acts.trade x place shares px).0) old between
   pub cancelled_at : StampParts
-  pub cancelled : Sends w cancelled_at (messages_of (acts.cancel_rest (acts.trade x place shares px).1 place).0) between new
+  pub cancelled :
+      Sends w cancelled_at (messages_of (acts.cancel_rest (acts.trade x place shares px).1 place).0) between new
 
 -- those on an order of this leg, if there is one
 abbrev pub ReportsOn : Encoding → ℕ → ℕ → Option Leg → ExchangeParts → List ℕ → List ℕ → Type 0
@@ -44,9 +45,11 @@ ReportsOn w fill place (Some leg) x old new =
     Reports w place (min fill leg.terms.shares) (price_short leg.terms.price) x old new
 
 -- what is answered to a message, and then the reports on its order
-pub record Answers (w : Encoding) (fill connection : ℕ) (x : ExchangeParts) (m : Message) (old new : List ℕ) : Type 0 where
+pub record Answers (w : Encoding) (fill connection : ℕ) (x : ExchangeParts) (m : Message) (old new : List ℕ)
+    : Type 0 where
   pub between : List ℕ
   pub answered_at : StampParts
   pub answered : Sends w answered_at (take x connection m).0 old between
-  pub reported : ReportsOn w fill (length (accepted_by x) + 1) (slice_get (accepted_by (take x connection m).1) (length (accepted_by x)))
+  pub reported : ReportsOn w fill (length (accepted_by x) + 1)
+      (slice_get (accepted_by (take x connection m).1) (length (accepted_by x)))
       (take x connection m).1 between new

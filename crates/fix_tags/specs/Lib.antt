@@ -1,17 +1,21 @@
+-- Single values.
 pub mod App
 pub mod CompId
-pub mod Config
 pub mod Digits
 pub mod Flag
-pub mod Header
-pub mod Body
-pub mod Message
 pub mod Number
 pub mod Price
 pub mod Range
-pub mod Reading
-pub mod Readable
-pub mod ReadsBack
-pub mod Says
 pub mod Shares
 pub mod Stamp
+-- A session's configuration.
+pub mod Config
+-- Messages, as they are written.
+pub mod Header
+pub mod Body
+pub mod Message
+-- Messages, as they are read.
+pub mod Reading
+pub mod Readable
+pub mod Says
+pub mod ReadsBack

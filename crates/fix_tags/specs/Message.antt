@@ -63,7 +63,8 @@ body_fields (Session (Reject number)) = number_field 45 number ∷ []
 body_fields (Session (GapFill new_number)) = field 123 (codes "Y") ∷ number_field 36 new_number ∷ []
 body_fields (Session (Reset new_number)) = field 123 (codes "N") ∷ number_field 36 new_number ∷ []
 body_fields (Session Logout) = []
-body_fields (Session (BusinessReject number)) = option_field 45 number ++ field 372 (codes "D") ∷ field 380 (codes "0") ∷ []
+body_fields (Session (BusinessReject number)) =
+    option_field 45 number ++ field 372 (codes "D") ∷ field 380 (codes "0") ∷ []
 body_fields (App kind fields) = fields
 
 -- the sending time again as the original one (122), where the message may have been sent before

@@ -18,8 +18,8 @@ is_withdrawn _ = false
 abbrev pub lost_of : SessionParts → List PlacedLeg → ℕ
 lost_of s legs = count_by (λ leg. is_withdrawn (leg_state s leg.ordinal)) legs
 
--- the venue's number, how often a worker's session was connected, and of the legs that it took how many stay in doubt, and
--- how many were lost
+-- the venue's number, how often a worker's session was connected, and of the legs that it took how many stay in doubt,
+-- and how many were lost
 unfoldable pub venue_left : WorkerParts → LiveVenue
 venue_left worker = record {
   number = worker.took.venue;

@@ -67,8 +67,8 @@ applied (First leg) l = record l { legs = l.legs ++ leg ∷ [] }
 applied (Again place) l = record l { legs = leg_changed sent_again place l.legs }
 applied (Moves place change) l = record l { legs = leg_changed (reported change) place l.legs }
 
--- what is known of a log: what its rules ask, its orders where they are asked for, how far the session's end is, and the
--- place of the first order that was sent once the session had logged out
+-- what is known of a log: what its rules ask, its orders where they are asked for, how far the session's end is, and
+-- the place of the first order that was sent once the session had logged out
 pub record WatchParts : Type 0 where
   pub checker : CheckerParts
   pub legs : Option LegsParts

@@ -10,7 +10,8 @@ moment_of s = record {
   milli = ((s.hour * 60 + s.minute) * 60 + s.second) * 1000 + s.milli;
 }
 
--- the milliseconds from a moment to a later one, over midnight too; none where the clock went back, or for a day or more
+-- the milliseconds from a moment to a later one, over midnight too; none where the clock went back, or for a day or
+-- more
 abbrev pub elapsed : Moment → Moment → ℕ
 elapsed from to =
     if from.day == to.day then to.milli - from.milli

@@ -3,8 +3,8 @@ use Rattle.std.specs.Prelude.{ℕ, Bool, true, false, ◌&&◌, List, Option, So
 use Rattle.log_rules.specs.declared.order_said.OrderSaid.{OrderSaid}
 use Rattle.log_rules.specs.declared.report_said.ReportSaid.{ReportSaid}
 
--- its id (11), the number that it was sent under, the shares filled and open, and whether the exchange asked for it again
--- while it was in doubt
+-- its id (11), the number that it was sent under, the shares filled and open, and whether the exchange asked for it
+-- again while it was in doubt
 pub record OrderParts : Type 0 where
   pub id : List ℕ
   pub number : ℕ

@@ -40,8 +40,8 @@ abbrev pub is_asked : Standing → Option ℕ → ℕ → Bool
 is_asked s None number = false
 is_asked s (Some asked) number = not s.is_up && nat_le asked number
 
--- a gap fill is at settled numbers alone: below the last fence that was answered, or from where the exchange asks before
--- the connection is up
+-- a gap fill is at settled numbers alone: below the last fence that was answered, or from where the exchange asks
+-- before the connection is up
 abbrev pub is_safe_fill : Standing → ℕ → ℕ → Bool
 is_safe_fill s number new_number = nat_le (new_number - 1) s.settled || is_asked s s.asked number
 

@@ -1,5 +1,5 @@
--- The message that a text of the log says: `|` is SOH, `\|` and `\\` are a bar and a backslash, `\xNN` is a byte that is
--- neither printable nor SOH, and any other printable byte is itself.
+-- The message that a text of the log says: `|` is SOH, `\|` and `\\` are a bar and a backslash, `\xNN` is a byte that
+-- is neither printable nor SOH, and any other printable byte is itself.
 use Rattle.std.specs.Prelude.{◌≡◌, ℕ, ◌+◌, ◌*◌, ◌-◌, ◌<◌, ◌||◌, ◌&&◌, List, [], ◌∷◌, ◌++◌, Option, Some, None, Result, Ok, Err, nat_le, ◌==◌, if◌then◌else◌}
 use Rattle.desk_words.specs.Printable.{is_printable_byte}
 use Rattle.log_text.specs.declared.fault.LineFault.{LineFault}

@@ -51,7 +51,8 @@ pub record AreOptions (matches : ArgMatches) (options : Options) : Type 0 where
 
 -- the dialect is the one of its name, and a frame is read where the flag `read` says so; else the options are written
 abbrev pub IsAsked : ArgMatches → Asked → Type 0
-IsAsked matches (Write options) = AreOptions matches options × (flagged matches (codes "read") ≡ Some (codes "true") → ⊥)
+IsAsked matches (Write options) =
+    AreOptions matches options × (flagged matches (codes "read") ≡ Some (codes "true") → ⊥)
 IsAsked matches (Read dialect) =
     (option_and_then dialect_named (matched matches Dialect) ≡ Some dialect)
     × (flagged matches (codes "read") ≡ Some (codes "false") → ⊥)

@@ -51,9 +51,10 @@ EndsOrder Prints (Ok request) (Err WriteFailed) = Unit {0}
 EndsOrder Prints (Ok request) (Err other) = ⊥
 EndsOrder Prints (Err fault) done = done ≡ Err fault
 
--- how a run ends that reads this leg from a frame, or this fault, by the bytes that the output held before and holds after:
--- the leg is printed, or the fault named. Only memory and the output can fail besides
-abbrev pub EndsReading : Option (List ℕ) → Option (List ℕ) → {A : Type 0} → Result A CommandFault → Result Leg OrderFault
+-- how a run ends that reads this leg from a frame, or this fault, by the bytes that the output held before and holds
+-- after: the leg is printed, or the fault named. Only memory and the output can fail besides
+abbrev pub EndsReading : Option (List ℕ) → Option (List ℕ) → {A : Type 0} → Result A CommandFault
+    → Result Leg OrderFault
     → Type 0
 EndsReading before after (Ok done) (Ok leg) = Appends before after (leg_line leg)
 EndsReading before after (Ok done) (Err fault) = ⊥

@@ -28,7 +28,8 @@ pub record IsLocked (queues : List TableId) (desk : KeptDesk) (total : ℕ) (fee
   pub fed : AreFed queues desk.desk feeds
 
 -- a sweep was placed at the desk and opened in a book, or in neither: the answer, and the desk after it
-pub record Places (legs : List Routed) (before : KeptDesk) (answer : Result Receipt ReleaseFault) (after : KeptDesk) : Type 0 where
+pub record Places (legs : List Routed) (before : KeptDesk) (answer : Result Receipt ReleaseFault) (after : KeptDesk)
+    : Type 0 where
   pub book : BookParts
   pub book_after : BookParts
   pub placed : PlaceAnswers (kept before book) (place_kept (kept before book) legs) answer (kept after book_after)
@@ -40,7 +41,8 @@ PumpsVenues legs (Ok receipt) before after =
 PumpsVenues legs (Err fault) before after = after ≡ before
 
 -- a sweep was placed, or refused, and then its venues were pumped, or none was: the answer, and the desk after it
-pub record Releases (legs : List Routed) (before : KeptDesk) (answer : Result Receipt ReleaseFault) (after : KeptDesk) : Type 0 where
+pub record Releases (legs : List Routed) (before : KeptDesk) (answer : Result Receipt ReleaseFault) (after : KeptDesk)
+    : Type 0 where
   pub between : KeptDesk
   pub placed : Places legs before answer between
   pub replays : Replays between

@@ -32,8 +32,8 @@ released_to desk venue = placed_from 1 (released venue desk.sweeps)
 abbrev pub left_to : DeskParts → ℕ → List PlacedLeg
 left_to desk venue = take (venue_at desk venue).left (released_to desk venue)
 
--- a venue's feed is that of the run's ring, which has room for 64 legs, and what was pushed to it are the legs that left
--- the desk
+-- a venue's feed is that of the run's ring, which has room for 64 legs, and what was pushed to it are the legs that
+-- left the desk
 pub record IsFed (queues : List TableId) (desk : DeskParts) (venue : ℕ) (feed : Port) : Type 0 where
   pub queue : slice_get queues venue ≡ Some feed.table
   pub room : feed.room ≡ 64

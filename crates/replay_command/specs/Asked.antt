@@ -14,7 +14,8 @@ flagged matches name = one_text (found_of matches) name
 -- this is whether a flag was given
 abbrev pub IsFlag : ArgMatches → List ℕ → Bool → Type 0
 IsFlag matches name on =
-    (flagged matches name ≡ Some (codes "true") → on ≡ true) × (flagged matches name ≡ Some (codes "false") → on ≡ false)
+    (flagged matches name ≡ Some (codes "true") → on ≡ true)
+    × (flagged matches name ≡ Some (codes "false") → on ≡ false)
 
 -- each thing is shown whose flag was given
 pub record AreShown (matches : ArgMatches) (shown : Shown) : Type 0 where

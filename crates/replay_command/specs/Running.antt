@@ -38,4 +38,5 @@ EndsReplay input before after done =
 -- a run that ends so has this exit status
 abbrev pub ExitsSo : Option (List ℕ) → Option (List ℕ) → Option (List ℕ) → ℕ → Type 0
 ExitsSo input before after status =
-    (done : Result (Unit {0}) CommandFault) × (status ≡ exit_status fault_status done) × EndsReplay input before after done
+    (done : Result (Unit {0}) CommandFault) × (status ≡ exit_status fault_status done)
+    × EndsReplay input before after done

@@ -38,7 +38,8 @@ IsFaultOf steps other said = ⊥
 
 -- a line of an input was read, with its end, and these bytes are left behind it; or there was none
 abbrev pub ReadsLine : Bool → List ℕ → Option (List ℕ) → List ℕ → Type 0
-ReadsLine true line left bytes = (0 < length line) × (line ≡ take_through 10 bytes) × (left ≡ Some (drop_through 10 bytes))
+ReadsLine true line left bytes =
+    (0 < length line) × (line ≡ take_through 10 bytes) × (left ≡ Some (drop_through 10 bytes))
 ReadsLine false line left bytes = bytes ≡ []
 
 -- the first line was read of this script, and its other lines are left; or it has none
@@ -124,7 +125,8 @@ EndsRun shown text before after said (Err fault) =
 
 -- how a check of an input ends: it is told that the text is a script, or the first bad line is named. Only the input,
 -- memory and the output can fail besides, and nothing is printed but where the output fails
-abbrev pub EndsCheck : Option (List ℕ) → Option (List ℕ) → {X : Type 0} → Result X ℕ → {A : Type 0} → Result A CommandFault
+abbrev pub EndsCheck : Option (List ℕ) → Option (List ℕ) → {X : Type 0} → Result X ℕ → {A : Type 0}
+    → Result A CommandFault
     → Type 0
 EndsCheck before after (Ok said) (Ok done) = Appends before after (codes "script ok" ++ 10 ∷ [])
 EndsCheck before after (Err line) (Ok done) = ⊥

@@ -33,7 +33,8 @@ said_by venues line =
     if is_passed_over line then Some None else option_map (λ event. Some event) (event_of_words venues (words_of line))
 
 -- the line's fault; or the events after the line, where no memory was refused for them
-abbrev pub KeepsLine : ℕ → Option (Option Event) → Result (Unit {0}) ScriptFault → Bool → List Event → Bool → List Event → Type 0
+abbrev pub KeepsLine : ℕ → Option (Option Event) → Result (Unit {0}) ScriptFault → Bool → List Event → Bool → List Event
+    → Type 0
 KeepsLine number None answer was_refused before is_refused after = answer ≡ Err (fault.Line number)
 KeepsLine number (Some said) answer was_refused before is_refused after =
     (answer ≡ Ok tt) × (is_refused ≡ false → (was_refused ≡ false) × (after ≡ before ++ option_to_list said))
@@ -51,5 +52,6 @@ IsBad (Ok said) bad = ⊥
 
 -- what the script is with this first line and the lines behind it, or the fault of the first line
 abbrev pub ReadsHead : Result ScriptParts ℕ → Result ScriptHead ScriptFault → LinesLeft → Type 0
-ReadsHead script (Ok head) left = script ≡ with_events head (events_of_lines (length head.venues) left.number left.lines)
+ReadsHead script (Ok head) left =
+    script ≡ with_events head (events_of_lines (length head.venues) left.number left.lines)
 ReadsHead script (Err bad) left = IsBad script bad

@@ -48,7 +48,9 @@ settling = heard (connected (new_session config)) (from_b 1 (Session (Logon 30 f
 -- logged on, with the fence of number 2 answered: the settled number is 2, and 3 is expected
 abbrev pub up_of : ConfigParts → SessionParts
 up_of of =
-    heard (connected (new_session of)) (from_b 1 (Session (Logon 30 false None)) ∷ from_b 2 (Session (Heartbeat (Some (codes "F2")))) ∷ [])
+    heard (connected (new_session of))
+    (from_b 1 (Session (Logon 30 false None))
+    ∷ from_b 2 (Session (Heartbeat (Some (codes "F2")))) ∷ [])
 
 abbrev pub up : SessionParts
 up = up_of config

@@ -1,12 +1,17 @@
+-- The session and its calls.
 pub mod Session
 pub mod Turn
 pub mod Receiving
 pub mod Calling
-pub mod Example
+-- What a call hands its caller.
+pub mod Given
+pub mod Draft
+-- What every call keeps.
 pub mod Onward
 pub mod Counting
 pub mod Sound
-pub mod Kept
-pub mod Draft
-pub mod Given
+-- Any list of calls, and an example.
 pub mod Trial
+pub mod Example
+-- How a session is kept.
+pub mod Kept

@@ -67,7 +67,8 @@ pub record IsConnection (before : SessionParts) (message : Message) (after : Ses
   pub keeps : KeepsLegs before after
   pub spends : SpendsNumbers before (message ∷ []) after
   pub was_down : before.phase ≡ Down
-  pub logs_on : (after.phase ≡ LoggingOn) × (message.content ≡ Session (Logon before.config.heart false (own_next before)))
+  pub logs_on : (after.phase ≡ LoggingOn)
+      × (message.content ≡ Session (Logon before.config.heart false (own_next before)))
   pub counted : after.connection ≡ before.connection + 1
 
 -- a leg that is sent: in phase Up alone, with a higher ordinal than any before it, and in doubt under the next number

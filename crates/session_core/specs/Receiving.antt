@@ -137,7 +137,8 @@ refused_row s number = refused_leg s (option_and_then (λ n. leg_at n s.log) num
 
 -- Logout: the answer to the session's own, or the exchange's first
 abbrev pub logout_row : SessionParts → Turn
-logout_row s = if is_logged_out s.phase then ends LogoutDone s else ends_turn PeerLogout (writes (Session Logout) (quietly s))
+logout_row s =
+    if is_logged_out s.phase then ends LogoutDone s else ends_turn PeerLogout (writes (Session Logout) (quietly s))
 
 abbrev pub report_note : Result Report DialectFault → Note
 report_note (Ok report) = note.Report report

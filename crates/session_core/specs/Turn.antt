@@ -66,7 +66,8 @@ abbrev pub fenced : SessionParts → SessionParts
 fenced s = record s { current = record s.current { fences = s.current.fences ++ next_out s ∷ [] } }
 
 abbrev pub puts_fence : Turn → Turn
-puts_fence turn = puts (Session (TestRequest (fence_id (next_out turn.session)))) (with_session (fenced turn.session) turn)
+puts_fence turn =
+    puts (Session (TestRequest (fence_id (next_out turn.session)))) (with_session (fenced turn.session) turn)
 
 abbrev pub writes_fence : Turn → Turn
 writes_fence turn = if may_write turn.session then puts_fence turn else turn
@@ -110,7 +111,8 @@ notes note s = record { step = record no_step { note = Some note }; session = wi
 
 -- the Logout is written, and from now on nothing but gap fills
 abbrev pub logs_out : SessionParts → Turn
-logs_out s = let turn = writes (Session Logout) (quietly s) in with_session (record turn.session { phase = LoggedOut }) turn
+logs_out s =
+    let turn = writes (Session Logout) (quietly s) in with_session (record turn.session { phase = LoggedOut }) turn
 
 -- the phase after a connection: the session is over where the exchange logged out first, or where its own Logout was
 -- written

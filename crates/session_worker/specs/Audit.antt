@@ -28,8 +28,8 @@ abbrev pub day_of : KeptDesk → BookParts → List Seat → List Took → List 
 day_of desk book callers queues seats =
     record { desk = desk; book = book; callers = callers; queues = queues; seats = seats }
 
--- each worker took the first legs released to the venue at its place; the workers' seats add up to what is resolved; the
--- callers' add up to what was placed
+-- each worker took the first legs released to the venue at its place; the workers' seats add up to what is resolved;
+-- the callers' add up to what was placed
 abbrev pub AreQueues : DayParts → Type 0
 AreQueues day = AllTookFirst day.desk.desk day.queues (length day.queues)
 

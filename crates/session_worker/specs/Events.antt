@@ -11,8 +11,8 @@ use Rattle.release_lock.specs.Queues.{Took}
 use Rattle.exec_collector.specs.Seats.{Seat}
 use Rattle.session_worker.specs.Speaking.{Wire}
 
--- what a worker does. A leg that fails was handed to the session, which wanted memory for it, and the connection was then
--- broken; one that drops wasn't handed to it at all
+-- what a worker does. A leg that fails was handed to the session, which wanted memory for it, and the connection was
+-- then broken; one that drops wasn't handed to it at all
 pub data WorkerEvent : Type 0 where
   Calls : SessionCall → WorkerEvent
   Drops : PlacedLeg → WorkerEvent
@@ -80,7 +80,8 @@ new_worker session venue seat wire =
 
 -- a worker before and after these events: the session is that after the calls, the legs taken are the events', and the
 -- seat has as many parts
-pub record Goes (read : Decoding) (before : WorkerParts) (events : List WorkerEvent) (after : WorkerParts) : Type 0 where
+pub record Goes (read : Decoding) (before : WorkerParts) (events : List WorkerEvent) (after : WorkerParts)
+    : Type 0 where
   pub session : after.session ≡ after_calls read before.session (calls_of events)
   pub taken : after.took.taken ≡ before.took.taken ++ taken_of events
   pub allowed : AreAllowed read before.session events

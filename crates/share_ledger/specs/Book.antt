@@ -39,6 +39,14 @@ moves_on id book = map move_of (notes_on id book.entries)
 abbrev pub leg_parts : LegIdParts → ℕ → BookParts → SplitParts
 leg_parts id shares book = parts_of shares (is_withdrawn id book.entries) (moves_on id book)
 
+-- a leg in the book: its venue, and the parts of its shares
+abbrev pub booked_leg : BookParts → LegIdParts → Routed → BookedLeg
+booked_leg book id routed = record { venue = routed.venue; parts = leg_parts id routed.terms.shares book }
+
+-- the leg of this number, if its sweep was opened
+abbrev pub leg_in : BookParts → LegIdParts → Option BookedLeg
+leg_in book id = option_map (booked_leg book id) (order_of id book.entries)
+
 -- the legs of a sweep, in order, the first of them having this place
 abbrev pub booked_from : BookParts → ℕ → ℕ → List Routed → List BookedLeg
 booked_from book number place [] = []

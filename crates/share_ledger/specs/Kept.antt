@@ -13,6 +13,7 @@ use Rattle.share_ledger.specs.Entries.{opened, order_of, is_same_leg, is_booked}
 use Rattle.share_ledger.specs.Shares.{Move}
 use Rattle.share_ledger.specs.Reports.{report_at, shares_on}
 use Rattle.share_ledger.specs.Steps.{traded_under}
+pub use Rattle.share_ledger.specs.Book.{booked_leg}
 use Rattle.share_ledger.specs.Book.{BookParts, new_book, written, moves_on, leg_parts, resolved_shares, opened_shares, can_bust, again, replay}
 
 -- the book as a caller sees it
@@ -22,10 +23,6 @@ ledger_seen ledger = record { venues = length ledger.resolved.items; entries = l
 -- a kept leg, by its number
 abbrev pub kept_leg : LegIdParts → List (Vec BookedLeg) → Option BookedLeg
 kept_leg id sweeps = option_and_then (λ legs. numbered id.place legs.items) (numbered id.sweep sweeps)
-
--- what is kept of a leg: its venue, and the parts of its shares
-abbrev pub booked_leg : BookParts → LegIdParts → Routed → BookedLeg
-booked_leg book id routed = record { venue = routed.venue; parts = leg_parts id routed.terms.shares book }
 
 -- a leg whose sweep is opened now
 abbrev pub opened_leg : Routed → BookedLeg

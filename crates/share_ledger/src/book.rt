@@ -1,13 +1,14 @@
 //! The book of what became of each leg's shares.
 
-ghost use Rattle.std.specs.Prelude.{◌≡◌, ◌≤◌, IfOk, OnErr, IsOkUnless};
+ghost use Rattle.std.specs.Prelude.{◌≡◌, ◌≤◌, IfOk, IfSome, OnErr, IsOkUnless};
 ghost use Rattle.leg.specs.Answering.{Answers};
+ghost use Rattle.leg.specs.Split.{IsSplit};
 ghost use Rattle.dialect.specs.declared.note.Note.TheVariants as note;
-ghost use Rattle.share_ledger.specs.Book.{new_book, answer_to, open_sweep, apply, withdraw, totals, venue_resolved};
+ghost use Rattle.share_ledger.specs.Book.{new_book, answer_to, open_sweep, apply, withdraw, totals, leg_in, venue_resolved};
 
 use crate::ledger::Ledger;
 use crate::reports::Reports;
-use crate::{Applied, BookEntry, BookFault};
+use crate::{Applied, BookEntry, BookFault, BookedLeg};
 use dialect::{Note, Report};
 use leg::{LegId, Sweep, Totals, VenueId};
 use std::alloc::Global;
@@ -133,6 +134,14 @@ impl Book {
         ensures { result ≡ totals self.now number }
     {
         self.ledger.totals(number)
+    }
+
+    /// A leg, if its sweep was opened.
+    pub fn leg(&self, id: LegId) -> Option<BookedLeg>
+        ensures value { result ≡ leg_in self.now id }
+        ensures in_range { IfSome result (λ leg. IsSplit leg.parts) }
+    {
+        self.ledger.leg(id)
     }
 
     /// The shares of a venue's legs that are filled, busted, cancelled or withdrawn, 0 for a venue that isn't there.

@@ -48,8 +48,8 @@ pub record IsKeptVenue (sweeps : List (List Routed)) (room number : ℕ) (venue 
   pub counted : length venue.released.items ≤ 32 * length sweeps
   pub spare : vec_len venue.released + room ≤ vec_capacity venue.released
 
--- the counts are those of the history, and the history has room for what is due. No leg was released to a venue that the
--- desk hasn't got
+-- the counts are those of the history, and the history has room for what is due. No leg was released to a venue that
+-- the desk hasn't got
 pub record IsKept (desk : Inside) : Type 0 where
   pub venues : (k : ℕ) (other : Venue) →
       k < length desk.venues.items →

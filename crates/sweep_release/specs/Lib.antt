@@ -1,8 +1,13 @@
+-- The desk and its calls.
 pub mod Released
 pub mod Desk
-pub mod History
 pub mod Gates
-pub mod Kept
-pub mod Place
+-- Its history.
+pub mod History
 pub mod Laws
+-- A sweep placed at desk and book.
+pub mod Place
+-- Examples.
 pub mod Rows
+-- How the desk is kept.
+pub mod Kept

@@ -108,7 +108,8 @@ losing =
 abbrev pub settling : List VenueEvent
 settling =
     calls call.Connect
-    ∷ takes (logon 2 5) (standing 2 4 (first ∷ []) 4) (logon 2 3 ∷ at 2 4 (say.Session (body_said.ResendRequest 4 0)) ∷ [])
+    ∷ takes (logon 2 5) (standing 2 4 (first ∷ []) 4)
+    (logon 2 3 ∷ at 2 4 (say.Session (body_said.ResendRequest 4 0)) ∷ [])
     ∷ takes (order 1 4 second) (standing 2 4 (first ∷ []) 4) []
     ∷ hears 3 (body.Session (body_said.Logon 30 false None))
     ∷ hears 4 (body.Session (body_said.ResendRequest 4 0))

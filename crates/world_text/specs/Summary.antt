@@ -1,4 +1,5 @@
--- The sums of a world: a line a venue with how many legs it has of each kind, and a line with what became of all shares.
+-- The sums of a world: a line a venue with how many legs it has of each kind, and a line with what became of all
+-- shares.
 use Rattle.std.specs.Prelude.{ℕ, suc, ◌+◌, ◌-◌, ◌^◌, min, List, [], ◌∷◌, ◌++◌, length, codes, decimal, Option, Some, None}
 use Rattle.leg.specs.declared.sweep.Routed.{Routed}
 use Rattle.leg.specs.declared.totals.Totals.{Totals}
