@@ -4,17 +4,17 @@ use crate::recorder::Recorder;
 use clock::Clock;
 use link::{Got, Link, LinkFault};
 use std::sync::Wait;
-use std::time::Duration;
+use std::time::{self, Duration};
 
 /// A link that hands each call to another, and notes what went over it: behind each call, what that link took or gave.
 /// It changes nothing of what that link does, and no fault of the log reaches a session.
 #[derive(Drop)]
-pub struct LoggedLink<'a, R: Wait, K: Link, C: Clock + Drop> {
+pub struct LoggedLink<'a, R: Wait + time::Clock, K: Link, C: Clock + Drop> {
     link: K,
     recorder: Recorder<'a, R, C>,
 }
 
-impl<'a, R: Wait, K: Link, C: Clock + Drop> LoggedLink<'a, R, K, C> {
+impl<'a, R: Wait + time::Clock, K: Link, C: Clock + Drop> LoggedLink<'a, R, K, C> {
     ghost use Rattle.std.specs.Prelude.{◌≡◌};
 
     /// The link, with what notes its messages.
@@ -25,7 +25,7 @@ impl<'a, R: Wait, K: Link, C: Clock + Drop> LoggedLink<'a, R, K, C> {
     }
 }
 
-impl<'a, R: Wait, K: Link, C: Clock + Drop> Link for LoggedLink<'a, R, K, C> {
+impl<'a, R: Wait + time::Clock, K: Link, C: Clock + Drop> Link for LoggedLink<'a, R, K, C> {
     ghost wire = { λ logged. K.wire logged.link };
 
     ghost fault_count = { λ logged. K.fault_count logged.link };

@@ -3,6 +3,7 @@
 ghost use Rattle.std.specs.Prelude.{◌≡◌};
 ghost use Rattle.day_log.specs.Piece.{new_piece, splits};
 
+use crate::order_times::moment;
 use crate::piece::Piece;
 use crate::traffic::Traffic;
 use crate::venue_log::VenueLog;
@@ -11,11 +12,18 @@ use fix_tags::Stamp;
 use message_log::Direction;
 use std::alloc::Global;
 use std::sync::{Arc, Wait};
+use std::time;
+
+/// What ends a field.
+const SOH: u8 = 1;
+
+/// The place of MsgType among a message's fields, from 0.
+const MSG_TYPE_AT: usize = 2;
 
 /// Notes what goes over a link: it counts it, and puts a line for each message into a log, if one is kept. Where the
 /// log's lock is held it waits; the other one that takes it, the thread that writes, holds it for a moment only.
 #[derive(Drop)]
-pub struct Recorder<'a, R: Wait, C: Clock + Drop> {
+pub struct Recorder<'a, R: Wait + time::Clock, C: Clock + Drop> {
     rt: &'a R,
     clock: C,
     traffic: Arc<Traffic, Global>,
@@ -65,7 +73,13 @@ fn note<R: Wait>(
     messages
 }
 
-impl<'a, R: Wait, C: Clock + Drop> Recorder<'a, R, C> {
+/// Whether bytes begin with an order: its third field is MsgType (35), and D (FIX 4.4 Volume 2, "Standard Message
+/// Header"; Volume 4, NewOrderSingle).
+fn is_order(bytes: &[u8]) -> bool {
+    bytes.split(|byte| *byte == SOH).nth(MSG_TYPE_AT) == Some(b"35=D".as_slice())
+}
+
+impl<'a, R: Wait + time::Clock, C: Clock + Drop> Recorder<'a, R, C> {
     /// Nothing went over the link yet. Without a log, what goes over it is counted, and no line is made.
     pub fn new(
         rt: &'a R,
@@ -97,6 +111,7 @@ impl<'a, R: Wait, C: Clock + Drop> Recorder<'a, R, C> {
 
     /// The link took these bytes.
     pub(crate) fn sent(&mut self, bytes: &[u8]) {
+        self.time_order(bytes);
         let stamp = self.clock.now();
         let messages = note(
             self.rt,
@@ -107,6 +122,14 @@ impl<'a, R: Wait, C: Clock + Drop> Recorder<'a, R, C> {
             bytes,
         );
         self.traffic.count_sent(bytes.len() as u64, messages);
+    }
+
+    /// Counts how long an order waited whose first bytes these are, if they are.
+    fn time_order(&self, bytes: &[u8]) {
+        let times = self.traffic.order_times();
+        if times.is_waiting() && is_order(bytes) {
+            times.written(moment(self.rt));
+        }
     }
 
     /// The link gave these bytes.

@@ -1,5 +1,6 @@
 //! What went over the link of a venue, in numbers.
 
+use crate::order_times::OrderTimes;
 use std::sync::atomic::{AtomicU64, Ordering};
 
 /// What went over the link of a venue since the day began, in numbers that one thread counts and others read. Each of
@@ -12,6 +13,7 @@ pub struct Traffic {
     bytes_received: AtomicU64,
     connections: AtomicU64,
     refused_dials: AtomicU64,
+    order_times: OrderTimes,
 }
 
 impl Traffic {
@@ -24,6 +26,7 @@ impl Traffic {
             bytes_received: AtomicU64::new(0),
             connections: AtomicU64::new(0),
             refused_dials: AtomicU64::new(0),
+            order_times: OrderTimes::new(),
         }
     }
 
@@ -55,6 +58,11 @@ impl Traffic {
     /// How many dials failed.
     pub fn refused_dials(&self) -> u64 {
         self.refused_dials.load(Ordering::SeqCst)
+    }
+
+    /// How long its orders waited to be written.
+    pub fn order_times(&self) -> &OrderTimes {
+        &self.order_times
     }
 
     /// Counts a dial that was answered.

@@ -69,7 +69,8 @@ impl Reporter {
     pub fn count(&mut self, session: &Session, taken: u64, moment: u64, heard: u64) {
         if let Some(board) = &self.board {
             self.counted = moment;
-            board.tell_legs(taken, self.unsettled.count(session, taken));
+            let doubts = self.unsettled.count(session, taken);
+            board.tell_legs(taken, doubts, self.unsettled.settled());
             board.tell_heard(heard);
         }
     }

@@ -32,6 +32,11 @@ impl Unsettled {
         }
         count
     }
+
+    /// Up to which ordinal no leg was in doubt when they were counted last.
+    pub fn settled(&self) -> u64 {
+        self.first.saturating_sub(1)
+    }
 }
 
 /// Whether a leg was sent and isn't settled.

@@ -4,13 +4,14 @@ use crate::progress::Progress;
 use std::sync::atomic::{AtomicU64, Ordering};
 
 /// What a venue's worker tells others, who may read it at any time. How far the session is comes at once; how many legs
-/// were taken and are in doubt, and when the exchange was heard, ten times a second at most.
+/// were taken, settled and are in doubt, and when the exchange was heard, ten times a second at most.
 #[derive(Drop)]
 pub struct VenueBoard {
     progress: AtomicU64,
     pause: AtomicU64,
     taken: AtomicU64,
     doubts: AtomicU64,
+    settled: AtomicU64,
     heard: AtomicU64,
 }
 
@@ -22,6 +23,7 @@ impl VenueBoard {
             pause: AtomicU64::new(0),
             taken: AtomicU64::new(0),
             doubts: AtomicU64::new(0),
+            settled: AtomicU64::new(0),
             heard: AtomicU64::new(0),
         }
     }
@@ -36,10 +38,11 @@ impl VenueBoard {
         self.pause.store(millis, Ordering::SeqCst);
     }
 
-    /// So many legs were taken, and so many of them are in doubt.
-    pub fn tell_legs(&self, taken: u64, doubts: u64) {
+    /// So many legs were taken, and so many of them are in doubt: none up to the ordinal `settled`.
+    pub fn tell_legs(&self, taken: u64, doubts: u64, settled: u64) {
         self.taken.store(taken, Ordering::SeqCst);
         self.doubts.store(doubts, Ordering::SeqCst);
+        self.settled.store(settled, Ordering::SeqCst);
     }
 
     /// The last message was received when the worker's clock told so many milliseconds.
@@ -65,6 +68,11 @@ impl VenueBoard {
     /// How many legs were sent of which it isn't known whether the exchange has them.
     pub fn doubts(&self) -> u64 {
         self.doubts.load(Ordering::SeqCst)
+    }
+
+    /// Up to which ordinal no leg is in doubt any more: each was settled, or withdrawn.
+    pub fn settled(&self) -> u64 {
+        self.settled.load(Ordering::SeqCst)
     }
 
     /// What the worker's clock told, in milliseconds, when the last message was received or the connection was made; 0
