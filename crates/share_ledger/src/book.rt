@@ -4,7 +4,7 @@ ghost use Rattle.std.specs.Prelude.{◌≡◌, ◌≤◌, IfOk, IfSome, OnErr, I
 ghost use Rattle.leg.specs.Answering.{Answers};
 ghost use Rattle.leg.specs.Split.{IsSplit};
 ghost use Rattle.dialect.specs.declared.note.Note.TheVariants as note;
-ghost use Rattle.share_ledger.specs.Book.{new_book, answer_to, open_sweep, apply, withdraw, totals, leg_in, venue_resolved};
+ghost use Rattle.share_ledger.specs.Book.{new_book, answer_to, open_sweep, apply, withdraw, totals, leg_in, next_sweep, venue_resolved};
 
 use crate::ledger::Ledger;
 use crate::reports::Reports;
@@ -134,6 +134,13 @@ impl Book {
         ensures { result ≡ totals self.now number }
     {
         self.ledger.totals(number)
+    }
+
+    /// The number that the next sweep has: one more than sweeps were opened.
+    pub fn next_sweep(&self) -> u64
+        ensures { result ≡ next_sweep self.now }
+    {
+        self.ledger.next_sweep()
     }
 
     /// A leg, if its sweep was opened.

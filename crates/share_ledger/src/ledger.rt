@@ -89,7 +89,7 @@ impl Ledger {
     }
 
     /// The number that the next sweep has.
-    fn next_sweep(&self) -> u64
+    pub fn next_sweep(&self) -> u64
         requires kept { IsKept self.now }
         ensures { result ≡ next_sweep (ledger_seen self.now) }
     {
