@@ -1,12 +1,13 @@
 -- The faults of `dispatch check`.
 use Rattle.std.specs.Prelude.{ℕ}
 use Rattle.check_command.specs.declared.fault.CommandFault.{CommandFault}
-use Rattle.check_command.specs.declared.fault.CommandFault.TheVariants.{CommandLine, BadDesk, BadLine, ReadFailed, WriteFailed, OutOfMemory}
+use Rattle.check_command.specs.declared.fault.CommandFault.TheVariants.{CommandLine, BadDesk, BadName, BadLine, ReadFailed, WriteFailed, OutOfMemory}
 
 -- the status that tells a fault
 abbrev pub fault_status : CommandFault → ℕ
 fault_status (CommandLine error) = 2
 fault_status BadDesk = 2
+fault_status BadName = 2
 fault_status (BadLine number fault) = 3
 fault_status ReadFailed = 4
 fault_status WriteFailed = 4
@@ -18,3 +19,18 @@ IsOfCommandLine (CommandLine error) = Unit {0}
 IsOfCommandLine BadDesk = Unit {0}
 IsOfCommandLine OutOfMemory = Unit {0}
 IsOfCommandLine other = ⊥
+
+-- a fault of a log, or want of memory, or one of the output
+abbrev pub IsOfLogs : CommandFault → Type 0
+IsOfLogs (BadLine number fault) = Unit {0}
+IsOfLogs ReadFailed = Unit {0}
+IsOfLogs WriteFailed = Unit {0}
+IsOfLogs OutOfMemory = Unit {0}
+IsOfLogs other = ⊥
+
+-- a fault of the words, and of the names of the logs among them
+abbrev pub IsOfWords : CommandFault → Type 0
+IsOfWords (CommandLine error) = Unit {0}
+IsOfWords BadDesk = Unit {0}
+IsOfWords BadName = Unit {0}
+IsOfWords other = ⊥

@@ -10,7 +10,7 @@ use Rattle.fix_tags.specs.Reading.{envelope_read}
 use Rattle.fix_tags.specs.Stamp.{StampParts}
 use Rattle.fix_tags.specs.declared.envelope.Envelope.{Envelope}
 use Rattle.message_log.specs.declared.direction.Direction.{Direction}
-use Rattle.log_legs.specs.Legs.{WatchParts, watched}
+use Rattle.day_rules.specs.VenueDay.{VenueParts, venue_heard}
 use Rattle.log_rules.specs.Checker.{unread_verdicts, verdicts}
 use Rattle.log_rules.specs.Entry.{entry_of}
 use Rattle.log_rules.specs.declared.entry.Entry.{Entry}
@@ -66,35 +66,37 @@ line_entry (Quickfix desk) text = do
   entry_told said.stamp (by_names desk) (message_in said.message)
 
 -- what is said of each rule
-abbrev pub judged : WatchParts → Option Entry → List Verdict
-judged w None = unread_verdicts
-judged w (Some entry) = verdicts w.checker entry
+abbrev pub judged : VenueParts → Option Entry → List Verdict
+judged v None = unread_verdicts
+judged v (Some entry) = verdicts v.watch.checker entry
 
--- what is known behind it
-abbrev pub judged_after : WatchParts → Option Entry → WatchParts
-judged_after w None = w
-judged_after w (Some entry) = watched w entry
+-- what is known behind it, in the line of this number
+abbrev pub judged_after : ℕ → VenueParts → Option Entry → VenueParts
+judged_after number v None = v
+judged_after number v (Some entry) = venue_heard number entry v
 
 -- it is judged, or its fault is told, or memory is refused; a fault changes nothing
-abbrev pub Judges : Result (Option Entry) LineFault → WatchParts → WatchParts → Result (List Verdict) LineFault → Type 0
-Judges (Ok entry) old new (Ok said) = (said ≡ judged old entry) × (new ≡ judged_after old entry)
-Judges (Err fault) old new (Ok said) = ⊥
-Judges entry old new (Err line.OutOfMemory) = new ≡ old
-Judges entry old new (Err fault) = (new ≡ old) × (entry ≡ Err fault)
+abbrev pub Judges : ℕ → Result (Option Entry) LineFault → VenueParts → VenueParts → Result (List Verdict) LineFault
+    → Type 0
+Judges number (Ok entry) old new (Ok said) = (said ≡ judged old entry) × (new ≡ judged_after number old entry)
+Judges number (Err fault) old new (Ok said) = ⊥
+Judges number entry old new (Err line.OutOfMemory) = new ≡ old
+Judges number entry old new (Err fault) = (new ≡ old) × (entry ≡ Err fault)
 
 -- the fault of a line of this number
 abbrev pub line_fault : ℕ → LineFault → CommandFault
 line_fault number line.OutOfMemory = OutOfMemory
 line_fault number fault = BadLine number fault
 
--- what is known behind a line of which this is judged
-abbrev pub ChecksAs : Result (Option Entry) LineFault → WatchParts → WatchParts → Type 0
-ChecksAs (Ok entry) old new = new ≡ judged_after old entry
-ChecksAs (Err fault) old new = ⊥
+-- what is known behind the line of a number, of which this is judged
+abbrev pub ChecksAs : ℕ → Result (Option Entry) LineFault → VenueParts → VenueParts → Type 0
+ChecksAs number (Ok entry) old new = new ≡ judged_after number old entry
+ChecksAs number (Err fault) old new = ⊥
 
--- what is known behind a line: it is passed over, or says a message
-abbrev pub Checks : Form → List ℕ → WatchParts → WatchParts → Type 0
-Checks form text old new = MatchBool (is_passed_over text) (new ≡ old) (ChecksAs (line_entry form text) old new)
+-- what is known behind the line of a number: it is passed over, or says a message
+abbrev pub Checks : Form → ℕ → List ℕ → VenueParts → VenueParts → Type 0
+Checks form number text old new =
+    MatchBool (is_passed_over text) (new ≡ old) (ChecksAs number (line_entry form text) old new)
 
 -- a line that is at fault is named, with its fault
 abbrev pub NamesBadLine : Form → ℕ → List ℕ → CommandFault → Type 0

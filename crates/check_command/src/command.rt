@@ -3,6 +3,7 @@ ghost use Rattle.std.specs.Prelude.{IfErr};
 ghost use Rattle.check_command.specs.Fault.{IsOfCommandLine};
 
 use crate::fault::CommandFault;
+use crate::finding::Printing;
 use crate::form::Form;
 use clap::{Arg, ArgAction, Command};
 use fix_tags::CompId;
@@ -33,11 +34,15 @@ Blank lines and lines that begin with # are passed over. Printed are, for each l
 and with --legs, for each order and then for each sweep:
   leg S1L1 taken number 3 sent 1 IBM buy 100 10.25 filled 60 busted 0 cancelled 40 withdrawn 0 open 0
   sweep 1 legs 100 filled 60 busted 0 cancelled 40 withdrawn 0 open 0
+With sweeps.log among the logs, behind all of them what the day came to, for each sweep that was placed, and then
+whether each sentence of the sweep theorem holds, or where it doesn't:
+  sentence order holds                or `broken PATH line N: what it says`, and the line below it
 
-The exit status is 0, or 8 where a rule is broken.
+The exit status is 0, or 8 where a rule or a sentence is broken.
 
 Examples:
-  dispatch check day/NYSE.log day/ARCA.log";
+  dispatch check day/NYSE.log day/ARCA.log
+  dispatch check day/*.log";
 
 /// What the words ask for.
 #[derive(Drop)]
@@ -47,7 +52,20 @@ pub(crate) struct Request<'a> {
     /// Whether JSON is printed in place of text.
     pub is_json: bool,
     /// Whether it is told what became of each leg.
-    pub keeps_legs: bool,
+    pub tells_legs: bool,
+}
+
+impl<'a> Request<'a> {
+    /// How what is said of a log is printed, of a day's where the day is judged too.
+    pub(crate) fn printing<'b>(&'b self, log: &'b str, is_of_day: bool) -> Printing<'b> {
+        Printing {
+            log,
+            form: &self.form,
+            is_json: self.is_json,
+            tells_legs: self.tells_legs,
+            keeps_legs: self.tells_legs || is_of_day,
+        }
+    }
 }
 
 fn from_arg<'a>(alloc: Global) -> Result<Arg<'a>, AllocError> {
@@ -88,7 +106,7 @@ pub fn check_command<'a>(alloc: Global) -> Result<Command<'a>, AllocError> {
         .after_help(OUTPUT)
         .arg(
             Arg::new(alloc, LOG)
-                .help("the logs, each of one venue's day")
+                .help("the logs, each of one venue's day, and sweeps.log")
                 .action(ArgAction::Append)
                 .num_args(1..)
                 .required(true),
@@ -127,11 +145,11 @@ pub(crate) fn read_words<'a, S: AsStr>(
         None => Vec::new(alloc),
     };
     let is_json = matches.get_flag(JSON);
-    let keeps_legs = matches.get_flag(LEGS);
+    let tells_legs = matches.get_flag(LEGS);
     Ok(Request {
         paths,
         form,
         is_json,
-        keeps_legs,
+        tells_legs,
     })
 }

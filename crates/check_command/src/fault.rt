@@ -22,6 +22,9 @@ pub enum CommandFault {
     /// This line of the log, counted from 1, says nothing.
     #[error("line {number}: {fault}")]
     BadLine { number: u64, fault: LineFault },
+    /// Beside the log of a desk's lines a log isn't called after a venue, or two are, or they are too many.
+    #[error("beside sweeps.log each log is called after its venue, as NYSE.log, at most 16 and no two alike")]
+    BadName,
     #[error("read failed")]
     ReadFailed,
     #[error("write failed")]
@@ -47,7 +50,7 @@ impl Fault for CommandFault {
 
     fn status(&self) -> u8 {
         match self {
-            CommandFault::CommandLine(_) | CommandFault::BadDesk => 2,
+            CommandFault::CommandLine(_) | CommandFault::BadDesk | CommandFault::BadName => 2,
             CommandFault::BadLine { .. } => 3,
             CommandFault::ReadFailed | CommandFault::WriteFailed => 4,
             CommandFault::OutOfMemory => 5,

@@ -16,6 +16,8 @@ pub(crate) struct Printing<'a> {
     /// Whether JSON is printed in place of text.
     pub is_json: bool,
     /// Whether it is told what became of each leg.
+    pub tells_legs: bool,
+    /// Whether orders are kept: it is told what became of them, or they are judged with the day.
     pub keeps_legs: bool,
 }
 

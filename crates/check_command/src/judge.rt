@@ -5,9 +5,9 @@ ghost use Rattle.check_command.specs.declared.form.Form.TheVariants.{Own, Quickf
 ghost use Rattle.check_command.specs.Judge.{Judges, direction_told, entry_told, line_entry, message_in, message_of};
 
 use crate::form::Form;
+use day_rules::VenueDay;
 use fix_tags::{CompId, EnvelopeRef, Stamp, read_envelope};
 use fix_text::{Frame, FrameReader};
-use log_legs::Watch;
 use log_rules::{Checker, Entry, Verdict};
 use log_text::{LineFault, LogLine, direction_between, read_line, read_quickfix};
 use message_log::Direction;
@@ -37,15 +37,16 @@ fn judge_message(
     stamp: Stamp,
     way: &Way<'_>,
     message: &EnvelopeRef<'_>,
-    watch: &mut Watch,
+    number: u64,
+    day: &mut VenueDay,
 ) -> Result<[Verdict; 14], LineFault>
-    ensures { Judges (entry_told stamp (direction_told way.now) (Some message.now)) watch.old watch.new result }
+    ensures { Judges number (entry_told stamp (direction_told way.now) (Some message.now)) day.old day.new result }
 {
     let Some(direction) = direction_of(way, message) else {
         return Err(LineFault::Parties);
     };
     let line = LogLine { stamp, direction };
-    match watch.hear(&Entry::new(&line, message)) {
+    match day.hear(number, &Entry::new(&line, message)) {
         Ok(verdicts) => Ok(verdicts),
         Err(_) => Err(LineFault::OutOfMemory),
     }
@@ -56,13 +57,14 @@ fn judge_frame(
     stamp: Stamp,
     way: &Way<'_>,
     frame: &Frame<'_>,
-    watch: &mut Watch,
+    number: u64,
+    day: &mut VenueDay,
 ) -> Result<[Verdict; 14], LineFault>
-    ensures { Judges (entry_told stamp (direction_told way.now) (message_of (Some (fields_in frame.now))))
-        watch.old watch.new result }
+    ensures { Judges number (entry_told stamp (direction_told way.now) (message_of (Some (fields_in frame.now))))
+        day.old day.new result }
 {
     match read_envelope(frame) {
-        Ok(message) => judge_message(stamp, way, &message, watch),
+        Ok(message) => judge_message(stamp, way, &message, number, day),
         Err(_) => Ok(Checker::unread()),
     }
 }
@@ -73,16 +75,17 @@ fn judge(
     stamp: Stamp,
     way: &Way<'_>,
     bytes: &[u8],
-    watch: &mut Watch,
+    number: u64,
+    day: &mut VenueDay,
 ) -> Result<[Verdict; 14], LineFault>
-    ensures { Judges (entry_told stamp (direction_told way.now) (message_in bytes.now)) watch.old watch.new result }
+    ensures { Judges number (entry_told stamp (direction_told way.now) (message_in bytes.now)) day.old day.new result }
 {
     let mut reader = FrameReader::new(alloc);
     if reader.feed(bytes).is_err() {
         return Err(LineFault::OutOfMemory);
     }
     match reader.next() {
-        Ok(Some(frame)) => judge_frame(stamp, way, &frame, watch),
+        Ok(Some(frame)) => judge_frame(stamp, way, &frame, number, day),
         Ok(None) => Ok(Checker::unread()),
         Err(_) => Err(LineFault::OutOfMemory),
     }
@@ -93,9 +96,10 @@ fn judge_own(
     alloc: Global,
     line: &[u8],
     buffer: &mut Vec<u8>,
-    watch: &mut Watch,
+    number: u64,
+    day: &mut VenueDay,
 ) -> Result<[Verdict; 14], LineFault>
-    ensures { Judges (line_entry Own line.now) watch.old watch.new result }
+    ensures { Judges number (line_entry Own line.now) day.old day.new result }
 {
     let said = match read_line(line, buffer) {
         Ok(said) => said,
@@ -106,7 +110,8 @@ fn judge_own(
         said.stamp,
         &Way::Said(said.direction),
         buffer.as_slice(),
-        watch,
+        number,
+        day,
     )
 }
 
@@ -115,15 +120,23 @@ fn judge_quickfix(
     alloc: Global,
     desk: &CompId,
     line: &[u8],
-    watch: &mut Watch,
+    number: u64,
+    day: &mut VenueDay,
 ) -> Result<[Verdict; 14], LineFault>
-    ensures { Judges (line_entry (Quickfix desk.now) line.now) watch.old watch.new result }
+    ensures { Judges number (line_entry (Quickfix desk.now) line.now) day.old day.new result }
 {
     let said = match read_quickfix(line) {
         Ok(said) => said,
         Err(fault) => return Err(fault),
     };
-    judge(alloc, said.stamp, &Way::Names(desk), said.message, watch)
+    judge(
+        alloc,
+        said.stamp,
+        &Way::Names(desk),
+        said.message,
+        number,
+        day,
+    )
 }
 
 /// What the message of a line says of each rule, in the order of `RULES`. It is put into the buffer where the line has
@@ -133,12 +146,13 @@ pub(crate) fn judge_line(
     form: &Form,
     line: &[u8],
     buffer: &mut Vec<u8>,
-    watch: &mut Watch,
+    number: u64,
+    day: &mut VenueDay,
 ) -> Result<[Verdict; 14], LineFault>
-    ensures { Judges (line_entry form.now line.now) watch.old watch.new result }
+    ensures { Judges number (line_entry form.now line.now) day.old day.new result }
 {
     match form {
-        Form::Own => judge_own(alloc, line, buffer, watch),
-        Form::Quickfix { desk } => judge_quickfix(alloc, desk, line, watch),
+        Form::Own => judge_own(alloc, line, buffer, number, day),
+        Form::Quickfix { desk } => judge_quickfix(alloc, desk, line, number, day),
     }
 }

@@ -1,12 +1,13 @@
 //! A log that is checked.
 ghost use Rattle.std.specs.Prelude.{◌≡◌, IfErr, OnOk};
+ghost use Rattle.check_command.specs.Fault.{IsOfLogs};
 ghost use Rattle.check_command.specs.Judge.{Checks, IsOfPrinting, NamesBadLine};
 
 use crate::fault::CommandFault;
 use crate::finding::{Printing, finding, summary_of};
 use crate::judge::judge_line;
 use command_line::print;
-use log_legs::Watch;
+use day_rules::VenueDay;
 use log_rules::{RULES, Tally, Verdict};
 use log_text::is_passed_over;
 use std::alloc::{AllocError, Global};
@@ -15,7 +16,7 @@ use std::io::Write;
 /// A log that is checked: what is known behind the lines that were read, and how often each rule was held and broken.
 #[derive(Drop)]
 pub(crate) struct LogCheck {
-    watch: Watch,
+    day: VenueDay,
     message: Vec<u8>,
     tallies: [Tally; 14],
 }
@@ -23,13 +24,13 @@ pub(crate) struct LogCheck {
 impl LogCheck {
     /// Nothing is read yet; the orders are kept where they are asked for.
     pub(crate) fn new(alloc: Global, keeps_legs: bool) -> LogCheck {
-        let watch = if keeps_legs {
-            Watch::of_legs(alloc)
+        let day = if keeps_legs {
+            VenueDay::of_legs(alloc)
         } else {
-            Watch::of_rules(alloc)
+            VenueDay::of_rules(alloc)
         };
         LogCheck {
-            watch,
+            day,
             message: Vec::new(alloc),
             tallies: [Tally::new(); 14],
         }
@@ -45,7 +46,7 @@ impl LogCheck {
         verdicts: &[Verdict; 14],
         out: &mut W,
     ) -> Result<(), CommandFault>
-        ensures watch { self.new.watch ≡ self.old.watch }
+        ensures day { self.new.day ≡ self.old.day }
         ensures only { IfErr result IsOfPrinting }
     {
         for place in 0..14 {
@@ -67,8 +68,9 @@ impl LogCheck {
         line: &[u8],
         out: &mut W,
     ) -> Result<(), CommandFault>
-        ensures watch { OnOk result (Checks printing.now.form.now line.now self.old.watch self.new.watch) }
+        ensures day { OnOk result (Checks printing.now.form.now number line.now self.old.day self.new.day) }
         ensures named { IfErr result (NamesBadLine printing.now.form.now number line.now) }
+        ensures only { IfErr result IsOfLogs }
     {
         if is_passed_over(line) {
             return Ok(());
@@ -78,7 +80,8 @@ impl LogCheck {
             printing.form,
             line,
             &mut self.message,
-            &mut self.watch,
+            number,
+            &mut self.day,
         );
         let verdicts = match judged {
             Ok(verdicts) => verdicts,
@@ -102,10 +105,16 @@ impl LogCheck {
     }
 
     /// What is known behind the lines.
-    pub(crate) fn watch(&self) -> &Watch
-        ensures { result.now ≡ self.now.watch }
+    pub(crate) fn day(&self) -> &VenueDay
+        ensures { result.now ≡ self.now.day }
     {
-        &self.watch
+        &self.day
+    }
+
+    pub(crate) fn into_day(self) -> VenueDay
+        ensures { result ≡ self.day }
+    {
+        self.day
     }
 
     /// Whether a rule is broken.

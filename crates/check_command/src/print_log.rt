@@ -1,5 +1,8 @@
 //! What is printed of a log.
 
+ghost use Rattle.std.specs.Prelude.{IfErr};
+ghost use Rattle.check_command.specs.Fault.{IsOfLogs};
+
 use crate::fault::CommandFault;
 use crate::finding::Printing;
 use crate::input::{read_text, without_end};
@@ -16,7 +19,9 @@ fn check_lines<R: BufRead, W: Write>(
     printing: &Printing<'_>,
     input: &mut R,
     out: &mut W,
-) -> Result<LogCheck, CommandFault> {
+) -> Result<LogCheck, CommandFault>
+    ensures { IfErr result IsOfLogs }
+{
     let mut log = LogCheck::new(alloc, printing.keeps_legs);
     let mut line = Vec::new(alloc);
     for number in 1..u64::MAX {
@@ -34,7 +39,9 @@ fn print_legs<W: Write>(
     printing: &Printing<'_>,
     watch: &Watch,
     out: &mut W,
-) -> Result<(), CommandFault> {
+) -> Result<(), CommandFault>
+    ensures { IfErr result IsOfLogs }
+{
     let lines = if printing.is_json {
         legs_json(alloc, printing.log, watch)?
     } else {
@@ -45,21 +52,23 @@ fn print_legs<W: Write>(
 }
 
 /// Prints the rules that the lines of a log break, then a line for each rule, and then, where it is asked for, what
-/// became of its orders. Answers whether one is broken.
+/// became of its orders.
 pub(crate) fn print_log<R: BufRead, W: Write>(
     alloc: Global,
     printing: &Printing<'_>,
     input: &mut R,
     out: &mut W,
-) -> Result<bool, CommandFault> {
+) -> Result<LogCheck, CommandFault>
+    ensures { IfErr result IsOfLogs }
+{
     if !printing.is_json {
         let path = printing.log;
         print(format!(in alloc; "log {path}\n")?.as_bytes(), out)?;
     }
     let log = check_lines(alloc, printing, input, out)?;
     print(&log.summary(alloc, printing)?, out)?;
-    if printing.keeps_legs {
-        print_legs(alloc, printing, log.watch(), out)?;
+    if printing.tells_legs {
+        print_legs(alloc, printing, log.day().watch(), out)?;
     }
-    Ok(log.is_broken())
+    Ok(log)
 }
