@@ -4,7 +4,7 @@ use crate::note_words::{leg_id, note_of};
 use crate::sweep_text::{any_venue, sweep_of};
 use case_text::{Answers, PlayFault, number};
 use leg::Totals;
-use share_ledger::{Applied, Book, BookFault};
+use share_ledger::{Applied, Book, BookFault, BookedLeg};
 use std::alloc::Global;
 
 /// A book of so many venues.
@@ -51,6 +51,19 @@ fn tell_totals(
     answers.say(&text)
 }
 
+fn tell_leg(alloc: Global, leg: Option<BookedLeg>, answers: &mut Answers) -> Result<(), PlayFault> {
+    let Some(BookedLeg { venue, parts }) = leg else {
+        return answers.say("no leg");
+    };
+    let (venue, filled, busted) = (venue.number(), parts.filled(), parts.busted());
+    let (cancelled, withdrawn) = (parts.cancelled(), parts.withdrawn());
+    let still_open = parts.still_open();
+    let text = format!(in alloc;
+        "venue {venue}, filled {filled}, busted {busted}, cancelled {cancelled}, withdrawn {withdrawn}, open {still_open}"
+    )?;
+    answers.say(&text)
+}
+
 /// Opens a sweep under a number: the text is the number, and behind it the sweep's legs.
 pub fn open(
     alloc: Global,
@@ -92,6 +105,12 @@ pub fn call(
         ["venue", venue, note @ ..] => apply(alloc, book, venue, note, answers),
         ["withdraw", id] => tell_done(alloc, book.withdraw(leg_id(id)?), answers),
         ["totals", sweep] => tell_totals(alloc, book.totals(number(sweep)?), answers),
+        ["leg", id] => tell_leg(alloc, book.leg(leg_id(id)?), answers),
+        ["number", "next"] => {
+            let number = book.next_sweep();
+            let text = format!(in alloc; "sweep {number}")?;
+            answers.say(&text)
+        }
         ["resolved", venue] => {
             let shares = book.venue_resolved(any_venue(venue)?);
             let text = format!(in alloc; "{shares} shares")?;

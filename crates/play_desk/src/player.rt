@@ -80,9 +80,10 @@ impl DeskPlayer {
             }
             ["history", "desk"] => history::tell_desk(alloc, self.desk()?, answers),
             ["history", "book"] => history::tell_book(alloc, self.book()?, answers),
-            ["venue" | "withdraw" | "totals" | "resolved", ..] => {
-                book_calls::call(alloc, self.book()?, words, answers)
-            }
+            [
+                "venue" | "withdraw" | "totals" | "resolved" | "leg" | "number",
+                ..
+            ] => { book_calls::call(alloc, self.book()?, words, answers) }
             _ => desk_calls::call(alloc, self.desk()?, words, answers),
         }
     }

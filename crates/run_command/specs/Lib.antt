@@ -1,4 +1,5 @@
 pub mod Fault
 pub mod Text
+pub mod JsonText
 pub mod Running
 pub mod Folder

@@ -2,7 +2,8 @@
 //!
 //! Promises:
 //! - The exit status is 0, or that of the fault (`run_run`). A fault of the words or of the file prints nothing.
-//! - What is printed behind a day is exactly the stated text of what became of it (`day_text`).
+//! - What is printed behind a day is exactly the stated text of what became of it (`day_text`, or `json_text` with
+//!   `--json`).
 //! - Want of memory while the file is read is never told as a fault of the file (`file_fault`, private).
 //! - The folder of the logs is that which the file names, from the file's own folder on (`folder_of`, private).
 //! - That `--check` prints the file's venues, and that a day runs as the command line asks, is only tested.
@@ -10,11 +11,14 @@
 //! See `docs/run.md`.
 #![tactic(auto)]
 
-ghost use Rattle.std.specs.Prelude.{IfErr};
+ghost use Rattle.std.specs.Prelude.{◌≡◌, IfErr, IfOk};
 ghost use Rattle.desk_config.specs.Apart.{AreVenues};
+ghost use Rattle.run_command.specs.JsonText.{json_text};
 ghost use Rattle.run_command.specs.Running.{EndsRun, ExitsSo, IsOfDay};
+ghost use Rattle.run_command.specs.Text.{day_text};
 
 mod check;
+mod end_json;
 mod fault;
 mod file;
 mod folder;
@@ -26,8 +30,10 @@ use crate::file::read_file;
 use crate::folder::folder_of;
 use command_line::{finish, print};
 use desk_config::DeskConfig;
-use desk_run::{DeskInput, Manner, run_day};
+use desk_run::{DayOptions, DeskDay, DeskInput, run_day};
+pub use end_json::json_text;
 pub use fault::CommandFault;
+use json_lines::Form;
 pub use options::{Options, read_options, run_command};
 use std::alloc::{AllocError, Global};
 use std::convert::AsStr;
@@ -96,15 +102,12 @@ where
         return Ok(print(&check_text(alloc, &config)?, out)?);
     }
     let folder = log_folder(alloc, options.file, &config)?;
-    run_config(
-        rt,
-        alloc,
-        &config,
-        options.manner,
-        folder.as_deref(),
-        input,
-        out,
-    )
+    let day = DayOptions {
+        manner: options.manner,
+        form: options.form,
+        folder: folder.as_deref(),
+    };
+    run_config(rt, alloc, &config, day, input, out)
 }
 
 /// The folder of the logs that the configuration of a file asks for, if it does.
@@ -119,13 +122,23 @@ fn log_folder(
     }
 }
 
-/// Runs the day of a configuration, with its logs in a folder, if it has one.
+/// What is printed at the end of a day, in this form.
+fn end_text(alloc: Global, form: Form, day: &DeskDay) -> Result<Vec<u8>, AllocError>
+    ensures words { form ≡ Form.Words → IfOk result (λ text. text.items ≡ day_text day.now) }
+    ensures json { form ≡ Form.Json → IfOk result (λ text. text.items ≡ json_text day.now) }
+{
+    match form {
+        Form::Words => day_text(alloc, day),
+        Form::Json => json_text(alloc, day),
+    }
+}
+
+/// Runs the day of a configuration.
 fn run_config<R, I, W>(
     rt: &R,
     alloc: Global,
     config: &DeskConfig,
-    manner: Manner,
-    folder: Option<&str>,
+    options: DayOptions<'_>,
     input: &mut I,
     out: &mut W,
 ) -> Result<(), CommandFault>
@@ -143,16 +156,8 @@ where
 {
     let fd = input.as_raw_fd();
     let input = DeskInput { input, fd };
-    let day = run_day(
-        rt,
-        alloc,
-        config.venues.as_slice(),
-        manner,
-        folder,
-        input,
-        &mut *out,
-    )?;
-    print(&day_text(alloc, &day)?, out)?;
+    let day = run_day(rt, alloc, config, options, input, &mut *out)?;
+    print(&end_text(alloc, options.form, &day)?, out)?;
     match day.broken_off {
         Some(fault) => Err(CommandFault::from(fault)),
         None if day.is_given_up || !day.doubts.is_empty() => Err(CommandFault::GivenUp),

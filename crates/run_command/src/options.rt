@@ -3,14 +3,17 @@ ghost use Rattle.std.specs.Prelude.{◌≡◌, IfErr};
 
 use crate::fault::CommandFault;
 use clap::{Arg, ArgAction, ArgMatches, Command};
-use desk_run::Manner;
+use desk_floor::Manner;
 use fix_tags::read_number;
+use json_lines::Form;
 use std::alloc::{AllocError, Global};
 use std::convert::AsStr;
 
 const FILE: &str = "FILE";
 
 const CHECK: &str = "check";
+
+const JSON: &str = "json";
 
 const PATIENCE: &str = "patience";
 
@@ -41,6 +44,7 @@ pub struct Options<'a> {
     /// Whether the file is only read, and told.
     pub checks: bool,
     pub manner: Manner,
+    pub form: Form,
 }
 
 fn flag<'a>(alloc: Global, name: &'a str, help: &'a str) -> Arg<'a> {
@@ -67,7 +71,8 @@ pub fn run_command<'a>(alloc: Global) -> Result<Command<'a>, AllocError> {
         .arg(file)?
         .arg(flag(alloc, CHECK, "reads the file, and says what it would do"))?
         .arg(patience)?
-        .arg(flag(alloc, QUIET, "tells no changes while they come"))
+        .arg(flag(alloc, QUIET, "tells no changes while they come"))?
+        .arg(flag(alloc, JSON, "writes each line as an object of JSON"))
 }
 
 /// The patience that the command line asks for.
@@ -100,6 +105,11 @@ pub fn read_options<'a, S: AsStr>(
         manner: Manner {
             patience,
             tells_news: !matches.get_flag(QUIET),
+        },
+        form: if matches.get_flag(JSON) {
+            Form::Json
+        } else {
+            Form::Words
         },
     })
 }

@@ -38,7 +38,7 @@ fn write_totals(text: &mut String, report: DayReport) -> Result<(), AllocError>
 }
 
 /// The shares of a day.
-fn totals_of(report: DayReport) -> DayTotals
+pub(crate) fn totals_of(report: DayReport) -> DayTotals
     ensures { result ≡ totals_of report }
 {
     DayTotals {

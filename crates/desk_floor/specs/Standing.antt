@@ -1,0 +1,71 @@
+-- How a venue stands: by what its worker told of its session, whether its gate is shut, and the dial that failed last.
+use Rattle.std.specs.Prelude.{ℕ, Bool, true, false, ◌||◌, ◌==◌, nat_lt, nat_le, List, Option, Some, None, codes, if◌then◌else◌}
+use Rattle.leg.specs.Split.{SplitParts}
+use Rattle.leg.specs.declared.leg_state.LegState.{LegState}
+use Rattle.leg.specs.declared.leg_state.LegState.TheVariants.{Queued, Doubt, Taken, Withdrawn}
+use Rattle.session_core.specs.declared.ended.Ended.TheVariants.{PeerLogout}
+use Rattle.link.specs.declared.dial_error.DialError.{DialError}
+use Rattle.link.specs.declared.dial_error.DialError.TheVariants.{Refused, TimedOut, HostUnreachable, NetworkUnreachable, Other}
+use Rattle.venue_board.specs.declared.loss.Loss.{Loss}
+use Rattle.venue_board.specs.declared.loss.Loss.TheVariants as loss
+use Rattle.venue_board.specs.declared.progress.Progress.{Progress}
+use Rattle.venue_board.specs.declared.progress.Progress.TheVariants as progress
+use Rattle.desk_news.specs.declared.cause.Cause.{Cause}
+use Rattle.desk_news.specs.declared.cause.Cause.TheVariants.{Ended, Lost}
+use Rattle.desk_news.specs.declared.venue_state.VenueState.{VenueState}
+use Rattle.desk_news.specs.declared.venue_state.VenueState.TheVariants as state
+use Rattle.desk_words.specs.Printable.{shown}
+use Rattle.desk_floor.specs.declared.standing.Standing.{Standing}
+use Rattle.desk_floor.specs.declared.standing.Standing.TheVariants.{Dialled, Up, Down, Unreachable, Closed, Closing}
+
+-- whether the exchange logged out, which ends its session for the day
+abbrev pub is_logout : Loss → Bool
+is_logout (loss.Ended PeerLogout) = true
+is_logout other = false
+
+-- why the last dial failed; one of which nothing is known failed otherwise than for a reason that has a name
+abbrev pub error_or_other : Option DialError → DialError
+error_or_other (Some error) = error
+error_or_other None = Other
+
+-- how a venue stands whose worker told this, whose gate is shut or not, and whose last dial failed so
+abbrev pub standing_of : Progress → Bool → Option DialError → Standing
+standing_of (progress.Down why) is_shut error = if is_shut || is_logout why then Closed why else Down why
+standing_of progress.Dialled is_shut error = if is_shut then Closing else Dialled
+standing_of progress.Up is_shut error = if is_shut then Closing else Up
+standing_of progress.Unreachable is_shut error = if is_shut then Closing else Unreachable (error_or_other error)
+
+-- why a connection ended, as a desk is told
+abbrev pub cause_of : Loss → Cause
+cause_of (loss.Ended ended) = Ended ended
+cause_of loss.PeerClosed = Lost (shown 200 (codes "it closed the connection"))
+cause_of loss.ReadFailed = Lost (shown 200 (codes "read failed"))
+cause_of loss.WriteFailed = Lost (shown 200 (codes "write failed"))
+cause_of loss.OutOfMemory = Lost (shown 200 (codes "out of memory"))
+cause_of loss.NumbersSpent = Lost (shown 200 (codes "no number is left for a logon"))
+
+-- why a dial failed, as a desk is told
+abbrev pub dial_text : DialError → List ℕ
+dial_text Refused = shown 200 (codes "connection refused")
+dial_text TimedOut = shown 200 (codes "timed out")
+dial_text HostUnreachable = shown 200 (codes "host unreachable")
+dial_text NetworkUnreachable = shown 200 (codes "network unreachable")
+dial_text Other = shown 200 (codes "dial failed")
+
+-- what a desk is told of it, where the pause before the next dial lasts so many seconds
+abbrev pub state_of : Standing → ℕ → VenueState
+state_of Dialled seconds = state.Dialled
+state_of Up seconds = state.Up
+state_of (Down why) seconds = state.Down (cause_of why)
+state_of (Unreachable error) seconds = state.Unreachable (dial_text error) seconds
+state_of (Closed why) seconds = state.Closed (cause_of why)
+state_of Closing seconds = state.Closed (Lost (shown 200 (codes "the day is closing")))
+
+-- how far a leg has come: the book has these parts of it, it is this one of its venue's legs, so many of which were
+-- taken, and none up to the settled one is in doubt
+abbrev pub leg_state_of : SplitParts → ℕ → ℕ → ℕ → LegState
+leg_state_of parts ordinal taken settled =
+    if nat_lt 0 parts.withdrawn then Withdrawn
+    else if nat_lt taken ordinal then Queued
+    else if nat_le ordinal settled || parts.still_open == 0 then Taken
+    else Doubt

@@ -1,0 +1,187 @@
+//! What the threads of a day share.
+
+ghost use Rattle.std.specs.Prelude.{◌≡◌, ◌≤◌, length};
+
+use crate::bells::Bells;
+use crate::counter::Counter;
+use crate::refusals::Refusals;
+use crate::signals::{Manner, Signals};
+use crate::standing::Standing;
+use crate::talk_fault::TalkFault;
+use crate::venue_view::{Seen, VenueView};
+use crate::voice::Voice;
+use day_log::{LineLog, VenueLog};
+use desk_news::DayTotals;
+use desk_words::VenueName;
+use exec_collector::Collector;
+use json_lines::Line;
+use leg::VenueId;
+use release_lock::{CallerSeat, ReleaseLock, Run};
+use session_worker::Stop;
+use share_ledger::Book;
+use std::alloc::{AllocError, Global};
+use std::io::Write;
+use std::sync::ledger::Ledger;
+use std::sync::{Arc, Mutex, Wait};
+use std::thread;
+use std::time::{Clock, Duration};
+
+/// How many milliseconds pass between two looks whether the venues are up.
+const LOOK_MILLIS: u64 = 5;
+
+/// For how many such looks the first line is kept waiting for venues to come up: two seconds.
+const LOOKS: u64 = 400;
+
+/// What the threads of a day share.
+#[derive(Drop)]
+pub struct Floor<L: Run, M: Ledger, W: Write + Drop> {
+    /// The names of the venues, each at the place that is its number.
+    pub names: Vec<VenueName>,
+    /// What is seen of them, in the same order.
+    pub views: Vec<VenueView>,
+    pub manner: Manner,
+    pub lock: ReleaseLock<L>,
+    pub collector: Collector<M>,
+    /// On whose seat all who hand sweeps in count.
+    pub counter: Mutex<Counter<L>>,
+    /// The sweeps that were refused.
+    pub refusals: Refusals,
+    pub voice: Voice<W>,
+    /// The log of the lines that are taken and answered, if one is kept.
+    pub line_log: Option<Arc<VenueLog, Global>>,
+    pub signals: Signals,
+    /// What wakes the workers.
+    pub bells: Bells,
+    /// What tells the workers to stop.
+    pub stop: Stop,
+    ghost few: { length names.items ≤ 16 },
+}
+
+/// What its threads leave.
+#[derive(Drop)]
+pub struct Left<L: Run, M: Ledger> {
+    pub names: Vec<VenueName>,
+    pub lock: ReleaseLock<L>,
+    pub collector: Collector<M>,
+    pub seat: CallerSeat<L>,
+}
+
+impl<L: Run, M: Ledger, W: Write + Drop> Floor<L, M, W> {
+    /// What is seen of the venue at a place, if there is one. It waits for no lock.
+    pub fn seen(&self, place: usize) -> Option<Seen> {
+        let venue = VenueId::new(u8::try_from(place).ok()?).ok()?;
+        let view = self.views.get(place)?;
+        Some(view.seen(venue, self.lock.is_shut(venue)))
+    }
+
+    /// Whether each venue is up.
+    fn are_up(&self) -> bool {
+        for place in 0..self.names.len() {
+            match self.seen(place) {
+                Some(seen) if seen.standing == Standing::Up => {}
+                _ => return false,
+            }
+        }
+        true
+    }
+
+    /// Waits until each venue is up, but no longer than two seconds.
+    pub fn await_venues<R: Wait + Clock>(&self, rt: &R) {
+        for _ in 0..LOOKS {
+            if self.signals.is_ending() || self.are_up() {
+                return;
+            }
+            thread::sleep(rt, Duration::from_millis(LOOK_MILLIS));
+        }
+    }
+
+    /// Answers a line, in the log too.
+    pub fn answer<'a, T: Line, R: Wait, C: clock::Clock + Drop>(
+        &self,
+        rt: &'a R,
+        log: &mut LineLog<'a, R, C>,
+        answer: &T,
+    ) -> Result<(), TalkFault> {
+        log.answered(answer);
+        self.voice.say(rt, answer)
+    }
+
+    /// The log of the lines, if one is kept.
+    pub fn line_log(&self) -> Result<Option<Arc<VenueLog, Global>>, AllocError> {
+        match &self.line_log {
+            Some(log) => Ok(Some(log.clone()?)),
+            None => Ok(None),
+        }
+    }
+
+    /// Whether all shares placed are filled, busted, cancelled or withdrawn.
+    pub fn is_resolved(&self, rt: &impl Wait) -> bool {
+        self.signals.placed() <= self.collector.resolved(rt)
+    }
+
+    /// The day is to close; the second time it is given up.
+    pub fn close(&self) {
+        if self.signals.close() {
+            self.give_up();
+        }
+    }
+
+    /// The workers are told to stop, once: they shut their gates and close their sessions in order.
+    pub fn stop(&self) {
+        if !self.signals.stop_workers() {
+            self.stop.tell();
+            self.bells.ring_all();
+        }
+    }
+
+    /// The day is to close, and its workers give up their sessions.
+    pub fn give_up(&self) {
+        self.signals.close();
+        self.stop();
+        self.stop.tell();
+        self.bells.ring_all();
+    }
+
+    /// How many sweeps were placed. It may wait for the book's lock.
+    pub fn sweeps(&self, rt: &impl Wait) -> u64 {
+        self.collector.read(rt, |book: &Book| book.next_sweep()) - 1
+    }
+
+    /// The shares of the day. It may wait for the book's lock.
+    pub fn totals(&self, rt: &impl Wait) -> DayTotals {
+        let resolved = self.collector.resolved(rt);
+        let placed = self.signals.placed();
+        DayTotals {
+            placed,
+            resolved,
+            still_open: placed.saturating_sub(resolved),
+        }
+    }
+
+    /// What is left once no thread shares it any more.
+    pub fn into_left(self) -> Left<L, M>
+        ensures names { result.names ≡ self.names }
+        ensures seat { result.seat.parts ≡ 1024 }
+    {
+        let Floor {
+            names,
+            views: _,
+            manner: _,
+            lock,
+            collector,
+            counter,
+            refusals: _,
+            voice: _,
+            line_log: _,
+            signals: _,
+            bells: _,
+            stop: _,
+        } = self;
+        Left {
+            names,
+            lock,
+            collector,
+            seat: counter.into_inner().into_seat(),
+        }
+    }
+}

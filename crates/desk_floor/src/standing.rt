@@ -1,0 +1,118 @@
+//! How a venue stands, by what its worker told, its gate, and the dial that failed last.
+
+ghost use Rattle.std.specs.Prelude.{◌≡◌};
+ghost use Rattle.desk_news.specs.declared.cause.Cause.TheVariants.{Lost};
+ghost use Rattle.desk_words.specs.Printable.{shown};
+ghost use Rattle.desk_floor.specs.Standing.{cause_of, dial_text, is_logout, standing_of, state_of};
+
+use desk_news::{Cause, Told, VenueState};
+use desk_words::shown;
+use link::DialError;
+use session_core::Ended;
+use venue_board::{Loss, Progress};
+
+/// How a venue stands.
+#[derive(Clone, Copy, Debug, PartialEq, Eq)]
+pub enum Standing {
+    /// It was neither up yet nor has a dial failed.
+    Dialled,
+    Up,
+    /// Its connection ended so, and is dialled again.
+    Down(Loss),
+    /// The last dial failed so.
+    Unreachable(DialError),
+    /// Its connection ended so, and the venue takes no orders any more.
+    Closed(Loss),
+    /// It takes no orders any more, since the day closes.
+    Closing,
+}
+
+/// Whether the exchange logged out: its session is over then, though its gate may be shut a moment later.
+fn is_logout(loss: Loss) -> bool
+    ensures { result ≡ is_logout loss }
+{
+    match loss {
+        Loss::Ended(Ended::PeerLogout) => true,
+        Loss::Ended(_) => false,
+        Loss::PeerClosed => false,
+        Loss::ReadFailed => false,
+        Loss::WriteFailed => false,
+        Loss::OutOfMemory => false,
+        Loss::NumbersSpent => false,
+    }
+}
+
+/// How a venue stands whose worker told this, and whose gate is shut or not. A dial that failed for a reason which
+/// isn't known failed otherwise than for those that have a name.
+pub fn standing_of(progress: Progress, is_shut: bool, error: Option<DialError>) -> Standing
+    ensures { result ≡ standing_of progress is_shut error }
+{
+    match progress {
+        Progress::Down(loss) if is_shut || is_logout(loss) => Standing::Closed(loss),
+        Progress::Down(loss) => Standing::Down(loss),
+        _ if is_shut => Standing::Closing,
+        Progress::Dialled => Standing::Dialled,
+        Progress::Up => Standing::Up,
+        Progress::Unreachable => Standing::Unreachable(error.unwrap_or(DialError::Other)),
+    }
+}
+
+/// Words as they are told.
+fn told(words: &[u8]) -> Told
+    ensures { result ≡ shown 200 words.now }
+{
+    shown(words)
+}
+
+/// A cause in words.
+fn lost(words: &[u8]) -> Cause
+    ensures { result ≡ Lost (shown 200 words.now) }
+{
+    Cause::Lost(told(words))
+}
+
+/// Why a connection ended, in words or by its ending.
+fn cause_of(loss: Loss) -> Cause
+    ensures { result ≡ cause_of loss }
+{
+    match loss {
+        Loss::Ended(ended) => Cause::Ended(ended),
+        Loss::PeerClosed => lost(b"it closed the connection"),
+        Loss::ReadFailed => lost(b"read failed"),
+        Loss::WriteFailed => lost(b"write failed"),
+        Loss::OutOfMemory => lost(b"out of memory"),
+        Loss::NumbersSpent => lost(b"no number is left for a logon"),
+    }
+}
+
+/// Why a dial failed, in words.
+fn dial_text(error: DialError) -> Told
+    ensures { result ≡ dial_text error }
+{
+    match error {
+        DialError::Refused => told(b"connection refused"),
+        DialError::TimedOut => told(b"timed out"),
+        DialError::HostUnreachable => told(b"host unreachable"),
+        DialError::NetworkUnreachable => told(b"network unreachable"),
+        DialError::Other => told(b"dial failed"),
+    }
+}
+
+impl Standing {
+    /// What a desk is told of it, where the pause before the next dial lasts so many seconds.
+    pub fn state(self, seconds: u64) -> VenueState
+        ensures { result ≡ state_of self seconds }
+    {
+        match self {
+            Standing::Dialled => VenueState::Dialled,
+            Standing::Up => VenueState::Up,
+            Standing::Down(loss) => VenueState::Down(cause_of(loss)),
+            Standing::Unreachable(error) => VenueState::Unreachable {
+                why: dial_text(error),
+                seconds,
+            },
+            Standing::Closed(loss) => VenueState::Closed(cause_of(loss)),
+            Standing::Closing => VenueState::Closed(lost(b"the day is closing")),
+        }
+    }
+}

@@ -1,0 +1,98 @@
+//! How venues and legs stand, as they are told over HTTP.
+
+ghost use Rattle.std.specs.Prelude.{◌≡◌};
+
+use clock::Clock;
+use day_log::{BOUNDS, OrderTimes};
+use desk_floor::{Floor, LegStanding, venue_status};
+use desk_json::{LegRow, OrderWaits, VenueRow, WaitCount};
+use leg::{Split, Totals};
+use release_lock::Run;
+use std::alloc::{AllocError, Global};
+use std::io::Write;
+use std::sync::Wait;
+use std::sync::ledger::Ledger;
+
+/// How long orders waited: at most each of the bounds, however long, and in all.
+fn waits_of(alloc: Global, times: &OrderTimes) -> Result<OrderWaits, AllocError> {
+    let mut within = Vec::new(alloc);
+    let mut count: u64 = 0;
+    for (place, most) in BOUNDS.iter().enumerate() {
+        count = count.saturating_add(times.count(place));
+        within.push(WaitCount { most: *most, count })?;
+    }
+    Ok(OrderWaits {
+        within,
+        count: count.saturating_add(times.count(BOUNDS.len())),
+        micros: times.micros(),
+    })
+}
+
+/// How the venue at a place stands, if there is one. It may wait for locks. The only refusal is want of memory.
+pub(crate) fn venue_row<L: Run, M: Ledger, W: Write + Drop>(
+    rt: &impl Wait,
+    clock: &impl Clock,
+    alloc: Global,
+    floor: &Floor<L, M, W>,
+    place: usize,
+) -> Result<Option<VenueRow>, AllocError> {
+    let Some(status) = venue_status(rt, floor, place) else {
+        return Ok(None);
+    };
+    let Some(view) = floor.views.get(place) else {
+        return Ok(None);
+    };
+    let traffic = view.traffic();
+    Ok(Some(VenueRow {
+        status,
+        connections: traffic.connections(),
+        refused_dials: traffic.refused_dials(),
+        messages_sent: traffic.messages_sent(),
+        messages_received: traffic.messages_received(),
+        bytes_sent: traffic.bytes_sent(),
+        bytes_received: traffic.bytes_received(),
+        waits: waits_of(alloc, traffic.order_times())?,
+        heard_ms_ago: view.heard_ms_ago(clock),
+    }))
+}
+
+/// What became of a leg's shares.
+fn totals_of(parts: &Split) -> Totals
+    ensures { result ≡ record {
+      filled = parts.now.filled;
+      busted = parts.now.busted;
+      cancelled = parts.now.cancelled;
+      withdrawn = parts.now.withdrawn;
+      still_open = parts.now.still_open;
+    } }
+{
+    Totals {
+        filled: parts.filled(),
+        busted: parts.busted(),
+        cancelled: parts.cancelled(),
+        withdrawn: parts.withdrawn(),
+        still_open: parts.still_open(),
+    }
+}
+
+/// A leg as it is told, if the desk has its venue.
+pub(crate) fn leg_row<L: Run, M: Ledger, W: Write + Drop>(
+    floor: &Floor<L, M, W>,
+    leg: LegStanding,
+) -> Option<LegRow> {
+    let LegStanding {
+        id,
+        venue,
+        terms,
+        parts,
+        state,
+    } = leg;
+    let name = floor.names.get(usize::from(venue.number()))?;
+    Some(LegRow {
+        id,
+        venue: name.clone().unwrap(),
+        terms,
+        totals: totals_of(&parts),
+        state,
+    })
+}

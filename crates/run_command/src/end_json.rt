@@ -1,0 +1,62 @@
+//! What `dispatch run --json` prints at the end of a day.
+ghost use Rattle.std.specs.Prelude.{◌≡◌, ◌++◌, IfOk, OnOk, string_bytes};
+ghost use Rattle.std.specs.List.{flat_map};
+ghost use Rattle.run_command.specs.JsonText.{booked_json, doubt_line, json_text, sweep_line, totals_lines};
+
+use crate::text::totals_of;
+use desk_json::sweep_json;
+use desk_news::SweepParts;
+use desk_run::{DeskDay, VenueDoubt};
+use json_lines::{AUDIT_JSON, doubt_json, totals_json};
+use session_worker::DayReport;
+use std::alloc::{AllocError, Global};
+
+/// The text of a day in JSON, an object a line: each sweep, each venue with legs that stay in doubt, the shares of the
+/// day, and that the audit found nothing wrong. The only refusal is want of memory.
+pub fn json_text(alloc: Global, day: &DeskDay) -> Result<Vec<u8>, AllocError>
+    ensures { IfOk result (λ text. text.items ≡ json_text day.now) }
+{
+    let mut text = booked_json(alloc, day)?;
+    write_totals(alloc, &mut text, day.report)?;
+    Ok(text.into_bytes())
+}
+
+/// Each sweep, and each venue with legs that stay in doubt.
+fn booked_json(alloc: Global, day: &DeskDay) -> Result<String, AllocError>
+    ensures { IfOk result (λ text. string_bytes text ≡ booked_json day.now) }
+{
+    let mut text = String::new(alloc);
+    write_sweeps(alloc, &mut text, day.sweeps.as_slice())?;
+    write_doubts(alloc, &mut text, day.doubts.as_slice())?;
+    Ok(text)
+}
+
+/// Appends the shares of a day, and that the audit found nothing wrong.
+fn write_totals(alloc: Global, text: &mut String, report: DayReport) -> Result<(), AllocError>
+    ensures { OnOk result (string_bytes text.new ≡ string_bytes text.old ++ totals_lines report) }
+{
+    let totals = totals_json(alloc, &totals_of(report))?;
+    write!(text, "{totals}\n{AUDIT_JSON}\n")
+}
+
+/// Appends sweeps, a line each.
+fn write_sweeps(alloc: Global, text: &mut String, sweeps: &[SweepParts]) -> Result<(), AllocError>
+    ensures { OnOk result (string_bytes text.new ≡ string_bytes text.old ++ flat_map sweep_line sweeps.now) }
+{
+    for sweep in sweeps {
+        let line = sweep_json(alloc, sweep)?;
+        write!(text, "{line}\n")?;
+    }
+    Ok(())
+}
+
+/// Appends the legs that stay in doubt, a line for each venue.
+fn write_doubts(alloc: Global, text: &mut String, doubts: &[VenueDoubt]) -> Result<(), AllocError>
+    ensures { OnOk result (string_bytes text.new ≡ string_bytes text.old ++ flat_map doubt_line doubts.now) }
+{
+    for doubt in doubts {
+        let line = doubt_json(alloc, &doubt.venue, doubt.legs.as_slice())?;
+        write!(text, "{line}\n")?;
+    }
+    Ok(())
+}
