@@ -1,5 +1,3 @@
-mod Booked
-mod Changed
 mod LegsInDoubt
 mod NoMismatch
 mod Places

@@ -1,15 +1,11 @@
 //! The caller of a day: it takes the lines of the input, in order, and answers each.
 
-ghost use Rattle.std.specs.Prelude.{◌≡◌};
-
-use crate::floor::Floor;
 use crate::input_lines::{InputLines, Next};
-use crate::release::release;
 use crate::status::tell_status;
-use crate::talk_fault::TalkFault;
 use clock::UtcClock;
 use day_log::LineLog;
-use release_lock::{CallerSeat, Run};
+use desk_floor::{Floor, TalkFault};
+use release_lock::Run;
 use std::alloc::Global;
 use std::io::{Read, Write};
 use std::sync::Wait;
@@ -20,33 +16,23 @@ use sweep_text::{Answer, Command, read_line};
 /// How many milliseconds the caller waits for a line before it looks how the day stands.
 const LOOK_MILLIS: u64 = 20;
 
-/// What the caller gives back: its seat, and why it took no line any more before the input ended, if that is so.
-#[derive(Drop)]
-pub struct CallerEnd<L: Run> {
-    pub seat: CallerSeat<L>,
-    pub broken_off: Option<TalkFault>,
-}
-
 /// Takes the lines of an input and answers each. Before the first it waits until each venue is up, but no longer than
-/// two seconds. With the end of the input, with `close`, or where input or output fails, the day is to close.
+/// two seconds. With the end of the input, with `close`, or where input or output fails, the day is to close. It gives
+/// why no line was taken any more before the input ended, if that is so.
 pub fn take_lines<L: Run, M: Ledger, W: Write + Drop, I: Read + Drop, R: Wait + Clock>(
     rt: &R,
     alloc: Global,
     floor: &Floor<L, M, W>,
-    seat: CallerSeat<L>,
     lines: InputLines<I>,
-) -> CallerEnd<L>
-    ensures { result.seat.parts ≡ seat.parts }
-{
-    let mut seat = seat;
+) -> Option<TalkFault> {
     let mut lines = lines;
     floor.await_venues(rt);
-    let broken_off = match log_lines(rt, alloc, floor, &mut seat, &mut lines) {
+    let broken_off = match log_lines(rt, alloc, floor, &mut lines) {
         Ok(()) => None,
         Err(fault) => Some(fault),
     };
     floor.signals.close();
-    CallerEnd { seat, broken_off }
+    broken_off
 }
 
 /// Takes and answers lines to the end of the input, and logs them, if a log is kept.
@@ -54,13 +40,10 @@ fn log_lines<L: Run, M: Ledger, W: Write + Drop, I: Read + Drop, R: Wait + Clock
     rt: &R,
     alloc: Global,
     floor: &Floor<L, M, W>,
-    seat: &mut CallerSeat<L>,
     lines: &mut InputLines<I>,
-) -> Result<(), TalkFault>
-    ensures { seat.new.parts ≡ seat.old.parts }
-{
+) -> Result<(), TalkFault> {
     let mut log = LineLog::new(rt, alloc, UtcClock::new(rt), floor.line_log()?);
-    answer_lines(rt, alloc, floor, seat, lines, &mut log)
+    answer_lines(rt, alloc, floor, lines, &mut log)
 }
 
 /// Takes and answers lines to the end of the input. Once the workers have ended only those are answered still that were
@@ -69,7 +52,6 @@ fn answer_lines<'a, L, M, W, I, R, C>(
     rt: &'a R,
     alloc: Global,
     floor: &Floor<L, M, W>,
-    seat: &mut CallerSeat<L>,
     lines: &mut InputLines<I>,
     log: &mut LineLog<'a, R, C>,
 ) -> Result<(), TalkFault>
@@ -78,16 +60,15 @@ where
     M: Ledger,
     W: Write + Drop,
     I: Read + Drop,
-    R: Wait,
+    R: Wait + Clock,
     C: clock::Clock + Drop,
-    ensures { seat.new.parts ≡ seat.old.parts }
 {
     for _ in rt.forever() {
         if floor.signals.is_ending() && !lines.has_more() {
             return Ok(());
         }
         match lines.next(Duration::from_millis(LOOK_MILLIS))? {
-            Next::Line => answer_line(rt, alloc, floor, seat, lines, log)?,
+            Next::Line => answer_line(rt, alloc, floor, lines, log)?,
             Next::Nothing => {}
             Next::End => return Ok(()),
         }
@@ -100,7 +81,6 @@ fn answer_line<'a, L, M, W, I, R, C>(
     rt: &'a R,
     alloc: Global,
     floor: &Floor<L, M, W>,
-    seat: &mut CallerSeat<L>,
     lines: &InputLines<I>,
     log: &mut LineLog<'a, R, C>,
 ) -> Result<(), TalkFault>
@@ -109,26 +89,30 @@ where
     M: Ledger,
     W: Write + Drop,
     I: Read + Drop,
-    R: Wait,
+    R: Wait + Clock,
     C: clock::Clock + Drop,
-    ensures { seat.new.parts ≡ seat.old.parts }
 {
-    log.taken(lines.line());
-    match read_line(alloc, floor.names.as_slice(), lines.line()) {
-        Ok(Command::Nothing) => Ok(()),
+    let line = lines.line();
+    match read_line(alloc, floor.names.as_slice(), line) {
+        Ok(Command::Sweep(sweep)) => {
+            let answer = floor.hand_in(rt, log, line, sweep);
+            floor.voice.say(rt, &answer)
+        }
+        Ok(Command::Nothing) => {
+            log.taken(line);
+            Ok(())
+        }
         Ok(Command::Close) => {
+            log.taken(line);
             floor.close();
             Ok(())
         }
-        Ok(Command::Status) => tell_status(rt, floor, log),
-        Ok(Command::Sweep(_)) if floor.signals.is_closing() => {
-            floor.answer(rt, log, &Answer::Closing)
-        }
-        Ok(Command::Sweep(sweep)) => {
-            let answer = release(rt, floor, sweep, seat);
-            floor.answer(rt, log, &answer)
+        Ok(Command::Status) => {
+            log.taken(line);
+            tell_status(rt, floor, log)
         }
         Err(fault) => {
+            log.taken(line);
             let number = lines.number();
             floor.answer(rt, log, &Answer::BadLine { number, fault })
         }

@@ -1,6 +1,6 @@
 //! What became of a day.
 
-use crate::talk_fault::TalkFault;
+use desk_floor::TalkFault;
 use desk_news::SweepParts;
 use desk_words::VenueName;
 use leg::LegId;

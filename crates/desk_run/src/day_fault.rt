@@ -18,6 +18,9 @@ pub enum DayFault {
     /// The logs of the day can't be begun.
     #[error("{0}")]
     NoLogs(LogFault),
+    /// The page can't be served at its address.
+    #[error("no page")]
+    NoPage,
     /// No socket for a simulated exchange to listen on can be had.
     #[error("no socket")]
     NoSocket,

@@ -1,6 +1,6 @@
 //! The lines of an input.
 
-use crate::talk_fault::TalkFault;
+use desk_floor::TalkFault;
 use readiness::Readiness;
 use std::alloc::Global;
 use std::io::{self, BufRead, BufReader, ErrorKind, Read};

@@ -1,8 +1,7 @@
 //! The keeper of a day: it tells what changes, and closes the day in order.
 
-use crate::floor::Floor;
 use crate::news::Told;
-use crate::talk_fault::TalkFault;
+use desk_floor::{Floor, TalkFault};
 use release_lock::Run;
 use std::alloc::Global;
 use std::io::Write;

@@ -2,13 +2,9 @@
 
 ghost use Rattle.std.specs.Prelude.{◌≡◌};
 ghost use Rattle.desk_news.specs.declared.news.News.TheVariants as news;
-ghost use Rattle.desk_run.specs.Standing.{state_of};
+ghost use Rattle.desk_floor.specs.Standing.{state_of};
 
-use crate::changes::Changes;
-use crate::floor::Floor;
-use crate::standing::Standing;
-use crate::sweeps::sweep_now;
-use crate::talk_fault::TalkFault;
+use desk_floor::{Changes, Floor, Standing, TalkFault, sweep_now};
 use desk_news::News;
 use desk_words::VenueName;
 use leg::Totals;

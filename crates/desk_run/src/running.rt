@@ -10,25 +10,24 @@ ghost use Rattle.session_worker.specs.Ends.{queues_of, seats_of};
 ghost use Rattle.desk_config.specs.Apart.{AreVenues};
 ghost use Rattle.desk_run.specs.Faults.{IsNoMismatch};
 ghost use Rattle.desk_run.specs.Places.{place, new_places};
-ghost use Rattle.desk_run.specs.Sweeps.{sweeps_in};
+ghost use Rattle.desk_floor.specs.Sweeps.{sweeps_in};
 
 use crate::DeskDay;
-use crate::bells::Bells;
-use crate::caller::CallerEnd;
 use crate::day_fault::DayFault;
 use crate::doubts::{doubts_of, is_given_up};
-use crate::floor::Floor;
+use crate::followers::tell_followers;
 use crate::input_lines::{DeskInput, InputLines};
 use crate::logs::begin_logs;
 use crate::opening::open_places;
-use crate::signals::{Manner, Signals};
-use crate::sweeps::booked_sweeps;
+use crate::pages::open_pages;
 use crate::threads::{Cast, Ended, in_threads};
-use crate::venue_view::VenueView;
-use crate::voice::Voice;
 use crate::workers::new_workers;
 use day_log::VenueLog;
-use desk_config::Venue;
+use desk_config::{DeskConfig, Venue};
+use desk_floor::{
+    Bells, Counter, Floor, Left, Manner, Refusals, Signals, VenueView, Voice, booked_sweeps,
+};
+use desk_serve::PageServer;
 use desk_words::VenueName;
 use exec_collector::Collector;
 use link::Link;
@@ -42,21 +41,33 @@ use std::io::{Read, Write};
 use std::marker::Brand;
 use std::net::{Net, TcpListener, TcpStream};
 use std::sync::ledger::{Blank, Ledger};
-use std::sync::{Arc, Wait};
+use std::sync::{Arc, Mutex, Wait};
 use std::thread::Threads;
 use std::time::Clock;
 use venue_queue::{Drain, Feed};
 
-/// Runs a day of these venues, and audits it. The lines of the input are taken by one caller, in order, and answered on
-/// `out`, where changes are told too. It closes with the end of the input, or at `close`: then it waits until no share
-/// is open, as long as the patience goes, the gates are shut, what is placed and unsent is withdrawn, and the sessions
-/// log out. A session that isn't over ten seconds later, or at a second `close`, is given up. Where a folder is named
-/// the messages of each venue and the lines are logged there, in files that aren't there yet; they are begun once each
-/// exchange's address is known.
+/// With what a day is held.
+#[derive(Drop)]
+struct Means<'a, I: Read + Drop, W: Write + Drop> {
+    manner: Manner,
+    /// The folder of its logs, if it keeps any.
+    folder: Option<&'a str>,
+    lines: InputLines<I>,
+    voice: Voice<W>,
+    servers: Vec<PageServer>,
+}
+
+/// Runs the day of a configuration, and audits it. The lines of the input are taken by one caller, in order, and answered
+/// on `out`, where changes are told too; the page, if it is asked for, is served from before the first dial on. It
+/// closes with the end of the input, or at `close`, by a line or by the page: then it waits until no share is open, as
+/// long as the patience goes, the gates are shut, what is placed and unsent is withdrawn, and the sessions log out. A
+/// session that isn't over ten seconds later, or at a second `close`, is given up. Where a folder is named the messages
+/// of each venue and the lines are logged there, in files that aren't there yet; they are begun once each exchange's
+/// address is known.
 pub fn run_day<R, I, W>(
     rt: &R,
     alloc: Global,
-    venues: &[Venue],
+    config: &DeskConfig,
     manner: Manner,
     folder: Option<&str>,
     input: DeskInput<I>,
@@ -71,27 +82,26 @@ where
         + Sync,
     I: Read + Drop,
     W: Write + Drop + Send,
-    requires { AreVenues venues.now }
+    requires { AreVenues config.now.venues.items }
     ensures sweeps { IfOk result (λ day. (book : BookParts) × Replays book × (day.sweeps.items ≡ sweeps_in book)) }
     ensures only { IfErr result IsNoMismatch }
 {
+    let venues = config.venues.as_slice();
     let count = venues.len() as u8;
     let rings = rings(alloc, count)?;
     let Ok(lines) = InputLines::new(rt, alloc, input) else {
         return Err(DayFault::NoSocket);
     };
-    named_day::<Brand, Brand, R, I, W>(
-        rt,
-        alloc,
-        venues,
+    let means = Means {
         manner,
         folder,
-        Blank::new(1024),
-        Blank::new(u64::from(count)),
-        rings,
         lines,
-        Voice::new(alloc, out),
-    )
+        voice: Voice::new(alloc, out),
+        servers: open_pages(rt, alloc, config)?,
+    };
+    let caller = Blank::new(1024);
+    let workers = Blank::new(u64::from(count));
+    named_day::<Brand, Brand, R, I, W>(rt, alloc, venues, means, caller, workers, rings)
 }
 
 /// A day whose names were picked.
@@ -99,13 +109,10 @@ fn named_day<L, M, R, I, W>(
     rt: &R,
     alloc: Global,
     venues: &[Venue],
-    manner: Manner,
-    folder: Option<&str>,
+    means: Means<'_, I, W>,
     caller: Blank,
     workers: Blank,
     rings: VecDeque<(Feed, Drain)>,
-    lines: InputLines<I>,
-    voice: Voice<W>,
 ) -> Result<DeskDay, DayFault>
 where
     L: Run + Send + Sync,
@@ -135,6 +142,13 @@ where
     let Ok((collector, seats)) = made else {
         return Err(DayFault::OutOfMemory);
     };
+    let Means {
+        manner,
+        folder,
+        lines,
+        voice,
+        servers,
+    } = means;
     let places = open_places(rt, alloc, venues)?;
     let mut bells = Bells::new(alloc);
     let addrs = places.addrs.as_slice();
@@ -145,7 +159,7 @@ where
     let cast = Cast {
         exchanges: places.exchanges,
         workers,
-        seat,
+        servers,
         writers: logs.writers,
     };
     let floor = Floor {
@@ -154,6 +168,8 @@ where
         manner,
         lock,
         collector,
+        counter: Mutex::new(Counter::new(seat)),
+        refusals: Refusals::new(alloc),
         voice,
         line_log: logs.lines,
         signals: Signals::new(),
@@ -201,33 +217,30 @@ fn told<K: Link, L: Run, M: Ledger, W: Write + Drop>(
 ) -> Result<DeskDay, DayFault>
     requires workers { map (λ e. place e.parts) ended.workers.items ≡ new_places M.parts }
     requires some { 0 < M.parts }
-    requires caller { ended.caller.seat.parts ≡ 1024 }
     ensures sweeps { IfOk result (λ day. (book : BookParts) × Replays book × (day.sweeps.items ≡ sweeps_in book)) }
     ensures only { IfErr result IsNoMismatch }
 {
-    let Floor {
+    let Ended {
+        workers,
+        broken_off,
+        followers,
+    } = ended;
+    let Left {
         names,
-        views: _,
-        manner: _,
         lock,
         collector,
-        voice: _,
-        line_log: _,
-        signals: _,
-        bells: _,
-        stop: _,
-    } = floor;
-    let Ended { workers, caller } = ended;
-    let CallerEnd { seat, broken_off } = caller;
+        seat,
+    } = floor.into_left();
     let sweeps = collector.read(rt, |book: &Book| booked_sweeps(alloc, book))?;
     let doubts = doubts_of(alloc, names.as_slice(), workers.as_slice())?;
     let is_given_up = is_given_up(workers.as_slice());
-    let report = audited(alloc, lock, collector, seat, workers)?;
+    let audited = audited(alloc, lock, collector, seat, workers);
+    tell_followers(alloc, followers, &audited);
     Ok(DeskDay {
         sweeps,
         doubts,
         is_given_up,
-        report,
+        report: audited?,
         broken_off,
     })
 }

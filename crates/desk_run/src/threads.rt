@@ -4,23 +4,25 @@ ghost use Rattle.std.specs.Prelude.{◌≡◌, map, IfOk, IfErr};
 ghost use Rattle.desk_run.specs.Faults.{IsNoMismatch};
 ghost use Rattle.desk_run.specs.Places.{place};
 
-use crate::caller::{CallerEnd, take_lines};
+use crate::caller::take_lines;
 use crate::day_fault::DayFault;
 use crate::exchange::Serve;
-use crate::floor::Floor;
 use crate::input_lines::InputLines;
 use crate::keeper::keep;
 use crate::workers::run_workers;
 use clock::Clock;
 use day_log::{FileWriter, write_until};
+use desk_floor::{Floor, TalkFault};
+use desk_serve::PageServer;
 use dialect::AnyDialect;
 use link::Link;
-use release_lock::{CallerSeat, Run};
+use release_lock::Run;
 use session_worker::{Worker, WorkerEnd};
 use std::alloc::{AllocError, Global};
 use std::collections::VecDeque;
 use std::fs::File;
 use std::io::{Read, Write};
+use std::net::TcpStream;
 use std::sync::Wait;
 use std::sync::ledger::Ledger;
 use std::thread::{JoinHandle, Threads, join};
@@ -31,7 +33,8 @@ use std::{thread, time};
 pub struct Cast<X, K: Link, C: Clock + Drop, L: Run, M: Ledger> {
     pub exchanges: Vec<X>,
     pub workers: Vec<Worker<AnyDialect, K, C, L, M>>,
-    pub seat: CallerSeat<L>,
+    /// What serves the page; none where it isn't served.
+    pub servers: Vec<PageServer>,
     /// What writes the logs; none where none is kept.
     pub writers: Vec<FileWriter<File>>,
 }
@@ -40,12 +43,22 @@ pub struct Cast<X, K: Link, C: Clock + Drop, L: Run, M: Ledger> {
 #[derive(Drop)]
 pub struct Ended<K: Link, L: Run, M: Ledger> {
     pub workers: Vec<WorkerEnd<K, L, M>>,
-    pub caller: CallerEnd<L>,
+    /// Why no line was taken any more before the input ended, if that is so.
+    pub broken_off: Option<TalkFault>,
+    /// The clients that followed the day to its end.
+    pub followers: Vec<TcpStream>,
 }
 
-/// Runs a day: its exchanges, the writer of its logs, its workers and its keeper, each in a thread of its own, and the
-/// caller in this one. Once the workers and the caller have ended the exchanges and the writer are stopped, which
-/// writes what waits before it ends. Where a thread is refused, those that run are told so.
+/// What the dispatcher's threads leave.
+#[derive(Drop)]
+struct Dispatched<K: Link, L: Run, M: Ledger> {
+    workers: Vec<WorkerEnd<K, L, M>>,
+    broken_off: Option<TalkFault>,
+}
+
+/// Runs a day: its exchanges, the servers of its page, the writer of its logs, its workers and its keeper, each in a
+/// thread of its own, and the caller in this one. Once the workers and the caller have ended the others are stopped; the
+/// writer writes what waits before it ends. Where a thread is refused, those that run are told so.
 pub fn in_threads<X, K, C, L, M, W, I, R>(
     rt: &R,
     alloc: Global,
@@ -64,38 +77,45 @@ where
     R: Threads + Wait + time::Clock + Sync,
     ensures workers { IfOk result (λ ended. map (λ e. place e.parts) ended.workers.items
         ≡ map (λ w. place w.parts) cast.workers.items) }
-    ensures seat { IfOk result (λ ended. ended.caller.seat.parts ≡ cast.seat.parts) }
     ensures only { IfErr result IsNoMismatch }
 {
     let Cast {
         exchanges,
         workers,
-        seat,
+        servers,
         writers,
     } = cast;
     let (served, ended) = join(
         rt,
-        || run_exchanges(rt, alloc, floor, exchanges, writers),
-        || -> Result<Ended<K, L, M>, DayFault>
+        || run_servers(rt, alloc, floor, exchanges, servers, writers),
+        || -> Result<Dispatched<K, L, M>, DayFault>
             ensures workers { IfOk result (λ ended. map (λ e. place e.parts) ended.workers.items
                 ≡ map (λ w. place w.parts) workers.items) }
-            ensures seat { IfOk result (λ ended. ended.caller.seat.parts ≡ seat.parts) }
             ensures only { IfErr result IsNoMismatch }
-        { run_dispatcher(rt, alloc, floor, workers, seat, lines) },
+        { run_dispatcher(rt, alloc, floor, workers, lines) },
     );
-    served?;
-    ended
+    let followers = served?;
+    let Dispatched {
+        workers,
+        broken_off,
+    } = ended?;
+    Ok(Ended {
+        workers,
+        broken_off,
+        followers,
+    })
 }
 
-/// Runs the exchanges and the writer of the logs until they are stopped. The only refusals are want of memory and of
-/// threads.
-fn run_exchanges<X, L, M, W, R>(
+/// Runs the exchanges, the servers of the page and the writer of the logs until they are stopped, and gives the clients
+/// that followed the day to its end. The only refusals are want of memory and of threads.
+fn run_servers<X, L, M, W, R>(
     rt: &R,
     alloc: Global,
     floor: &Floor<L, M, W>,
     exchanges: Vec<X>,
+    servers: Vec<PageServer>,
     writers: Vec<FileWriter<File>>,
-) -> Result<(), DayFault>
+) -> Result<Vec<TcpStream>, DayFault>
 where
     X: Serve + Drop + Send,
     L: Run + Send + Sync,
@@ -107,7 +127,7 @@ where
     thread::scope(
         thread::scope_env(),
         rt,
-        |scope| -> Result<(), DayFault>
+        |scope| -> Result<Vec<TcpStream>, DayFault>
             ensures { IfErr result IsNoMismatch }
         {
             if !writers.is_empty() {
@@ -124,7 +144,7 @@ where
                     floor.give_up();
                     return Err(DayFault::OutOfMemory);
                 }
-                match scope.spawn(move || floor.serve(exchange)) {
+                match scope.spawn(move || serve_exchange(floor, exchange)) {
                     Ok(handle) => handles.push_reserved(handle),
                     Err(_) => {
                         floor.give_up();
@@ -132,10 +152,39 @@ where
                     }
                 }
             }
+            let mut servers = VecDeque::from(servers);
+            let mut pages = Vec::new(alloc);
+            while let Some(server) = servers.pop_front() {
+                if pages.reserve(1).is_err() {
+                    floor.give_up();
+                    return Err(DayFault::OutOfMemory);
+                }
+                match scope.spawn(move || server.serve(rt, alloc, floor)) {
+                    Ok(page) => pages.push_reserved(page),
+                    Err(_) => {
+                        floor.give_up();
+                        return Err(DayFault::NoThread);
+                    }
+                }
+            }
             floor.signals.exchanges.tell();
-            join_exchanges(rt, handles)
+            join_exchanges(rt, handles)?;
+            Ok(join_pages(rt, alloc, pages))
         },
     )
+}
+
+/// Serves an exchange's clients until it is stopped. Where it wants memory the day closes.
+fn serve_exchange<X: Serve, L: Run, M: Ledger, W: Write + Drop>(
+    floor: &Floor<L, M, W>,
+    exchange: X,
+) -> Result<(), AllocError> {
+    let served = exchange.serve(&floor.signals.is_over);
+    if served.is_err() {
+        floor.signals.close();
+        floor.stop();
+    }
+    served
 }
 
 /// Runs the dispatcher once the exchanges are served: its workers and the desk. Once both have ended the exchanges are
@@ -145,9 +194,8 @@ fn run_dispatcher<K, C, L, M, W, I, R>(
     alloc: Global,
     floor: &Floor<L, M, W>,
     workers: Vec<Worker<AnyDialect, K, C, L, M>>,
-    seat: CallerSeat<L>,
     lines: InputLines<I>,
-) -> Result<Ended<K, L, M>, DayFault>
+) -> Result<Dispatched<K, L, M>, DayFault>
 where
     K: Link + Send,
     C: Clock + Drop + Send,
@@ -158,7 +206,6 @@ where
     R: Threads + Wait + time::Clock + Sync,
     ensures workers { IfOk result (λ ended. map (λ e. place e.parts) ended.workers.items
         ≡ map (λ w. place w.parts) workers.items) }
-    ensures seat { IfOk result (λ ended. ended.caller.seat.parts ≡ seat.parts) }
     ensures only { IfErr result IsNoMismatch }
 {
     if !floor.signals.awaits(rt, &floor.signals.exchanges) {
@@ -168,12 +215,12 @@ where
     let (worked, called) = join(
         rt,
         || run_workers(rt, alloc, floor, workers),
-        || run_desk(rt, alloc, floor, seat, lines),
+        || run_desk(rt, alloc, floor, lines),
     );
     floor.signals.stop();
-    Ok(Ended {
+    Ok(Dispatched {
         workers: worked?,
-        caller: called?,
+        broken_off: called?,
     })
 }
 
@@ -183,17 +230,15 @@ fn run_desk<L, M, W, I, R>(
     rt: &R,
     alloc: Global,
     floor: &Floor<L, M, W>,
-    seat: CallerSeat<L>,
     lines: InputLines<I>,
-) -> Result<CallerEnd<L>, DayFault>
+) -> Result<Option<TalkFault>, DayFault>
 where
     L: Run + Send + Sync,
     M: Ledger + Send + Sync,
     W: Write + Drop + Send,
     I: Read + Drop,
     R: Threads + Wait + time::Clock + Sync,
-    ensures seat { IfOk result (λ end. end.seat.parts ≡ seat.parts) }
-    ensures only { IfErr result IsNoMismatch }
+    ensures { IfErr result IsNoMismatch }
 {
     if !floor.signals.awaits(rt, &floor.signals.workers) {
         floor.give_up();
@@ -202,16 +247,16 @@ where
     thread::scope(
         thread::scope_env(),
         rt,
-        |scope| -> Result<CallerEnd<L>, DayFault>
-            ensures { IfOk result (λ end. end.seat.parts ≡ seat.parts) × IfErr result IsNoMismatch }
+        |scope| -> Result<Option<TalkFault>, DayFault>
+            ensures { IfErr result IsNoMismatch }
         {
             let Ok(keeper) = scope.spawn(move || keep(rt, alloc, floor)) else {
                 floor.give_up();
                 return Err(DayFault::NoThread);
             };
-            let end = take_lines(rt, alloc, floor, seat, lines);
+            let broken_off = take_lines(rt, alloc, floor, lines);
             keeper.join(rt);
-            Ok(end)
+            Ok(broken_off)
         },
     )
 }
@@ -227,4 +272,20 @@ fn join_exchanges<R: Threads>(
         handle.join(rt)?;
     }
     Ok(())
+}
+
+/// Waits for the servers of the page, and gives the clients that followed the day to its end. One for which there is no
+/// memory is let go.
+fn join_pages<R: Threads>(
+    rt: &R,
+    alloc: Global,
+    pages: Vec<JoinHandle<Vec<TcpStream>>>,
+) -> Vec<TcpStream> {
+    let mut followers = Vec::new(alloc);
+    for page in pages {
+        for follower in page.join(rt) {
+            let _ = followers.push(follower);
+        }
+    }
+    followers
 }

@@ -6,14 +6,12 @@ ghost use Rattle.release_lock.specs.Queues.{new_drains};
 ghost use Rattle.desk_run.specs.Faults.{IsNoMismatch};
 ghost use Rattle.desk_run.specs.Places.{place, place_of, new_places};
 
-use crate::bells::Bells;
 use crate::day_fault::DayFault;
-use crate::floor::Floor;
 use crate::session::desk_end;
-use crate::venue_view::VenueView;
 use clock::{Clock, UtcClock};
-use day_log::{LoggedLink, Recorder, Traffic};
+use day_log::{LoggedLink, Recorder};
 use desk_config::Venue;
+use desk_floor::{Bells, Floor, VenueView};
 use dialect::AnyDialect;
 use exec_collector::WorkerSeat;
 use link::{Link, Poller, Rest, TcpLink};
@@ -24,7 +22,7 @@ use std::collections::VecDeque;
 use std::io::Write;
 use std::net::{Net, SocketAddr};
 use std::sync::ledger::Ledger;
-use std::sync::{Arc, Wait};
+use std::sync::Wait;
 use std::thread::Threads;
 use std::time;
 
@@ -105,7 +103,7 @@ fn new_link<'a, R: Net + Wait + time::Clock>(
     ensures { IfErr result IsNoMismatch }
 {
     let last_dial = view.last_dial()?;
-    let recorder = new_recorder(rt, alloc, view)?;
+    let recorder = new_recorder(rt, view)?;
     let Ok(poller) = Poller::new(rt, alloc) else {
         return Err(DayFault::NoSocket);
     };
@@ -117,13 +115,12 @@ fn new_link<'a, R: Net + Wait + time::Clock>(
     Ok(LoggedLink::new(link, recorder))
 }
 
-/// What notes the messages of a venue in its log, if one is kept.
+/// What counts the messages of a venue, and notes them in its log, if one is kept.
 fn new_recorder<'a, R: Wait + time::Clock>(
     rt: &'a R,
-    alloc: Global,
     view: &VenueView,
 ) -> Result<Recorder<'a, R, UtcClock<'a, R>>, AllocError> {
-    let traffic = Arc::new(alloc, Traffic::new())?;
+    let traffic = view.shared_traffic()?;
     Ok(Recorder::new(rt, UtcClock::new(rt), traffic, view.log()?))
 }
 

@@ -8,7 +8,7 @@ use Rattle.run_command.specs.declared.fault.CommandFault.TheVariants.{
   NoFile,
   NotText,
   BadFile,
-  NotServed,
+  NoPage,
   NoLogs,
   NoAddress,
   ReadFailed,
@@ -30,7 +30,7 @@ said_of said BadPatience it = it
 said_of said (NoFile name) it = it
 said_of said (NotText name) it = it
 said_of said (BadFile name fault) it = it
-said_of said (NotServed name key) it = it
+said_of said NoPage it = tt
 said_of said (NoLogs fault) it = tt
 said_of said (NoAddress place) it = tt
 said_of said ReadFailed it = tt
@@ -51,7 +51,7 @@ of_day said BadPatience it = absurd it
 of_day said (NoFile name) it = absurd it
 of_day said (NotText name) it = absurd it
 of_day said (BadFile name fault) it = absurd it
-of_day said (NotServed name key) it = absurd it
+of_day said NoPage it = tt
 of_day said (NoLogs fault) it = tt
 of_day said (NoAddress place) it = tt
 of_day said ReadFailed it = tt

@@ -8,8 +8,8 @@ use Rattle.day_log.specs.declared.fault.LogFault.{LogFault}
 use Rattle.day_log.specs.declared.fault.LogFault.TheVariants as log
 use Rattle.desk_run.specs.declared.day_fault.DayFault.{DayFault}
 use Rattle.desk_run.specs.declared.day_fault.DayFault.TheVariants as day
-use Rattle.desk_run.specs.declared.talk_fault.TalkFault.{TalkFault}
-use Rattle.desk_run.specs.declared.talk_fault.TalkFault.TheVariants as talk
+use Rattle.desk_floor.specs.declared.talk_fault.TalkFault.{TalkFault}
+use Rattle.desk_floor.specs.declared.talk_fault.TalkFault.TheVariants as talk
 use Rattle.toml.specs.Errors.{IsMemory}
 use Rattle.run_command.specs.declared.fault.CommandFault.{CommandFault}
 use Rattle.run_command.specs.declared.fault.CommandFault.TheVariants.{
@@ -19,7 +19,7 @@ use Rattle.run_command.specs.declared.fault.CommandFault.TheVariants.{
   NoFile,
   NotText,
   BadFile,
-  NotServed,
+  NoPage,
   NoLogs,
   NoAddress,
   ReadFailed,
@@ -49,8 +49,8 @@ fault_status NoName = 2
 fault_status BadPatience = 3
 fault_status (NotText name) = 3
 fault_status (BadFile name fault) = 3
-fault_status (NotServed name key) = 3
 fault_status (NoFile name) = 4
+fault_status NoPage = 4
 fault_status (NoAddress place) = 4
 fault_status ReadFailed = 4
 fault_status WriteFailed = 4
@@ -84,6 +84,7 @@ talk_fault talk.OutOfMemory = OutOfMemory
 abbrev pub day_fault : DayFault → CommandFault
 day_fault (day.NoAddress place) = NoAddress place
 day_fault (day.NoLogs fault) = NoLogs fault
+day_fault day.NoPage = NoPage
 day_fault day.NoSocket = NoSocket
 day_fault day.NoThread = NoThread
 day_fault day.OutOfMemory = OutOfMemory

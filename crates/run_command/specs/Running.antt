@@ -11,7 +11,6 @@ use Rattle.run_command.specs.declared.fault.CommandFault.TheVariants.{
   NoFile,
   NotText,
   BadFile,
-  NotServed,
 }
 
 -- what is said of a fault of the words or of the file, which comes before anything is dialled or printed
@@ -22,7 +21,6 @@ IfBeforeDay said BadPatience = said
 IfBeforeDay said (NoFile name) = said
 IfBeforeDay said (NotText name) = said
 IfBeforeDay said (BadFile name fault) = said
-IfBeforeDay said (NotServed name key) = said
 IfBeforeDay said other = Unit {0}
 
 -- a fault of a day that was begun

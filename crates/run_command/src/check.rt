@@ -40,12 +40,17 @@ impl<'a> fmt::Display for VenueLine<'a> {
     }
 }
 
-/// A line for each venue: where it is, its dialect and its heartbeat interval; and that the file is a day's.
+/// A line for each venue: where it is, its dialect and its heartbeat interval; where the page is served, if it is; and
+/// that the file is a day's.
 pub fn check_text(alloc: Global, config: &DeskConfig) -> Result<Vec<u8>, AllocError> {
     let mut text = String::new(alloc);
     for venue in &config.venues {
         let line = VenueLine(venue);
         write!(text, "{line}\n")?;
+    }
+    if let Some(page) = &config.page {
+        let callers = config.callers;
+        write!(text, "page at {page} callers {callers}\n")?;
     }
     write!(text, "file ok\n")?;
     Ok(text.into_bytes())

@@ -7,7 +7,8 @@ use clap::error::ErrorKind;
 use command_line::{Fault, InputFault};
 use day_log::LogFault;
 use desk_config::ConfigFault;
-use desk_run::{DayFault, TalkFault};
+use desk_floor::TalkFault;
+use desk_run::DayFault;
 use std::alloc::AllocError;
 use std::io;
 use thiserror::Error;
@@ -33,12 +34,12 @@ pub enum CommandFault {
     /// What is wrong with the file.
     #[error("{name}: {fault}")]
     BadFile { name: String, fault: ConfigFault },
-    /// The file asks for what no day has yet.
-    #[error("{name}: [desk]: {key} is not served")]
-    NotServed { name: String, key: &'static str },
     /// The logs of the day can't be begun in their folder.
     #[error("log: {0}")]
     NoLogs(LogFault),
+    /// The page can't be served where the file asks for it.
+    #[error("page: it can't be served there")]
+    NoPage,
     /// The host of the venue at this place, from 0, isn't known.
     #[error("no address for venue {0}, counted from 0")]
     NoAddress(usize),
@@ -99,9 +100,9 @@ impl Fault for CommandFault {
             CommandFault::CommandLine(_) | CommandFault::NoName => 2,
             CommandFault::BadPatience
             | CommandFault::NotText(_)
-            | CommandFault::BadFile { .. }
-            | CommandFault::NotServed { .. } => 3,
+            | CommandFault::BadFile { .. } => 3,
             CommandFault::NoFile(_)
+            | CommandFault::NoPage
             | CommandFault::NoAddress(_)
             | CommandFault::ReadFailed
             | CommandFault::WriteFailed
@@ -119,7 +120,7 @@ impl Fault for CommandFault {
     fn reason(&self) -> Option<&'static str> {
         match self {
             CommandFault::BadPatience => Some("a whole number from 0 to 86400 is wanted"),
-            CommandFault::NotServed { .. } => Some("take the key away: this version has no page"),
+            CommandFault::NoPage => Some("another program may have the address, or it isn't this machine's"),
             CommandFault::NoLogs(fault) => log_reason(fault),
             CommandFault::GivenUp => Some(
                 "a session didn't log out in time, or legs stay in doubt",
@@ -198,6 +199,7 @@ impl From<DayFault> for CommandFault {
         match fault {
             DayFault::NoAddress(place) => CommandFault::NoAddress(place),
             DayFault::NoLogs(fault) => CommandFault::NoLogs(fault),
+            DayFault::NoPage => CommandFault::NoPage,
             DayFault::NoSocket => CommandFault::NoSocket,
             DayFault::NoThread => CommandFault::NoThread,
             DayFault::OutOfMemory => CommandFault::OutOfMemory,

@@ -37,7 +37,7 @@ fn file_fault(name: String, fault: ConfigFault) -> CommandFault
     }
 }
 
-/// The configuration that the file of a name has. One that asks for a page is refused, since no day has one.
+/// The configuration that the file of a name has.
 pub fn read_file<R: Files>(rt: &R, alloc: Global, name: &str) -> Result<DeskConfig, CommandFault>
     ensures venues { IfOk result (λ config. AreVenues config.venues.items) }
     ensures memory { IfErr result IsToldSo }
@@ -55,7 +55,6 @@ pub fn read_file<R: Files>(rt: &R, alloc: Global, name: &str) -> Result<DeskConf
     };
     let name = String::from_str(alloc, name)?;
     match read_config(alloc, text) {
-        Ok(config) if config.page.is_some() => Err(CommandFault::NotServed { name, key: "page" }),
         Ok(config) => Ok(config),
         Err(fault) => Err(file_fault(name, fault)),
     }

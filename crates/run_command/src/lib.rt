@@ -26,7 +26,8 @@ use crate::file::read_file;
 use crate::folder::folder_of;
 use command_line::{finish, print};
 use desk_config::DeskConfig;
-use desk_run::{DeskInput, Manner, run_day};
+use desk_floor::Manner;
+use desk_run::{DeskInput, run_day};
 pub use fault::CommandFault;
 pub use options::{Options, read_options, run_command};
 use std::alloc::{AllocError, Global};
@@ -143,15 +144,7 @@ where
 {
     let fd = input.as_raw_fd();
     let input = DeskInput { input, fd };
-    let day = run_day(
-        rt,
-        alloc,
-        config.venues.as_slice(),
-        manner,
-        folder,
-        input,
-        &mut *out,
-    )?;
+    let day = run_day(rt, alloc, config, manner, folder, input, &mut *out)?;
     print(&day_text(alloc, &day)?, out)?;
     match day.broken_off {
         Some(fault) => Err(CommandFault::from(fault)),

@@ -3,7 +3,7 @@ ghost use Rattle.std.specs.Prelude.{◌≡◌, IfErr};
 
 use crate::fault::CommandFault;
 use clap::{Arg, ArgAction, ArgMatches, Command};
-use desk_run::Manner;
+use desk_floor::Manner;
 use fix_tags::read_number;
 use std::alloc::{AllocError, Global};
 use std::convert::AsStr;

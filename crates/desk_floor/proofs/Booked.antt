@@ -14,7 +14,7 @@ use Rattle.share_ledger.proofs.Adding.{totals_add_up}
 use Rattle.exec_collector.specs.Resolved.{Replays}
 use Rattle.exec_collector.proofs.Bounded.{bounded_book}
 use Rattle.desk_news.specs.declared.sweep_parts.SweepParts.{SweepParts}
-use Rattle.desk_run.specs.Sweeps.{sweeps_from, sweeps_in, sum_of}
+use Rattle.desk_floor.specs.Sweeps.{sweeps_from, sweeps_in, sum_of}
 
 -- what is left of a list at a place
 next_at : {A : Type 0} (xs : List A) (at : ℕ) (x : A) → slice_get xs at ≡ Some x → drop at xs ≡ x ∷ drop (suc at) xs
@@ -34,7 +34,7 @@ past [] (suc at) few = refl
 past (x ∷ xs) zero few = absurd (omega arith)
 past (x ∷ xs) (suc at) few = past xs at (omega arith)
 
-opened_few : (entries : List BookEntry) → length (opened entries) ≤ length entries
+pub opened_few : (entries : List BookEntry) → length (opened entries) ≤ length entries
 opened_few [] = omega arith
 opened_few (Opened sweep ∷ entries) = let rest = opened_few entries in omega (arith, rest)
 opened_few (Withdrawn id ∷ entries) = let rest = opened_few entries in omega (arith, rest)

@@ -1,25 +1,27 @@
 //! What the threads of a day share.
 
-ghost use Rattle.std.specs.Prelude.{◌≤◌, length};
+ghost use Rattle.std.specs.Prelude.{◌≡◌, ◌≤◌, length};
 
 use crate::bells::Bells;
-use crate::exchange::Serve;
+use crate::counter::Counter;
+use crate::refusals::Refusals;
 use crate::signals::{Manner, Signals};
 use crate::standing::Standing;
 use crate::talk_fault::TalkFault;
 use crate::venue_view::{Seen, VenueView};
 use crate::voice::Voice;
 use day_log::{LineLog, VenueLog};
+use desk_news::DayTotals;
 use desk_words::VenueName;
 use exec_collector::Collector;
 use leg::VenueId;
-use release_lock::{ReleaseLock, Run};
+use release_lock::{CallerSeat, ReleaseLock, Run};
 use session_worker::Stop;
 use std::alloc::{AllocError, Global};
 use std::fmt::Display;
 use std::io::Write;
 use std::sync::ledger::Ledger;
-use std::sync::{Arc, Wait};
+use std::sync::{Arc, Mutex, Wait};
 use std::thread;
 use std::time::{Clock, Duration};
 
@@ -39,6 +41,10 @@ pub struct Floor<L: Run, M: Ledger, W: Write + Drop> {
     pub manner: Manner,
     pub lock: ReleaseLock<L>,
     pub collector: Collector<M>,
+    /// On whose seat all who hand sweeps in count.
+    pub counter: Mutex<Counter<L>>,
+    /// The sweeps that were refused.
+    pub refusals: Refusals,
     pub voice: Voice<W>,
     /// The log of the lines that are taken and answered, if one is kept.
     pub line_log: Option<Arc<VenueLog, Global>>,
@@ -48,6 +54,15 @@ pub struct Floor<L: Run, M: Ledger, W: Write + Drop> {
     /// What tells the workers to stop.
     pub stop: Stop,
     ghost few: { length names.items ≤ 16 },
+}
+
+/// What its threads leave.
+#[derive(Drop)]
+pub struct Left<L: Run, M: Ledger> {
+    pub names: Vec<VenueName>,
+    pub lock: ReleaseLock<L>,
+    pub collector: Collector<M>,
+    pub seat: CallerSeat<L>,
 }
 
 impl<L: Run, M: Ledger, W: Write + Drop> Floor<L, M, W> {
@@ -126,13 +141,46 @@ impl<L: Run, M: Ledger, W: Write + Drop> Floor<L, M, W> {
         self.bells.ring_all();
     }
 
-    /// Serves an exchange's clients until it is stopped. Where it wants memory the day closes.
-    pub fn serve<X: Serve>(&self, exchange: X) -> Result<(), AllocError> {
-        let served = exchange.serve(&self.signals.is_over);
-        if served.is_err() {
-            self.signals.close();
-            self.stop();
+    /// How many sweeps were placed. It may wait for the book's lock.
+    pub fn sweeps(&self, rt: &impl Wait) -> u64 {
+        self.collector.read(rt, |book: &Book| book.next_sweep()) - 1
+    }
+
+    /// The shares of the day. It may wait for the book's lock.
+    pub fn totals(&self, rt: &impl Wait) -> DayTotals {
+        let resolved = self.collector.resolved(rt);
+        let placed = self.signals.placed();
+        DayTotals {
+            placed,
+            resolved,
+            still_open: placed.saturating_sub(resolved),
         }
-        served
+    }
+
+    /// What is left once no thread shares it any more.
+    pub fn into_left(self) -> Left<L, M>
+        ensures names { result.names ≡ self.names }
+        ensures seat { result.seat.parts ≡ 1024 }
+    {
+        let Floor {
+            names,
+            views: _,
+            manner: _,
+            lock,
+            collector,
+            counter,
+            refusals: _,
+            voice: _,
+            line_log: _,
+            signals: _,
+            bells: _,
+            stop: _,
+        } = self;
+        Left {
+            names,
+            lock,
+            collector,
+            seat: counter.into_inner().into_seat(),
+        }
     }
 }

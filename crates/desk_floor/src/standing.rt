@@ -3,7 +3,7 @@
 ghost use Rattle.std.specs.Prelude.{◌≡◌};
 ghost use Rattle.desk_news.specs.declared.cause.Cause.TheVariants.{Lost};
 ghost use Rattle.desk_words.specs.Printable.{shown};
-ghost use Rattle.desk_run.specs.Standing.{cause_of, dial_text, is_logout, standing_of, state_of};
+ghost use Rattle.desk_floor.specs.Standing.{cause_of, dial_text, is_logout, standing_of, state_of};
 
 use desk_news::{Cause, Told, VenueState};
 use desk_words::shown;

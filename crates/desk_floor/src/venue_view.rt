@@ -1,7 +1,8 @@
 //! What the threads of a day see of a venue.
 
 use crate::standing::{Standing, standing_of};
-use day_log::VenueLog;
+use day_log::{Traffic, VenueLog};
+use clock::Clock;
 use leg::VenueId;
 use link::LastDial;
 use std::alloc::{AllocError, Global};
@@ -24,12 +25,13 @@ pub struct Seen {
     pub doubts: u64,
 }
 
-/// What the threads of a day see of a venue: what its worker tells on its board, why its link couldn't be dialled, and
-/// the log of its messages, if one is kept.
+/// What the threads of a day see of a venue: what its worker tells on its board, why its link couldn't be dialled, what
+/// went over it, and the log of its messages, if one is kept.
 #[derive(Drop)]
 pub struct VenueView {
     board: Arc<VenueBoard, Global>,
     last_dial: Arc<LastDial, Global>,
+    traffic: Arc<Traffic, Global>,
     log: Option<Arc<VenueLog, Global>>,
 }
 
@@ -39,6 +41,7 @@ impl VenueView {
         Ok(VenueView {
             board: Arc::new(alloc, VenueBoard::new())?,
             last_dial: Arc::new(alloc, LastDial::new())?,
+            traffic: Arc::new(alloc, Traffic::new())?,
             log,
         })
     }
@@ -51,6 +54,35 @@ impl VenueView {
     /// Where its link tells why a dial failed.
     pub fn last_dial(&self) -> Result<Arc<LastDial, Global>, AllocError> {
         self.last_dial.clone()
+    }
+
+    /// What went over its link.
+    pub fn traffic(&self) -> &Traffic {
+        &self.traffic
+    }
+
+    /// Where its link counts what goes over it.
+    pub fn shared_traffic(&self) -> Result<Arc<Traffic, Global>, AllocError> {
+        self.traffic.clone()
+    }
+
+    /// How many of its legs the worker has taken.
+    pub fn taken(&self) -> u64 {
+        self.board.taken()
+    }
+
+    /// Up to which of them none is in doubt.
+    pub fn settled(&self) -> u64 {
+        self.board.settled()
+    }
+
+    /// How many milliseconds ago the last message came, by the worker's clock; none where no connection was made.
+    pub fn heard_ms_ago(&self, clock: &impl Clock) -> Option<u64> {
+        let heard = self.board.heard();
+        if heard == 0 {
+            return None;
+        }
+        Some(clock.millis().saturating_sub(heard))
     }
 
     /// The log of its messages, if one is kept.

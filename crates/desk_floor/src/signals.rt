@@ -4,8 +4,11 @@ use std::sync::atomic::{AtomicBool, AtomicU64, Ordering};
 use std::thread;
 use std::time::{Clock, Duration};
 
-/// How many milliseconds one thread waits for another one to begin.
-const MOST_MILLIS: u64 = 10_000;
+/// How many milliseconds pass between two looks whether a thread has begun.
+const LOOK_MILLIS: u64 = 5;
+
+/// For how many such looks one thread waits for another one to begin: ten seconds.
+const LOOKS: u64 = 2_000;
 
 /// How a day is held.
 #[derive(Clone, Copy, Debug, PartialEq, Eq)]
@@ -63,14 +66,14 @@ impl Signals {
     /// Waits until these threads have begun, and says whether they have: not where the day is to close, or the system
     /// gave them no thread, which shows by nothing but their silence.
     pub fn awaits(&self, clock: &impl Clock, begun: &Begun) -> bool {
-        for _ in 0..MOST_MILLIS {
+        for _ in 0..LOOKS {
             if begun.0.load(Ordering::SeqCst) {
                 return true;
             }
             if self.is_closing() {
                 return false;
             }
-            thread::sleep(clock, Duration::from_millis(1));
+            thread::sleep(clock, Duration::from_millis(LOOK_MILLIS));
         }
         false
     }
@@ -114,6 +117,11 @@ impl Signals {
     /// Whether the workers have ended.
     pub fn is_ending(&self) -> bool {
         self.is_ending.load(Ordering::SeqCst)
+    }
+
+    /// Whether exchanges are to stop, since the day is over.
+    pub fn is_over(&self) -> bool {
+        self.is_over.load(Ordering::SeqCst)
     }
 
     /// Exchanges are to stop.

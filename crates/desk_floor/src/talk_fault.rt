@@ -1,7 +1,7 @@
 //! Why no line is taken any more.
 
 ghost use Rattle.std.specs.Prelude.{◌≡◌};
-ghost use Rattle.desk_run.specs.declared.talk_fault.TalkFault.TheVariants.{OutOfMemory};
+ghost use Rattle.desk_floor.specs.declared.talk_fault.TalkFault.TheVariants.{OutOfMemory};
 
 use std::alloc::{AllocError, AllocFailed};
 use std::io::{self, ErrorKind};
@@ -22,7 +22,7 @@ pub enum TalkFault {
 
 impl TalkFault {
     /// Of an input that failed so.
-    pub(crate) fn of_read(error: &io::Error) -> TalkFault {
+    pub fn of_read(error: &io::Error) -> TalkFault {
         match error.kind() {
             ErrorKind::OutOfMemory => TalkFault::OutOfMemory,
             _ => TalkFault::ReadFailed,

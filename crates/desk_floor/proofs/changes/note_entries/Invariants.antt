@@ -1,6 +1,6 @@
 use Rattle.std.proofs.Common.{◌≡◌, ◌≤◌, ◌+◌, ◌++◌, take}
-use Rattle.desk_run.specs.Changes.{changed_in, opened_in}
-use Rattle.desk_run.proofs.changes.note_entries.Given as goal
+use Rattle.desk_floor.specs.Changes.{changed_in, opened_in}
+use Rattle.desk_floor.proofs.changes.note_entries.Given as goal
 
 abbrev pub invariant-loop-entry : goal.invariant-loop-entry
 invariant-loop-entry l = record {

@@ -1,5 +1,8 @@
 -- How a venue stands: by what its worker told of its session, whether its gate is shut, and the dial that failed last.
-use Rattle.std.specs.Prelude.{ℕ, Bool, true, false, ◌||◌, List, Option, Some, None, codes, if◌then◌else◌}
+use Rattle.std.specs.Prelude.{ℕ, Bool, true, false, ◌||◌, ◌==◌, nat_lt, nat_le, List, Option, Some, None, codes, if◌then◌else◌}
+use Rattle.leg.specs.Split.{SplitParts}
+use Rattle.leg.specs.declared.leg_state.LegState.{LegState}
+use Rattle.leg.specs.declared.leg_state.LegState.TheVariants.{Queued, Doubt, Taken, Withdrawn}
 use Rattle.session_core.specs.declared.ended.Ended.TheVariants.{PeerLogout}
 use Rattle.link.specs.declared.dial_error.DialError.{DialError}
 use Rattle.link.specs.declared.dial_error.DialError.TheVariants.{Refused, TimedOut, HostUnreachable, NetworkUnreachable, Other}
@@ -12,8 +15,8 @@ use Rattle.desk_news.specs.declared.cause.Cause.TheVariants.{Ended, Lost}
 use Rattle.desk_news.specs.declared.venue_state.VenueState.{VenueState}
 use Rattle.desk_news.specs.declared.venue_state.VenueState.TheVariants as state
 use Rattle.desk_words.specs.Printable.{shown}
-use Rattle.desk_run.specs.declared.standing.Standing.{Standing}
-use Rattle.desk_run.specs.declared.standing.Standing.TheVariants.{Dialled, Up, Down, Unreachable, Closed, Closing}
+use Rattle.desk_floor.specs.declared.standing.Standing.{Standing}
+use Rattle.desk_floor.specs.declared.standing.Standing.TheVariants.{Dialled, Up, Down, Unreachable, Closed, Closing}
 
 -- whether the exchange logged out, which ends its session for the day
 abbrev pub is_logout : Loss → Bool
@@ -57,3 +60,12 @@ state_of (Down why) seconds = state.Down (cause_of why)
 state_of (Unreachable error) seconds = state.Unreachable (dial_text error) seconds
 state_of (Closed why) seconds = state.Closed (cause_of why)
 state_of Closing seconds = state.Closed (Lost (shown 200 (codes "the day is closing")))
+
+-- how far a leg has come: the book has these parts of it, it is this one of its venue's legs, so many of which were
+-- taken, and none up to the settled one is in doubt
+abbrev pub leg_state_of : SplitParts → ℕ → ℕ → ℕ → LegState
+leg_state_of parts ordinal taken settled =
+    if nat_lt 0 parts.withdrawn then Withdrawn
+    else if nat_lt taken ordinal then Queued
+    else if nat_le ordinal settled || parts.still_open == 0 then Taken
+    else Doubt

@@ -3,7 +3,7 @@ use Rattle.std.proofs.Common.{◌≡◌, ℕ, ◌+◌, ◌<◌, List, [], ◌∷
 use Rattle.std.specs.Prelude.{option_to_list}
 use Rattle.std.proofs.lemmas.List.{append-nil, append_assoc, take_more}
 use Rattle.share_ledger.specs.declared.book_entry.BookEntry.{BookEntry}
-use Rattle.desk_run.specs.Changes.{changed_by, changed_in, opened_in, opened_with}
+use Rattle.desk_floor.specs.Changes.{changed_by, changed_in, opened_in, opened_with}
 
 changed_last : (before : ℕ) (entries : List BookEntry) (entry : BookEntry)
     → changed_in before (entries ++ entry ∷ [])

@@ -20,6 +20,15 @@ impl Bells {
         Ok(self.0.push(poller.bell()?)?)
     }
 
+    /// Rings those of the venues by whose place something stands.
+    pub fn ring(&self, venues: &[bool]) {
+        for (bell, is_for) in self.0.iter().zip(venues.iter()) {
+            if *is_for {
+                bell.ring();
+            }
+        }
+    }
+
     /// Rings each.
     pub fn ring_all(&self) {
         for bell in self.0.iter() {

@@ -1,7 +1,7 @@
 use Rattle.std.proofs.Common.{◌++◌, ◌∙◌, ap, arith}
 use Rattle.std.specs.Prelude.{option_to_list}
-use Rattle.desk_run.proofs.Changed.{changed_more, opened_more}
-use Rattle.desk_run.proofs.changes.note_entries.Goals as goal
+use Rattle.desk_floor.proofs.Changed.{changed_more, opened_more}
+use Rattle.desk_floor.proofs.changes.note_entries.Goals as goal
 
 pub loop-entry-preserved : goal.loop-entry-preserved
 loop-entry-preserved c =

@@ -1,7 +1,7 @@
 //! Which sweeps of a book changed since it was looked at last.
 
 ghost use Rattle.std.specs.Prelude.{◌≡◌, ◌<◌, ◌≤◌, ◌+◌, ◌++◌, length, option_to_list, IfOk, OnOk};
-ghost use Rattle.desk_run.specs.Changes.{changed_by, changed_in, opened_in, opened_with};
+ghost use Rattle.desk_floor.specs.Changes.{changed_by, changed_in, opened_in, opened_with};
 
 use dialect::Note;
 use exec_collector::Collector;
@@ -86,6 +86,15 @@ fn note_entries(
     Ok(after)
 }
 
+/// The end of a book's history.
+#[tactic(auto, using(crate::proofs::Booked::opened_few))]
+fn end_of(book: &Book) -> Cursor {
+    Cursor {
+        entries: book.history().len(),
+        sweeps: book.next_sweep() - 1,
+    }
+}
+
 impl Changes {
     /// Of a book that wasn't looked at.
     pub fn new(alloc: Global) -> Changes {
@@ -94,6 +103,14 @@ impl Changes {
                 entries: 0,
                 sweeps: 0,
             },
+            sweeps: Vec::new(alloc),
+        }
+    }
+
+    /// Of a book whose history was looked at to its end. It may wait for the book's lock.
+    pub fn from_now<M: Ledger>(rt: &impl Wait, alloc: Global, collector: &Collector<M>) -> Changes {
+        Changes {
+            cursor: collector.read(rt, |book: &Book| end_of(book)),
             sweeps: Vec::new(alloc),
         }
     }

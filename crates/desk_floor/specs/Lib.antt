@@ -1,0 +1,4 @@
+pub mod Sweeps
+pub mod Release
+pub mod Standing
+pub mod Changes

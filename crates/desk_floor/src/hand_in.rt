@@ -1,0 +1,140 @@
+//! A sweep is handed in, and answered.
+
+ghost use Rattle.std.specs.Prelude.{◌≡◌, ◌≢◌, slice_get};
+ghost use Rattle.sweep_release.specs.History.{KeptDesk};
+ghost use Rattle.release_lock.specs.Locked.{Replays, Releases};
+ghost use Rattle.desk_floor.specs.Release.{refusal_of, answer_of};
+
+use crate::counter::Counter;
+use crate::floor::Floor;
+use day_log::{LineLog, moment};
+use desk_words::VenueName;
+use leg::{Routed, Sweep, VenueId};
+use release_lock::Run;
+use std::io::Write;
+use std::sync::Wait;
+use std::sync::ledger::Ledger;
+use std::time::Clock;
+use sweep_release::{Receipt, ReleaseFault};
+use sweep_text::{Answer, Refusal};
+
+/// How many venues there may be.
+const VENUES: usize = 16;
+
+/// The name of a venue, if the desk has it.
+fn name_of(names: &[VenueName], venue: VenueId) -> Option<VenueName>
+    ensures { result ≡ slice_get names.now venue }
+{
+    let name = names.get(usize::from(venue.number()))?;
+    Some(name.clone().unwrap())
+}
+
+/// Why a sweep isn't placed, with the name of the venue that is to blame.
+fn refusal_of(names: &[VenueName], fault: ReleaseFault) -> Refusal
+    ensures { result ≡ refusal_of names.now fault }
+{
+    match fault {
+        ReleaseFault::Empty => Refusal::NoLegs,
+        ReleaseFault::TooManyLegs => Refusal::TooManyLegs,
+        ReleaseFault::UnknownVenue(_) => Refusal::UnknownVenue,
+        ReleaseFault::GateShut(venue) => match name_of(names, venue) {
+            Some(name) => Refusal::GateDown(name),
+            None => Refusal::UnknownVenue,
+        },
+        ReleaseFault::BacklogFull(venue) => match name_of(names, venue) {
+            Some(name) => Refusal::BacklogFull(name),
+            None => Refusal::UnknownVenue,
+        },
+        ReleaseFault::SweepsSpent => Refusal::SweepsSpent,
+        ReleaseFault::OutOfMemory => Refusal::OutOfMemory,
+        ReleaseFault::WrongBook => Refusal::WrongBook,
+    }
+}
+
+/// The answer to a sweep that was released, or refused.
+fn answer_of(names: &[VenueName], done: Result<Receipt, ReleaseFault>) -> Answer
+    ensures { result ≡ answer_of names.now done }
+{
+    match done {
+        Ok(receipt) => Answer::Placed {
+            sweep: receipt.number,
+            shares: receipt.shares,
+        },
+        Err(fault) => Answer::Refused(refusal_of(names, fault)),
+    }
+}
+
+/// For each number of a venue, whether one of these legs is for it.
+fn venues_of(legs: &[Routed]) -> [bool; VENUES] {
+    let mut marks = [false; VENUES];
+    for routed in legs {
+        marks[usize::from(routed.venue.number())] = true;
+    }
+    marks
+}
+
+impl<L: Run, M: Ledger, W: Write + Drop> Floor<L, M, W> {
+    /// Hands a sweep in that this line asks for, and answers with what became of it, or that the day is closing. The
+    /// line and its answer stand behind one another in the log. It may wait for the locks; once those of the desk and
+    /// the book are given up it wakes the workers of the sweep's venues.
+    pub fn hand_in<'a, R: Wait + Clock, C: clock::Clock + Drop>(
+        &self,
+        rt: &'a R,
+        log: &mut LineLog<'a, R, C>,
+        line: &[u8],
+        sweep: Sweep,
+    ) -> Answer
+        ensures { result ≢ Answer.Closing → (before : KeptDesk) × (after : KeptDesk) × (done : _)
+            × Replays before × Replays after × Releases sweep.legs before done after
+            × (result ≡ answer_of self.now.names.items done) }
+    {
+        let mut counter = self.counter.lock(rt);
+        log.taken(line);
+        let answer = if self.signals.is_closing() {
+            Answer::Closing
+        } else {
+            self.release(rt, &mut counter, sweep)
+        };
+        log.answered(&answer);
+        self.refusals.note(rt, &answer);
+        answer
+    }
+
+    /// Releases a sweep, and answers with what became of that.
+    fn release<R: Wait + Clock>(&self, rt: &R, counter: &mut Counter<L>, sweep: Sweep) -> Answer
+        ensures { (before : KeptDesk) × (after : KeptDesk) × (done : _)
+            × Replays before × Replays after × Releases sweep.legs before done after
+            × (result ≡ answer_of self.now.names.items done) }
+    {
+        let now = moment(rt);
+        let venues = venues_of(sweep.legs.as_slice());
+        self.begin_waits(&venues, now);
+        let done = counter.release(rt, &self.lock, &self.collector, sweep);
+        match &done {
+            Ok(receipt) => {
+                self.signals.count_placed(receipt.shares);
+                self.bells.ring(&venues);
+            }
+            Err(_) => self.end_waits(&venues, now),
+        }
+        answer_of(self.names.as_slice(), done)
+    }
+
+    /// Orders for these venues are handed in at this moment.
+    fn begin_waits(&self, venues: &[bool; VENUES], now: u64) {
+        for (view, is_for) in self.views.iter().zip(venues.iter()) {
+            if *is_for {
+                view.traffic().order_times().begin(now);
+            }
+        }
+    }
+
+    /// The orders for these venues that were handed in at this moment are refused.
+    fn end_waits(&self, venues: &[bool; VENUES], now: u64) {
+        for (view, is_for) in self.views.iter().zip(venues.iter()) {
+            if *is_for {
+                view.traffic().order_times().refuse(now);
+            }
+        }
+    }
+}

@@ -1,0 +1,138 @@
+//! The legs of a sweep, as the book, the desk and the venues' workers have them.
+
+ghost use Rattle.std.specs.Prelude.{◌≡◌, ◌≤◌};
+ghost use Rattle.share_ledger.specs.Book.{BookParts, leg_in};
+ghost use Rattle.exec_collector.specs.Resolved.{Replays};
+ghost use Rattle.release_lock.specs.Locked.{OnlyTurns};
+ghost use Rattle.desk_floor.specs.Standing.{leg_state_of};
+ghost use Rattle.leg.specs.LegId.{IsLegId};
+
+use crate::floor::Floor;
+use crate::venue_view::VenueView;
+use exec_collector::Collector;
+use leg::{Leg, LegId, LegState, MAX_PLACE, MAX_SWEEP, Split, Terms, VenueId};
+use release_lock::Run;
+use share_ledger::{Book, BookedLeg};
+use std::alloc::{AllocError, Global};
+use std::io::Write;
+use std::sync::Wait;
+use std::sync::ledger::Ledger;
+use sweep_release::Desk;
+
+/// How a leg stands.
+#[derive(Debug, Drop)]
+pub struct LegStanding {
+    pub id: LegId,
+    pub venue: VenueId,
+    pub terms: Terms,
+    pub parts: Split,
+    pub state: LegState,
+}
+
+/// What was asked of a leg at the desk.
+#[derive(Drop)]
+struct Released {
+    terms: Terms,
+    /// Which of its venue's legs it is, from 1.
+    ordinal: u64,
+}
+
+/// How far a leg has come: the book has these parts of it, it is this one of its venue's legs, so many of which were
+/// taken, and none up to `settled` is in doubt.
+fn state_of(parts: &Split, ordinal: u64, taken: u64, settled: u64) -> LegState
+    ensures { result ≡ leg_state_of parts.now ordinal taken settled }
+{
+    if parts.withdrawn() > 0 {
+        LegState::Withdrawn
+    } else if taken < ordinal {
+        LegState::Queued
+    } else if ordinal <= settled || parts.still_open() == 0 {
+        LegState::Taken
+    } else {
+        LegState::Doubt
+    }
+}
+
+/// The leg of this number, if its sweep was opened, of a book that replays from its own history. It may wait for the
+/// lock.
+pub fn leg_now<M: Ledger>(rt: &impl Wait, collector: &Collector<M>, id: LegId) -> Option<BookedLeg>
+    ensures { (book : BookParts) × Replays book × (result ≡ leg_in book id) }
+{
+    collector.read(
+        rt,
+        |book: &Book| -> Option<BookedLeg>
+            ensures { result ≡ leg_in book.now id }
+        { book.leg(id) },
+    )
+}
+
+/// Whether a leg is of an earlier sweep than another, or in front of it in the same one.
+fn is_before(leg: &Leg, id: LegId) -> bool {
+    (leg.id.sweep(), leg.id.place()) < (id.sweep(), id.place())
+}
+
+/// What was released to a venue under a leg's number, if there is such a leg. The legs of a venue are in the order of
+/// their numbers.
+fn released(desk: &mut Desk, venue: VenueId, id: LegId) -> Result<Option<Released>, AllocError>
+    ensures turns { OnlyTurns desk.old desk.new }
+{
+    let legs = desk.released(venue);
+    let place = legs.partition_point(|leg| is_before(leg, id));
+    match legs.get(place) {
+        Some(leg) if leg.id == id => Ok(Some(Released {
+            terms: leg.terms.clone()?,
+            ordinal: (place as u64).saturating_add(1),
+        })),
+        _ => Ok(None),
+    }
+}
+
+/// How a leg stands that the book has, if the desk has it too.
+fn standing_of<L: Run, M: Ledger, W: Write + Drop>(
+    rt: &impl Wait,
+    floor: &Floor<L, M, W>,
+    id: LegId,
+    booked: &BookedLeg,
+) -> Result<Option<LegStanding>, AllocError> {
+    let venue = booked.venue;
+    let Some(view) = floor.views.get(usize::from(venue.number())) else {
+        return Ok(None);
+    };
+    let found = floor
+        .lock
+        .with(rt, |desk: &mut Desk| released(desk, venue, id))?;
+    let Some(Released { terms, ordinal }) = found else {
+        return Ok(None);
+    };
+    Ok(Some(LegStanding {
+        id,
+        venue,
+        terms,
+        parts: booked.parts,
+        state: state_of(&booked.parts, ordinal, view.taken(), view.settled()),
+    }))
+}
+
+/// The legs of the sweep of this number, by their places; none where no sweep has it. It may wait for the locks, one
+/// after the other, so that its legs need not be of one moment. The only refusal is want of memory.
+pub fn sweep_legs<L: Run, M: Ledger, W: Write + Drop>(
+    rt: &impl Wait,
+    alloc: Global,
+    floor: &Floor<L, M, W>,
+    number: u64,
+) -> Result<Vec<LegStanding>, AllocError> {
+    let mut legs = Vec::new(alloc);
+    if number < 1 || number > MAX_SWEEP {
+        return Ok(legs);
+    }
+    for place in 1..=MAX_PLACE {
+        let id = LegId::new(number, place);
+        let Some(booked) = leg_now(rt, &floor.collector, id) else {
+            break;
+        };
+        if let Some(leg) = standing_of(rt, floor, id, &booked)? {
+            legs.push(leg)?;
+        }
+    }
+    Ok(legs)
+}

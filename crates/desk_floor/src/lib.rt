@@ -1,0 +1,47 @@
+//! What the threads of a desk's day share: the desk and the book behind their locks, the venues as they are seen, the
+//! count of what was placed, and the signals by which the day closes.
+//!
+//! Promises:
+//! - A sweep that is handed in is answered with what the desk and the book did, under the name of the venue that is to
+//!   blame, unless it is told that the day is closing (`Floor::hand_in`). All who hand sweeps in count on one seat, which
+//!   has all parts of the run whenever its lock is free (`Counter`).
+//! - How a venue stands follows from what its worker told last, its gate and the dial that failed last, by the stated
+//!   definition, and so does what is told of it (`standing_of`, `Standing::state`). How a leg stands follows from the
+//!   book and from how far its venue's worker is (`state_of`). What a look finds there isn't said, as other threads
+//!   write it.
+//! - A sweep and a leg are told as a book has them that its own history leads to (`sweep_now`, `leg_now`).
+//! - The entries of the book's history that a look goes through give exactly the sweeps that they are about
+//!   (`note_entries`, private). That each entry is gone through once is only tested.
+//! - The count of refused sweeps by their reasons, and the last of them, are only tested.
+//!
+//! See `docs/run.md`.
+#![tactic(auto)]
+
+mod bells;
+mod changes;
+mod counter;
+mod floor;
+mod hand_in;
+mod legs;
+mod refusals;
+mod signals;
+mod standing;
+mod status;
+mod sweeps;
+mod talk_fault;
+mod venue_view;
+mod voice;
+
+pub use bells::Bells;
+pub use changes::Changes;
+pub use counter::Counter;
+pub use floor::{Floor, Left};
+pub use legs::{LegStanding, leg_now, sweep_legs};
+pub use refusals::{Refusals, RefusedCounts, RefusedSince};
+pub use signals::{Begun, Manner, Signals};
+pub use standing::Standing;
+pub use status::venue_status;
+pub use sweeps::{booked_sweeps, sweep_now};
+pub use talk_fault::TalkFault;
+pub use venue_view::{Seen, VenueView};
+pub use voice::Voice;

@@ -1,0 +1,166 @@
+//! The sweeps that were refused.
+
+ghost use Rattle.std.specs.Prelude.{◌≡◌};
+
+use std::alloc::{AllocError, Global};
+use std::collections::VecDeque;
+use std::sync::{Mutex, Wait};
+use sweep_text::{Answer, Refusal};
+
+/// How many of the last refusals are kept.
+const MOST_KEPT: usize = 64;
+
+/// How many sweeps were refused, by the reason.
+#[derive(Clone, Copy, Debug, PartialEq, Eq)]
+pub struct RefusedCounts {
+    pub no_legs: u64,
+    pub too_many_legs: u64,
+    pub unknown_venue: u64,
+    pub gate_down: u64,
+    pub backlog_full: u64,
+    pub sweeps_spent: u64,
+    pub out_of_memory: u64,
+    pub wrong_book: u64,
+    /// Since the day was closing.
+    pub closing: u64,
+}
+
+/// What was refused since some moment.
+#[derive(Drop)]
+pub struct RefusedSince {
+    /// How many were refused up to now: the next moment to ask from.
+    pub number: u64,
+    /// The last of them, in their order, at most 64; none is there for a sweep that came while the day was closing.
+    pub refusals: Vec<Option<Refusal>>,
+}
+
+/// What is known of them.
+#[derive(Drop)]
+struct Kept {
+    counts: RefusedCounts,
+    /// How many were refused.
+    number: u64,
+    last: VecDeque<Option<Refusal>>,
+}
+
+/// The sweeps that were refused, whoever handed them in: how many by each reason, and the last of them.
+#[derive(Drop)]
+pub struct Refusals {
+    alloc: Global,
+    kept: Mutex<Kept>,
+}
+
+/// The same refusal once more.
+fn copy_of(refusal: &Refusal) -> Refusal
+    ensures { result ≡ refusal.now }
+{
+    match refusal {
+        Refusal::NoLegs => Refusal::NoLegs,
+        Refusal::TooManyLegs => Refusal::TooManyLegs,
+        Refusal::UnknownVenue => Refusal::UnknownVenue,
+        Refusal::GateDown(venue) => Refusal::GateDown(venue.clone().unwrap()),
+        Refusal::BacklogFull(venue) => Refusal::BacklogFull(venue.clone().unwrap()),
+        Refusal::SweepsSpent => Refusal::SweepsSpent,
+        Refusal::OutOfMemory => Refusal::OutOfMemory,
+        Refusal::WrongBook => Refusal::WrongBook,
+    }
+}
+
+impl RefusedCounts {
+    /// None was refused.
+    fn none() -> RefusedCounts {
+        RefusedCounts {
+            no_legs: 0,
+            too_many_legs: 0,
+            unknown_venue: 0,
+            gate_down: 0,
+            backlog_full: 0,
+            sweeps_spent: 0,
+            out_of_memory: 0,
+            wrong_book: 0,
+            closing: 0,
+        }
+    }
+
+    /// The count of this reason; of a day that is closing where there is none.
+    fn count_of(&mut self, refusal: Option<&Refusal>) -> &mut u64 {
+        match refusal {
+            Some(Refusal::NoLegs) => &mut self.no_legs,
+            Some(Refusal::TooManyLegs) => &mut self.too_many_legs,
+            Some(Refusal::UnknownVenue) => &mut self.unknown_venue,
+            Some(Refusal::GateDown(_)) => &mut self.gate_down,
+            Some(Refusal::BacklogFull(_)) => &mut self.backlog_full,
+            Some(Refusal::SweepsSpent) => &mut self.sweeps_spent,
+            Some(Refusal::OutOfMemory) => &mut self.out_of_memory,
+            Some(Refusal::WrongBook) => &mut self.wrong_book,
+            None => &mut self.closing,
+        }
+    }
+}
+
+impl Kept {
+    /// Counts a refusal, and keeps it if there is memory.
+    fn note(&mut self, refusal: Option<&Refusal>) {
+        let count = self.counts.count_of(refusal);
+        *count = count.saturating_add(1);
+        self.number = self.number.saturating_add(1);
+        if self.last.len() >= MOST_KEPT {
+            self.last.pop_front();
+        }
+        let _ = self.last.push_back(refusal.map(copy_of));
+    }
+
+    /// What was refused since so many were.
+    fn since(&self, alloc: Global, number: u64) -> Result<RefusedSince, AllocError> {
+        let new = self.number.saturating_sub(number);
+        let skipped = (self.last.len() as u64).saturating_sub(new);
+        let mut refusals = Vec::new(alloc);
+        for (place, refusal) in self.last.iter().enumerate() {
+            if place as u64 >= skipped {
+                refusals.push(refusal.as_ref().map(copy_of))?;
+            }
+        }
+        Ok(RefusedSince {
+            number: self.number,
+            refusals,
+        })
+    }
+}
+
+impl Refusals {
+    /// None yet.
+    pub fn new(alloc: Global) -> Refusals {
+        Refusals {
+            alloc,
+            kept: Mutex::new(Kept {
+                counts: RefusedCounts::none(),
+                number: 0,
+                last: VecDeque::new(alloc),
+            }),
+        }
+    }
+
+    /// Takes note of an answer, if it is a refusal. It may wait for the lock.
+    pub(crate) fn note(&self, rt: &impl Wait, answer: &Answer) {
+        match answer {
+            Answer::Refused(refusal) => self.kept.lock(rt).note(Some(refusal)),
+            Answer::Closing => self.kept.lock(rt).note(None),
+            Answer::Placed { .. } | Answer::BadLine { .. } => {}
+        }
+    }
+
+    /// How many were refused, by the reason. It may wait for the lock.
+    pub fn counts(&self, rt: &impl Wait) -> RefusedCounts {
+        self.kept.lock(rt).counts
+    }
+
+    /// How many were refused in all. It may wait for the lock.
+    pub fn number(&self, rt: &impl Wait) -> u64 {
+        self.kept.lock(rt).number
+    }
+
+    /// What was refused since so many were. It may wait for the lock. The only refusal is want of memory.
+    pub fn since(&self, rt: &impl Wait, number: u64) -> Result<RefusedSince, AllocError> {
+        self.kept.lock(rt).since(self.alloc, number)
+    }
+}

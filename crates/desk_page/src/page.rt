@@ -1,0 +1,1233 @@
+//! The page, as `pages/desk.html` has it. `checks/desk_page --write` wrote this.
+
+/// The page: HTML in UTF-8.
+pub const PAGE: &str = r###"<!doctype html>
+<html lang="en">
+<head>
+<meta charset="utf-8">
+<meta http-equiv="Content-Security-Policy" content="default-src 'none'; script-src 'sha256-Z2suP12d/f5Xr4MQQDefVavtP/LwoHvutv625TMRWqM='; style-src 'sha256-2mbSyYzqcY1YgLaeiAYmyC1mstWFpzRhxROK5nEIUoo='; connect-src 'self'; base-uri 'none'; form-action 'none'; require-trusted-types-for 'script'; trusted-types 'none'">
+<meta name="viewport" content="width=device-width, initial-scale=1">
+<meta name="referrer" content="no-referrer">
+<meta name="color-scheme" content="light dark">
+<title>Desk</title>
+<style>
+:root {
+  color-scheme: light dark;
+  --page: #eef0f3; --card: #ffffff; --ink: #12161c; --soft: #4a5462; --line: #cdd3db; --field: #7c8694;
+  --link: #0b4fc4; --on-link: #ffffff; --hover: #e3e8ef;
+  --good: #08713a; --bad: #b3211a; --warn: #8a5200; --calm: #0b4fc4; --off: #5a6472;
+  --good-wash: #e4f4ea; --bad-wash: #fdeceb; --warn-wash: #fdf3e0; --calm-wash: #e8effc; --off-wash: #eceff3;
+  --filled: #08713a; --busted: #b3211a; --cancelled: #5a6472; --withdrawn: #6a3fc0; --open: #0b4fc4;
+}
+@media (prefers-color-scheme: dark) {
+  :root {
+    --page: #0d1015; --card: #171b22; --ink: #eceff4; --soft: #aeb7c4; --line: #313945; --field: #7f8a99;
+    --link: #8db7ff; --on-link: #0a1526; --hover: #232a34;
+    --good: #56cf92; --bad: #ff9188; --warn: #f3bb55; --calm: #8db7ff; --off: #a3adba;
+    --good-wash: #12291e; --bad-wash: #341917; --warn-wash: #2f2410; --calm-wash: #15233a; --off-wash: #222933;
+    --filled: #3fbf7f; --busted: #ff7f75; --cancelled: #8b96a5; --withdrawn: #b7a0ff; --open: #8db7ff;
+  }
+}
+* { box-sizing: border-box; }
+[hidden] { display: none !important; }
+html {
+  font: 106.25%/1.45 system-ui, "Segoe UI", "Helvetica Neue", "DejaVu Sans", sans-serif; scroll-padding: 9.5rem 0 2rem;
+}
+body { margin: 0; background: var(--page); color: var(--ink); font-variant-numeric: tabular-nums; }
+h1, h2, h3, p, dl, dd, ul, ol { margin: 0; padding: 0; }
+ul, ol { list-style: none; }
+h1 { font-size: 1.35rem; }
+h2 { font-size: 1.15rem; }
+h3 { font-size: 1.15rem; }
+:focus-visible { outline: 3px solid var(--link); outline-offset: 2px; border-radius: 4px; }
+.unseen { position: absolute; width: 1px; height: 1px; overflow: hidden; clip-path: inset(50%); white-space: nowrap; }
+.skip {
+  position: fixed; left: 1rem; top: -6rem; z-index: 9; background: var(--card); color: var(--link);
+  padding: .6rem 1rem;
+}
+.skip:focus { top: .5rem; }
+
+button, select, input {
+  font: inherit; color: inherit; background: var(--card); border: 1px solid var(--field); border-radius: 6px;
+  min-height: 2.6rem; padding: .3rem .7rem;
+}
+button { cursor: pointer; font-weight: 600; }
+button:hover { background: var(--hover); }
+button:disabled { cursor: default; color: var(--soft); border-style: dashed; }
+button.main { background: var(--link); border-color: var(--link); color: var(--on-link); }
+button.main:hover { text-decoration: underline; }
+button.main:disabled {
+  background: var(--off-wash); border-color: var(--field); color: var(--soft); text-decoration: none;
+}
+input[type=checkbox] {
+  min-height: 0; width: 1.15rem; height: 1.15rem; accent-color: var(--link); vertical-align: -.2rem;
+}
+[aria-invalid=true] { border: 2px solid var(--bad); }
+
+header { position: sticky; top: 0; z-index: 2; background: var(--card); border-bottom: 1px solid var(--line); }
+.line { display: flex; flex-wrap: wrap; align-items: center; gap: .5rem 1.75rem; padding: .6rem 1.25rem; }
+#standing { display: flex; align-items: center; gap: .5rem; font-weight: 600; flex: 1 1 16rem; }
+#sums { display: flex; flex-wrap: wrap; gap: .2rem 1.75rem; }
+#sums div { text-align: right; }
+#sums dt { color: var(--soft); font-size: .85rem; }
+#sums dd { font-size: 1.35rem; font-weight: 650; line-height: 1.15; }
+#banner { display: flex; gap: .7rem; align-items: center; padding: .7rem 1.25rem; font-weight: 600; }
+
+.lamp { width: 1.45rem; height: 1.45rem; flex: none; fill: currentColor; fill-rule: evenodd; }
+.small { width: 1.05rem; height: 1.05rem; }
+.good { color: var(--good); } .bad { color: var(--bad); } .warn { color: var(--warn); }
+.calm { color: var(--calm); } .off { color: var(--off); }
+.wash.good { background: var(--good-wash); } .wash.bad { background: var(--bad-wash); }
+.wash.warn {
+  background: var(--warn-wash); } .wash.calm { background: var(--calm-wash);
+  } .wash.off { background: var(--off-wash);
+}
+
+main { display: grid; gap: 1.25rem; padding: 1.25rem; max-width: 120rem; margin: 0 auto; }
+section { min-width: 0; }
+.card { background: var(--card); border: 1px solid var(--line); border-radius: 10px; padding: 1rem 1.1rem; }
+.top {
+  display: flex; flex-wrap: wrap; align-items: baseline; justify-content: space-between; gap: .3rem 1.5rem;
+  margin-bottom: .6rem;
+}
+.note { color: var(--soft); font-size: .9rem; }
+
+#lamps { display: grid; grid-template-columns: repeat(auto-fill, minmax(15.25rem, 1fr)); gap: .8rem; }
+.venue { padding: .75rem .9rem .8rem; border-top: 5px solid currentColor; }
+.venue > * { color: var(--ink); }
+.venue .head { display: flex; align-items: center; gap: .6rem; color: inherit; }
+.venue h3 { color: var(--ink); overflow-wrap: anywhere; }
+.venue .state { margin-left: auto; font-weight: 700; }
+.venue .note { color: var(--soft); margin-top: .4rem; }
+.venue .why { min-height: 1.45em; margin: .25rem 0 .4rem; overflow-wrap: anywhere; }
+.facts { display: grid; grid-template-columns: repeat(3, auto); justify-content: space-between; gap: .35rem .5rem; }
+.facts dt { color: var(--soft); white-space: nowrap; font-size: .8rem; line-height: 1.2; }
+.facts dd { font-weight: 600; white-space: nowrap; }
+.facts .heed { color: var(--warn); }
+.facts .heed::before { content: "! "; }
+
+.roll { overflow-x: auto; }
+table { border-collapse: collapse; width: 100%; }
+th, td { padding: .32rem .5rem; text-align: right; white-space: nowrap; }
+thead th {
+  color: var(--soft); font-size: .85rem; font-weight: 600; border-bottom: 2px solid var(--line);
+  vertical-align: bottom;
+}
+tbody th { font-weight: 600; }
+thead th:first-child, tbody th { text-align: left; }
+tbody + tbody { border-top: 1px solid var(--line); }
+td.bar-cell, th.bar-cell { width: 40%; min-width: 8rem; text-align: left; }
+td.none { color: var(--soft); font-weight: 400; }
+td { font-weight: 600; }
+.whole { color: var(--soft); font-weight: 400; }
+tr.leg th { padding-left: 1.4rem; font-weight: 500; line-height: 1.25; }
+tr.leg small { color: var(--soft); font-size: .85rem; display: block; }
+tr.leg { background: var(--off-wash); }
+button.opens {
+  min-height: 2rem; padding: 0 .7rem 0 .4rem; border-color: transparent; background: none; color: var(--link);
+  text-align: left;
+}
+button.opens::before { content: "\25B8"; display: inline-block; width: 1.2rem; text-align: center; }
+button.opens[aria-expanded=true]::before { content: "\25BE"; }
+button.opens:hover { background: var(--hover); }
+.bar { display: flex; gap: 2px; height: 1.15rem; }
+.bar span { min-width: 4px; border-radius: 2px; }
+.leg .bar { height: .8rem; }
+.swatch { display: block; width: 1.5rem; height: .7rem; border-radius: 2px; margin: 0 0 .2rem auto; }
+.filled { background: var(--filled); }
+.busted {
+  background:
+    repeating-linear-gradient(45deg, var(--card) 0 1.5px, transparent 1.5px 5px),
+    repeating-linear-gradient(-45deg, var(--card) 0 1.5px, transparent 1.5px 5px), var(--busted);
+}
+.cancelled { background: repeating-linear-gradient(0deg, var(--cancelled) 0 3px, var(--card) 3px 4.5px); }
+.withdrawn { background: repeating-linear-gradient(-45deg, var(--withdrawn) 0 4px, var(--card) 4px 6px); }
+.open { background: var(--card); border: 2px solid var(--open); }
+
+.rail { display: grid; gap: 1.25rem; align-content: start; }
+fieldset {
+  position: relative; min-width: 0; border: 1px solid var(--line); border-radius: 8px; margin: 0 0 1rem;
+  padding: .3rem .8rem .7rem;
+}
+legend { font-weight: 600; padding: 0 .3rem; }
+.fields { display: grid; grid-template-columns: repeat(6, 1fr); gap: .5rem; }
+.fields label { grid-column: span 2; font-size: .9rem; color: var(--soft); min-width: 0; }
+.fields label.wide { grid-column: span 3; }
+.fields select { padding: .3rem; }
+.fields input, .fields select { width: 100%; display: block; color: var(--ink); font-size: 1rem; }
+.fault { color: var(--bad); font-weight: 600; margin-top: .5rem; overflow-wrap: anywhere; }
+.row { display: flex; flex-wrap: wrap; gap: .6rem; align-items: center; }
+.row .main { margin-left: auto; }
+.remove { position: absolute; right: .8rem; top: -1.6rem; min-height: 1.7rem; padding: 0 .6rem; font-size: .85rem; }
+.plain { min-height: 2rem; font-size: .9rem; margin-top: .55rem; }
+#answer { padding: .6rem .8rem; border-radius: 8px; margin-top: .8rem; font-weight: 600; overflow-wrap: anywhere; }
+#refusals li { padding: .35rem 0; border-top: 1px solid var(--line); overflow-wrap: anywhere; }
+#refusals li:first-child { border-top: 0; }
+#refusals .mark { color: var(--bad); font-weight: 700; }
+
+dialog {
+  background: var(--card); color: var(--ink); border: 2px solid var(--field); border-radius: 12px;
+  padding: 1.3rem 1.4rem;
+  width: min(36rem, calc(100vw - 2rem)); box-shadow: 0 12px 48px rgb(0 0 0 / .35);
+}
+dialog::backdrop { background: rgb(0 0 0 / .5); }
+dialog h2 { font-size: 1.25rem; margin-bottom: .7rem; }
+dialog ul { margin: .2rem 0 .8rem; border: solid var(--line); border-width: 1px 0; }
+dialog li { padding: .3rem 0; font-weight: 600; overflow-wrap: anywhere; }
+dialog p { margin-bottom: .7rem; }
+dialog .row { margin-top: 1.1rem; }
+dialog input { width: 100%; display: block; margin-top: .3rem; }
+
+@media (min-width: 74rem) {
+  main { grid-template-columns: minmax(0, 1fr) 23rem; }
+  #venues { grid-column: 1 / -1; }
+}
+@media (max-width: 40rem) {
+  header { position: static; }
+  .line { padding: .6rem .75rem; }
+  main { padding: .75rem; }
+  html { scroll-padding: 1rem 0; }
+  .bar-cell { display: none; }
+}
+@media (forced-colors: active) {
+  .lamp, .bar span, .swatch { forced-color-adjust: none; }
+  .venue { border-top-color: CanvasText; }
+}
+</style>
+</head>
+<body>
+<a class="skip" href="#venues">To the venues</a>
+<a class="skip" href="#sweeps">To the sweeps</a>
+<a class="skip" href="#hand-in">To a new sweep</a>
+
+<header>
+  <div class="line">
+    <h1>Desk</h1>
+    <p id="standing" role="status"></p>
+    <dl id="sums" aria-label="The day's shares">
+      <div><dt>Placed</dt><dd id="sum-placed">–</dd></div>
+      <div><dt>Resolved</dt><dd id="sum-resolved">–</dd></div>
+      <div><dt>Open</dt><dd id="sum-open">–</dd></div>
+    </dl>
+    <button id="close" type="button">Close the day…</button>
+  </div>
+  <div id="banner" role="alert" hidden></div>
+</header>
+<p id="news" class="unseen" role="log" aria-label="News"></p>
+<noscript><p>This page needs its script: it reads the day from the desk that serves it.</p></noscript>
+
+<main>
+  <section id="venues" aria-labelledby="venues-title" tabindex="-1">
+    <div class="top"><h2 id="venues-title">Venues</h2><p id="venues-note" class="note"></p></div>
+    <ul id="lamps"></ul>
+  </section>
+
+  <section id="sweeps" class="card" aria-labelledby="sweeps-title" tabindex="-1">
+    <div class="top">
+      <h2 id="sweeps-title">Sweeps</h2>
+      <p id="sweeps-note" class="note"></p>
+      <label><input id="only-open" type="checkbox"> Only those with open shares</label>
+    </div>
+    <div class="roll" role="region" aria-labelledby="sweeps-title" tabindex="0">
+      <table id="table">
+        <thead>
+          <tr>
+            <th scope="col">Sweep</th>
+            <th scope="col">Shares</th>
+            <th scope="col" class="bar-cell">Where they are</th>
+            <th scope="col"><span class="swatch filled"></span>Filled</th>
+            <th scope="col"><span class="swatch busted"></span>Busted</th>
+            <th scope="col"><span class="swatch cancelled"></span>Cancelled</th>
+            <th scope="col"><span class="swatch withdrawn"></span>Withdrawn</th>
+            <th scope="col"><span class="swatch open"></span>Open</th>
+          </tr>
+        </thead>
+      </table>
+    </div>
+    <button id="older" type="button" class="plain" hidden>Show older sweeps</button>
+  </section>
+
+  <div class="rail">
+    <section id="hand-in" class="card" aria-labelledby="hand-in-title" tabindex="-1">
+      <div class="top"><h2 id="hand-in-title">New sweep</h2><p id="total" class="note"></p></div>
+      <form id="form" novalidate autocomplete="off">
+        <div id="legs"></div>
+        <div class="row">
+          <button id="add" type="button">Add a leg</button>
+          <button id="send" type="submit" class="main">Hand in…</button>
+        </div>
+        <p id="answer" role="alert" hidden></p>
+      </form>
+    </section>
+
+    <section class="card" aria-labelledby="refused-title">
+      <div class="top"><h2 id="refused-title">Refused</h2><p class="note">since this page was opened</p></div>
+      <p id="nothing-refused" class="note">Nothing.</p>
+      <ol id="refusals"></ol>
+    </section>
+  </div>
+</main>
+
+<dialog id="ask" aria-labelledby="ask-title">
+  <h2 id="ask-title"></h2>
+  <div id="ask-body"></div>
+  <div class="row">
+    <button id="ask-no" type="button">Go back</button>
+    <button id="ask-yes" type="button" class="main"></button>
+  </div>
+</dialog>
+
+<dialog id="token-ask" aria-labelledby="token-title">
+  <form id="token-form" novalidate>
+    <h2 id="token-title">The desk asks for its token</h2>
+    <p id="token-why"></p>
+    <label>Token <input id="token" type="password" autocomplete="off" spellcheck="false"></label>
+    <div class="row">
+      <button id="token-no" type="button">Go back</button>
+      <button type="submit" class="main">Go on</button>
+    </div>
+  </form>
+</dialog>
+
+<script>
+"use strict";
+
+// A page in a frame of another's could be clicked on unseen.
+if (window.top !== window.self) {
+  document.body.textContent = "The desk's page isn't shown inside another page.";
+  throw new Error("framed");
+}
+
+const WINDOW = 200;           // sweeps that are shown at first, and asked for at once
+const LOOK_EVERY = 2000;      // ms between two readings of what no event tells
+const DRAWN_WITHIN = 250;     // ms, where no frame comes before
+const ANSWER_WITHIN = 5000;   // ms
+const MOST_LEGS = 32;
+const MOST_REFUSALS = 50;
+const PARTS = ["filled", "busted", "cancelled", "withdrawn", "open"];
+
+// What the desk said last.
+const venues = new Map();     // by name
+const sweeps = new Map();     // by number
+const legsOf = new Map();     // of the sweeps that are opened, by number
+let closing = false;
+let audit = null;             // how the day's audit ended, once it is closed
+
+// Each event has its place in time: what was asked for before an event and answered behind it is older than the event.
+let time = 0;
+
+// ---- Elements and texts. Whatever the desk says becomes text, and never markup.
+
+const at = id => document.getElementById(id);
+
+function make(tag, attributes, ...children) {
+  const element = document.createElement(tag);
+  for (const [name, value] of Object.entries(attributes || {})) element.setAttribute(name, value);
+  element.append(...children);
+  return element;
+}
+
+function setText(element, text) {
+  if (element.textContent !== text) element.textContent = text;
+}
+
+function show(element, shown) {
+  if (element.hidden === shown) element.hidden = !shown;
+}
+
+// A count in groups of three digits; one that is too great for a number of the language came as its digits.
+function digits(count) {
+  if (typeof count === "number") return count.toLocaleString("en-US");
+  return /^\d+$/.test(count ?? "") ? BigInt(count).toLocaleString("en-US") : "–";
+}
+
+const counted = (count, word) => `${digits(count)} ${word}${count === 1 ? "" : "s"}`;
+const clock = moment => `${moment.toISOString().slice(11, 19)} UTC`;
+const sentence = words => words.charAt(0).toUpperCase() + words.slice(1);
+
+function lasting(seconds) {
+  if (seconds < 10) return `${seconds.toFixed(1)} s`;
+  if (seconds < 120) return `${Math.floor(seconds)} s`;
+  return seconds < 7200 ? `${Math.floor(seconds / 60)} min` : `${Math.floor(seconds / 3600)} h`;
+}
+
+// Prices in ten-thousandths of a dollar, as the desk reads them; null where it is no price.
+function tenThousandths(text) {
+  const found = /^(\d*)(?:\.(\d*))?$/.exec(text);
+  if (!found || !(found[1] || found[2]) || /[^0]/.test((found[2] || "").slice(4))) return null;
+  const price = BigInt((found[1] || "") + (found[2] || "").slice(0, 4).padEnd(4, "0"));
+  return price >= 1n && price <= 9999999999n ? price : null;
+}
+
+function dollars(tenThousandths) {
+  const cents = (tenThousandths + 50n) / 100n;
+  return `$${(cents / 100n).toLocaleString("en-US")}.${String(cents % 100n).padStart(2, "0")}`;
+}
+
+// ---- Lamps: a shape, a colour and a word for each state.
+
+const SHAPES = {
+  disc: "M12 1.5a10.5 10.5 0 1 0 0 21a10.5 10.5 0 1 0 0-21z",
+  ring: "M12 1.5a10.5 10.5 0 1 0 0 21a10.5 10.5 0 1 0 0-21zM12 6a6 6 0 1 1 0 12a6 6 0 1 1 0-12z",
+  triangle: "M.5 3h23L12 23z",
+  cross: "M5.5 2 12 8.5 18.5 2 22 5.5 15.5 12 22 18.5 18.5 22 12 15.5 5.5 22 2 18.5 8.5 12 2 5.5z",
+  square: "M3 3h18v18H3z",
+};
+const STATES = {
+  up: ["good", "disc"],
+  dialled: ["calm", "ring"],
+  down: ["bad", "triangle"],
+  unreachable: ["warn", "cross"],
+  closed: ["off", "square"],
+};
+const look = state => STATES[state] || ["warn", "ring"];
+
+function lamp(shape, classes) {
+  const svg = document.createElementNS("http://www.w3.org/2000/svg", "svg");
+  svg.setAttribute("viewBox", "0 0 24 24");
+  svg.setAttribute("class", `lamp ${classes}`);
+  svg.setAttribute("aria-hidden", "true");
+  const path = document.createElementNS("http://www.w3.org/2000/svg", "path");
+  path.setAttribute("d", SHAPES[shape]);
+  svg.append(path);
+  return svg;
+}
+
+function paint(element, state) {
+  const [colour, shape] = look(state);
+  element.setAttribute("class", `venue card ${colour}`);
+  element.dataset.state = state;
+  element.querySelector("path").setAttribute("d", SHAPES[shape]);
+}
+
+// ---- Venues.
+
+const FACTS = ["In doubt", "Waiting", "Heard", "Reconnects", "Failed dials", "Log lost"];
+const cards = new Map();
+
+function makeCard(name) {
+  const facts = FACTS.map(fact => make("div", null, make("dt", null, fact), make("dd")));
+  const state = make("span", { class: "state" });
+  const head = make("div", { class: "head" }, lamp("ring", ""), make("h3", null, name), state);
+  const why = make("p", { class: "why" });
+  const list = make("dl", { class: "facts" }, ...facts);
+  const card = make("li", { class: "venue card" }, head, why, list, make("p", { class: "note" }));
+  card.dataset.venue = name;
+  cards.set(name, card);
+  at("lamps").append(card);
+  return card;
+}
+
+// Why a venue isn't up: our words, its own words where it said some, and the code of the ending.
+function cause({ text, said, code }) {
+  return [text, said].filter(Boolean).join(": ") + (code ? ` (${code})` : "");
+}
+
+function whyOf(venue) {
+  const why = cause(venue);
+  const next = venue.next_s ?? venue.seconds;
+  if (venue.state === "unreachable" && next !== undefined) {
+    const left = Math.max(0, Math.ceil(next - (Date.now() - venue.read) / 1000));
+    return `${sentence(why || "no answer")}. Next try in ${left} s`;
+  }
+  if (why) return sentence(why);
+  if (venue.ended) return `Last ended ${clock(venue.ended.moment)}: ${venue.ended.why}`;
+  return "";
+}
+
+function drawVenue(venue) {
+  const card = cards.get(venue.venue) || makeCard(venue.venue);
+  paint(card, venue.state);
+  setText(card.querySelector(".state"), venue.state);
+  setText(card.querySelector(".why"), whyOf(venue));
+  const reconnects = venue.connections === undefined ? undefined : Math.max(0, venue.connections - 1);
+  const heard = venue.heard_ms_ago === undefined || venue.heard_ms_ago === null ? "–"
+    : lasting((venue.heard_ms_ago + Date.now() - venue.read) / 1000);
+  const facts = [venue.doubt, venue.unsent, heard, reconnects, venue.refused_dials, venue.lost];
+  const places = card.querySelectorAll("dd");
+  facts.forEach((fact, i) => {
+    setText(places[i], FACTS[i] === "Heard" ? fact : digits(fact));
+    places[i].classList.toggle("heed", (FACTS[i] === "In doubt" || FACTS[i] === "Log lost") && fact > 0);
+  });
+  setText(card.querySelector(".note"), `Messages: ${digits(venue.sent)} sent, ${digits(venue.received)} received`);
+}
+
+function drawVenues() {
+  for (const venue of venues.values()) drawVenue(venue);
+  const states = [...venues.values()].map(venue => venue.state);
+  const told = Object.keys(STATES).map(state => [states.filter(one => one === state).length, state]);
+  setText(at("venues-note"), told.filter(([count]) => count).map(([count, state]) => `${count} ${state}`).join(", "));
+  const amiss = states.filter(state => state === "down" || state === "unreachable").length;
+  document.title = (following || audit ? "" : "Events lost · ") + (amiss ? `${amiss} not up · Desk` : "Desk");
+  for (const choice of document.querySelectorAll("select.venue-choice")) fillVenues(choice);
+}
+
+const NO_CAUSE = { code: undefined, text: undefined, said: undefined, next_s: undefined, seconds: undefined };
+
+// An event tells what changed, and counts stay as they were; a cause is that of the state it came with.
+function takeVenue(said) {
+  const before = venues.get(said.venue);
+  const venue = { ...before, ...NO_CAUSE, ...said, read: Date.now() };
+  if (cause(venue) && venue.state !== "unreachable" && venue.ended?.why !== cause(venue)) {
+    venue.ended = { why: cause(venue), moment: new Date() };
+  }
+  if (said.heard_ms_ago === undefined && before) venue.heard_ms_ago = before.heard_ms_ago + venue.read - before.read;
+  venues.set(said.venue, venue);
+  if (before && before.state !== venue.state) tell(`${venue.venue} ${venue.state}. ${whyOf(venue)}`);
+}
+
+function tell(words) {
+  at("news").append(make("span", null, `${words} `));
+  while (at("news").childElementCount > 20) at("news").firstChild.remove();
+}
+
+// ---- Sweeps.
+
+const bodies = new Map();     // a part of the table for each sweep that is shown, by its number
+const dirty = new Set();
+let shown = WINDOW;
+let readBehind = null;        // all sweeps behind this number are here, and are kept
+let drawing = false;
+
+// Draws what changed in the next frame; a tab that is hidden has no frames, and its title is to say what happened.
+function draw() {
+  if (drawing) return;
+  drawing = true;
+  const late = setTimeout(drawNow, DRAWN_WITHIN);
+  const frame = requestAnimationFrame(drawNow);
+
+  function drawNow() {
+    clearTimeout(late);
+    cancelAnimationFrame(frame);
+    drawing = false;
+    drawSweeps();
+    drawVenues();
+  }
+}
+
+function makeBar() {
+  return make("div", { class: "bar", "aria-hidden": "true" }, ...PARTS.map(part => make("span", { class: part })));
+}
+
+function drawBar(bar, split) {
+  PARTS.forEach((part, i) => {
+    const share = Number(split[part] || 0);
+    show(bar.children[i], share > 0);
+    bar.children[i].style.flexGrow = String(share);
+  });
+}
+
+function makeRow(head, kind) {
+  const cells = PARTS.map(() => make("td"));
+  return make("tr", kind, head, make("td"), make("td", { class: "bar-cell" }, makeBar()), ...cells);
+}
+
+function drawRow(row, shares, split) {
+  setText(row.cells[1], digits(shares));
+  drawBar(row.querySelector(".bar"), split);
+  PARTS.forEach((part, i) => {
+    const cell = row.cells[i + 3];
+    setText(cell, digits(split[part]));
+    cell.className = split[part] ? "" : "none";
+  });
+}
+
+function makeBody(number) {
+  const words = [make("span", { class: "unseen" }, "Sweep "), String(number)];
+  const button = make("button", { type: "button", class: "opens", "aria-expanded": "false" }, ...words);
+  button.addEventListener("click", () => turn(number));
+  const body = make("tbody", { id: `sweep-${number}` }, makeRow(make("th", { scope: "row" }, button), {}));
+  bodies.set(number, body);
+  return body;
+}
+
+function makeLegRow(leg) {
+  const small = make("small", null, `${leg.leg}, ${leg.state}`);
+  const words = `${leg.venue} ${leg.side} ${leg.symbol} at ${leg.price}`;
+  return makeRow(make("th", { scope: "row" }, words, small), { class: "leg" });
+}
+
+function drawLegs(number) {
+  const legs = legsOf.get(number);
+  const body = bodies.get(number);
+  body.querySelector("button").setAttribute("aria-expanded", String(legs !== undefined));
+  const rows = (legs || []).map(leg => {
+    const row = makeLegRow(leg);
+    drawRow(row, leg.shares, leg);
+    return row;
+  });
+  while (body.rows.length > 1) body.rows[1].remove();
+  body.append(...rows);
+}
+
+// Puts a sweep's part of the table at its place: the newest is first.
+function placeBody(number) {
+  const body = makeBody(number);
+  const older = [...at("table").tBodies].find(other => Number(other.id.slice(6)) < number);
+  at("table").insertBefore(body, older || null);
+}
+
+function drawSweep(number) {
+  const sweep = sweeps.get(number);
+  if (!bodies.has(number)) placeBody(number);
+  const body = bodies.get(number);
+  drawRow(body.rows[0], sweep.legs, sweep);
+  drawLegs(number);
+  show(body, !at("only-open").checked || sweep.open !== 0 || body.contains(document.activeElement));
+}
+
+// Lets go of the oldest sweeps that aren't shown any more, but of none that is being looked at.
+function trim() {
+  if (readBehind === null || newest() - readBehind <= shown) return;
+  readBehind = newest() - shown;
+  for (const number of [...sweeps.keys()].filter(number => number <= readBehind)) {
+    if (legsOf.has(number) || bodies.get(number)?.contains(document.activeElement)) continue;
+    sweeps.delete(number);
+    dirty.delete(number);
+    bodies.get(number)?.remove();
+    bodies.delete(number);
+  }
+}
+
+const newest = () => Math.max(0, ...sweeps.keys());
+
+function drawSweeps() {
+  trim();
+  for (const number of dirty) drawSweep(number);
+  dirty.clear();
+  const hidden = [...bodies.values()].filter(body => body.hidden).length;
+  const count = `${digits(sweeps.size - hidden)} of ${digits(newest())}, newest first`;
+  setText(at("sweeps-note"), sweeps.size === 0 ? "None yet" : count);
+  show(at("older"), readBehind > 0);
+}
+
+function takeSweep(sweep) {
+  sweeps.set(sweep.sweep, { ...sweep, time });
+  dirty.add(sweep.sweep);
+}
+
+// What was asked for at a time, and doesn't undo what events told since.
+function takeSweepOf(sweep, asked) {
+  if ((sweeps.get(sweep.sweep)?.time ?? -1) <= asked) sweeps.set(sweep.sweep, { ...sweep, time: asked });
+  dirty.add(sweep.sweep);
+}
+
+async function turn(number) {
+  if (legsOf.has(number)) {
+    legsOf.delete(number);
+    drawLegs(number);
+    return;
+  }
+  legsOf.set(number, []);
+  await readLegs(number);
+}
+
+const reading = new Set();
+
+// Reads the legs of a sweep, once more where an event came meanwhile.
+async function readLegs(number) {
+  if (reading.has(number)) return;
+  reading.add(number);
+  try {
+    let asked;
+    do {
+      asked = sweeps.get(number)?.time;
+      const { legs } = await ask(`/api/sweeps/${number}`);
+      if (!legsOf.has(number)) return;
+      legsOf.set(number, legs);
+      dirty.add(number);
+      draw();
+    } while (sweeps.get(number)?.time !== asked);
+  } catch (fault) {
+    again(stream, fault);
+  } finally {
+    reading.delete(number);
+  }
+}
+
+function takeDay(day) {
+  for (const part of ["placed", "resolved", "open"]) {
+    if (day?.[part] !== undefined) setText(at(`sum-${part}`), digits(day[part]));
+  }
+}
+
+// ---- Reading the desk.
+
+function parse(text) {
+  return JSON.parse(text, (key, value, context) =>
+    typeof value === "number" && !Number.isSafeInteger(value) && context ? context.source : value);
+}
+
+async function ask(path) {
+  const signal = AbortSignal.timeout(ANSWER_WITHIN);
+  const response = await fetch(path, { cache: "no-store", redirect: "error", signal });
+  if (!response.ok) throw new Error(`${path} was answered ${response.status}`);
+  return parse(await response.text());
+}
+
+async function askSweeps(after, most) {
+  const asked = time;
+  const answer = await ask(`/api/sweeps?after=${after}&most=${most}`);
+  takeDay(answer.day);
+  closing = closing || answer.closing;
+  return { found: answer.sweeps, asked };
+}
+
+// Reads all sweeps behind a number, and up to another where it is given.
+async function readSweeps(after, upTo = Infinity) {
+  while (after < upTo) {
+    const { found, asked } = await askSweeps(after, Math.min(WINDOW, upTo - after));
+    if (found.length === 0) return;
+    for (const sweep of found) takeSweepOf(sweep, asked);
+    after = Math.max(...found.map(sweep => sweep.sweep));
+  }
+}
+
+// A number with at most WINDOW sweeps behind it, since sweeps are numbered from 1 without a gap.
+async function nearNewest() {
+  const isMore = async after => (await askSweeps(after, 1)).found.length > 0;
+  let low = 0;
+  let high = WINDOW;
+  while (await isMore(high)) [low, high] = [high, 2 * high];
+  while (high - low > WINDOW) {
+    const middle = Math.floor((low + high) / 2);
+    if (await isMore(middle)) low = middle; else high = middle;
+  }
+  return low;
+}
+
+async function readVenues() {
+  const asked = time;
+  const said = await ask("/api/venues");
+  for (const venue of said.venues) if ((venues.get(venue.venue)?.time ?? -1) <= asked) takeVenue(venue);
+}
+
+let daysInHand = 0;
+
+// Reads what no event tells, and all that is shown where events were lost.
+async function readDay(whole) {
+  daysInHand += 1;
+  try {
+    await readParts(whole);
+  } finally {
+    daysInHand -= 1;
+  }
+}
+
+async function readParts(whole) {
+  await readVenues();
+  if (readBehind === null || whole) {
+    const behind = readBehind ?? Math.max(0, await nearNewest() - WINDOW);
+    await readSweeps(behind);
+    readBehind = behind;
+    for (const number of legsOf.keys()) await readOpened(number);
+  } else {
+    await readSweeps(newest());
+  }
+  draw();
+}
+
+// Reads a sweep that is opened, and may be older than those that are shown.
+async function readOpened(number) {
+  await readSweeps(number - 1, number);
+  readLegs(number);
+}
+
+// ---- Following the events, and saying so where they are lost.
+
+let following = false;
+let lostAt = null;            // when the events were lost
+let silentAt = null;          // when the desk was first found not to answer
+let heardAt = null;           // when it was last heard
+let wait = 1000;
+
+function standingOf(since) {
+  if (audit) return audit === "ok" ? ["off", "square", "Day closed"] : ["bad", "triangle", "Day closed, audit failed"];
+  if (!following && !lostAt) return ["calm", "ring", "Reading the day"];
+  if (!following) return ["bad", "triangle", `Events lost since ${since}`];
+  return closing ? ["warn", "ring", "Closing"] : ["good", "disc", `Live, ${clock(heardAt)}`];
+}
+
+function drawStanding() {
+  const since = lostAt && clock(lostAt);
+  const [colour, shape, words] = standingOf(since);
+  const standing = at("standing");
+  if (standing.dataset.state !== colour + shape) {
+    standing.dataset.state = colour + shape;
+    standing.replaceChildren(lamp(shape, `small ${colour}`), make("span"));
+  }
+  setText(standing.lastChild, words);
+  standing.setAttribute("aria-live", following && !closing && !audit ? "off" : "polite");
+  drawBanner(since);
+  at("close").disabled = closing || audit !== null;
+  at("send").disabled = closing || audit !== null || handing;
+  setText(at("close"), audit ? "The day is closed" : closing ? "Closing…" : "Close the day…");
+}
+
+function banner() {
+  if (audit === "ok") {
+    return ["off", "square", "The day is closed, and its audit found nothing wrong. This is how it ended."];
+  }
+  if (audit) return ["bad", "triangle", `The day is closed, and its audit FAILED: ${audit}`];
+  if (lostAt && silentAt && closing) {
+    const what = "It may have ended; how its audit went wasn't seen here.";
+    return ["bad", "triangle", `The day was closing when the desk last answered, at ${clock(silentAt)}. ${what}`];
+  }
+  if (lostAt && silentAt) {
+    const what = "What is shown is as it was then; the page goes on trying.";
+    return ["bad", "triangle", `The desk hasn't answered since ${clock(silentAt)}. ${what}`];
+  }
+  if (lostAt) {
+    const what = `The page reads the day every ${LOOK_EVERY / 1000} seconds instead, and goes on trying.`;
+    return ["warn", "cross", `Events were lost at ${clock(lostAt)}. ${what}`];
+  }
+  if (closing) {
+    return ["warn", "ring", "The day is closing. No sweep is taken any more; open shares are waited for."];
+  }
+  return null;
+}
+
+function drawBanner() {
+  const said = banner();
+  show(at("banner"), said !== null);
+  const words = said ? said[2] : "";
+  if (at("banner").textContent === words) return;
+  at("banner").replaceChildren(...(said ? [lamp(said[1], `small ${said[0]}`), make("span", null, words)] : []));
+  at("banner").className = said ? `wash ${said[0]}` : "";
+}
+
+function hear() {
+  heardAt = new Date();
+  silentAt = null;
+}
+
+function lose(fault) {
+  if (fault) silentAt = silentAt || heardAt || new Date();
+  if (following || !lostAt) lostAt = heardAt || new Date();
+  following = false;
+  drawStanding();
+  draw();
+}
+
+const EVENTS = {
+  sweep(said) {
+    takeSweep(said);
+    if (legsOf.has(said.sweep)) readLegs(said.sweep);
+  },
+  venue(said) {
+    takeVenue(said);
+    venues.get(said.venue).time = time;
+  },
+  refused(said) {
+    addRefusal(said, false);
+  },
+  day(said) {
+    takeDay(said.day || said);
+  },
+  closed(said) {
+    audit = said.audit;
+    stream.close();
+    tell("The day is closed.");
+  },
+};
+
+let stream = null;
+
+function follow() {
+  const mine = new EventSource("/api/events");
+  stream = mine;
+  mine.onopen = () => catchUp(mine);
+  mine.onerror = () => again(mine, null);
+  for (const name of Object.keys(EVENTS)) mine.addEventListener(name, event => take(mine, name, event.data));
+}
+
+// Reads what came before the stream; from then on the page follows.
+async function catchUp(mine) {
+  time += 1;
+  try {
+    await readDay(true);
+  } catch (fault) {
+    again(mine, fault);
+    return;
+  }
+  if (stream !== mine) return;
+  following = true;
+  lostAt = null;
+  wait = 1000;
+  hear();
+  drawStanding();
+  draw();
+}
+
+function take(mine, name, data) {
+  if (stream !== mine) return;
+  time += 1;
+  try {
+    EVENTS[name](parse(data));
+  } catch (fault) {
+    console.error(fault);
+    again(mine, null);
+    return;
+  }
+  hear();
+  drawStanding();
+  draw();
+}
+
+// Gives up a stream, and dials another a while later.
+function again(mine, fault) {
+  if (audit) return;
+  if (stream === mine && mine !== null) {
+    stream.close();
+    stream = null;
+    setTimeout(follow, wait);
+    wait = Math.min(2 * wait, 15000);
+  }
+  lose(fault);
+}
+
+async function keepLooking() {
+  if (audit) return;
+  try {
+    if (daysInHand === 0) {
+      await readDay(!following);
+      hear();
+    }
+  } catch (fault) {
+    again(stream, fault);
+  }
+  drawStanding();
+  setTimeout(keepLooking, LOOK_EVERY);
+}
+
+// ---- What was refused.
+
+function refusal(said) {
+  const code = /^[A-Z]\d\d$/.test(said.refused) ? said.refused : "";
+  const head = [code, said.venue].filter(Boolean).join(" ");
+  return (head ? `${head}: ` : "") + (said.text || "no reason was given");
+}
+
+const recent = [];            // refusals of the last seconds, each from an event or from an answer to this page
+
+// One of this page comes twice, as an answer and as an event, and is written down once.
+function addRefusal(said, ours) {
+  const words = refusal(said);
+  const now = Date.now();
+  const twin = recent.findIndex(other => other.words === words && other.ours !== ours && now - other.now < 5000);
+  if (twin >= 0) {
+    recent.splice(twin, 1);
+    return;
+  }
+  recent.push({ words, ours, now });
+  if (recent.length > MOST_REFUSALS) recent.shift();
+  const mark = make("span", { class: "mark", "aria-hidden": "true" }, "✕ ");
+  const line = make("li", null, mark, words, make("span", { class: "note" }, ` ${clock(new Date())}`));
+  at("refusals").prepend(line);
+  while (at("refusals").childElementCount > MOST_REFUSALS) at("refusals").lastChild.remove();
+  show(at("nothing-refused"), false);
+  if (!ours) tell(`Refused: ${words}`);
+}
+
+// ---- Asking back, and handing in.
+
+function askBack(title, body, yes) {
+  setText(at("ask-title"), title);
+  at("ask-body").replaceChildren(...body);
+  setText(at("ask-yes"), yes);
+  at("ask").returnValue = "no";
+  at("ask").showModal();
+  at("ask-no").focus();
+  return new Promise(resolve => {
+    at("ask").onclose = () => resolve(at("ask").returnValue === "yes");
+  });
+}
+
+function askToken(isAgain) {
+  setText(at("token-why"), isAgain ? "The desk didn't take that token." : "It is kept until this tab is closed.");
+  at("token").value = "";
+  at("token-ask").returnValue = "no";
+  at("token-ask").showModal();
+  at("token").focus();
+  return new Promise(resolve => {
+    at("token-ask").onclose = () => resolve(at("token-ask").returnValue === "yes" ? at("token").value : null);
+  });
+}
+
+// Posts once; where the desk asks for its token it has done nothing, and is asked again with one. Answers null where
+// none was given, and `lost` where it isn't known what the desk did.
+async function post(path, body) {
+  for (;;) {
+    const token = sessionStorage.getItem("token");
+    const headers = { "Content-Type": "application/json", ...(token ? { Authorization: `Bearer ${token}` } : {}) };
+    let response, text;
+    try {
+      const signal = AbortSignal.timeout(3 * ANSWER_WITHIN);
+      const more = { cache: "no-store", redirect: "error", signal };
+      response = await fetch(path, { method: "POST", headers, body: JSON.stringify(body), ...more });
+      text = await response.text();
+    } catch (fault) {
+      return { lost: true };
+    }
+    if (response.status !== 401) return { status: response.status, said: answerOf(text) };
+    sessionStorage.removeItem("token");
+    const given = await askToken(token !== null);
+    if (!given) return null;
+    sessionStorage.setItem("token", given);
+  }
+}
+
+function answerOf(text) {
+  try {
+    return parse(text) || {};
+  } catch (fault) {
+    return {};
+  }
+}
+
+function say(colour, words) {
+  show(at("answer"), words !== "");
+  at("answer").className = `wash ${colour}`;
+  setText(at("answer"), words);
+  if (words) at("answer").scrollIntoView({ block: "nearest" });
+}
+
+const FIELDS = ["venue", "side", "shares", "symbol", "price"];
+const WANTED = {
+  venue: [value => value !== "", "choose a venue"],
+  side: [value => value === "buy" || value === "sell", "choose buy or sell"],
+  shares: [value => /^\d{1,7}$/.test(value) && value >= 1 && value <= 1000000, "a whole number from 1 to 1,000,000"],
+  symbol: [value => /^[A-Z]{1,6}(\.[A-Z]{1,3})?$/.test(value), "1 to 6 letters, as IBM, or with a suffix, as BRK.B"],
+  price: [value => tenThousandths(value) !== null, "dollars from 0.0001 to 999,999.9999, as 10.25"],
+};
+
+function fillVenues(choice) {
+  const nameOf = ({ venue, state }) => state === "up" ? venue : `${venue} (${state})`;
+  const choices = [...venues.values()].map(venue => [venue.venue, nameOf(venue)]);
+  [["", "Choose"], ...choices].forEach(([value, text], i) => {
+    const option = choice.options[i] || choice.appendChild(make("option"));
+    if (option.value !== value) option.value = value;
+    setText(option, text);
+  });
+}
+
+function addLeg() {
+  const choice = make("select", { name: "venue", class: "venue-choice" });
+  const sides = ["", "buy", "sell"].map(value => make("option", { value }, value || "Choose"));
+  const side = make("select", { name: "side" }, ...sides);
+  const field = (name, more) => make("input", { name, type: "text", spellcheck: "false", ...more });
+  const label = (words, kind, control) => make("label", { class: kind }, words, control);
+  const fields = make("div", { class: "fields" },
+    label("Venue", "wide", choice), label("Side", "wide", side),
+    label("Shares", "", field("shares", { inputmode: "numeric" })),
+    label("Symbol", "", field("symbol", { autocapitalize: "characters" })),
+    label("Limit, $", "", field("price", { inputmode: "decimal" })));
+  const remove = make("button", { type: "button", class: "remove" }, "Remove");
+  const leg = make("fieldset", null, make("legend"), fields, make("p", { class: "fault", hidden: "" }), remove);
+  fillVenues(choice);
+  remove.addEventListener("click", () => removeLeg(leg));
+  at("legs").append(leg);
+  numberLegs();
+  return leg;
+}
+
+function removeLeg(leg) {
+  const next = leg.nextElementSibling || leg.previousElementSibling;
+  leg.remove();
+  numberLegs();
+  next.querySelector("select").focus();
+}
+
+// Legs are counted from 1, and a sweep has one at least.
+function numberLegs() {
+  const legs = [...at("legs").children];
+  legs.forEach((leg, i) => {
+    setText(leg.querySelector("legend"), `Leg ${i + 1}`);
+    leg.querySelector(".fault").id = `fault-${i + 1}`;
+    leg.querySelector("button").setAttribute("aria-label", `Remove leg ${i + 1}`);
+    show(leg.querySelector("button"), legs.length > 1);
+  });
+  at("add").disabled = legs.length >= MOST_LEGS;
+  drawTotal();
+}
+
+const valueOf = (leg, name) => leg.querySelector(`[name=${name}]`).value.trim();
+const valuesOf = leg => Object.fromEntries(FIELDS.map(name => [name, valueOf(leg, name)]));
+
+function totalOf(legs) {
+  let shares = 0n;
+  let worth = 0n;
+  for (const leg of legs) {
+    const price = tenThousandths(leg.price);
+    if (!WANTED.shares[0](leg.shares) || price === null) return null;
+    shares += BigInt(leg.shares);
+    worth += BigInt(leg.shares) * price;
+  }
+  return `${counted(legs.length, "leg")}, ${digits(String(shares))} shares, ${dollars(worth)}`;
+}
+
+function drawTotal() {
+  setText(at("total"), totalOf([...at("legs").children].map(valuesOf)) || "");
+}
+
+function clearFaults() {
+  for (const field of document.querySelectorAll("[aria-invalid]")) {
+    field.removeAttribute("aria-invalid");
+    field.removeAttribute("aria-describedby");
+  }
+  for (const place of document.querySelectorAll("fieldset .fault")) show(place, false);
+  say("off", "");
+}
+
+// Shows a fault at its leg, and puts the focus on its field.
+function showFault(number, key, words) {
+  const leg = at("legs").children[number - 1];
+  const field = leg?.querySelector(`[name=${CSS.escape(key || "venue")}]`);
+  if (!leg || !field) return false;
+  const place = leg.querySelector(".fault");
+  setText(place, words);
+  show(place, true);
+  field.setAttribute("aria-invalid", "true");
+  field.setAttribute("aria-describedby", place.id);
+  field.focus();
+  return true;
+}
+
+function isWhole(legs) {
+  for (const [i, leg] of legs.entries()) {
+    for (const name of FIELDS) {
+      const [isRight, wanted] = WANTED[name];
+      if (!isRight(leg[name])) {
+        showFault(i + 1, name, `${sentence(name)}: ${wanted}`);
+        return false;
+      }
+    }
+  }
+  return true;
+}
+
+function summary(legs) {
+  const lineOf = leg => `${leg.venue} ${leg.side} ${digits(leg.shares)} ${leg.symbol} at ${leg.price}`;
+  const lines = legs.map(leg => make("li", null, lineOf(leg)));
+  const amiss = [...new Set(legs.map(leg => leg.venue))].filter(name => venues.get(name)?.state !== "up");
+  const rule = "A sweep is refused whole where one of its venues isn't up.";
+  const words = amiss.length === 0 ? "" : `Not up now: ${amiss.join(", ")}. ${rule}`;
+  const warning = make("p", { class: "fault" }, words);
+  show(warning, words !== "");
+  return [make("ul", null, ...lines), make("p", null, `${totalOf(legs)} at the limits`), warning];
+}
+
+let handing = false;
+
+async function handIn(event) {
+  event.preventDefault();
+  if (handing || at("send").disabled) return;
+  clearFaults();
+  const legs = [...at("legs").children].map(valuesOf);
+  if (!isWhole(legs) || !await askBack("Hand in this sweep?", summary(legs), "Hand in")) return;
+  handing = true;
+  drawStanding();
+  say("calm", "Handing in…");
+  const said = legs.map(({ shares, ...leg }) => ({ ...leg, shares: Number(shares) }));
+  const answer = await post("/api/sweeps", { legs: said });
+  handing = false;
+  drawStanding();
+  takeAnswer(answer);
+}
+
+function takeAnswer(answer) {
+  if (answer === null) return say("warn", "Not handed in: the desk asks for its token.");
+  if (answer.lost) {
+    const what = "The sweep may have been placed: look at the sweeps before you hand it in again.";
+    return say("bad", `No answer came. ${what}`);
+  }
+  const { status, said } = answer;
+  if (status === 201) {
+    say("good", `Placed as sweep ${said.placed}: ${counted(said.shares, "share")}.`);
+    at("legs").replaceChildren();
+    addLeg().querySelector("select").focus();
+  } else if (status === 409) {
+    say("bad", `Refused: ${refusal(said)}`);
+    addRefusal(said, true);
+  } else if (!said.leg || !showFault(said.leg, said.key, sentence(said.fault))) {
+    const where = said.line ? ` (line ${said.line}, column ${said.column})` : said.leg ? ` (leg ${said.leg})` : "";
+    say("bad", `Not taken, ${status}: ${said.fault || said.text || "no reason was given"}${where}`);
+  } else {
+    say("bad", `Not taken: leg ${said.leg} has a fault.`);
+  }
+}
+
+async function closeDay() {
+  const body = [
+    make("p", null, "No sweep is taken any more. Open shares are waited for, and then every venue is logged out."),
+    make("p", null, "This can't be undone."),
+    make("p", null, `Open now: ${at("sum-open").textContent} shares.`),
+  ];
+  if (!await askBack("Close the day?", body, "Close the day")) return;
+  const answer = await post("/api/close", {});
+  if (answer?.status === 202) closing = true;
+  else if (answer?.lost) say("bad", "No answer came. The day may be closing: look at the top of the page.");
+  else if (answer === null) say("bad", "The day isn't closed: the desk asks for its token.");
+  else say("bad", `The day isn't closed: ${answer.said.fault || answer.said.text || answer.status}`);
+  drawStanding();
+}
+
+// ---- Keys, clicks and the first reading.
+
+// Up and down, Home and End go from sweep to sweep.
+function walk(event) {
+  const buttons = [...at("table").querySelectorAll("tbody:not([hidden]) button.opens")];
+  const from = buttons.indexOf(document.activeElement);
+  const to = { ArrowDown: from + 1, ArrowUp: from - 1, Home: 0, End: buttons.length - 1 }[event.key];
+  if (from < 0 || to === undefined || event.altKey || event.ctrlKey || event.metaKey) return;
+  event.preventDefault();
+  buttons[Math.min(Math.max(to, 0), buttons.length - 1)].focus();
+}
+
+function begin() {
+  at("form").addEventListener("submit", handIn);
+  at("legs").addEventListener("input", event => {
+    if (event.target.name === "symbol") {
+      const place = event.target.selectionStart;
+      event.target.value = event.target.value.toUpperCase();
+      event.target.setSelectionRange(place, place);
+    }
+    drawTotal();
+  });
+  at("add").addEventListener("click", () => addLeg().querySelector("select").focus());
+  at("close").addEventListener("click", closeDay);
+  at("ask-no").addEventListener("click", () => at("ask").close("no"));
+  at("ask-yes").addEventListener("click", () => at("ask").close("yes"));
+  at("token-no").addEventListener("click", () => at("token-ask").close("no"));
+  at("token-form").addEventListener("submit", event => {
+    event.preventDefault();
+    at("token-ask").close("yes");
+  });
+  at("table").addEventListener("keydown", walk);
+  at("only-open").addEventListener("change", () => {
+    for (const number of sweeps.keys()) dirty.add(number);
+    draw();
+  });
+  at("older").addEventListener("click", async () => {
+    const behind = Math.max(0, readBehind - WINDOW);
+    try {
+      await readSweeps(behind, readBehind);
+      shown += WINDOW;
+      readBehind = behind;
+    } catch (fault) {
+      again(stream, fault);
+    }
+    draw();
+  });
+  addLeg();
+  drawStanding();
+  follow();
+  setTimeout(keepLooking, LOOK_EVERY);
+  setInterval(drawVenues, 1000);
+}
+
+begin();
+</script>
+</body>
+</html>
+"###;

@@ -1,0 +1,34 @@
+//! What serves the page of a day, if it has one.
+
+ghost use Rattle.std.specs.Prelude.{IfErr};
+ghost use Rattle.desk_run.specs.Faults.{IsNoMismatch};
+
+use crate::address::first_address;
+use crate::day_fault::DayFault;
+use desk_config::DeskConfig;
+use desk_serve::{PageServer, open_page};
+use std::alloc::Global;
+use std::io::ErrorKind;
+use std::net::{Net, TcpListener};
+
+/// The servers of the page that a configuration asks for, one for each caller and each client that may follow the day;
+/// none where it asks for no page.
+pub fn open_pages<R: Net<Listener = TcpListener>>(
+    rt: &R,
+    alloc: Global,
+    config: &DeskConfig,
+) -> Result<Vec<PageServer>, DayFault>
+    ensures { IfErr result IsNoMismatch }
+{
+    let Some(address) = &config.page else {
+        return Ok(Vec::new(alloc));
+    };
+    let Some(at) = first_address(rt, address) else {
+        return Err(DayFault::NoPage);
+    };
+    match open_page(rt, alloc, at, address, config.token.as_ref(), config.callers.get()) {
+        Ok(servers) => Ok(servers),
+        Err(error) if error.kind() == ErrorKind::OutOfMemory => Err(DayFault::OutOfMemory),
+        Err(_) => Err(DayFault::NoPage),
+    }
+}

@@ -1,0 +1,230 @@
+//! A desk's day, as one connection asks it.
+
+ghost use Rattle.std.specs.Prelude.{◌≡◌, ⊤};
+ghost use Rattle.desk_serve.specs.Answered.{IsAnswered, outcome_of};
+
+use crate::follower::Follower;
+use crate::page::Page;
+use crate::rows::{leg_row, venue_row};
+use clock::UtcClock;
+use day_log::LineLog;
+use desk_floor::{Floor, sweep_legs, sweep_now};
+use desk_http::{Changes, Day, DaySums, RefusalCounts};
+use desk_json::{Outcome, SweepLegs, SweepsPage, VenueRow};
+use desk_words::VenueName;
+use leg::Sweep;
+use release_lock::Run;
+use std::alloc::{AllocError, Global};
+use std::io::Write;
+use std::sync::Wait;
+use std::sync::ledger::Ledger;
+use std::thread;
+use std::time::{Clock, Duration};
+use sweep_text::{Answer, Refusal, write_sweep};
+
+/// How many milliseconds pass between two looks what changed.
+const LOOK_MILLIS: u64 = 100;
+
+/// For how many such looks a change is waited for: a second.
+const LOOKS: u64 = 10;
+
+/// A desk's day, as one connection asks it.
+#[derive(Drop)]
+pub(crate) struct DayView<'a, L: Run, M: Ledger, W: Write + Drop, R: Wait + Clock> {
+    rt: &'a R,
+    alloc: Global,
+    floor: &'a Floor<L, M, W>,
+    page: &'a Page,
+    clock: UtcClock<'a, R>,
+    log: LineLog<'a, R, UtcClock<'a, R>>,
+    follower: Option<Follower>,
+    /// Whether it was followed to its end.
+    is_over: bool,
+}
+
+/// An answer, as it is told over HTTP.
+fn outcome_of(answer: Answer) -> Outcome
+    ensures { result ≡ outcome_of answer }
+{
+    match answer {
+        Answer::Placed { sweep, shares } => Outcome::Placed { sweep, shares },
+        Answer::Refused(refusal) => Outcome::Refused(refusal),
+        Answer::Closing => Outcome::Closing,
+        Answer::BadLine { .. } => Outcome::Refused(Refusal::OutOfMemory),
+    }
+}
+
+impl<'a, L: Run, M: Ledger, W: Write + Drop, R: Wait + Clock> DayView<'a, L, M, W, R> {
+    /// The day as a new connection asks it. The only refusal is want of memory.
+    pub fn new(
+        rt: &'a R,
+        alloc: Global,
+        floor: &'a Floor<L, M, W>,
+        page: &'a Page,
+    ) -> Result<DayView<'a, L, M, W, R>, AllocError> {
+        Ok(DayView {
+            rt,
+            alloc,
+            floor,
+            page,
+            clock: UtcClock::new(rt),
+            log: LineLog::new(rt, alloc, UtcClock::new(rt), floor.line_log()?),
+            follower: None,
+            is_over: false,
+        })
+    }
+
+    /// Whether the connection followed the day to its end.
+    pub fn is_over(&self) -> bool {
+        self.is_over
+    }
+
+    /// What changed since it was asked last.
+    fn news(&mut self) -> Result<Changes, AllocError> {
+        let is_over = self.floor.signals.is_over();
+        let events = match &mut self.follower {
+            Some(follower) => follower.news(self.rt, &self.clock, self.alloc, self.floor)?,
+            None => Vec::new(self.alloc),
+        };
+        Ok(Changes {
+            cursor: 0,
+            events,
+            is_over,
+        })
+    }
+}
+
+impl<'a, L: Run, M: Ledger, W: Write + Drop, R: Wait + Clock> Day for DayView<'a, L, M, W, R> {
+    ghost venue_names = { λ day. day.floor.names.items };
+
+    ghost places = { λ day legs outcome _. IsAnswered day.floor.names.items legs outcome };
+
+    ghost pages = { λ _ _ _ _ _. ⊤ };
+
+    ghost shows = { λ _ _ _ _. ⊤ };
+
+    ghost lists = { λ _ _ _. ⊤ };
+
+    ghost sums_up = { λ _ _ _. ⊤ };
+
+    ghost refuses = { λ _ _. ⊤ };
+
+    ghost closes = { λ _ _. ⊤ };
+
+    fn names(&self) -> &[VenueName] {
+        self.floor.names.as_slice()
+    }
+
+    fn place(&mut self, sweep: Sweep) -> Outcome {
+        let line = write_sweep(self.alloc, self.floor.names.as_slice(), sweep.legs.as_slice());
+        let answer = match &line {
+            Ok(line) => self.floor.hand_in(self.rt, &mut self.log, line.as_bytes(), sweep),
+            Err(_) => self.floor.hand_in(self.rt, &mut self.log, b"", sweep),
+        };
+        outcome_of(answer)
+    }
+
+    fn sweeps(&mut self, after: u64, most: u64) -> Result<SweepsPage, AllocError> {
+        let mut sweeps = Vec::new(self.alloc);
+        for number in after.saturating_add(1)..=after.saturating_add(most) {
+            match sweep_now(self.rt, &self.floor.collector, number) {
+                Some(sweep) => sweeps.push(sweep)?,
+                None => break,
+            }
+        }
+        Ok(SweepsPage {
+            sweeps,
+            day: self.floor.totals(self.rt),
+            is_closing: self.floor.signals.is_closing(),
+        })
+    }
+
+    fn sweep(&mut self, number: u64) -> Result<Option<SweepLegs>, AllocError> {
+        let mut legs = Vec::new(self.alloc);
+        for leg in sweep_legs(self.rt, self.alloc, self.floor, number)? {
+            if let Some(row) = leg_row(self.floor, leg) {
+                legs.push(row)?;
+            }
+        }
+        if legs.is_empty() {
+            return Ok(None);
+        }
+        Ok(Some(SweepLegs {
+            sweep: number,
+            legs,
+        }))
+    }
+
+    fn venues(&mut self) -> Result<Vec<VenueRow>, AllocError> {
+        let mut rows = Vec::new(self.alloc);
+        for place in 0..self.floor.names.len() {
+            if let Some(row) = venue_row(self.rt, &self.clock, self.floor, place) {
+                rows.push(row)?;
+            }
+        }
+        Ok(rows)
+    }
+
+    fn sums(&mut self) -> DaySums {
+        DaySums {
+            sweeps: self.floor.sweeps(self.rt),
+            shares: self.floor.totals(self.rt),
+        }
+    }
+
+    fn refusals(&self) -> RefusalCounts {
+        let counts = self.floor.refusals.counts(self.rt);
+        RefusalCounts {
+            no_legs: counts.no_legs,
+            too_many_legs: counts.too_many_legs,
+            unknown_venue: counts.unknown_venue,
+            gate_down: counts.gate_down,
+            backlog_full: counts.backlog_full,
+            sweeps_spent: counts.sweeps_spent,
+            out_of_memory: counts.out_of_memory,
+            wrong_book: counts.wrong_book,
+            closing: counts.closing,
+        }
+    }
+
+    fn close(&mut self) {
+        if !self.floor.signals.is_closing() {
+            self.floor.close();
+        }
+    }
+
+    fn follow(&mut self) -> Option<u64> {
+        if !self.page.begin_following() {
+            return None;
+        }
+        match Follower::new(self.rt, self.alloc, self.floor) {
+            Ok(follower) => {
+                self.follower = Some(follower);
+                Some(0)
+            }
+            Err(_) => {
+                self.page.end_following();
+                None
+            }
+        }
+    }
+
+    fn changes(&mut self, _since: u64) -> Result<Changes, AllocError> {
+        for _ in 0..LOOKS {
+            let changes = self.news()?;
+            if changes.is_over {
+                self.is_over = true;
+            }
+            if changes.is_over || !changes.events.is_empty() {
+                return Ok(changes);
+            }
+            thread::sleep(self.rt, Duration::from_millis(LOOK_MILLIS));
+        }
+        self.news()
+    }
+
+    fn unfollow(&mut self) {
+        self.follower = None;
+        self.page.end_following();
+    }
+}

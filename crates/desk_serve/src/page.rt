@@ -1,0 +1,67 @@
+//! What the servers of a page share.
+
+use desk_config::{Address, TokenText};
+use desk_http::Door;
+use std::alloc::{AllocError, Global};
+use std::net::SocketAddr;
+use std::sync::atomic::{AtomicU64, Ordering};
+
+/// How many clients may follow a day at once.
+pub(crate) const MOST_FOLLOWERS: u64 = 4;
+
+/// What the servers of a page share.
+#[derive(Drop)]
+pub(crate) struct Page {
+    pub door: Door,
+    followers: AtomicU64,
+}
+
+/// What else the address is called: `localhost` where it is the loopback address.
+fn other_name(alloc: Global, at: &SocketAddr) -> Result<Option<String>, AllocError> {
+    if !at.ip().is_loopback() {
+        return Ok(None);
+    }
+    let port = at.port();
+    Ok(Some(format!(in alloc; "localhost:{port}")?))
+}
+
+/// What has to be told where a call changes the day: nothing without a token.
+fn authorization(alloc: Global, token: Option<&TokenText>) -> Result<String, AllocError> {
+    match token {
+        Some(token) => format!(in alloc; "Bearer {token}"),
+        None => Ok(String::new(alloc)),
+    }
+}
+
+impl Page {
+    /// The page that is served under this address of a file, which is this one.
+    pub fn new(
+        alloc: Global,
+        at: &SocketAddr,
+        address: &Address,
+        token: Option<&TokenText>,
+    ) -> Result<Page, AllocError> {
+        Ok(Page {
+            door: Door {
+                host: format!(in alloc; "{address}")?,
+                other_name: other_name(alloc, at)?,
+                authorization: authorization(alloc, token)?,
+            },
+            followers: AtomicU64::new(0),
+        })
+    }
+
+    /// One client more follows the day, if not too many do.
+    pub fn begin_following(&self) -> bool {
+        if self.followers.fetch_add(1, Ordering::SeqCst) < MOST_FOLLOWERS {
+            return true;
+        }
+        self.end_following();
+        false
+    }
+
+    /// A client follows it no more.
+    pub fn end_following(&self) {
+        self.followers.fetch_sub(1, Ordering::SeqCst);
+    }
+}

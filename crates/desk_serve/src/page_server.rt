@@ -1,0 +1,117 @@
+//! What serves a page: each server one connection after the other, in a thread of its own.
+
+use crate::day_view::DayView;
+use crate::page::{MOST_FOLLOWERS, Page};
+use desk_config::{Address, TokenText};
+use desk_floor::Floor;
+use desk_http::serve;
+use desk_page::PAGE;
+use readiness::Readiness;
+use release_lock::Run;
+use std::alloc::Global;
+use std::io::{self, Write};
+use std::net::{Net, SocketAddr, TcpListener, TcpStream};
+use std::os::fd::AsRawFd;
+use std::sync::ledger::Ledger;
+use std::sync::{Arc, Wait};
+use std::time::{Clock, Duration};
+
+/// How many milliseconds a server waits for a client before it looks whether the day is over.
+const LOOK_MILLIS: u64 = 100;
+
+/// How many milliseconds a client may say nothing.
+const READ_MILLIS: u64 = 500;
+
+/// How many seconds a write may take.
+const WRITE_SECONDS: u64 = 5;
+
+/// One of the servers of a page.
+#[derive(Drop)]
+pub struct PageServer {
+    listener: TcpListener,
+    readiness: Readiness,
+    page: Arc<Page, Global>,
+}
+
+/// Opens the page at an address, which this one of the file stands for: a server for each of so many callers, and for
+/// each client that may follow the day. Where a token is there it is asked for. Refused where the address can't be had,
+/// or memory or descriptors are wanted.
+pub fn open_page<R: Net<Listener = TcpListener>>(
+    rt: &R,
+    alloc: Global,
+    at: SocketAddr,
+    address: &Address,
+    token: Option<&TokenText>,
+    callers: u64,
+) -> io::Result<Vec<PageServer>> {
+    let listener = TcpListener::bind(rt, at)?;
+    listener.set_nonblocking(true)?;
+    let page = Arc::new(alloc, Page::new(alloc, &at, address, token)?)?;
+    let mut servers = Vec::new(alloc);
+    for _ in 0..callers.saturating_add(MOST_FOLLOWERS) {
+        let listener = listener.try_clone()?;
+        let readiness = Readiness::new(rt, alloc, listener.as_raw_fd())?;
+        servers.push(PageServer {
+            listener,
+            readiness,
+            page: page.clone()?,
+        })?;
+    }
+    Ok(servers)
+}
+
+impl PageServer {
+    /// Serves the page until the day is over, and gives the clients that followed it to its end. A client for which there
+    /// is no memory is let go.
+    pub fn serve<L: Run, M: Ledger, W: Write + Drop, R: Wait + Clock>(
+        self,
+        rt: &R,
+        alloc: Global,
+        floor: &Floor<L, M, W>,
+    ) -> Vec<TcpStream> {
+        let mut server = self;
+        let mut followers = Vec::new(alloc);
+        for _ in rt.forever() {
+            if floor.signals.is_over() {
+                break;
+            }
+            let Some(client) = server.next_client() else {
+                continue;
+            };
+            if let Ok(Some(follower)) = server.serve_client(rt, alloc, floor, client) {
+                let _ = followers.push(follower);
+            }
+        }
+        followers
+    }
+
+    /// The next client, if one comes within a tenth of a second.
+    fn next_client(&mut self) -> Option<TcpStream> {
+        if !self.readiness.wait(Duration::from_millis(LOOK_MILLIS)) {
+            return None;
+        }
+        let (client, _) = self.listener.accept().ok()?;
+        Some(client)
+    }
+
+    /// Serves a client's request, and gives the client if it followed the day to its end.
+    fn serve_client<L: Run, M: Ledger, W: Write + Drop, R: Wait + Clock>(
+        &self,
+        rt: &R,
+        alloc: Global,
+        floor: &Floor<L, M, W>,
+        client: TcpStream,
+    ) -> io::Result<Option<TcpStream>> {
+        let mut client = client;
+        client.set_nonblocking(false)?;
+        client.set_nodelay(true)?;
+        client.set_read_timeout(Some(Duration::from_millis(READ_MILLIS)))?;
+        client.set_write_timeout(Some(Duration::from_secs(WRITE_SECONDS)))?;
+        let mut day = DayView::new(rt, alloc, floor, &self.page)?;
+        serve(rt, alloc, &mut client, &mut day, &self.page.door, PAGE)?;
+        if day.is_over() {
+            return Ok(Some(client));
+        }
+        Ok(None)
+    }
+}
