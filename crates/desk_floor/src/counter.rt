@@ -38,7 +38,7 @@ impl<L: Run> Counter<L> {
         ensures placed { (before : KeptDesk) × (after : KeptDesk) × Replays before × Replays after
             × Releases sweep.legs before result after }
         ensures counted { MatchResult result (λ receipt. (receipt.shares ≡ sweep_shares sweep.legs)
-            × (self.new.seat.shares ≡ self.old.seat.shares + receipt.shares)) (λ _. self.new ≡ self.old) }
+            × (self.new.seat.shares ≡ self.old.seat.shares + receipt.shares)) (λ _. self.new.seat ≡ self.old.seat) }
     {
         lock.release(rt, collector, sweep, &mut self.seat)
     }

@@ -17,6 +17,7 @@ use exec_collector::Collector;
 use leg::VenueId;
 use release_lock::{CallerSeat, ReleaseLock, Run};
 use session_worker::Stop;
+use share_ledger::Book;
 use std::alloc::{AllocError, Global};
 use std::fmt::Display;
 use std::io::Write;

@@ -73,7 +73,7 @@ fn is_before(leg: &Leg, id: LegId) -> bool {
 
 /// What was released to a venue under a leg's number, if there is such a leg. The legs of a venue are in the order of
 /// their numbers.
-fn released(desk: &mut Desk, venue: VenueId, id: LegId) -> Result<Option<Released>, AllocError>
+fn released_leg(desk: &mut Desk, venue: VenueId, id: LegId) -> Result<Option<Released>, AllocError>
     ensures turns { OnlyTurns desk.old desk.new }
 {
     let legs = desk.released(venue);
@@ -100,7 +100,7 @@ fn standing_of<L: Run, M: Ledger, W: Write + Drop>(
     };
     let found = floor
         .lock
-        .with(rt, |desk: &mut Desk| released(desk, venue, id))?;
+        .with(rt, |desk: &mut Desk| released_leg(desk, venue, id))?;
     let Some(Released { terms, ordinal }) = found else {
         return Ok(None);
     };

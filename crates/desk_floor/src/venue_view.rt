@@ -1,8 +1,8 @@
 //! What the threads of a day see of a venue.
 
 use crate::standing::{Standing, standing_of};
-use day_log::{Traffic, VenueLog};
 use clock::Clock;
+use day_log::{Traffic, VenueLog};
 use leg::VenueId;
 use link::LastDial;
 use std::alloc::{AllocError, Global};

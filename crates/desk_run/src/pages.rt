@@ -26,7 +26,14 @@ pub fn open_pages<R: Net<Listener = TcpListener>>(
     let Some(at) = first_address(rt, address) else {
         return Err(DayFault::NoPage);
     };
-    match open_page(rt, alloc, at, address, config.token.as_ref(), config.callers.get()) {
+    match open_page(
+        rt,
+        alloc,
+        at,
+        address,
+        config.token.as_ref(),
+        config.callers.get(),
+    ) {
         Ok(servers) => Ok(servers),
         Err(error) if error.kind() == ErrorKind::OutOfMemory => Err(DayFault::OutOfMemory),
         Err(_) => Err(DayFault::NoPage),

@@ -21,8 +21,8 @@ use std::alloc::{AllocError, Global};
 use std::collections::VecDeque;
 use std::io::Write;
 use std::net::{Net, SocketAddr};
-use std::sync::ledger::Ledger;
 use std::sync::Wait;
+use std::sync::ledger::Ledger;
 use std::thread::Threads;
 use std::time;
 

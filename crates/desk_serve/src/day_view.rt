@@ -116,9 +116,15 @@ impl<'a, L: Run, M: Ledger, W: Write + Drop, R: Wait + Clock> Day for DayView<'a
     }
 
     fn place(&mut self, sweep: Sweep) -> Outcome {
-        let line = write_sweep(self.alloc, self.floor.names.as_slice(), sweep.legs.as_slice());
+        let line = write_sweep(
+            self.alloc,
+            self.floor.names.as_slice(),
+            sweep.legs.as_slice(),
+        );
         let answer = match &line {
-            Ok(line) => self.floor.hand_in(self.rt, &mut self.log, line.as_bytes(), sweep),
+            Ok(line) => self
+                .floor
+                .hand_in(self.rt, &mut self.log, line.as_bytes(), sweep),
             Err(_) => self.floor.hand_in(self.rt, &mut self.log, b"", sweep),
         };
         outcome_of(answer)
@@ -158,18 +164,19 @@ impl<'a, L: Run, M: Ledger, W: Write + Drop, R: Wait + Clock> Day for DayView<'a
     fn venues(&mut self) -> Result<Vec<VenueRow>, AllocError> {
         let mut rows = Vec::new(self.alloc);
         for place in 0..self.floor.names.len() {
-            if let Some(row) = venue_row(self.rt, &self.clock, self.floor, place) {
+            if let Some(row) = venue_row(self.rt, &self.clock, self.alloc, self.floor, place)? {
                 rows.push(row)?;
             }
         }
         Ok(rows)
     }
 
-    fn sums(&mut self) -> DaySums {
-        DaySums {
+    fn sums(&mut self) -> Result<DaySums, AllocError> {
+        Ok(DaySums {
             sweeps: self.floor.sweeps(self.rt),
-            shares: self.floor.totals(self.rt),
-        }
+            placed: self.floor.signals.placed(),
+            parts: self.page.parts(self.rt, &self.floor.collector)?,
+        })
     }
 
     fn refusals(&self) -> RefusalCounts {

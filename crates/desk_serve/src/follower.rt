@@ -55,7 +55,7 @@ impl Follower {
         floor: &Floor<L, M, W>,
     ) -> Result<Vec<Event>, AllocError> {
         let mut events = Vec::new(alloc);
-        self.add_venues(rt, clock, floor, &mut events)?;
+        self.add_venues(rt, clock, alloc, floor, &mut events)?;
         self.add_sweeps(rt, floor, &mut events)?;
         self.add_refusals(rt, floor, &mut events)?;
         self.add_totals(rt, floor, &mut events)?;
@@ -67,6 +67,7 @@ impl Follower {
         &mut self,
         rt: &impl Wait,
         clock: &impl Clock,
+        alloc: Global,
         floor: &Floor<L, M, W>,
         events: &mut Vec<Event>,
     ) -> Result<(), AllocError> {
@@ -75,7 +76,7 @@ impl Follower {
                 Some(seen) if seen.standing != *told => *told = seen.standing,
                 _ => continue,
             }
-            if let Some(row) = venue_row(rt, clock, floor, place) {
+            if let Some(row) = venue_row(rt, clock, alloc, floor, place)? {
                 events.push(Event::Venue(row))?;
             }
         }

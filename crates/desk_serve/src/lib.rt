@@ -14,6 +14,7 @@ mod day_view;
 mod follower;
 mod page;
 mod page_server;
+mod part_sums;
 mod rows;
 
 pub use follower::tell_closed;

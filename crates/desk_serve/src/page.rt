@@ -1,10 +1,15 @@
 //! What the servers of a page share.
 
+use crate::part_sums::PartSums;
 use desk_config::{Address, TokenText};
 use desk_http::Door;
+use exec_collector::Collector;
+use leg::Totals;
 use std::alloc::{AllocError, Global};
 use std::net::SocketAddr;
 use std::sync::atomic::{AtomicU64, Ordering};
+use std::sync::ledger::Ledger;
+use std::sync::{Mutex, Wait};
 
 /// How many clients may follow a day at once.
 pub(crate) const MOST_FOLLOWERS: u64 = 4;
@@ -14,6 +19,7 @@ pub(crate) const MOST_FOLLOWERS: u64 = 4;
 pub(crate) struct Page {
     pub door: Door,
     followers: AtomicU64,
+    sums: Mutex<PartSums>,
 }
 
 /// What else the address is called: `localhost` where it is the loopback address.
@@ -48,7 +54,17 @@ impl Page {
                 authorization: authorization(alloc, token)?,
             },
             followers: AtomicU64::new(0),
+            sums: Mutex::new(PartSums::new(alloc)),
         })
+    }
+
+    /// What became of the shares of all sweeps. It may wait for locks. The only refusal is want of memory.
+    pub fn parts<M: Ledger>(
+        &self,
+        rt: &impl Wait,
+        collector: &Collector<M>,
+    ) -> Result<Totals, AllocError> {
+        self.sums.lock(rt).now(rt, collector)
     }
 
     /// One client more follows the day, if not too many do.

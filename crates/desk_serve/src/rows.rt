@@ -3,25 +3,47 @@
 ghost use Rattle.std.specs.Prelude.{◌≡◌};
 
 use clock::Clock;
+use day_log::{BOUNDS, OrderTimes};
 use desk_floor::{Floor, LegStanding, venue_status};
-use desk_json::{LegRow, VenueRow};
+use desk_json::{LegRow, OrderWaits, VenueRow, WaitCount};
 use leg::{Split, Totals};
 use release_lock::Run;
+use std::alloc::{AllocError, Global};
 use std::io::Write;
 use std::sync::Wait;
 use std::sync::ledger::Ledger;
 
-/// How the venue at a place stands, if there is one. It may wait for locks.
+/// How long orders waited: at most each of the bounds, however long, and in all.
+fn waits_of(alloc: Global, times: &OrderTimes) -> Result<OrderWaits, AllocError> {
+    let mut within = Vec::new(alloc);
+    let mut count: u64 = 0;
+    for (place, most) in BOUNDS.iter().enumerate() {
+        count = count.saturating_add(times.count(place));
+        within.push(WaitCount { most: *most, count })?;
+    }
+    Ok(OrderWaits {
+        within,
+        count: count.saturating_add(times.count(BOUNDS.len())),
+        micros: times.micros(),
+    })
+}
+
+/// How the venue at a place stands, if there is one. It may wait for locks. The only refusal is want of memory.
 pub(crate) fn venue_row<L: Run, M: Ledger, W: Write + Drop>(
     rt: &impl Wait,
     clock: &impl Clock,
+    alloc: Global,
     floor: &Floor<L, M, W>,
     place: usize,
-) -> Option<VenueRow> {
-    let status = venue_status(rt, floor, place)?;
-    let view = floor.views.get(place)?;
+) -> Result<Option<VenueRow>, AllocError> {
+    let Some(status) = venue_status(rt, floor, place) else {
+        return Ok(None);
+    };
+    let Some(view) = floor.views.get(place) else {
+        return Ok(None);
+    };
     let traffic = view.traffic();
-    Some(VenueRow {
+    Ok(Some(VenueRow {
         status,
         connections: traffic.connections(),
         refused_dials: traffic.refused_dials(),
@@ -29,8 +51,9 @@ pub(crate) fn venue_row<L: Run, M: Ledger, W: Write + Drop>(
         messages_received: traffic.messages_received(),
         bytes_sent: traffic.bytes_sent(),
         bytes_received: traffic.bytes_received(),
+        waits: waits_of(alloc, traffic.order_times())?,
         heard_ms_ago: view.heard_ms_ago(clock),
-    })
+    }))
 }
 
 /// What became of a leg's shares.

@@ -98,9 +98,8 @@ impl Fault for CommandFault {
     fn status(&self) -> u8 {
         match self {
             CommandFault::CommandLine(_) | CommandFault::NoName => 2,
-            CommandFault::BadPatience
-            | CommandFault::NotText(_)
-            | CommandFault::BadFile { .. } => 3,
+            CommandFault::BadPatience | CommandFault::NotText(_) | CommandFault::BadFile { .. } =>
+                3,
             CommandFault::NoFile(_)
             | CommandFault::NoPage
             | CommandFault::NoAddress(_)
@@ -120,7 +119,9 @@ impl Fault for CommandFault {
     fn reason(&self) -> Option<&'static str> {
         match self {
             CommandFault::BadPatience => Some("a whole number from 0 to 86400 is wanted"),
-            CommandFault::NoPage => Some("another program may have the address, or it isn't this machine's"),
+            CommandFault::NoPage => Some(
+                "another program may have the address, or it isn't this machine's",
+            ),
             CommandFault::NoLogs(fault) => log_reason(fault),
             CommandFault::GivenUp => Some(
                 "a session didn't log out in time, or legs stay in doubt",

@@ -1,0 +1,5 @@
+use Rattle.std.proofs.Common.{rules}
+use Rattle.desk_http.proofs.answer.placed_reply.Goals as goal
+
+pub returns : goal.returns
+returns g c = record { said = c.place.result; by_the_day = c.place.ensures; answer = search rules }

@@ -1,0 +1,8 @@
+use Rattle.std.proofs.Common.{append_assoc}
+use Rattle.std.proofs.lemmas.Result.{on_ok_weaker}
+use Rattle.desk_http.specs.Metrics.{sample}
+use Rattle.desk_http.proofs.metrics.write_sample.Goals as goal
+
+pub returns : goal.returns
+unfolding sample
+returns c = on_ok_weaker c.write.result (λ said. simp append_assoc said) c.write.ensures.bytes

@@ -1,0 +1,10 @@
+pub mod Parts
+pub mod Window
+pub mod Call
+pub mod Door
+pub mod Status
+pub mod Refused
+pub mod Reply
+pub mod Answer
+pub mod VenueMetric
+pub mod Metrics

@@ -1,0 +1,115 @@
+//! Who may ask what.
+
+ghost use Rattle.std.specs.Prelude.{◌≡◌};
+ghost use Rattle.desk_http.specs.Door.{allowed, call_of, is_json, is_named, is_our_page, is_ours, is_served, knows_token, may_change};
+
+use crate::call::{Call, call_at, changes_the_day, place_of};
+use crate::parts::parts_at;
+use crate::refused::Refused;
+use crate::request::Request;
+use crate::same_token::is_same;
+
+/// What is served, and to whom.
+#[derive(Debug, Drop)]
+pub struct Door {
+    /// The address that is served, as `127.0.0.1:8080`: each request's `Host`. A browser leaves out the port 80.
+    pub host: String,
+    /// What else the address may be called, as `localhost:8080` where it is a loopback one.
+    pub other_name: Option<String>,
+    /// What `Authorization` has to be where a call changes the day, as `Bearer WORD`; empty where no token is asked
+    /// for.
+    pub authorization: String,
+}
+
+/// Whether a name is this one, where there is one.
+fn is_named(name: &Option<String>, host: &[u8]) -> bool
+    ensures { result ≡ is_named name.now host.now }
+{
+    match name {
+        Some(name) => host == name.as_str().as_bytes(),
+        None => false,
+    }
+}
+
+/// Whether a host is the address that is served.
+fn is_served(door: &Door, host: &[u8]) -> bool
+    ensures { result ≡ is_served door.now host.now }
+{
+    host == door.host.as_str().as_bytes() || is_named(&door.other_name, host)
+}
+
+/// Whether an `Origin` is our own page's, as `http://127.0.0.1:8080`.
+fn is_our_page(door: &Door, origin: &[u8]) -> bool
+    ensures { result ≡ is_our_page door.now origin.now }
+{
+    origin.starts_with(b"http://") && is_served(door, &origin[7..])
+}
+
+/// Whether a request comes of our own page or of no page at all.
+fn is_ours(door: &Door, request: &Request) -> bool
+    ensures { result ≡ is_ours door.now request.now }
+{
+    request.origin.is_empty() || is_our_page(door, request.origin.as_slice())
+}
+
+/// Whether a body is said to be JSON, whatever parameters stand behind it.
+fn is_json(content_type: &[u8]) -> bool
+    ensures { result ≡ is_json content_type.now }
+{
+    content_type == b"application/json".as_slice() || content_type.starts_with(b"application/json;")
+}
+
+/// Whether a request has the token, where one is asked for.
+fn knows_token(door: &Door, request: &Request) -> bool
+    ensures { result ≡ knows_token door.now request.now }
+{
+    door.authorization.is_empty()
+        || is_same(
+            request.authorization.as_slice(),
+            door.authorization.as_str().as_bytes(),
+        )
+}
+
+/// Whether a request may change the day.
+fn may_change(door: &Door, request: &Request) -> Result<(), Refused>
+    ensures { result ≡ may_change door.now request.now }
+{
+    if !is_ours(door, request) {
+        return Err(Refused::ForeignOrigin);
+    }
+    if !is_json(request.content_type.as_slice()) {
+        return Err(Refused::NotJson);
+    }
+    if !knows_token(door, request) {
+        return Err(Refused::NoToken);
+    }
+    Ok(())
+}
+
+/// What a request asks for, whoever sent it.
+#[tactic(auto, unfolding(crate::specs::Door::call_of))]
+fn call_of(request: &Request) -> Result<Call, Refused>
+    ensures { result ≡ call_of request.now }
+{
+    let (path, query) = parts_at(request.target.as_slice(), b'?');
+    match place_of(path) {
+        Some(place) => call_at(place, request.method, query),
+        None => Err(Refused::NoPlace),
+    }
+}
+
+/// What a request asks for and may ask for, or why it isn't carried out: `Host` first, then the path, the method and
+/// the query, and where it changes the day `Origin`, `Content-Type` and the token.
+#[tactic(auto, unfolding(crate::specs::Door::allowed))]
+pub fn allowed(door: &Door, request: &Request) -> Result<Call, Refused>
+    ensures { result ≡ allowed door.now request.now }
+{
+    if !is_served(door, request.host.as_slice()) {
+        return Err(Refused::ForeignHost);
+    }
+    let call = call_of(request)?;
+    if changes_the_day(call) {
+        may_change(door, request)?;
+    }
+    Ok(call)
+}

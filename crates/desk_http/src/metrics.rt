@@ -1,0 +1,117 @@
+//! The day as Prometheus' text.
+
+ghost use Rattle.std.specs.Prelude.{◌≡◌, [], ◌++◌, IfOk, OnOk, codes, string_bytes};
+ghost use Rattle.desk_http.specs.Metrics.{metrics_text, refusals_text, refused_desk, refused_legs, refused_sample, parts_text, placed_text, sample, sweeps_text, type_line};
+
+use crate::day_sums::DaySums;
+use crate::refusal_counts::RefusalCounts;
+use crate::venue_metric::write_venues;
+use desk_json::VenueRow;
+use leg::Totals;
+use std::alloc::{AllocError, Global};
+
+/// Appends the name of a metric, with its type.
+fn write_type(text: &mut String, name: &str, kind: &str) -> Result<(), AllocError>
+    ensures { OnOk result (string_bytes text.new ≡ string_bytes text.old ++ type_line name.now kind.now) }
+{
+    write!(text, "# TYPE {name} {kind}\n")
+}
+
+/// Appends a sample: its name, with its labels, and its value.
+fn write_sample(text: &mut String, name: &str, value: u64) -> Result<(), AllocError>
+    ensures { OnOk result (string_bytes text.new ≡ string_bytes text.old ++ sample name.now value) }
+{
+    write!(text, "{name} {value}\n")
+}
+
+/// Appends how many sweeps were placed.
+#[tactic(auto, unfolding(crate::specs::Metrics::sweeps_text))]
+fn write_sweeps(text: &mut String, sweeps: u64) -> Result<(), AllocError>
+    ensures { OnOk result (string_bytes text.new ≡ string_bytes text.old ++ sweeps_text sweeps) }
+{
+    write_type(text, "dispatch_sweeps_placed_total", "counter")?;
+    write_sample(text, "dispatch_sweeps_placed_total", sweeps)
+}
+
+/// Appends how many sweeps were refused with a code.
+fn write_refused(text: &mut String, code: &str, count: u64) -> Result<(), AllocError>
+    ensures { OnOk result (string_bytes text.new ≡ string_bytes text.old ++ refused_sample code.now count) }
+{
+    write!(
+        text,
+        "dispatch_sweeps_refused_total{{code=\"{code}\"}} {count}\n"
+    )
+}
+
+/// Appends how many sweeps were refused for their legs and venues.
+#[tactic(auto, unfolding(crate::specs::Metrics::refused_legs))]
+fn write_refused_legs(text: &mut String, counts: &RefusalCounts) -> Result<(), AllocError>
+    ensures { OnOk result (string_bytes text.new ≡ string_bytes text.old ++ refused_legs counts.now) }
+{
+    write_refused(text, "R01", counts.no_legs)?;
+    write_refused(text, "R02", counts.too_many_legs)?;
+    write_refused(text, "R03", counts.unknown_venue)?;
+    write_refused(text, "R04", counts.gate_down)?;
+    write_refused(text, "R05", counts.backlog_full)
+}
+
+/// Appends how many sweeps were refused for the desk.
+#[tactic(auto, unfolding(crate::specs::Metrics::refused_desk))]
+fn write_refused_desk(text: &mut String, counts: &RefusalCounts) -> Result<(), AllocError>
+    ensures { OnOk result (string_bytes text.new ≡ string_bytes text.old ++ refused_desk counts.now) }
+{
+    write_refused(text, "R06", counts.sweeps_spent)?;
+    write_refused(text, "R07", counts.out_of_memory)?;
+    write_refused(text, "R08", counts.wrong_book)?;
+    write_refused(text, "closing", counts.closing)
+}
+
+/// Appends how many sweeps were refused, by their codes.
+#[tactic(auto, unfolding(crate::specs::Metrics::refusals_text))]
+fn write_refusals(text: &mut String, counts: &RefusalCounts) -> Result<(), AllocError>
+    ensures { OnOk result (string_bytes text.new ≡ string_bytes text.old ++ refusals_text counts.now) }
+{
+    write_type(text, "dispatch_sweeps_refused_total", "counter")?;
+    write_refused_legs(text, counts)?;
+    write_refused_desk(text, counts)
+}
+
+/// Appends the shares of all sweeps that were placed.
+fn write_placed(text: &mut String, placed: u64) -> Result<(), AllocError>
+    ensures { OnOk result (string_bytes text.new ≡ string_bytes text.old ++ placed_text placed) }
+{
+    text.push_str("# TYPE dispatch_shares_placed_total counter\n")?;
+    write_sample(text, "dispatch_shares_placed_total", placed)
+}
+
+/// Appends what became of the shares.
+fn write_parts(text: &mut String, parts: &Totals) -> Result<(), AllocError>
+    ensures { OnOk result (string_bytes text.new ≡ string_bytes text.old ++ parts_text parts.now) }
+{
+    text.push_str("# TYPE dispatch_shares gauge\n")?;
+    write_sample(text, "dispatch_shares{part=\"filled\"}", parts.filled)?;
+    write_sample(text, "dispatch_shares{part=\"busted\"}", parts.busted)?;
+    write_sample(text, "dispatch_shares{part=\"cancelled\"}", parts.cancelled)?;
+    write_sample(text, "dispatch_shares{part=\"withdrawn\"}", parts.withdrawn)?;
+    write_sample(text, "dispatch_shares{part=\"open\"}", parts.still_open)
+}
+
+/// The day as Prometheus' text: its sweeps, those that were refused, its shares, and what is told of each venue. The
+/// only refusal is want of memory.
+#[tactic(auto, unfolding(crate::specs::Metrics::metrics_text))]
+pub(crate) fn metrics_text(
+    alloc: Global,
+    sums: &DaySums,
+    refusals: &RefusalCounts,
+    venues: &[VenueRow],
+) -> Result<String, AllocError>
+    ensures { IfOk result (λ text. string_bytes text ≡ metrics_text sums.now refusals.now venues.now) }
+{
+    let mut text = String::new(alloc);
+    write_sweeps(&mut text, sums.sweeps)?;
+    write_refusals(&mut text, refusals)?;
+    write_placed(&mut text, sums.placed)?;
+    write_parts(&mut text, &sums.parts)?;
+    write_venues(&mut text, venues)?;
+    Ok(text)
+}

@@ -1,0 +1,80 @@
+//! One connection, served.
+
+ghost use Rattle.std.specs.Prelude.{◌≡◌, OnErr};
+ghost use Rattle.desk_http.specs.Door.{allowed};
+
+use crate::answer::answer;
+use crate::call::Call;
+use crate::day::Day;
+use crate::door::{Door, allowed};
+use crate::reading::{Got, read_request};
+use crate::refused::Refused;
+use crate::reply::{Reply, refused_reply, reply_text};
+use crate::request::Request;
+use crate::stream::{follow_day, send};
+use std::alloc::Global;
+use std::io;
+use std::io::{Read, Write};
+use std::time::Clock;
+
+fn send_reply<S: Write>(alloc: Global, stream: &mut S, reply: &Reply) -> io::Result<()> {
+    let text = reply_text(alloc, reply)?;
+    send(stream, text.as_bytes())
+}
+
+fn refuse<S: Write>(alloc: Global, stream: &mut S, refused: Refused) -> io::Result<()> {
+    let reply = refused_reply(alloc, refused)?;
+    send_reply(alloc, stream, &reply)
+}
+
+/// Answers a call.
+fn carry_out<S: Write, D: Day>(
+    alloc: Global,
+    stream: &mut S,
+    day: &mut D,
+    page: &str,
+    call: Call,
+    body: &[u8],
+) -> io::Result<()> {
+    if call == Call::Events && follow_day(alloc, stream, day)? {
+        return Ok(());
+    }
+    let reply = answer(alloc, day, page, call, body)?;
+    send_reply(alloc, stream, &reply)
+}
+
+/// Answers a request.
+fn respond<S: Write, D: Day>(
+    alloc: Global,
+    stream: &mut S,
+    day: &mut D,
+    door: &Door,
+    page: &str,
+    request: &Request,
+) -> io::Result<()>
+    // Where a request isn't allowed the day is asked nothing.
+    ensures { OnErr (allowed door.now request.now) (day.new ≡ day.old) }
+{
+    match allowed(door, request) {
+        Ok(call) => carry_out(alloc, stream, day, page, call, request.body.as_slice()),
+        Err(refused) => refuse(alloc, stream, refused),
+    }
+}
+
+/// Serves one request of a stream: it is read, answered over the day, and the connection is to be closed behind it.
+/// A read of the stream is to give up after half a second, a write after some seconds; either is the stream's fault
+/// then, or a 408. Want of memory, or a fault of the stream, ends the connection with no answer or a part of one.
+pub fn serve<R: Clock, S: Read + Write, D: Day>(
+    rt: &R,
+    alloc: Global,
+    stream: &mut S,
+    day: &mut D,
+    door: &Door,
+    page: &str,
+) -> io::Result<()> {
+    match read_request(rt, alloc, stream)? {
+        Got::Request(request) => respond(alloc, stream, day, door, page, &request),
+        Got::Refused(refused) => refuse(alloc, stream, refused),
+        Got::Nothing => Ok(()),
+    }
+}

@@ -1,0 +1,86 @@
+//! The stream of events.
+
+use crate::day::{Changes, Day};
+use crate::reply::SAFE_HEAD;
+use desk_json::{Event, event_text};
+use std::alloc::Global;
+use std::io;
+use std::io::Write;
+
+/// What is sent where nothing changed for a second, so that a client that is gone is found.
+const STILL_HERE: &[u8] = b": still here\n\n";
+
+/// Sends bytes at once.
+pub(crate) fn send<S: Write>(stream: &mut S, bytes: &[u8]) -> io::Result<()> {
+    stream.write_all(bytes)?;
+    stream.flush()
+}
+
+fn is_last(event: &Event) -> bool {
+    matches!(event, Event::Closed(_))
+}
+
+/// Sends changes, and says whether the day is over or closed with them.
+fn send_changes<S: Write>(alloc: Global, stream: &mut S, changes: &Changes) -> io::Result<bool> {
+    if changes.events.is_empty() && !changes.is_over {
+        send(stream, STILL_HERE)?;
+    }
+    for event in changes.events.iter() {
+        let text = event_text(alloc, event)?;
+        send(stream, text.as_bytes())?;
+        if is_last(event) {
+            return Ok(true);
+        }
+    }
+    Ok(changes.is_over)
+}
+
+/// Sends what changes from a moment on, until the day is over or the client is gone.
+fn send_all<S: Write, D: Day>(
+    alloc: Global,
+    stream: &mut S,
+    day: &mut D,
+    from: u64,
+) -> io::Result<()> {
+    let mut cursor = from;
+    for _ in 0..u64::MAX {
+        let changes = day.changes(cursor)?;
+        if send_changes(alloc, stream, &changes)? {
+            return Ok(());
+        }
+        cursor = changes.cursor;
+    }
+    Ok(())
+}
+
+/// Begins a stream of events, and sends them until the day is over or the client is gone.
+fn stream_events<S: Write, D: Day>(
+    alloc: Global,
+    stream: &mut S,
+    day: &mut D,
+    from: u64,
+) -> io::Result<()> {
+    send(
+        stream,
+        b"HTTP/1.1 200 OK\r\nContent-Type: text/event-stream\r\n",
+    )?;
+    send(stream, SAFE_HEAD.as_bytes())?;
+    send_all(alloc, stream, day, from)
+}
+
+/// Streams the day's events, or says that too many are streamed. What was begun is ended in every case.
+pub(crate) fn follow_day<S: Write, D: Day>(
+    alloc: Global,
+    stream: &mut S,
+    day: &mut D,
+) -> io::Result<bool> {
+    match day.follow() {
+        Some(from) => {
+            let sent = stream_events(alloc, stream, day, from);
+            day.unfollow();
+            sent?;
+            Ok(true)
+        }
+        None => Ok(false),
+    }
+}

@@ -1,0 +1,4 @@
+pub mod PartedWritten
+pub mod LegsRead
+pub mod KeysFound
+pub mod SaysIt

@@ -1,0 +1,13 @@
+use Rattle.std.proofs.Common.{append_assoc}
+use Rattle.std.proofs.lemmas.Result.{on_ok_weaker}
+use Rattle.desk_json.proofs.venues_written.write_counts.Goals as goal
+
+pub returns : goal.returns
+returns c =
+    on_ok_weaker c.write-4.result
+    (λ said. rw said (rw (
+      c.in_ok-write-3.ensures.bytes,
+      c.in_ok-write-2.ensures.bytes,
+      c.in_ok-write.ensures.bytes,
+    ) (simp append_assoc)))
+    c.write-4.ensures.bytes

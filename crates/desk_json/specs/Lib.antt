@@ -1,0 +1,11 @@
+pub mod Key
+pub mod Fault
+pub mod Leg
+pub mod Sweep
+pub mod Outcome
+pub mod FaultJson
+pub mod Parted
+pub mod Sweeps
+pub mod Legs
+pub mod Venues
+pub mod Event

@@ -1,0 +1,30 @@
+-- What a sweep that is handed in is answered, in JSON.
+use Rattle.std.specs.Prelude.{ℕ, List, ◌++◌, codes, decimal}
+use Rattle.sweep_text.specs.declared.answer.Refusal.{Refusal}
+use Rattle.sweep_text.specs.declared.answer.Refusal.TheVariants.{NoLegs, TooManyLegs, UnknownVenue, GateDown, BacklogFull, SweepsSpent, OutOfMemory, WrongBook}
+use Rattle.desk_json.specs.declared.outcome.Outcome.{Outcome}
+use Rattle.desk_json.specs.declared.outcome.Outcome.TheVariants.{Placed, Refused, Closing}
+
+-- why a sweep isn't placed; a venue that is to blame is named
+abbrev pub refusal_json : Refusal → List ℕ
+refusal_json NoLegs = codes "{\"refused\":\"R01\",\"text\":\"it has no legs\"}"
+refusal_json TooManyLegs = codes "{\"refused\":\"R02\",\"text\":\"it has more than 32 legs\"}"
+refusal_json UnknownVenue = codes "{\"refused\":\"R03\",\"text\":\"a leg is for no venue of the desk\"}"
+refusal_json (GateDown venue) =
+    codes "{\"refused\":\"R04\",\"text\":\"its gate is down\",\"venue\":\"" ++ venue ++ codes "\"}"
+refusal_json (BacklogFull venue) =
+    codes "{\"refused\":\"R05\",\"text\":\"its backlog is full\",\"venue\":\"" ++ venue ++ codes "\"}"
+refusal_json SweepsSpent = codes "{\"refused\":\"R06\",\"text\":\"the numbers of sweeps are spent\"}"
+refusal_json OutOfMemory = codes "{\"refused\":\"R07\",\"text\":\"out of memory\"}"
+refusal_json WrongBook = codes "{\"refused\":\"R08\",\"text\":\"the book isn't the desk's\"}"
+
+-- the refusal of a day that is closing
+abbrev pub closing_json : List ℕ
+closing_json = codes "{\"refused\":\"closing\",\"text\":\"the day is closing\"}"
+
+-- as `{"placed":12,"shares":150}`, or the refusal
+abbrev pub outcome_json : Outcome → List ℕ
+outcome_json (Placed sweep shares) =
+    codes "{\"placed\":" ++ decimal sweep ++ codes ",\"shares\":" ++ decimal shares ++ codes "}"
+outcome_json (Refused refusal) = refusal_json refusal
+outcome_json Closing = closing_json

@@ -1,0 +1,50 @@
+//! Why a body is no sweep.
+
+ghost use Rattle.std.specs.Prelude.{Some};
+ghost use Rattle.desk_json.specs.Fault.{body_fault_text, sweep_fault_text};
+
+use crate::key_fault::KeyFault;
+use std::fmt;
+use sweep_text::Word;
+
+/// Why JSON asks for no sweep.
+#[derive(Debug, PartialEq, Eq, Drop)]
+pub enum SweepFault {
+    /// It is no object with `legs`, an array.
+    NoSweep,
+    /// A key beside `legs`; of several the first by its bytes.
+    Unknown(Word),
+    /// A leg has a fault, the first that has one; places are counted from 1.
+    Leg { place: usize, fault: KeyFault },
+}
+
+/// Why a body asks for no sweep.
+#[derive(Debug, PartialEq, Eq, Drop)]
+pub enum BodyFault {
+    /// It is no JSON in UTF-8: where the reader stood, counted from 1.
+    NoJson { line: usize, column: usize },
+    Sweep(SweepFault),
+}
+
+impl fmt::Display for SweepFault {
+    ghost output = { λ fault. Some (sweep_fault_text fault) };
+
+    fn fmt<W: fmt::Write>(&self, f: &mut fmt::Formatter<W>) -> fmt::Result {
+        match self {
+            SweepFault::NoSweep => write!(f, "a sweep is an object with legs"),
+            SweepFault::Unknown(key) => write!(f, "unknown key {key}"),
+            SweepFault::Leg { fault, .. } => write!(f, "{fault}"),
+        }
+    }
+}
+
+impl fmt::Display for BodyFault {
+    ghost output = { λ fault. Some (body_fault_text fault) };
+
+    fn fmt<W: fmt::Write>(&self, f: &mut fmt::Formatter<W>) -> fmt::Result {
+        match self {
+            BodyFault::NoJson { .. } => write!(f, "no JSON"),
+            BodyFault::Sweep(fault) => write!(f, "{fault}"),
+        }
+    }
+}

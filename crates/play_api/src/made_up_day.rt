@@ -1,0 +1,299 @@
+//! The day of a case, made up: it says what the case has it say, and keeps what it was asked.
+
+ghost use Rattle.std.specs.Prelude.{⊤};
+ghost use Rattle.play_api.specs.Names.{names_of};
+
+use crate::venues::Venues;
+use desk_http::{Changes, Day, DaySums, RefusalCounts};
+use desk_json::{Audit, Event, LegRow, Outcome, SweepLegs, SweepsPage, VenueRow};
+use desk_news::{DayTotals, SweepParts};
+use desk_words::VenueName;
+use leg::{LegId, LegState, MAX_PLACE, MAX_SWEEP, Routed, Sweep, Totals};
+use std::alloc::{AllocError, Global};
+use sweep_text::{Refusal, write_sweep};
+
+/// What a day says, and what it was asked.
+#[derive(Drop)]
+pub struct MadeUpDay {
+    alloc: Global,
+    pub venues: Venues,
+    /// What becomes of the next sweep.
+    pub outcome: Outcome,
+    pub sweeps: Vec<SweepParts>,
+    pub day: DayTotals,
+    /// How many sweeps weren't placed until now.
+    pub refusals: RefusalCounts,
+    pub is_closing: bool,
+    /// Whether too many follow the day.
+    pub is_crowded: bool,
+    /// The legs of the last sweep that was placed.
+    legs: Vec<LegRow>,
+    /// What was asked, a line each.
+    asked: String,
+}
+
+const NO_SHARES: DayTotals = DayTotals {
+    placed: 0,
+    resolved: 0,
+    still_open: 0,
+};
+
+const NO_REFUSALS: RefusalCounts = RefusalCounts {
+    no_legs: 0,
+    too_many_legs: 0,
+    unknown_venue: 0,
+    gate_down: 0,
+    backlog_full: 0,
+    sweeps_spent: 0,
+    out_of_memory: 0,
+    wrong_book: 0,
+    closing: 0,
+};
+
+/// Of no shares.
+const NOTHING: Totals = Totals {
+    filled: 0,
+    busted: 0,
+    cancelled: 0,
+    withdrawn: 0,
+    still_open: 0,
+};
+
+/// Both together.
+fn with(one: &Totals, other: &Totals) -> Totals {
+    Totals {
+        filled: one.filled.saturating_add(other.filled),
+        busted: one.busted.saturating_add(other.busted),
+        cancelled: one.cancelled.saturating_add(other.cancelled),
+        withdrawn: one.withdrawn.saturating_add(other.withdrawn),
+        still_open: one.still_open.saturating_add(other.still_open),
+    }
+}
+
+fn leg_id(sweep: u64, place: usize) -> LegId {
+    let place = u8::try_from(place).unwrap_or(MAX_PLACE);
+    LegId::new(sweep.clamp(1, MAX_SWEEP), place.clamp(1, MAX_PLACE))
+}
+
+/// A leg with all its shares open.
+fn new_leg(
+    names: &[VenueName],
+    sweep: u64,
+    place: usize,
+    leg: &Routed,
+) -> Result<Option<LegRow>, AllocError> {
+    let Some(name) = names.get(usize::from(leg.venue.number())) else {
+        return Ok(None);
+    };
+    Ok(Some(LegRow {
+        id: leg_id(sweep, place),
+        venue: name.clone()?,
+        terms: leg.terms.clone()?,
+        totals: Totals {
+            filled: 0,
+            busted: 0,
+            cancelled: 0,
+            withdrawn: 0,
+            still_open: leg.terms.shares(),
+        },
+        state: LegState::Queued,
+    }))
+}
+
+impl MadeUpDay {
+    pub fn new(alloc: Global) -> MadeUpDay {
+        MadeUpDay {
+            alloc,
+            venues: Venues::new(alloc),
+            outcome: Outcome::Refused(Refusal::NoLegs),
+            sweeps: Vec::new(alloc),
+            day: NO_SHARES,
+            refusals: NO_REFUSALS,
+            is_closing: false,
+            is_crowded: false,
+            legs: Vec::new(alloc),
+            asked: String::new(alloc),
+        }
+    }
+
+    /// What the day was asked, a line each.
+    pub fn asked(&self) -> &str {
+        self.asked.as_str()
+    }
+
+    /// Forgets what was asked.
+    pub fn forget(&mut self) {
+        self.asked.clear();
+    }
+
+    fn ask(&mut self, words: &str) -> Result<(), AllocError> {
+        self.asked.push_str(words)?;
+        self.asked.push('\n')
+    }
+
+    /// Keeps the legs of a sweep.
+    fn keep(&mut self, number: u64, sweep: &Sweep) -> Result<(), AllocError> {
+        self.legs.clear();
+        for (i, leg) in sweep.legs.as_slice().iter().enumerate() {
+            let place = i.saturating_add(1);
+            if let Some(row) = new_leg(self.venues.names(), number, place, leg)? {
+                self.legs.push(row)?;
+            }
+        }
+        Ok(())
+    }
+
+    fn hand_in(&mut self, sweep: &Sweep) -> Result<Outcome, AllocError> {
+        let line = write_sweep(self.alloc, self.venues.names(), sweep.legs.as_slice())?;
+        self.ask(line.as_str())?;
+        match &self.outcome {
+            Outcome::Placed {
+                sweep: number,
+                shares,
+            } => {
+                let (number, shares) = (*number, *shares);
+                self.keep(number, sweep)?;
+                Ok(Outcome::Placed {
+                    sweep: number,
+                    shares,
+                })
+            }
+            Outcome::Refused(Refusal::GateDown(venue)) => {
+                Ok(Outcome::Refused(Refusal::GateDown(venue.clone()?)))
+            }
+            Outcome::Refused(Refusal::TooManyLegs) => Ok(Outcome::Refused(Refusal::TooManyLegs)),
+            Outcome::Refused(_) => Ok(Outcome::Refused(Refusal::NoLegs)),
+            Outcome::Closing => Ok(Outcome::Closing),
+        }
+    }
+}
+
+impl Day for MadeUpDay {
+    ghost venue_names = { λ day. names_of day.venues };
+
+    ghost places = { λ _ _ _ _. ⊤ };
+
+    ghost pages = { λ _ _ _ _ _. ⊤ };
+
+    ghost shows = { λ _ _ _ _. ⊤ };
+
+    ghost lists = { λ _ _ _. ⊤ };
+
+    ghost sums_up = { λ _ _ _. ⊤ };
+
+    ghost refuses = { λ _ _. ⊤ };
+
+    ghost closes = { λ _ _. ⊤ };
+
+    fn names(&self) -> &[VenueName] {
+        self.venues.names()
+    }
+
+    fn place(&mut self, sweep: Sweep) -> Outcome {
+        self.hand_in(&sweep)
+            .unwrap_or(Outcome::Refused(Refusal::OutOfMemory))
+    }
+
+    fn sweeps(&mut self, after: u64, most: u64) -> Result<SweepsPage, AllocError> {
+        let line = format!(in self.alloc; "sweeps after {after} most {most}")?;
+        self.ask(line.as_str())?;
+        let mut sweeps = Vec::new(self.alloc);
+        for parts in self.sweeps.iter() {
+            if parts.sweep > after && (sweeps.len() as u64) < most {
+                sweeps.push(*parts)?;
+            }
+        }
+        Ok(SweepsPage {
+            sweeps,
+            day: self.day,
+            is_closing: self.is_closing,
+        })
+    }
+
+    fn sweep(&mut self, number: u64) -> Result<Option<SweepLegs>, AllocError> {
+        let line = format!(in self.alloc; "sweep {number}")?;
+        self.ask(line.as_str())?;
+        let mut legs = Vec::new(self.alloc);
+        for leg in self.legs.iter() {
+            if leg.id.sweep() == number {
+                legs.push(copy_of(leg)?)?;
+            }
+        }
+        if legs.is_empty() {
+            return Ok(None);
+        }
+        Ok(Some(SweepLegs {
+            sweep: number,
+            legs,
+        }))
+    }
+
+    fn venues(&mut self) -> Result<Vec<VenueRow>, AllocError> {
+        self.ask("venues")?;
+        self.venues.rows()
+    }
+
+    fn sums(&mut self) -> Result<DaySums, AllocError> {
+        let mut parts = NOTHING;
+        for sweep in self.sweeps.iter() {
+            parts = with(&parts, &sweep.totals);
+        }
+        Ok(DaySums {
+            sweeps: self.sweeps.len() as u64,
+            placed: self.day.placed,
+            parts,
+        })
+    }
+
+    fn refusals(&self) -> RefusalCounts {
+        self.refusals
+    }
+
+    fn close(&mut self) {
+        self.is_closing = true;
+        let _ = self.ask("close");
+    }
+
+    fn follow(&mut self) -> Option<u64> {
+        if self.is_crowded { None } else { Some(0) }
+    }
+
+    /// What is to be told is told at once: first nothing, as if a second went by, then all, and then that the day is
+    /// closed.
+    fn changes(&mut self, since: u64) -> Result<Changes, AllocError> {
+        let mut events = Vec::new(self.alloc);
+        match since {
+            0 => {}
+            1 => {
+                for parts in self.sweeps.iter() {
+                    events.push(Event::Sweep(*parts))?;
+                }
+                for row in self.venues.rows()? {
+                    events.push(Event::Venue(row))?;
+                }
+                events.push(Event::Refused(Refusal::NoLegs))?;
+                events.push(Event::Day(self.day))?;
+            }
+            _ => events.push(Event::Closed(Audit::Whole))?,
+        }
+        Ok(Changes {
+            cursor: since.saturating_add(1),
+            events,
+            is_over: false,
+        })
+    }
+
+    fn unfollow(&mut self) {
+        let _ = self.ask("unfollow");
+    }
+}
+
+fn copy_of(leg: &LegRow) -> Result<LegRow, AllocError> {
+    Ok(LegRow {
+        id: leg.id,
+        venue: leg.venue.clone()?,
+        terms: leg.terms.clone()?,
+        totals: leg.totals,
+        state: leg.state,
+    })
+}

@@ -1,0 +1,107 @@
+//! The words of a case, read.
+
+use case_text::{PlayFault, number, words};
+use desk_http::RefusalCounts;
+use desk_json::Outcome;
+use desk_news::{DayTotals, SweepParts};
+use desk_words::VenueName;
+use leg::Totals;
+use std::alloc::Global;
+use sweep_text::Refusal;
+
+/// The numbers of a text, parted by spaces.
+fn numbers(alloc: Global, text: &str) -> Result<Vec<u64>, PlayFault> {
+    let mut found = Vec::new(alloc);
+    for word in words(alloc, text)? {
+        found.push(number(word)?)?;
+    }
+    Ok(found)
+}
+
+/// A sweep: its number, its shares, and what is filled, busted, cancelled, withdrawn and open.
+pub fn sweep_parts(alloc: Global, text: &str) -> Result<SweepParts, PlayFault> {
+    match *numbers(alloc, text)?.as_slice() {
+        [
+            sweep,
+            shares,
+            filled,
+            busted,
+            cancelled,
+            withdrawn,
+            still_open,
+        ] => Ok(SweepParts {
+            sweep,
+            shares,
+            totals: Totals {
+                filled,
+                busted,
+                cancelled,
+                withdrawn,
+                still_open,
+            },
+        }),
+        _ => Err(PlayFault::NotUnderstood),
+    }
+}
+
+/// The day's shares: placed, resolved and open.
+pub fn day_totals(alloc: Global, text: &str) -> Result<DayTotals, PlayFault> {
+    match *numbers(alloc, text)?.as_slice() {
+        [placed, resolved, still_open] => Ok(DayTotals {
+            placed,
+            resolved,
+            still_open,
+        }),
+        _ => Err(PlayFault::NotUnderstood),
+    }
+}
+
+/// How many sweeps were refused: with R01 to R08, and when the day was closing.
+pub fn refusal_counts(alloc: Global, text: &str) -> Result<RefusalCounts, PlayFault> {
+    match *numbers(alloc, text)?.as_slice() {
+        [
+            no_legs,
+            too_many_legs,
+            unknown_venue,
+            gate_down,
+            backlog_full,
+            sweeps_spent,
+            out_of_memory,
+            wrong_book,
+            closing,
+        ] => Ok(RefusalCounts {
+            no_legs,
+            too_many_legs,
+            unknown_venue,
+            gate_down,
+            backlog_full,
+            sweeps_spent,
+            out_of_memory,
+            wrong_book,
+            closing,
+        }),
+        _ => Err(PlayFault::NotUnderstood),
+    }
+}
+
+/// What becomes of the next sweep: `placed NUMBER SHARES`, `refused R02`, `refused R04 VENUE` or `closing`.
+pub fn outcome(text: &str) -> Result<Outcome, PlayFault> {
+    if let Some((sweep, shares)) = text.strip_prefix("placed ").and_then(|t| t.split_once(' ')) {
+        return Ok(Outcome::Placed {
+            sweep: number(sweep)?,
+            shares: number(shares)?,
+        });
+    }
+    if let Some(name) = text.strip_prefix("refused R04 ") {
+        return match VenueName::new(name.as_bytes()) {
+            Some(venue) => Ok(Outcome::Refused(Refusal::GateDown(venue))),
+            None => Err(PlayFault::NotUnderstood),
+        };
+    }
+    match text {
+        "refused R01" => Ok(Outcome::Refused(Refusal::NoLegs)),
+        "refused R02" => Ok(Outcome::Refused(Refusal::TooManyLegs)),
+        "closing" => Ok(Outcome::Closing),
+        _ => Err(PlayFault::NotUnderstood),
+    }
+}
