@@ -9,11 +9,11 @@ use desk_config::DeskConfig;
 use desk_serve::{PageServer, open_page};
 use std::alloc::Global;
 use std::io::ErrorKind;
-use std::net::{Net, TcpListener};
+use std::net::{Net, TcpListener, TcpStream};
 
 /// The servers of the page that a configuration asks for, one for each caller and each client that may follow the day;
 /// none where it asks for no page.
-pub fn open_pages<R: Net<Listener = TcpListener>>(
+pub fn open_pages<R: Net<Listener = TcpListener, Stream = TcpStream>>(
     rt: &R,
     alloc: Global,
     config: &DeskConfig,

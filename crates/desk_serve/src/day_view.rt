@@ -95,9 +95,9 @@ impl<'a, L: Run, M: Ledger, W: Write + Drop, R: Wait + Clock> DayView<'a, L, M, 
 }
 
 impl<'a, L: Run, M: Ledger, W: Write + Drop, R: Wait + Clock> Day for DayView<'a, L, M, W, R> {
-    ghost venue_names = { λ day. day.floor.names.items };
+    ghost venue_names = { λ day. day.floor.now.names.items };
 
-    ghost places = { λ day legs outcome _. IsAnswered day.floor.names.items legs outcome };
+    ghost places = { λ day legs outcome _. IsAnswered day.floor.now.names.items legs outcome };
 
     ghost pages = { λ _ _ _ _ _. ⊤ };
 
@@ -116,18 +116,13 @@ impl<'a, L: Run, M: Ledger, W: Write + Drop, R: Wait + Clock> Day for DayView<'a
     }
 
     fn place(&mut self, sweep: Sweep) -> Outcome {
-        let line = write_sweep(
-            self.alloc,
-            self.floor.names.as_slice(),
-            sweep.legs.as_slice(),
-        );
-        let answer = match &line {
-            Ok(line) => self
-                .floor
-                .hand_in(self.rt, &mut self.log, line.as_bytes(), sweep),
-            Err(_) => self.floor.hand_in(self.rt, &mut self.log, b"", sweep),
+        let names = self.floor.names.as_slice();
+        let written = write_sweep(self.alloc, names, sweep.legs.as_slice());
+        let line = match &written {
+            Ok(line) => line.as_bytes(),
+            Err(_) => b"",
         };
-        outcome_of(answer)
+        outcome_of(self.floor.hand_in(self.rt, &mut self.log, line, sweep))
     }
 
     fn sweeps(&mut self, after: u64, most: u64) -> Result<SweepsPage, AllocError> {

@@ -36,7 +36,7 @@ pub struct PageServer {
 /// Opens the page at an address, which this one of the file stands for: a server for each of so many callers, and for
 /// each client that may follow the day. Where a token is there it is asked for. Refused where the address can't be had,
 /// or memory or descriptors are wanted.
-pub fn open_page<R: Net<Listener = TcpListener>>(
+pub fn open_page<R: Net<Listener = TcpListener, Stream = TcpStream>>(
     rt: &R,
     alloc: Global,
     at: SocketAddr,

@@ -1,0 +1,8 @@
+use Rattle.std.proofs.Common.{◌∙◌, ap}
+use Rattle.desk_serve.specs.Answered.{outcome_of}
+use Rattle.desk_serve.proofs.day_view.DayViewDay.place.Goals as goal
+
+pub returns : goal.returns
+returns g c = λ apart.
+    let told = c.hand_in.ensures (λ closing. apart (c.outcome_of.ensures ∙ ap outcome_of closing)) in
+    (told.0, told.1, told.2, told.3, told.4, told.5, c.outcome_of.ensures ∙ ap outcome_of told.6)
