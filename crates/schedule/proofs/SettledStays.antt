@@ -66,8 +66,8 @@ keeps_event w e safe safe_after v venue there =
     record {
       now = now.0;
       there = now.1;
-      stays = stays_settled (line_at w.desk v venue) (line_at after.desk v now.0) past
-          (safe_after.lines v now.0 now.1).0;
+      stays = stays_settled (line_at w.desk v venue) (line_at after.desk v now.0) past (safe.lines v venue there)
+          (safe_after.lines v now.0 now.1);
       accepts = λ leg among.
           (let more = now.2.exchange.accepted in
           subst (λ l. Contains l leg) (sym more.1)
