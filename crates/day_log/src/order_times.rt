@@ -8,8 +8,8 @@ pub const BOUNDS: [u64; 11] = [
     50, 100, 250, 500, 1_000, 2_500, 5_000, 10_000, 25_000, 100_000, 1_000_000,
 ];
 
-/// How long the orders of a venue wait from the moment in which their sweep is handed in to their first byte's write, in
-/// numbers that threads count and others read. Of orders that wait together the oldest is counted. An order that is
+/// How long the orders of a venue wait from the moment in which their sweep is handed in to their first byte's write,
+/// in numbers that threads count and others read. Of orders that wait together the oldest is counted. An order that is
 /// withdrawn before it is written may lend its moment to the next.
 #[derive(Drop)]
 pub struct OrderTimes {
