@@ -15,6 +15,7 @@
 
 mod answer;
 mod call;
+mod connection;
 mod day;
 mod day_sums;
 mod door;
@@ -26,13 +27,13 @@ mod refused;
 mod reply;
 mod request;
 mod same_token;
-mod serving;
 mod status;
 mod stream;
 mod venue_metric;
 mod window;
 
 pub use call::Call;
+pub use connection::serve;
 pub use day::{Changes, Day};
 pub use day_sums::DaySums;
 pub use door::{Door, allowed};
@@ -40,6 +41,5 @@ pub use refusal_counts::RefusalCounts;
 pub use refused::Refused;
 pub use reply::{Kind, Reply};
 pub use request::{Method, Request};
-pub use serving::serve;
 pub use status::{Allow, Status};
 pub use window::MOST_SWEEPS;

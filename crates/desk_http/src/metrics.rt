@@ -67,7 +67,6 @@ fn write_refused_desk(text: &mut String, counts: &RefusalCounts) -> Result<(), A
 }
 
 /// Appends how many sweeps were refused, by their codes.
-#[tactic(auto, unfolding(crate::specs::Metrics::refusals_text))]
 fn write_refusals(text: &mut String, counts: &RefusalCounts) -> Result<(), AllocError>
     ensures { OnOk result (string_bytes text.new ≡ string_bytes text.old ++ refusals_text counts.now) }
 {

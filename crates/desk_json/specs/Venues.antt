@@ -73,13 +73,13 @@ state_json (Down cause) = codes "\"down\"" ++ cause_json cause
 state_json (Unreachable why seconds) = unreachable_json why seconds
 state_json (Closed cause) = codes "\"closed\"" ++ cause_json cause
 
--- how many milliseconds ago the last message came
+-- how many milliseconds ago the last message came, with the end of the object
 abbrev pub heard_json : Option ℕ → List ℕ
-heard_json None = codes "null"
-heard_json (Some ms) = decimal ms
+heard_json None = codes "null}"
+heard_json (Some ms) = decimal ms ++ codes "}"
 
 -- the counts of a venue, with the key of what stands behind them
-abbrev pub counts_json : VenueRow → List ℕ
+unfoldable pub counts_json : VenueRow → List ℕ
 counts_json venue =
     codes ",\"unsent\":" ++ decimal venue.status.unsent ++ codes ",\"doubt\":" ++ decimal venue.status.doubt
     ++ codes ",\"lost\":" ++ decimal venue.status.lost ++ codes ",\"connections\":" ++ decimal venue.connections
@@ -92,7 +92,7 @@ counts_json venue =
 abbrev pub venue_json : VenueRow → List ℕ
 venue_json venue =
     codes "{\"venue\":\"" ++ venue.status.venue ++ codes "\",\"state\":" ++ state_json venue.status.state
-    ++ counts_json venue ++ heard_json venue.heard_ms_ago ++ codes "}"
+    ++ counts_json venue ++ heard_json venue.heard_ms_ago
 
 -- as `{"venues":[..]}`
 abbrev pub venues_json : List VenueRow → List ℕ

@@ -132,13 +132,13 @@ fn write_state(alloc: Global, text: &mut String, state: &VenueState) -> Result<(
     }
 }
 
-/// Appends when the last message came.
+/// Appends when the last message came, and the end of an object.
 fn write_heard(text: &mut String, heard_ms_ago: Option<u64>) -> Result<(), AllocError>
     ensures { OnOk result (string_bytes text.new ≡ string_bytes text.old ++ heard_json heard_ms_ago) }
 {
     match heard_ms_ago {
-        Some(ms) => write!(text, "{ms}"),
-        None => text.push_str("null"),
+        Some(ms) => write!(text, "{ms}}}"),
+        None => text.push_str("null}"),
     }
 }
 
@@ -183,8 +183,7 @@ fn write_venue(
     write!(text, "{mark}{{\"venue\":\"{name}\",\"state\":")?;
     write_state(alloc, text, &venue.status.state)?;
     write_counts(text, venue)?;
-    write_heard(text, venue.heard_ms_ago)?;
-    text.push_str("}")
+    write_heard(text, venue.heard_ms_ago)
 }
 
 /// How a venue stands, as `{"venue":"ARCA","state":"down","text":"it was silent","code":"E10","unsent":0,..}`. The

@@ -57,13 +57,13 @@ struct Means<'a, I: Read + Drop, W: Write + Drop> {
     servers: Vec<PageServer>,
 }
 
-/// Runs the day of a configuration, and audits it. The lines of the input are taken by one caller, in order, and answered
-/// on `out`, where changes are told too; the page, if it is asked for, is served from before the first dial on. It
-/// closes with the end of the input, or at `close`, by a line or by the page: then it waits until no share is open, as
-/// long as the patience goes, the gates are shut, what is placed and unsent is withdrawn, and the sessions log out. A
-/// session that isn't over ten seconds later, or at a second `close`, is given up. Where a folder is named the messages
-/// of each venue and the lines are logged there, in files that aren't there yet; they are begun once each exchange's
-/// address is known.
+/// Runs the day of a configuration, and audits it. The lines of the input are taken by one caller, in order, and
+/// answered on `out`, where changes are told too; the page, if it is asked for, is served from before the first dial
+/// on. It closes with the end of the input, or at `close`, by a line or by the page: then it waits until no share is
+/// open, as long as the patience goes, the gates are shut, what is placed and unsent is withdrawn, and the sessions log
+/// out. A session that isn't over ten seconds later, or at a second `close`, is given up. Where a folder is named the
+/// messages of each venue and the lines are logged there, in files that aren't there yet; they are begun once each
+/// exchange's address is known.
 pub fn run_day<R, I, W>(
     rt: &R,
     alloc: Global,

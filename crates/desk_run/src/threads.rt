@@ -57,8 +57,8 @@ struct Dispatched<K: Link, L: Run, M: Ledger> {
 }
 
 /// Runs a day: its exchanges, the servers of its page, the writer of its logs, its workers and its keeper, each in a
-/// thread of its own, and the caller in this one. Once the workers and the caller have ended the others are stopped; the
-/// writer writes what waits before it ends. Where a thread is refused, those that run are told so.
+/// thread of its own, and the caller in this one. Once the workers and the caller have ended the others are stopped;
+/// the writer writes what waits before it ends. Where a thread is refused, those that run are told so.
 pub fn in_threads<X, K, C, L, M, W, I, R>(
     rt: &R,
     alloc: Global,

@@ -61,8 +61,8 @@ pub fn open_page<R: Net<Listener = TcpListener, Stream = TcpStream>>(
 }
 
 impl PageServer {
-    /// Serves the page until the day is over, and gives the clients that followed it to its end. A client for which there
-    /// is no memory is let go.
+    /// Serves the page until the day is over, and gives the clients that followed it to its end. A client for which
+    /// there is no memory is let go.
     pub fn serve<L: Run, M: Ledger, W: Write + Drop, R: Wait + Clock>(
         self,
         rt: &R,

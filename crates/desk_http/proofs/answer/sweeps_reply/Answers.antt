@@ -2,4 +2,4 @@ use Rattle.std.proofs.Common.{rules}
 use Rattle.desk_http.proofs.answer.sweeps_reply.Goals as goal
 
 pub returns : goal.returns
-returns g c = record { said = c.in_ok-sweeps.field-0; by_the_day = c.in_ok-sweeps.ensures; answer = search rules }
+returns g c = record { said = c.in_ok-page.page; by_the_day = c.in_ok-page.ensures; answer = search rules }

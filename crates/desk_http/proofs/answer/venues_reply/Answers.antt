@@ -3,7 +3,7 @@ use Rattle.desk_http.proofs.answer.venues_reply.Goals as goal
 
 pub returns : goal.returns
 returns g c = record {
-  said = c.in_ok-venues.field-0.items;
-  by_the_day = c.in_ok-venues.ensures;
+  said = c.in_ok-rows.rows.items;
+  by_the_day = c.in_ok-rows.ensures;
   answer = search rules;
 }

@@ -1,8 +1,10 @@
 use Rattle.std.proofs.Common.{append_assoc}
 use Rattle.std.proofs.lemmas.Result.{on_ok_weaker}
+use Rattle.desk_json.specs.Venues.{counts_json}
 use Rattle.desk_json.proofs.venues_written.write_counts.Goals as goal
 
 pub returns : goal.returns
+unfolding counts_json
 returns c =
     on_ok_weaker c.write-4.result
     (λ said. rw said (rw (

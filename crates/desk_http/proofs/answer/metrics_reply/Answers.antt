@@ -1,0 +1,14 @@
+use Rattle.std.proofs.Common.{rules}
+use Rattle.desk_http.proofs.answer.metrics_reply.Goals as goal
+
+pub returns : goal.returns
+returns g c = record {
+  venues = c.in_ok-rows.rows.items;
+  meanwhile = c.venues.new.self;
+  venues_by_the_day = c.in_ok-rows.ensures;
+  sums = c.sums-sums.result;
+  sums_by_the_day = c.sums-sums.ensures;
+  refusals = c.refusals-refusals.result;
+  refusals_by_the_day = c.refusals-refusals.ensures;
+  answer = search rules;
+}

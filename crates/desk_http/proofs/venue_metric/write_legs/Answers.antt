@@ -1,0 +1,8 @@
+use Rattle.std.proofs.Common.{append_assoc}
+use Rattle.std.proofs.lemmas.Result.{on_ok_weaker}
+use Rattle.desk_http.proofs.venue_metric.write_legs.Goals as goal
+
+pub returns : goal.returns
+returns c =
+    on_ok_weaker c.write_sample-2.result (λ said. rw said (rw c.in_ok-write_sample.ensures (simp append_assoc)))
+    c.write_sample-2.ensures
