@@ -44,14 +44,15 @@ refusals_text counts =
     type_line (codes "dispatch_sweeps_refused_total") (codes "counter") ++ refused_legs counts ++ refused_desk counts
 
 -- the shares of all sweeps that were placed
-abbrev pub placed_text : ℕ → List ℕ
+unfoldable pub placed_text : ℕ → List ℕ
 placed_text placed =
-    codes "# TYPE dispatch_shares_placed_total counter\n" ++ sample (codes "dispatch_shares_placed_total") placed
+    type_line (codes "dispatch_shares_placed_total") (codes "counter")
+    ++ sample (codes "dispatch_shares_placed_total") placed
 
 -- what became of them
-abbrev pub parts_text : Totals → List ℕ
+unfoldable pub parts_text : Totals → List ℕ
 parts_text parts =
-    codes "# TYPE dispatch_shares gauge\n"
+    type_line (codes "dispatch_shares") (codes "gauge")
     ++ sample (codes "dispatch_shares{part=\"filled\"}") parts.filled
     ++ sample (codes "dispatch_shares{part=\"busted\"}") parts.busted
     ++ sample (codes "dispatch_shares{part=\"cancelled\"}") parts.cancelled

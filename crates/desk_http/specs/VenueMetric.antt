@@ -45,7 +45,7 @@ ways_samples metric venue sent received =
     ++ venue_sample metric venue (codes ",way=\"received\"") received
 
 -- how many orders waited at most so long, as `dispatch_order_wait_microseconds_bucket{venue="NYSE",le="50"} 3`
-abbrev pub wait_sample : List ℕ → WaitCount → List ℕ
+unfoldable pub wait_sample : List ℕ → WaitCount → List ℕ
 wait_sample venue wait =
     codes "dispatch_order_wait_microseconds_bucket{venue=\"" ++ venue ++ codes "\",le=\"" ++ decimal wait.most
     ++ codes "\"} " ++ decimal wait.count ++ codes "\n"
@@ -56,7 +56,7 @@ wait_samples venue [] = []
 wait_samples venue (wait ∷ waits) = wait_sample venue wait ++ wait_samples venue waits
 
 -- how many waited at most how long, however long, and how long in all
-abbrev pub waits_samples : List ℕ → OrderWaits → List ℕ
+unfoldable pub waits_samples : List ℕ → OrderWaits → List ℕ
 waits_samples venue waits =
     wait_samples venue waits.within.items
     ++ venue_sample (codes "dispatch_order_wait_microseconds_bucket") venue (codes ",le=\"+Inf\"") waits.count

@@ -76,18 +76,20 @@ fn write_refusals(text: &mut String, counts: &RefusalCounts) -> Result<(), Alloc
 }
 
 /// Appends the shares of all sweeps that were placed.
+#[tactic(auto, unfolding(crate::specs::Metrics::placed_text))]
 fn write_placed(text: &mut String, placed: u64) -> Result<(), AllocError>
     ensures { OnOk result (string_bytes text.new ≡ string_bytes text.old ++ placed_text placed) }
 {
-    text.push_str("# TYPE dispatch_shares_placed_total counter\n")?;
+    write_type(text, "dispatch_shares_placed_total", "counter")?;
     write_sample(text, "dispatch_shares_placed_total", placed)
 }
 
 /// Appends what became of the shares.
+#[tactic(auto, unfolding(crate::specs::Metrics::parts_text))]
 fn write_parts(text: &mut String, parts: &Totals) -> Result<(), AllocError>
     ensures { OnOk result (string_bytes text.new ≡ string_bytes text.old ++ parts_text parts.now) }
 {
-    text.push_str("# TYPE dispatch_shares gauge\n")?;
+    write_type(text, "dispatch_shares", "gauge")?;
     write_sample(text, "dispatch_shares{part=\"filled\"}", parts.filled)?;
     write_sample(text, "dispatch_shares{part=\"busted\"}", parts.busted)?;
     write_sample(text, "dispatch_shares{part=\"cancelled\"}", parts.cancelled)?;
