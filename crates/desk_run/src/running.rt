@@ -234,13 +234,13 @@ fn told<K: Link, L: Run, M: Ledger, W: Write + Drop>(
     let sweeps = collector.read(rt, |book: &Book| booked_sweeps(alloc, book))?;
     let doubts = doubts_of(alloc, names.as_slice(), workers.as_slice())?;
     let is_given_up = is_given_up(workers.as_slice());
-    let audited = audited(alloc, lock, collector, seat, workers);
-    tell_followers(alloc, followers, &audited);
+    let report = audited(alloc, lock, collector, seat, workers);
+    tell_followers(alloc, followers, &report);
     Ok(DeskDay {
         sweeps,
         doubts,
         is_given_up,
-        report: audited?,
+        report: report?,
         broken_off,
     })
 }
