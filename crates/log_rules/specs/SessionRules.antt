@@ -22,8 +22,13 @@ abbrev pub follows_if : Option ℕ → ℕ → Verdict
 follows_if None number = Unasked
 follows_if (Some last) number = held_if (follows last number)
 
+-- a Logon begins a connection: its number is above the last, which a message may have had that couldn't be written
+abbrev pub begins_if : Option ℕ → ℕ → Verdict
+begins_if None number = Unasked
+begins_if (Some last) number = held_if (nat_lt last number)
+
 abbrev pub sent_new : Option ℕ → Says → ℕ → Verdict
-sent_new last (Logon heart reset next) number = if reset then Unasked else follows_if last number
+sent_new last (Logon heart reset next) number = if reset then Unasked else begins_if last number
 sent_new last says number = follows_if last number
 
 abbrev pub sent_number : Option ℕ → Direction → Bool → Says → ℕ → Verdict
@@ -31,7 +36,7 @@ sent_number last Received poss_dup says number = Unasked
 sent_number last Sent true says number = Unasked
 sent_number last Sent false says number = sent_new last says number
 
--- Sequence Numbers: a new message has the number after the last one
+-- Sequence Numbers: a new message has the number after the last one, and a Logon one above it
 abbrev pub sent_numbers : Option ℕ → Entry → Verdict
 sent_numbers last e = sent_number last e.direction e.poss_dup e.says e.number
 

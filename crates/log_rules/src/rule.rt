@@ -62,7 +62,8 @@ impl Rule {
     pub fn text(self) -> &'static str {
         match self {
             Rule::Readable => "a message is a valid frame with the fields that its kind must have",
-            Rule::SentNumbers => "the session's new messages have numbers one after the other",
+            Rule::SentNumbers =>
+                "the session's new messages have numbers one after the other, and a Logon one above them",
             Rule::SentOnce => "an order's ClOrdID (11) is sent once",
             Rule::GapFills => "a gap fill of the session stands for settled numbers alone",
             Rule::LogonFirst => "the session sends nothing before its Logon is answered",

@@ -16,8 +16,10 @@ fn follows(last: u64, number: u64) -> bool
     last < number && number - last == 1
 }
 
-/// A new message has the number after the last one. A Logon that resets the numbers begins anew, and nothing is asked
-/// of the first message of a log, nor of one that may have been sent before.
+/// A new message has the number after the last one. A Logon, which begins a connection, may have a greater one: a
+/// message that couldn't be written when the connection before it broke had a number, and is in no log. A Logon that
+/// resets the numbers begins anew, and nothing is asked of the first message of a log, nor of one that may have been
+/// sent before.
 pub(crate) fn sent_numbers(standing: &Standing, entry: &Entry<'_>) -> Verdict
     ensures { result ≡ sent_numbers standing.now.last entry.now }
 {
@@ -29,6 +31,7 @@ pub(crate) fn sent_numbers(standing: &Standing, entry: &Entry<'_>) -> Verdict
     };
     match &entry.says {
         Says::Logon { reset, .. } if *reset => Verdict::Unasked,
+        Says::Logon { .. } => Verdict::held_if(last < entry.number),
         _ => Verdict::held_if(follows(last, entry.number)),
     }
 }
