@@ -1,0 +1,4 @@
+pub mod Escaped
+pub mod Label
+pub mod Places
+pub mod Elements

@@ -1,0 +1,84 @@
+//! The picture of a day.
+
+use crate::counts::Counts;
+use crate::lane::Lane;
+use crate::row::Row;
+use crate::seen::Seen;
+use dialect::Dialect;
+use replay::World;
+use schedule::Event;
+use std::alloc::{AllocError, Global};
+
+/// The longest text of a row that is kept; no more of one is drawn.
+const MOST_TEXT: usize = 80;
+
+/// The picture of a day, as far as it has come: a row for each event, and what happened at each venue.
+#[derive(Debug, Drop)]
+pub struct Ladder {
+    pub(crate) rows: Vec<Row>,
+    pub(crate) lanes: Vec<Lane>,
+    /// How many slots the rows take.
+    pub(crate) slots: u64,
+    seen: Option<Seen>,
+}
+
+impl Ladder {
+    /// The picture of a day before its first event.
+    pub fn new(alloc: Global) -> Ladder {
+        Ladder {
+            rows: Vec::new(alloc),
+            lanes: Vec::new(alloc),
+            slots: 0,
+            seen: None,
+        }
+    }
+
+    /// Sees an event that is to happen in this world. It takes no memory.
+    pub fn see<D: Dialect + Drop>(&mut self, world: &World<D>, event: &Event) {
+        self.seen = Some(Seen::of(world, event));
+    }
+
+    /// Draws the event that was seen, which the line of this number and text says: the world is the one after it. The
+    /// only refusal is want of memory.
+    pub fn draw<D: Dialect + Drop>(
+        &mut self,
+        alloc: Global,
+        world: &World<D>,
+        line: u64,
+        text: &[u8],
+    ) -> Result<(), AllocError> {
+        let Some(seen) = self.seen else {
+            return Ok(());
+        };
+        self.make_lanes(alloc, world.venues())?;
+        let now = Counts::of(world, seen.venue);
+        let slot = self.slots;
+        self.slots = match self.lanes.get_mut(usize::from(seen.venue.number())) {
+            Some(lane) => lane.draw(alloc, world, &seen, &now, slot)?,
+            None => slot.saturating_add(1),
+        };
+        self.rows.push(Row {
+            line,
+            text: kept(alloc, text)?,
+            slot,
+            is_idle: seen.counts == now,
+        })?;
+        Ok(())
+    }
+
+    /// There is a lane for each of so many venues.
+    fn make_lanes(&mut self, alloc: Global, venues: usize) -> Result<(), AllocError> {
+        for _ in self.lanes.len()..venues {
+            self.lanes.push(Lane::new(alloc))?;
+        }
+        Ok(())
+    }
+}
+
+/// The beginning of a text.
+fn kept(alloc: Global, text: &[u8]) -> Result<Vec<u8>, AllocError> {
+    let most = text.len().min(MOST_TEXT);
+    let mut kept = Vec::with_capacity(alloc, most)?;
+    kept.extend_from_slice(&text[..most])?;
+    Ok(kept)
+}
