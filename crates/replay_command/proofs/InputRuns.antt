@@ -10,7 +10,7 @@ use Rattle.schedule.specs.Script.{events_of_lines, lines_of, script_of_lines}
 use Rattle.script.specs.Reading.{said_by}
 use Rattle.script.proofs.EventsSoFar.{by_line, events_by_line, onto}
 use Rattle.replay_command.specs.declared.fault.CommandFault.{CommandFault}
-use Rattle.replay_command.specs.declared.fault.CommandFault.TheVariants.{CommandLine, BadLine, NoFile, ReadFailed, WriteFailed, OutOfMemory}
+use Rattle.replay_command.specs.declared.fault.CommandFault.TheVariants.{CommandLine, BadLine, NoFile, PictureIsThere, PictureFailed, ReadFailed, WriteFailed, OutOfMemory}
 use Rattle.replay_command.specs.declared.day.Day.{Day}
 use Rattle.replay_command.specs.Steps.{day_after}
 use Rattle.replay_command.specs.Stream.{IsOfInput, IsOfRun, ReadsLine, Checks, GivesEvent, RunsLine, RunsLines, IsFaultOf}
@@ -34,6 +34,8 @@ pub of_input : {X : Type 0} (steps : Bool) (fault : CommandFault) (said : Result
 of_input steps (CommandLine error) said is = absurd is
 of_input steps (BadLine number) said is = absurd is
 of_input steps NoFile said is = absurd is
+of_input steps (PictureIsThere name) said is = absurd is
+of_input steps (PictureFailed name) said is = absurd is
 of_input steps ReadFailed said is = tt
 of_input steps WriteFailed said is = absurd is
 of_input steps OutOfMemory said is = tt
@@ -61,6 +63,8 @@ same_fault : (steps : Bool) (fault : CommandFault) (events more : List Event) â†
 same_fault steps (CommandLine error) events more is = absurd is
 same_fault steps (BadLine number) events more is = absurd is
 same_fault steps NoFile events more is = absurd is
+same_fault steps (PictureIsThere name) events more is = absurd is
+same_fault steps (PictureFailed name) events more is = absurd is
 same_fault steps ReadFailed events more is = tt
 same_fault steps WriteFailed events more is = is
 same_fault steps OutOfMemory events more is = tt
@@ -108,6 +112,8 @@ of_run : {X : Type 0} (steps : Bool) (fault : CommandFault) (said : Result X â„•
 of_run steps (CommandLine error) said is = absurd is
 of_run steps (BadLine number) said is = absurd is
 of_run steps NoFile said is = absurd is
+of_run steps (PictureIsThere name) said is = absurd is
+of_run steps (PictureFailed name) said is = absurd is
 of_run steps ReadFailed said is = absurd is
 of_run steps WriteFailed said is = is
 of_run steps OutOfMemory said is = tt

@@ -4,3 +4,4 @@ pub mod InputLines
 pub mod InputRuns
 pub mod StepsPrinted
 pub mod DayEnds
+pub mod PictureEnds

@@ -28,8 +28,9 @@ abbrev pub IsTask : ArgMatches → Task → Type 0
 IsTask matches Check = flagged matches (codes "check") ≡ Some (codes "false") → ⊥
 IsTask matches (Run shown) = AreShown matches shown × (flagged matches (codes "check") ≡ Some (codes "true") → ⊥)
 
--- and the file is the one that was named, if one was
+-- and the file is the one that was named, if one was, and so is that of the picture
 abbrev pub IsAsked : ArgMatches → Asked → Type 0
 IsAsked matches asked =
     IsTask matches asked.task
     × (first_value (found_of matches) (codes "FILE") ≡ option_map (λ text. text.now) asked.file)
+    × (first_value (found_of matches) (codes "ladder") ≡ option_map (λ text. text.now) asked.ladder)

@@ -5,6 +5,8 @@ use Rattle.replay_command.specs.declared.fault.CommandFault.TheVariants.{
   CommandLine,
   BadLine,
   NoFile,
+  PictureIsThere,
+  PictureFailed,
   ReadFailed,
   WriteFailed,
   OutOfMemory,
@@ -15,9 +17,18 @@ abbrev pub fault_status : CommandFault → ℕ
 fault_status (CommandLine error) = 2
 fault_status (BadLine number) = 3
 fault_status NoFile = 4
+fault_status (PictureIsThere name) = 4
+fault_status (PictureFailed name) = 4
 fault_status ReadFailed = 4
 fault_status WriteFailed = 4
 fault_status OutOfMemory = 5
+
+-- the picture can't be had or not be written: its file is there already, can't be made or not be written
+abbrev pub IsOfPicture : CommandFault → Type 0
+IsOfPicture OutOfMemory = Unit {0}
+IsOfPicture (PictureIsThere name) = Unit {0}
+IsOfPicture (PictureFailed name) = Unit {0}
+IsOfPicture other = ⊥
 
 -- a fault of the command line, or want of memory
 abbrev pub IsOfCommandLine : CommandFault → Type 0

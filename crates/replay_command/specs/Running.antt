@@ -9,7 +9,7 @@ use Rattle.replay_command.specs.declared.asked.Task.{Task}
 use Rattle.replay_command.specs.declared.asked.Task.TheVariants.{Check, Run}
 use Rattle.replay_command.specs.declared.fault.CommandFault.{CommandFault}
 use Rattle.replay_command.specs.Asked.{IsAsked}
-use Rattle.replay_command.specs.Fault.{IsOfCommandLine, fault_status}
+use Rattle.replay_command.specs.Fault.{IsOfCommandLine, IsOfPicture, fault_status}
 use Rattle.replay_command.specs.Stream.{EndsCheck, EndsRun}
 
 -- how what is asked for ends on a text
@@ -23,10 +23,28 @@ IsRefused before after (Ok done) = ⊥
 IsRefused before after (Err fault) = IsOfCommandLine fault × Keeps before after
 
 -- what is asked for ends so on the bytes of the input, unless a file is named, of whose bytes nothing is known
+abbrev pub EndsScript : Option (List ℕ) → Option (List ℕ) → Option (List ℕ) → Asked → {A : Type 0}
+    → Result A CommandFault → Type 0
+EndsScript input before after asked done =
+    is_none asked.file ≡ true → IfSome input (λ bytes. EndsTask asked.task before after bytes done)
+
+-- all was done
+abbrev pub all_done : Result (Unit {0}) CommandFault
+all_done = Ok tt
+
+-- a picture was asked for, and couldn't be had or not be written; the day was printed all the same
+abbrev pub IsNotDrawn : Option (List ℕ) → Option (List ℕ) → Option (List ℕ) → Asked → {A : Type 0}
+    → Result A CommandFault → Type 0
+IsNotDrawn input before after asked (Ok done) = ⊥
+IsNotDrawn input before after asked (Err fault) =
+    IsOfPicture fault × (is_none asked.ladder ≡ true → ⊥)
+    × EndsScript input before after asked all_done
+
+-- and so it ends with a picture, but where the picture fails
 abbrev pub EndsAsked : Option (List ℕ) → Option (List ℕ) → Option (List ℕ) → Asked → {A : Type 0}
     → Result A CommandFault → Type 0
 EndsAsked input before after asked done =
-    is_none asked.file ≡ true → IfSome input (λ bytes. EndsTask asked.task before after bytes done)
+    EndsScript input before after asked done ⊎ IsNotDrawn input before after asked done
 
 -- how a run ends: its words are refused, or it does what they ask for
 abbrev pub EndsReplay : Option (List ℕ) → Option (List ℕ) → Option (List ℕ) → {A : Type 0} → Result A CommandFault

@@ -17,4 +17,6 @@ pub struct Asked<'a> {
     pub task: Task,
     /// The file that has the script, if it isn't standard input.
     pub file: Option<&'a str>,
+    /// The file that the picture of the day is written into, if one is.
+    pub ladder: Option<&'a str>,
 }

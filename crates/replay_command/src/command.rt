@@ -17,6 +17,8 @@ const FRAMES: &str = "frames";
 
 const SUMMARY: &str = "summary";
 
+const LADDER: &str = "ladder";
+
 const CHECK: &str = "check";
 
 const FILE: &str = "FILE";
@@ -66,10 +68,16 @@ pub fn replay_command<'a>(alloc: Global) -> Result<Command<'a>, AllocError> {
             "prints the sums of the world in the place of its lines",
         ))?
         .arg(
+            Arg::new(alloc, LADDER).long(LADDER).value_name("FILE").help(
+                "draws the frames between each session and its exchange into this file, as SVG",
+            ),
+        )?
+        .arg(
             flag(alloc, CHECK, "reads the script to its end and runs nothing")
                 .conflicts_with(STEPS)?
                 .conflicts_with(FRAMES)?
-                .conflicts_with(SUMMARY)?,
+                .conflicts_with(SUMMARY)?
+                .conflicts_with(LADDER)?,
         )?
         .arg(Arg::new(alloc, FILE).help("the file that has the script; else it is standard input"))
 }
@@ -104,5 +112,6 @@ pub fn read_words<'a, S: AsStr>(alloc: Global, words: &'a [S]) -> Result<Asked<'
     Ok(Asked {
         task: task_of(&matches),
         file: matches.get_str(FILE),
+        ladder: matches.get_str(LADDER),
     })
 }

@@ -10,9 +10,11 @@ use crate::begun::{Begun, begin};
 use crate::event_line::event_of_line;
 use crate::fault::CommandFault;
 use crate::input::read_line;
+use crate::picture::{draw, see};
 use command_line::print;
 use dialect::AnyDialect;
 use event_text::{Settled, tell_event};
+use ladder::Ladder;
 use replay::World;
 use schedule::Event;
 use script::{Line, first_line};
@@ -74,12 +76,13 @@ fn print_step<W: Write>(
     Ok(print(&text, out)?)
 }
 
-/// An event happens, and is printed with what it did.
+/// An event happens, is drawn where there is a picture, and printed with what it did.
 fn run_step<W: Write>(
     alloc: Global,
     line: &Line<'_>,
     event: Event,
     day: &mut Day,
+    picture: &mut Option<Ladder>,
     out: &mut W,
 ) -> Result<(), CommandFault>
     requires room { day.old.events < 2 ^ 64 - 1 }
@@ -91,16 +94,18 @@ fn run_step<W: Write>(
 {
     day.events += 1;
     let deeds = tell_event(alloc, &mut day.world, event, &mut day.settled)?;
+    draw(alloc, picture, &day.world, line)?;
     print_step(alloc, day.events, line, &deeds, out)
 }
 
-/// The event of a line happens, if it has one, and is printed where each step is.
+/// The event of a line happens, if it has one, is drawn where there is a picture, and printed where each step is.
 fn run_line<W: Write>(
     alloc: Global,
     steps: bool,
     venues: u8,
     line: &Line<'_>,
     day: &mut Day,
+    picture: &mut Option<Ladder>,
     out: &mut W,
 ) -> Result<(), CommandFault>
     requires low { 1 ≤ venues }
@@ -116,10 +121,12 @@ fn run_line<W: Write>(
     let Some(event) = event_of_line(alloc, venues, line.number, line.text)? else {
         return Ok(());
     };
+    see(picture, &day.world, &event);
     if steps {
-        return run_step(alloc, line, event, day, out);
+        return run_step(alloc, line, event, day, picture, out);
     }
     day.world.happen(event)?;
+    draw(alloc, picture, &day.world, line)?;
     Ok(())
 }
 
@@ -133,6 +140,7 @@ fn run_lines<R: BufRead, W: Write>(
     input: &mut R,
     buffer: &mut Vec<u8>,
     world: World<AnyDialect>,
+    picture: &mut Option<Ladder>,
     out: &mut W,
 ) -> Result<World<AnyDialect>, CommandFault>
     requires low { 1 ≤ venues }
@@ -150,19 +158,28 @@ fn run_lines<R: BufRead, W: Write>(
             return Ok(day.world);
         }
         let (text, _) = first_line(buffer);
-        run_line(alloc, steps, venues, &Line { number, text }, &mut day, out)?;
+        run_line(
+            alloc,
+            steps,
+            venues,
+            &Line { number, text },
+            &mut day,
+            picture,
+            out,
+        )?;
     }
     Err(CommandFault::ReadFailed)
 }
 
 /// The world that the script of an input leads to. It keeps no more of the text than a line, and prints each event
-/// where each step is, as it happens.
+/// where each step is, as it happens. Where there is a picture each event is drawn in it.
 ///
 /// `BadLine`: the first line that isn't of its form, or one above the last where the first is missing. It is told as
 /// soon as it is read.
 pub fn run_input<R: BufRead, W: Write>(
     alloc: Global,
     steps: bool,
+    picture: &mut Option<Ladder>,
     input: &mut R,
     out: &mut W,
 ) -> Result<World<AnyDialect>, CommandFault>
@@ -184,6 +201,7 @@ pub fn run_input<R: BufRead, W: Write>(
         input,
         &mut buffer,
         world,
+        picture,
         out,
     )
 }

@@ -21,6 +21,12 @@ pub enum CommandFault {
     /// The file that the words name can't be opened.
     #[error("read failed")]
     NoFile,
+    /// The file of the picture is there already.
+    #[error("write failed: {0} is there already")]
+    PictureIsThere(String),
+    /// The file of the picture can't be made, or not be written.
+    #[error("write failed: {0} can't be written")]
+    PictureFailed(String),
     #[error("read failed")]
     ReadFailed,
     #[error("write failed")]
@@ -37,6 +43,7 @@ impl Fault for CommandFault {
             CommandFault::CommandLine(_) => 2,
             CommandFault::BadLine(_) => 3,
             CommandFault::NoFile | CommandFault::ReadFailed | CommandFault::WriteFailed => 4,
+            CommandFault::PictureIsThere(_) | CommandFault::PictureFailed(_) => 4,
             CommandFault::OutOfMemory => 5,
         }
     }

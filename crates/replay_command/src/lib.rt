@@ -19,7 +19,7 @@
 #![tactic(auto)]
 
 ghost use Rattle.std.specs.Prelude.{IfSome};
-ghost use Rattle.replay_command.specs.Running.{EndsReplay, EndsTask, ExitsSo};
+ghost use Rattle.replay_command.specs.Running.{EndsAsked, EndsReplay, EndsScript, EndsTask, ExitsSo};
 
 mod asked;
 mod begun;
@@ -30,16 +30,20 @@ mod event_line;
 mod fault;
 mod frames;
 mod input;
+mod picture;
 mod print_day;
 mod shown;
 mod told_input;
 
+use crate::asked::Asked;
 use crate::command::read_words;
+use crate::picture::{blank, save};
 use crate::print_day::{print_check, print_day};
 pub use asked::Task;
 pub use command::replay_command;
 use command_line::finish;
 pub use fault::CommandFault;
+use ladder::Ladder;
 pub use shown::Shown;
 use std::alloc::Global;
 use std::convert::AsStr;
@@ -79,9 +83,47 @@ fn replay<F: Files, S: AsStr, R: Read, W: Write, E: Write + IsTerminal>(
     ensures { EndsReplay (R.remaining input.old) (W.contents out.old) (W.contents out.new) result }
 {
     let asked = read_words(alloc, words)?;
+    replay_drawn(files, alloc, &asked, input, out, err)
+}
+
+/// Does what is asked for, and then writes the picture of the day, where one is.
+fn replay_drawn<F: Files, R: Read, W: Write, E: Write + IsTerminal>(
+    files: &F,
+    alloc: Global,
+    asked: &Asked<'_>,
+    input: &mut R,
+    out: &mut W,
+    err: &mut E,
+) -> Result<(), CommandFault>
+    ensures { EndsAsked (R.remaining input.old) (W.contents out.old) (W.contents out.new) asked.now result }
+{
+    let mut picture = blank(alloc, asked.ladder);
+    replay_script(files, alloc, asked, &mut picture, input, out, err)?;
+    save(files, alloc, asked.ladder, &picture)
+}
+
+/// Does with the script of the file that is named, or else of the input, what is asked for.
+fn replay_script<F: Files, R: Read, W: Write, E: Write + IsTerminal>(
+    files: &F,
+    alloc: Global,
+    asked: &Asked<'_>,
+    picture: &mut Option<Ladder>,
+    input: &mut R,
+    out: &mut W,
+    err: &mut E,
+) -> Result<(), CommandFault>
+    ensures { EndsScript (R.remaining input.old) (W.contents out.old) (W.contents out.new) asked.now result }
+{
     match asked.file {
-        None => replay_told(alloc, asked.task, input, out, err),
-        Some(path) => replay_told(alloc, asked.task, &mut open(files, path)?, out, err),
+        None => replay_told(alloc, asked.task, picture, input, out, err),
+        Some(path) => replay_told(
+            alloc,
+            asked.task,
+            picture,
+            &mut open(files, path)?,
+            out,
+            err,
+        ),
     }
 }
 
@@ -89,6 +131,7 @@ fn replay<F: Files, S: AsStr, R: Read, W: Write, E: Write + IsTerminal>(
 fn replay_told<R: Read, W: Write, E: Write + IsTerminal>(
     alloc: Global,
     task: Task,
+    picture: &mut Option<Ladder>,
     input: &mut R,
     out: &mut W,
     err: &mut E,
@@ -97,8 +140,8 @@ fn replay_told<R: Read, W: Write, E: Write + IsTerminal>(
         EndsTask task (W.contents out.old) (W.contents out.new) bytes result) }
 {
     match task {
-        Task::Run(shown) if shown.steps => replay_input(alloc, task, input, out),
-        _ => replay_input(alloc, task, &mut ToldInput::new(input, err), out),
+        Task::Run(shown) if shown.steps => play(alloc, task, picture, input, out),
+        _ => play(alloc, task, picture, &mut ToldInput::new(input, err), out),
     }
 }
 
@@ -123,8 +166,22 @@ pub fn replay_input<R: Read, W: Write>(
     ensures { IfSome (R.remaining input.old) (λ bytes.
         EndsTask task (W.contents out.old) (W.contents out.new) bytes result) }
 {
+    play(alloc, task, &mut None, input, out)
+}
+
+/// The same, and draws the day where there is a picture.
+fn play<R: Read, W: Write>(
+    alloc: Global,
+    task: Task,
+    picture: &mut Option<Ladder>,
+    input: &mut R,
+    out: &mut W,
+) -> Result<(), CommandFault>
+    ensures { IfSome (R.remaining input.old) (λ bytes.
+        EndsTask task (W.contents out.old) (W.contents out.new) bytes result) }
+{
     match task {
         Task::Check => print_check(alloc, input, out),
-        Task::Run(shown) => print_day(alloc, shown, input, out),
+        Task::Run(shown) => print_day(alloc, shown, picture, input, out),
     }
 }

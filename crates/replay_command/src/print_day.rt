@@ -10,6 +10,7 @@ use crate::frames::frame_lines;
 use crate::shown::Shown;
 use command_line::print;
 use dialect::AnyDialect;
+use ladder::Ladder;
 use replay::World;
 use std::alloc::{AllocError, Global};
 use std::io::{BufReader, Read, Write};
@@ -31,11 +32,12 @@ pub fn print_check<R: Read, W: Write>(
     Ok(print(b"script ok\n", out)?)
 }
 
-/// Prints what is shown of the day of an input's script. Where nothing is printed of its steps, a fault leaves the
+/// Prints what is shown of the day of an input's script, and draws it where there is a picture. Where nothing is printed of its steps, a fault leaves the
 /// output as it was, but one of the output itself.
 pub fn print_day<R: Read, W: Write>(
     alloc: Global,
     shown: Shown,
+    picture: &mut Option<Ladder>,
     input: &mut R,
     out: &mut W,
 ) -> Result<(), CommandFault>
@@ -45,7 +47,7 @@ pub fn print_day<R: Read, W: Write>(
     let Ok(mut input) = BufReader::new(alloc, input) else {
         return Err(CommandFault::OutOfMemory);
     };
-    let world = run_input(alloc, shown.steps, &mut input, out)?;
+    let world = run_input(alloc, shown.steps, picture, &mut input, out)?;
     let text = end_of_day(alloc, shown, &world)?;
     Ok(print(&text, out)?)
 }
