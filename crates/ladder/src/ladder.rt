@@ -61,6 +61,7 @@ impl Ladder {
             line,
             text: kept(alloc, text)?,
             slot,
+            is_wide: seen.is_release,
             is_idle: seen.counts == now,
         })?;
         Ok(())
