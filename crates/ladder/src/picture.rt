@@ -9,14 +9,14 @@ use crate::style::{LEGEND, STYLE};
 use std::alloc::{AllocError, Global};
 
 /// The most characters of an event's line, also where nothing else is in its row, and of a line below the picture.
-const ROW_TEXT: usize = 44;
+const ROW_TEXT: usize = 46;
 
-const WIDE_TEXT: usize = 80;
+const WIDE_TEXT: usize = 90;
 
 const LEGEND_TEXT: usize = 140;
 
 /// The room to the right of the last exchange's line, and below the last row.
-const RIGHT: u64 = 270;
+const RIGHT: u64 = 340;
 
 const BELOW: u64 = 80;
 

@@ -32,8 +32,8 @@ pub fn print_check<R: Read, W: Write>(
     Ok(print(b"script ok\n", out)?)
 }
 
-/// Prints what is shown of the day of an input's script, and draws it where there is a picture. Where nothing is printed
-/// of its steps, a fault leaves the output as it was, but one of the output itself.
+/// Prints what is shown of the day of an input's script, and draws it where there is a picture. Where nothing is
+/// printed of its steps, a fault leaves the output as it was, but one of the output itself.
 pub fn print_day<R: Read, W: Write>(
     alloc: Global,
     shown: Shown,
