@@ -11,7 +11,7 @@ y_of slot = 90 + 20 * min slot most_slots
 
 -- the life lines of a venue's session and its exchange
 abbrev pub session_x : ℕ → ℕ
-session_x venue = 620 + 760 * min venue most_slots
+session_x venue = 700 + 880 * min venue most_slots
 
 abbrev pub exchange_x : ℕ → ℕ
-exchange_x venue = 820 + 760 * min venue most_slots
+exchange_x venue = 900 + 880 * min venue most_slots

@@ -10,7 +10,7 @@ use schedule::Event;
 use std::alloc::{AllocError, Global};
 
 /// The longest text of a row that is kept; no more of one is drawn.
-const MOST_TEXT: usize = 80;
+const MOST_TEXT: usize = 90;
 
 /// The picture of a day, as far as it has come: a row for each event, and what happened at each venue.
 #[derive(Debug, Drop)]
@@ -61,6 +61,7 @@ impl Ladder {
             line,
             text: kept(alloc, text)?,
             slot,
+            is_wide: seen.is_release,
             is_idle: seen.counts == now,
         })?;
         Ok(())

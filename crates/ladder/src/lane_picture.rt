@@ -9,7 +9,7 @@ use crate::places::{exchange_x, session_x, y_of};
 use std::alloc::{AllocError, Global};
 
 /// The most characters at a frame or a mark.
-const LABEL_TEXT: usize = 36;
+const LABEL_TEXT: usize = 46;
 
 /// Where the names of the life lines stand, and where the lines begin.
 const NAMES: u64 = 50;

@@ -8,13 +8,15 @@ use crate::row::Row;
 use crate::style::{LEGEND, STYLE};
 use std::alloc::{AllocError, Global};
 
-/// The most characters of an event's line, and of a line below the picture.
-const ROW_TEXT: usize = 44;
+/// The most characters of an event's line, also where nothing else is in its row, and of a line below the picture.
+const ROW_TEXT: usize = 46;
+
+const WIDE_TEXT: usize = 90;
 
 const LEGEND_TEXT: usize = 140;
 
 /// The room to the right of the last exchange's line, and below the last row.
-const RIGHT: u64 = 270;
+const RIGHT: u64 = 340;
 
 const BELOW: u64 = 80;
 
@@ -30,7 +32,7 @@ fn head(
         "<svg xmlns=\"http://www.w3.org/2000/svg\" width=\"{width}\" height=\"{height}\" \
 viewBox=\"0 0 {width} {height}\" role=\"img\" aria-labelledby=\"title about\">\n\
 <title id=\"title\">The frames of a day, between the session and the exchange of each venue</title>\n\
-<desc id=\"about\">Time runs downwards, a row for each of {events} events, at {venues} venues. An arrow is a frame \
+<desc id=\"about\">Time runs downwards, a row for each event. Events: {events}. Venues: {venues}. An arrow is a frame \
 that was sent, with its number and kind, to where it was delivered; a band is a connection; and a mark tells of a leg \
 or an end.</desc>\n"
     )
@@ -59,14 +61,8 @@ fn add_row(alloc: Global, svg: &mut Vec<u8>, width: u64, row: &Row) -> Result<()
         number.as_bytes(),
     )?;
     let class = if row.is_idle { "idle" } else { "line" };
-    add_text(
-        alloc,
-        svg,
-        class,
-        Point { x: 60, y: base },
-        ROW_TEXT,
-        &row.text,
-    )
+    let most = if row.is_wide { WIDE_TEXT } else { ROW_TEXT };
+    add_text(alloc, svg, class, Point { x: 60, y: base }, most, &row.text)
 }
 
 /// Appends what the kinds of arrows mean.

@@ -17,12 +17,12 @@ pub(crate) fn y_of(slot: u64) -> u64
 pub(crate) fn session_x(venue: u64) -> u64
     ensures { result ≡ session_x venue }
 {
-    620 + 760 * venue.min(MOST)
+    700 + 880 * venue.min(MOST)
 }
 
 /// The life line of the exchange of a venue.
 pub(crate) fn exchange_x(venue: u64) -> u64
     ensures { result ≡ exchange_x venue }
 {
-    820 + 760 * venue.min(MOST)
+    900 + 880 * venue.min(MOST)
 }

@@ -21,6 +21,8 @@ pub(crate) enum Brought {
 pub(crate) struct Seen {
     /// The venue of the event, or the first, where it is at none.
     pub(crate) venue: VenueId,
+    /// Whether the event is at no venue: it is a release.
+    pub(crate) is_release: bool,
     pub(crate) counts: Counts,
     pub(crate) brought: Brought,
 }
@@ -28,12 +30,13 @@ pub(crate) struct Seen {
 impl Seen {
     /// Sees an event that is to happen in this world.
     pub(crate) fn of<D: Dialect + Drop>(world: &World<D>, event: &Event) -> Seen {
-        let venue = match venue_of(event) {
-            Some(venue) => venue,
-            None => first_venue(),
+        let (venue, is_release) = match venue_of(event) {
+            Some(venue) => (venue, false),
+            None => (first_venue(), true),
         };
         Seen {
             venue,
+            is_release,
             counts: Counts::of(world, venue),
             brought: brought_by(world, event),
         }

@@ -12,10 +12,13 @@
 //!   named. Only the input, memory and the output can fail besides, and nothing was printed then unless the output
 //!   failed or steps are shown (`EndsRun`).
 //! - With `--check` it is told that the text is a script, or its first bad line (`EndsCheck`).
+//! - With `--ladder` it ends as it does without; or the day was printed as without, and the picture failed: its file is
+//!   there already, can't be made or not be written, or memory was wanted for it (`IsNotDrawn`).
 //! - It reads line by line and keeps none but the last, which is code and no clause.
-//! - Not said: that it reads nothing behind a bad line, what `--frames` prints between, which is only tested, which
-//!   steps were printed where a fault ends the run, and what the system gives or takes. The clauses are of readers
-//!   and writers that tell their bytes, as those over memory do, and standard streams and files tell none.
+//! - Not said: that it reads nothing behind a bad line, which steps were printed where a fault ends the run, and what
+//!   the system gives or takes. What `--frames` prints between, what a picture shows, and that a file that is there
+//!   already is left as it is, are only tested. The clauses are of readers and writers that tell their bytes, as those
+//!   over memory do, and standard streams and files tell none.
 #![tactic(auto)]
 
 ghost use Rattle.std.specs.Prelude.{IfSome};
