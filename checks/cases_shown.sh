@@ -39,7 +39,7 @@ are_shown() {
     fi
 }
 
-# The refusal codes of a source file, but for want of memory: no case can bring that about, and checks/built/refusals
+# The refusal codes of a source file, but for lack of memory: no case can bring that about, and checks/built/refusals
 # refuses each growth of memory in turn.
 codes_of() {
     grep -v 'out of memory' "$1" | grep -oE '"[A-Z][0-9]{2} ' | tr -d '" '

@@ -13,14 +13,14 @@ fault_status ReadFailed = 4
 fault_status WriteFailed = 4
 fault_status OutOfMemory = 5
 
--- a fault of the command line, or want of memory
+-- a fault of the command line, or out of memory
 abbrev pub IsOfCommandLine : CommandFault → Type 0
 IsOfCommandLine (CommandLine error) = Unit {0}
 IsOfCommandLine BadDesk = Unit {0}
 IsOfCommandLine OutOfMemory = Unit {0}
 IsOfCommandLine other = ⊥
 
--- a fault of a log, or want of memory, or one of the output
+-- a fault of a log, or out of memory, or one of the output
 abbrev pub IsOfLogs : CommandFault → Type 0
 IsOfLogs (BadLine number fault) = Unit {0}
 IsOfLogs ReadFailed = Unit {0}

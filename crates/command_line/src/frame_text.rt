@@ -64,7 +64,7 @@ fn read_shown(alloc: Global, text: &[u8]) -> Result<Vec<u8>, AllocError>
 }
 
 /// The bytes of a text: the text's own where it has an SOH, and else those that are shown so, as `shown` shows them.
-/// The only refusal is want of memory.
+/// The only refusal is out of memory.
 pub fn bytes_of(alloc: Global, text: &[u8]) -> Result<Vec<u8>, AllocError>
     ensures bytes { IfOk result (λ bytes. bytes.items ≡ bytes_of text.now) }
     // What is shown is read back.

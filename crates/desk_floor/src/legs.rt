@@ -114,7 +114,7 @@ fn standing_of<L: Run, M: Ledger, W: Write + Drop>(
 }
 
 /// The legs of the sweep of this number, by their places; none where no sweep has it. It may wait for the locks, one
-/// after the other, so that its legs need not be of one moment. The only refusal is want of memory.
+/// after the other, so that its legs need not be of one moment. The only refusal is out of memory.
 pub fn sweep_legs<L: Run, M: Ledger, W: Write + Drop>(
     rt: &impl Wait,
     alloc: Global,

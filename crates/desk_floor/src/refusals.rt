@@ -159,7 +159,7 @@ impl Refusals {
         self.kept.lock(rt).number
     }
 
-    /// What was refused since so many were. It may wait for the lock. The only refusal is want of memory.
+    /// What was refused since so many were. It may wait for the lock. The only refusal is out of memory.
     pub fn since(&self, rt: &impl Wait, number: u64) -> Result<RefusedSince, AllocError> {
         self.kept.lock(rt).since(self.alloc, number)
     }

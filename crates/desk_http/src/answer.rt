@@ -125,7 +125,7 @@ fn busy_reply(alloc: Global) -> Result<Reply, AllocError>
     Ok(json_reply(Status::Unavailable, body))
 }
 
-/// What a call is answered. The only refusal is want of memory, before the day was asked or behind it.
+/// What a call is answered. The only refusal is out of memory, before the day was asked or behind it.
 pub(crate) fn answer<D: Day>(
     alloc: Global,
     day: &mut D,

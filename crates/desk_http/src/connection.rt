@@ -63,7 +63,7 @@ fn respond<S: Write, D: Day>(
 
 /// Serves one request of a stream: it is read, answered over the day, and the connection is to be closed behind it.
 /// A read of the stream is to give up after half a second, a write after some seconds; either is the stream's fault
-/// then, or a 408. Want of memory, or a fault of the stream, ends the connection with no answer or a part of one.
+/// then, or a 408. Out of memory, or a fault of the stream, ends the connection with no answer or a part of one.
 pub fn serve<R: Clock, S: Read + Write, D: Day>(
     rt: &R,
     alloc: Global,

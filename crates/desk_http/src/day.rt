@@ -69,7 +69,7 @@ pub trait Day {
     fn venues(&mut self) -> Result<Vec<VenueRow>, AllocError>
         ensures { IfOk result (λ rows. lists self.old rows.items self.new) };
 
-    /// What the day came to so far. The only refusal is want of memory.
+    /// What the day came to so far. The only refusal is out of memory.
     fn sums(&mut self) -> Result<DaySums, AllocError>
         ensures { IfOk result (λ sums. sums_up self.old sums self.new) };
 

@@ -98,7 +98,7 @@ fn write_parts(text: &mut String, parts: &Totals) -> Result<(), AllocError>
 }
 
 /// The day as Prometheus' text: its sweeps, those that were refused, its shares, and what is told of each venue. The
-/// only refusal is want of memory.
+/// only refusal is out of memory.
 #[tactic(auto, unfolding(crate::specs::Metrics::metrics_text))]
 pub(crate) fn metrics_text(
     alloc: Global,

@@ -49,7 +49,7 @@ pub(crate) fn json_reply(status: Status, body: String) -> Reply
     }
 }
 
-/// An answer that says why a request isn't carried out. The only refusal is want of memory.
+/// An answer that says why a request isn't carried out. The only refusal is out of memory.
 pub(crate) fn refused_reply(alloc: Global, refused: Refused) -> Result<Reply, AllocError>
     ensures { IfOk result (λ reply. IsReply reply (refused_status refused) Kind.Json (refused_json refused)) }
 {
@@ -71,7 +71,7 @@ fn head_text(
 }
 
 /// The text of an answer: its status, its head and its body. The connection is closed behind it. The only refusal is
-/// want of memory.
+/// out of memory.
 pub(crate) fn reply_text(alloc: Global, reply: &Reply) -> Result<String, AllocError>
     ensures { IfOk result (λ text. string_bytes text ≡ reply_text reply.now) }
 {

@@ -52,7 +52,7 @@ fn audit_json(alloc: Global, audit: &Audit) -> Result<String, AllocError>
 }
 
 /// An event with its JSON, as a stream of events tells it: `event: day`, `data: {"placed":300,..}` and an empty line.
-/// The only refusal is want of memory.
+/// The only refusal is out of memory.
 pub fn event_text(alloc: Global, event: &Event) -> Result<String, AllocError>
     ensures { IfOk result (λ text. string_bytes text ≡ event_text event.now) }
 {

@@ -9,7 +9,7 @@ use crate::quoted::quoted;
 use crate::sweep_fault::{BodyFault, SweepFault};
 use std::alloc::{AllocError, Global};
 
-/// A fault in words, as `{"fault":"no such place"}`. The only refusal is want of memory.
+/// A fault in words, as `{"fault":"no such place"}`. The only refusal is out of memory.
 pub fn said_json(alloc: Global, words: &str) -> Result<String, AllocError>
     ensures { IfOk result (λ text. string_bytes text ≡ said_json words.now) }
 {
@@ -67,7 +67,7 @@ fn sweep_fault_json(alloc: Global, fault: &SweepFault) -> Result<String, AllocEr
 }
 
 /// Why a body asks for no sweep: a fault with its leg and key, or with line and column where it is no JSON. The only
-/// refusal is want of memory.
+/// refusal is out of memory.
 pub fn body_fault_json(alloc: Global, fault: &BodyFault) -> Result<String, AllocError>
     ensures { IfOk result (λ text. string_bytes text ≡ body_fault_json fault.now) }
 {

@@ -67,7 +67,7 @@ fn write_legs(text: &mut String, legs: &[LegRow]) -> Result<(), AllocError>
     Ok(())
 }
 
-/// The legs of a sweep, as `{"sweep":12,"legs":[..]}`. The only refusal is want of memory.
+/// The legs of a sweep, as `{"sweep":12,"legs":[..]}`. The only refusal is out of memory.
 pub fn legs_json(alloc: Global, sweep: &SweepLegs) -> Result<String, AllocError>
     ensures { IfOk result (λ text. string_bytes text ≡ legs_json sweep.now) }
 {

@@ -8,7 +8,7 @@
 //! - Each text that is written is the stated one, over the values that it is written of: `outcome_json`,
 //!   `body_fault_json`, `sweeps_json`, `legs_json`, `venues_json`, `event_text`. Texts of others stand in them as
 //!   strings of JSON (`quoted`). That a whole text is JSON is only tested.
-//! - Each call refuses for want of memory alone; that memory was wanted isn't said.
+//! - Each call refuses for lack of memory alone; that memory was wanted isn't said.
 //!
 //! See `docs/api.md`.
 #![tactic(auto)]

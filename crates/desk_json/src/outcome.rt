@@ -68,7 +68,7 @@ pub(crate) fn closing_json(alloc: Global) -> Result<String, AllocError>
     )
 }
 
-/// What became of a sweep, as `{"placed":12,"shares":150}`, or why it was refused. The only refusal is want of memory.
+/// What became of a sweep, as `{"placed":12,"shares":150}`, or why it was refused. The only refusal is out of memory.
 pub fn outcome_json(alloc: Global, outcome: &Outcome) -> Result<String, AllocError>
     ensures { IfOk result (λ text. string_bytes text ≡ outcome_json outcome.now) }
 {

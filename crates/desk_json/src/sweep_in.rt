@@ -16,7 +16,7 @@ use serde_json::{Map, Value};
 use std::alloc::{AllocError, Global};
 use sweep_text::Word;
 
-/// The legs of values, or the first fault. The only refusal is want of memory.
+/// The legs of values, or the first fault. The only refusal is out of memory.
 #[tactic(auto, using(crate::proofs::LegsRead::steps))]
 fn legs_in(
     alloc: Global,
@@ -76,7 +76,7 @@ fn leg_values(value: &Value) -> Result<&Vec<Value>, SweepFault>
     }
 }
 
-/// The sweep that a value asks for, or its first fault. The only refusal is want of memory.
+/// The sweep that a value asks for, or its first fault. The only refusal is out of memory.
 #[tactic(auto, unfolding(crate::specs::Sweep::sweep_in))]
 fn sweep_in(
     alloc: Global,
@@ -98,7 +98,7 @@ fn sweep_in(
 
 /// The sweep that a body asks for, as `{"legs":[{"venue":"NYSE","symbol":"BRK.B","side":"buy","shares":100,
 /// "price":"10.25"}]}`, or its first fault. Of a key that is there twice the last value counts. The only refusal is
-/// want of memory.
+/// out of memory.
 #[tactic(auto, using(crate::proofs::SaysIt::says))]
 pub fn read_sweep(
     alloc: Global,

@@ -36,7 +36,7 @@ fn write_sweep(text: &mut String, mark: &str, parts: &SweepParts) -> Result<(), 
     text.push_str("}")
 }
 
-/// What became of a sweep's shares, as `{"sweep":12,"legs":150,"filled":60,..}`. The only refusal is want of memory.
+/// What became of a sweep's shares, as `{"sweep":12,"legs":150,"filled":60,..}`. The only refusal is out of memory.
 pub fn sweep_json(alloc: Global, parts: &SweepParts) -> Result<String, AllocError>
     ensures { IfOk result (λ text. string_bytes text ≡ sweep_json parts.now) }
 {
@@ -60,7 +60,7 @@ fn write_day(text: &mut String, day: &DayTotals) -> Result<(), AllocError>
     )
 }
 
-/// The sums of the day, as `{"placed":300,"resolved":250,"open":50}`. The only refusal is want of memory.
+/// The sums of the day, as `{"placed":300,"resolved":250,"open":50}`. The only refusal is out of memory.
 pub fn day_json(alloc: Global, day: &DayTotals) -> Result<String, AllocError>
     ensures { IfOk result (λ text. string_bytes text ≡ day_json day.now) }
 {

@@ -187,7 +187,7 @@ fn write_venue(
 }
 
 /// How a venue stands, as `{"venue":"ARCA","state":"down","text":"it was silent","code":"E10","unsent":0,..}`. The
-/// only refusal is want of memory.
+/// only refusal is out of memory.
 pub fn venue_json(alloc: Global, venue: &VenueRow) -> Result<String, AllocError>
     ensures { IfOk result (λ text. string_bytes text ≡ venue_json venue.now) }
 {
@@ -208,7 +208,7 @@ fn write_venues(alloc: Global, text: &mut String, venues: &[VenueRow]) -> Result
     Ok(())
 }
 
-/// How the venues stand, as `{"venues":[..]}`. The only refusal is want of memory.
+/// How the venues stand, as `{"venues":[..]}`. The only refusal is out of memory.
 pub fn venues_json(alloc: Global, venues: &[VenueRow]) -> Result<String, AllocError>
     ensures { IfOk result (λ text. string_bytes text ≡ venues_json venues.now) }
 {

@@ -31,7 +31,7 @@ pub fn doubts_of<K: Link, L: Run, M: Ledger>(
     Ok(doubts)
 }
 
-/// The legs that a worker sent and that aren't settled, in order. The only refusal is want of memory.
+/// The legs that a worker sent and that aren't settled, in order. The only refusal is out of memory.
 fn legs_in_doubt<K: Link, L: Run, M: Ledger>(
     alloc: Global,
     end: &WorkerEnd<K, L, M>,

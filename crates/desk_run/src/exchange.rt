@@ -17,7 +17,7 @@ use std::time::Clock;
 
 /// Serves clients in a thread of a day.
 pub trait Serve {
-    /// Serves its clients until the day is over. The only refusal is want of memory.
+    /// Serves its clients until the day is over. The only refusal is out of memory.
     fn serve(self, is_over: &AtomicBool) -> Result<(), AllocError>;
 }
 

@@ -9,7 +9,7 @@ use session_worker::DayReport;
 use std::alloc::Global;
 use std::net::TcpStream;
 
-/// How an audit ended, if it wasn't broken off for want of memory.
+/// How an audit ended, if it wasn't broken off for lack of memory.
 fn audit_of(audited: &Result<DayReport, DayFault>) -> Option<Audit> {
     match audited {
         Ok(_) => Some(Audit::Whole),

@@ -125,7 +125,7 @@ impl Told {
         Ok(())
     }
 
-    /// Tells what changed: of venues until the workers are told to stop. What wasn't told for want of memory is told
+    /// Tells what changed: of venues until the workers are told to stop. What wasn't told for lack of memory is told
     /// the next time, if it differs then from what was told before.
     pub fn tell<L: Run, M: Ledger, W: Write + Drop>(
         &mut self,

@@ -107,7 +107,7 @@ where
 }
 
 /// Runs the exchanges, the servers of the page and the writer of the logs until they are stopped, and gives the clients
-/// that followed the day to its end. The only refusals are want of memory and of threads.
+/// that followed the day to its end. The only refusals are out of memory and of threads.
 fn run_servers<X, L, M, W, R>(
     rt: &R,
     alloc: Global,

@@ -55,7 +55,7 @@ fn outcome_of(answer: Answer) -> Outcome
 }
 
 impl<'a, L: Run, M: Ledger, W: Write + Drop, R: Wait + Clock> DayView<'a, L, M, W, R> {
-    /// The day as a new connection asks it. The only refusal is want of memory.
+    /// The day as a new connection asks it. The only refusal is out of memory.
     pub fn new(
         rt: &'a R,
         alloc: Global,

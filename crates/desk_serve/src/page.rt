@@ -58,7 +58,7 @@ impl Page {
         })
     }
 
-    /// What became of the shares of all sweeps. It may wait for locks. The only refusal is want of memory.
+    /// What became of the shares of all sweeps. It may wait for locks. The only refusal is out of memory.
     pub fn parts<M: Ledger>(
         &self,
         rt: &impl Wait,

@@ -28,7 +28,7 @@ fn waits_of(alloc: Global, times: &OrderTimes) -> Result<OrderWaits, AllocError>
     })
 }
 
-/// How the venue at a place stands, if there is one. It may wait for locks. The only refusal is want of memory.
+/// How the venue at a place stands, if there is one. It may wait for locks. The only refusal is out of memory.
 pub(crate) fn venue_row<L: Run, M: Ledger, W: Write + Drop>(
     rt: &impl Wait,
     clock: &impl Clock,

@@ -379,7 +379,7 @@ module _ (m : Message) (b : Body) (stamp : StampParts) (kind : kind_fault b ≡ 
             (record { tags = good_tags fields good_fields; values = good_values fields good_fields; short = fits_frame; bytes = begins });
         envelope = envelope_of m b;
         is_read = envelope_read-written (envelope_of m b) stamp from to faultless;
-        is_seen = ap (λ (c : Content). record m { content = c }) seen;
+        is_decoded = ap (λ (c : Content). record m { content = c }) seen;
       }
 
 -- a message that can be written is never refused

@@ -3,6 +3,7 @@ pub mod PriceRange
 pub mod OrderReading
 pub mod DigitsRead
 pub mod ShortIds
+pub mod ReportIds
 pub mod PlainIdLength
 pub mod ReportReading
 pub mod FrameBack

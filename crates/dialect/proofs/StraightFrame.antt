@@ -1,6 +1,6 @@
 -- The body that an application message pushes is short, and framed it is the message's frame.
-use Rattle.std.proofs.Common.{◌≡◌, ℕ, ◌≤◌, true, List, [], ◌++◌, length, nat_le, codes, Option, Some, None, refl, sym, ap, subst, ◌∙◌, arith}
-use Rattle.std.specs.Prelude.{Result, Ok, Err, OnOk, IsSome, IsSomeAnd}
+use Rattle.std.proofs.Common.{◌≡◌, ℕ, ◌≤◌, ◌<◌, ◌+◌, true, List, [], ◌++◌, length, nat_le, codes, Option, Some, None, refl, sym, ap, subst, ◌∙◌, arith}
+use Rattle.std.specs.Prelude.{Result, Ok, Err, OnOk, OnErr, IsSome, IsSomeAnd}
 use Rattle.std.specs.declared.alloc.AllocError.{AllocError}
 use Rattle.std.proofs.lemmas.Bool.{cond-true}
 use Rattle.std.proofs.lemmas.Bool.Decides.{nat_tests}
@@ -26,7 +26,7 @@ use Rattle.fix_tags.proofs.Written.{length-stamp_text}
 use Rattle.dialect.proofs.FrameBack.{number_is}
 use Rattle.dialect.specs.declared.message.Message.{Message}
 use Rattle.dialect.specs.Dialect.{FitsMessage}
-use Rattle.dialect.specs.Framed.{IsBody, envelope_of, AppendsApp, AppendsSession, AppendsFrame}
+use Rattle.dialect.specs.Framed.{IsBody, envelope_of, AppendsApp, AppendsSession, AppendsFrame, WantsApp, WantsFrame}
 use Rattle.dialect.specs.Wording.{Encoding}
 use Rattle.dialect.specs.Writable.{IsAddressed}
 
@@ -65,6 +65,19 @@ pub straight_appended : (IsWritten : List Tagged → Type 0) (m : Message) (stam
 straight_appended IsWritten m stamp kind fields after old new (Ok done) is written appended =
     (fields, written, subst (λ (body : Option (List ℕ)). IsSomeAnd body (λ text. new ≡ old ++ framed text)) is appended)
 straight_appended IsWritten m stamp kind fields after old new (Err fault) is written appended = tt
+
+-- behind so many bytes there is no room for it
+pub straight_wanted : (IsWritten : List Tagged → Type 0) (m : Message) (stamp : StampParts) (kind : List ℕ)
+    (fields : List Tagged) (after : Option (List ℕ)) (used capacity : ℕ) (result : Result (Unit {0}) AllocError)
+    → after ≡ Some (app_text m stamp kind fields) → IsWritten fields
+    → OnErr result (IsSomeAnd after (λ text. capacity < used + length (framed text)))
+    → OnErr result (WantsApp IsWritten m stamp kind used capacity)
+straight_wanted IsWritten m stamp kind fields after used capacity (Ok done) is written wanted = tt
+straight_wanted IsWritten m stamp kind fields after used capacity (Err fault) is written wanted = (
+  fields,
+  written,
+  subst (λ (body : Option (List ℕ)). IsSomeAnd body (λ text. capacity < used + length (framed text))) is wanted,
+)
 
 -- the frame of an order, of a report and of a message of the session
 pub framed_order : (w : Encoding) (stamp : StampParts) (out : Outgoing) (leg : Leg) (old new : List ℕ)
@@ -118,3 +131,59 @@ framed_session w stamp out says old new (Ok done) is appended = (
   appended,
 )
 framed_session w stamp out says old new (Err fault) is appended = tt
+
+-- and where there is no room for it
+pub wants_order : (w : Encoding) (stamp : StampParts) (out : Outgoing) (leg : Leg) (used capacity : ℕ)
+    (result : Result (Unit {0}) AllocError) → out.message.content ≡ Order (Ok leg)
+    → OnErr result (WantsApp (w.IsOrder leg stamp) out.message stamp (codes "D") used capacity)
+    → OnErr result (WantsFrame w stamp out used capacity)
+wants_order w stamp out leg used capacity (Ok done) says wanted = tt
+wants_order w stamp out leg used capacity (Err fault) says wanted =
+    let b : Body = App (codes "D") wanted.0 in
+    let is : IsBody w stamp out.beside (Order (Ok leg)) b =
+    record { fields = wanted.0; written = wanted.1; body_is = refl } in (
+      frame_text (envelope_fields (envelope_of out.message b) stamp),
+      record {
+        says = b;
+        is_body = subst (λ (content : Content). IsBody w stamp out.beside content b) (sym says) is;
+        written = refl;
+      },
+      wanted.2,
+    )
+
+pub wants_report : (w : Encoding) (stamp : StampParts) (out : Outgoing) (report : Report) (view : OrderViewParts)
+    (used capacity : ℕ) (result : Result (Unit {0}) AllocError) → out.message.content ≡ ExecutionReport (Ok report)
+    → out.beside ≡ Some view
+    → OnErr result (WantsApp (w.IsReport report view) out.message stamp (codes "8") used capacity)
+    → OnErr result (WantsFrame w stamp out used capacity)
+wants_report w stamp out report view used capacity (Ok done) says beside wanted = tt
+wants_report w stamp out report view used capacity (Err fault) says beside wanted =
+    let b : Body = App (codes "8") wanted.0 in
+    let is : IsBody w stamp (Some view) (ExecutionReport (Ok report)) b =
+    record { fields = wanted.0; written = wanted.1; body_is = refl } in
+    let at_content : IsBody w stamp (Some view) out.message.content b =
+    subst (λ (content : Content). IsBody w stamp (Some view) content b) (sym says) is in (
+      frame_text (envelope_fields (envelope_of out.message b) stamp),
+      record {
+        says = b;
+        is_body = subst (λ (known : Option OrderViewParts). IsBody w stamp known out.message.content b) (sym beside) at_content;
+        written = refl;
+      },
+      wanted.2,
+    )
+
+pub wants_session : (w : Encoding) (stamp : StampParts) (out : Outgoing) (says : SessionBody) (used capacity : ℕ)
+    (result : Result (Unit {0}) AllocError) → out.message.content ≡ Session says
+    → OnErr result (capacity < used
+    + length (frame_text (envelope_fields (envelope_of out.message (body.Session says)) stamp)))
+    → OnErr result (WantsFrame w stamp out used capacity)
+wants_session w stamp out says used capacity (Ok done) is wanted = tt
+wants_session w stamp out says used capacity (Err fault) is wanted = (
+  frame_text (envelope_fields (envelope_of out.message (body.Session says)) stamp),
+  record {
+    says = body.Session says;
+    is_body = subst (λ (content : Content). IsBody w stamp out.beside content (body.Session says)) (sym is) refl;
+    written = refl;
+  },
+  wanted,
+)

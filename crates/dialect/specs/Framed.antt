@@ -1,5 +1,5 @@
 -- A message as the bytes of one frame, in a dialect, and as what a stream that begins with it reads as.
-use Rattle.std.specs.Prelude.{◌≡◌, ℕ, false, List, [], ◌∷◌, ◌++◌, Option, Some, None, Result, Ok, Err, codes}
+use Rattle.std.specs.Prelude.{◌≡◌, ◌<◌, ◌+◌, ℕ, length, false, List, [], ◌∷◌, ◌++◌, Option, Some, None, Result, Ok, Err, codes}
 use Rattle.fix_text.specs.Tagged.{Tagged}
 use Rattle.fix_text.specs.Frame.{frame_text}
 use Rattle.fix_text.specs.Reading.{Stream, next_read}
@@ -16,7 +16,7 @@ use Rattle.dialect.specs.declared.content.Content.{Content}
 use Rattle.dialect.specs.declared.content.Content.TheVariants.{Session, Order, ExecutionReport, Other}
 use Rattle.fix_tags.specs.declared.session_body.SessionBody.{SessionBody}
 use Rattle.dialect.specs.declared.message.Message.{Message}
-use Rattle.dialect.specs.Message.{seen}
+use Rattle.dialect.specs.Message.{decoded}
 use Rattle.dialect.specs.Wording.{Encoding, Decoding}
 use Rattle.dialect.specs.OrderView.{OrderViewParts}
 use Rattle.dialect.specs.declared.outgoing.Outgoing.{Outgoing}
@@ -71,6 +71,18 @@ AppendsSession m says stamp old new =
 abbrev pub AppendsFrame : Encoding → StampParts → Outgoing → List ℕ → List ℕ → Type 0
 AppendsFrame w stamp out old new = (bytes : List ℕ) × IsFramed w stamp out bytes × (new ≡ old ++ bytes)
 
+-- behind so many bytes there is no room for the frame of an application message of this kind, with fields of which this
+-- holds
+abbrev pub WantsApp : (List Tagged → Type 0) → Message → StampParts → List ℕ → ℕ → ℕ → Type 0
+WantsApp IsWritten m stamp kind used capacity =
+    (fields : List Tagged) × IsWritten fields
+    × (capacity < used + length (frame_text (envelope_fields (envelope_of m (body.App kind fields)) stamp)))
+
+-- behind so many bytes there is no room for a frame of this message
+abbrev pub WantsFrame : Encoding → StampParts → Outgoing → ℕ → ℕ → Type 0
+WantsFrame w stamp out used capacity =
+    (bytes : List ℕ) × IsFramed w stamp out bytes × (capacity < used + length bytes)
+
 -- the frames are those of these messages, one each and in order, each written at this moment
 abbrev pub AreFramed : Encoding → StampParts → List Outgoing → List (List ℕ) → Type 0
 AreFramed w stamp [] [] = Unit {0}
@@ -84,4 +96,4 @@ pub record IsReadAs (read : Decoding) (stream : Stream) (rest : List ℕ) (m : M
   pub next : next_read stream ≡ record { frame = Some fields; stream = record stream { rest = rest } }
   pub envelope : Envelope
   pub is_read : envelope_read fields ≡ Ok envelope
-  pub is_seen : seen read envelope ≡ m
+  pub is_decoded : decoded read envelope ≡ m

@@ -28,8 +28,8 @@ content_of read (body.Session says) = Session says
 content_of read (body.App kind fields) = application read kind fields
 
 -- an envelope as a message
-abbrev pub seen : Decoding → Envelope → Message
-seen read e = record {
+abbrev pub decoded : Decoding → Envelope → Message
+decoded read e = record {
   from = e.sender;
   to = e.target;
   number = e.number;

@@ -1,5 +1,5 @@
 -- What is written of a report, in written order (FIX 4.4 Volume 4, ExecutionReport).
-use Rattle.std.specs.Prelude.{◌≡◌, ◌==◌, ℕ, List, [], ◌∷◌, ◌++◌, codes, decimal, if◌then◌else◌}
+use Rattle.std.specs.Prelude.{◌≡◌, ◌==◌, ◌≤◌, ℕ, length, List, [], ◌∷◌, ◌++◌, codes, decimal, if◌then◌else◌}
 use Rattle.fix_text.specs.Tagged.{Tagged}
 use Rattle.dialect.specs.declared.report.Report.{Report}
 use Rattle.dialect.specs.declared.report.ReportKind.{ReportKind}
@@ -65,6 +65,17 @@ amount_fields report view =
 abbrev pub report_fields : SpellingParts → Report → OrderViewParts → List Tagged
 report_fields s report view =
     event_fields s report view ++ s.symbol_fields view.leg.terms.symbol ++ amount_fields report view
+
+-- the id of the trade that a bust undoes is at most so long
+abbrev pub IsShortKind : ℕ → ReportKind → Type 0
+IsShortKind longest (Bust cancelled_id) = length cancelled_id ≤ longest
+IsShortKind longest kind = Unit {0}
+
+-- no id that the exchange gave is longer
+pub record HasShortIds (longest : ℕ) (report : Report) (view : OrderViewParts) : Type 0 where
+  pub order_id : length view.order_id ≤ longest
+  pub exec : length report.exec ≤ longest
+  pub kind : IsShortKind longest report.kind
 
 -- these fields are a report beside this view, of an order for its own leg
 pub record IsReportOf (s : SpellingParts) (report : Report) (view : OrderViewParts)

@@ -1,10 +1,10 @@
 //! An order and a report are written straight into their frame.
-ghost use Rattle.std.specs.Prelude.{◌≡◌, ◌++◌, [], IsSome, IsSomeAnd, OnOk, OnErr, codes};
+ghost use Rattle.std.specs.Prelude.{◌≡◌, ◌≤◌, ◌<◌, ◌+◌, ◌++◌, [], IsOk, IsSome, IsSomeAnd, OnOk, OnErr, codes, length, vec_len, vec_capacity};
 ghost use Rattle.fix_text.specs.Frame.{framed};
 ghost use Rattle.fix_text.specs.Sink.{Pushes, TakesFields};
 ghost use Rattle.fix_tags.specs.Message.{header_fields};
 ghost use Rattle.fix_tags.specs.declared.body.Body.TheVariants.{App};
-ghost use Rattle.dialect.specs.Framed.{envelope_of, AppendsApp};
+ghost use Rattle.dialect.specs.Framed.{envelope_of, AppendsApp, WantsApp};
 ghost use Rattle.dialect.specs.Writable.{IsAddressed};
 
 use crate::dialect::Dialect;
@@ -26,8 +26,12 @@ fn push_app_header(
     time: &[u8],
     body: &mut FrameBody,
 ) -> Result<(), AllocError>
-    ensures { Pushes TakesFields (header_fields (envelope_of message.now (App kind.now [])) time.now)
+    requires addressed { IsAddressed message.now }
+    requires kind { length kind.now ≤ 24 }
+    requires time { length time.now ≤ 24 }
+    ensures pushed { Pushes TakesFields (header_fields (envelope_of message.now (App kind.now [])) time.now)
         body.old body.new result }
+    ensures taken { IsOk result }
 {
     let header = Header {
         kind,
@@ -46,6 +50,8 @@ fn append_body(body: &FrameBody, out: &mut Vec<u8>) -> Result<(), AllocError>
     requires { IsSome body.now }
     ensures ok { OnOk result (IsSomeAnd body.now (λ text. out.new.items ≡ out.old.items ++ framed text)) }
     ensures err { OnErr result (out.new.items ≡ out.old.items) }
+    ensures full { OnErr result
+        (IsSomeAnd body.now (λ text. vec_capacity out.old < vec_len out.old + length (framed text))) }
 {
     match write_body(body, out) {
         Ok(()) => Ok(()),
@@ -67,6 +73,8 @@ pub(crate) fn append_order<D: Dialect>(
     ensures ok { OnOk result (AppendsApp ((D.wording dialect.now).encoding.IsOrder leg.now stamp.now)
         message.now stamp.now (codes "D") out.old.items out.new.items) }
     ensures err { OnErr result (out.new.items ≡ out.old.items) }
+    ensures full { OnErr result (WantsApp ((D.wording dialect.now).encoding.IsOrder leg.now stamp.now)
+        message.now stamp.now (codes "D") (vec_len out.old) (vec_capacity out.old)) }
 {
     let time = stamp_bytes(stamp);
     let mut body = FrameBody::new();
@@ -90,6 +98,8 @@ pub(crate) fn append_report<D: Dialect>(
     ensures ok { OnOk result (AppendsApp ((D.wording dialect.now).encoding.IsReport report.now view.now)
         message.now stamp.now (codes "8") out.old.items out.new.items) }
     ensures err { OnErr result (out.new.items ≡ out.old.items) }
+    ensures full { OnErr result (WantsApp ((D.wording dialect.now).encoding.IsReport report.now view.now)
+        message.now stamp.now (codes "8") (vec_len out.old) (vec_capacity out.old)) }
 {
     let time = stamp_bytes(stamp);
     let mut body = FrameBody::new();

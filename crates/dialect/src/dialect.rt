@@ -17,6 +17,7 @@ pub trait Dialect {
     ghost use Rattle.leg.specs.Leg.{IsLeg};
     ghost use Rattle.dialect.specs.Dialect.{Appends, PushesSuch};
     ghost use Rattle.dialect.specs.Report.{IsReport};
+    ghost use Rattle.dialect.specs.ReportFields.{HasShortIds};
     ghost use Rattle.dialect.specs.Wording.{Wording, IsWording};
 
     // What may be written for an order and a report, what fields are read as, and the mark of a leg of a sweep.
@@ -58,7 +59,8 @@ pub trait Dialect {
         ensures value { result ≡ (wording self.now).decoding.order fields.now }
         ensures in_range { IfOk result IsLeg };
 
-    /// Appends the fields of a report, beside what its exchange knows of the order. V05 leaves the list as it was.
+    /// Appends the fields of a report, beside what its exchange knows of the order. V05 leaves the list as it was. Where
+    /// no id of the exchange's is longer than 24 bytes it comes only where the list has no room for sixteen more fields.
     fn write_report(
         &self,
         alloc: Global,
@@ -69,10 +71,13 @@ pub trait Dialect {
         requires { view.now.leg.id ≡ report.now.id }
         ensures ok { OnOk result
             (Appends ((wording self.now).encoding.IsReport report.now view.now) fields.old.items fields.new.items) }
-        ensures err { OnErr result (fields.new.items ≡ fields.old.items) };
+        ensures err { OnErr result (fields.new.items ≡ fields.old.items) }
+        ensures full { HasShortIds 24 report.now view.now
+            → OnErr result (vec_capacity fields.old < vec_len fields.old + 16) };
 
     /// Pushes the fields of a report, beside what its exchange knows of the order, to a list or to the body of a frame.
-    /// A refused growth leaves some of them behind.
+    /// A growth is refused only where an id of the exchange's isn't short, or there is no room for sixteen more fields,
+    /// and leaves some of them behind.
     fn push_report<F: FieldSink>(
         &self,
         alloc: Global,
@@ -81,8 +86,10 @@ pub trait Dialect {
         fields: &mut F,
     ) -> Result<(), AllocError>
         requires { view.now.leg.id ≡ report.now.id }
-        ensures { PushesSuch F.Takes ((wording self.now).encoding.IsReport report.now view.now)
-            fields.old fields.new result };
+        ensures pushed { PushesSuch F.Takes ((wording self.now).encoding.IsReport report.now view.now)
+            fields.old fields.new result }
+        ensures full { HasShortIds F.short report.now view.now → OnErr result (F.room fields.old < 16) }
+        ensures known { HasShortIds 64 report.now view.now };
 
     /// Reads a report. It takes no memory. Faults are tried in the order 11, 17, 150, and then 32 and 31 of a trade or
     /// 19 of a bust, and the first one is answered. Of a tag that stands several times the first counts, and the other

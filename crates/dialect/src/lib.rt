@@ -13,10 +13,10 @@
 //!   as it was.
 //! - `Plain`, `Split4` and `Coded` are spellings, and `AnyDialect` is any one of them, chosen when the program runs.
 //! - The bytes of a message in a dialect (`IsFramed`): there are such bytes for every message in range, writing it
-//!   is refused for want of memory alone, and of every stream that begins with them the next frame is seen as
+//!   is refused for lack of memory alone, and of every stream that begins with them the next frame is seen as
 //!   exactly that message (`writable_messages_are_framed`, `writable_messages_fit`, `frames_read_back`).
 //! - `write_message`, the one writer for both ends of a session, gives exactly such bytes of a message, in any
-//!   dialect and with any stamp: a message in range is refused for want of memory alone. `append_message` gives them
+//!   dialect and with any stamp: a message in range is refused for lack of memory alone. `append_message` gives them
 //!   behind what a buffer holds, and a refusal leaves that as it was. `see` reads an envelope as exactly the message
 //!   that it is (`seen`), takes no memory, and what it gives is in range (`IsRead`) with nothing asked of its
 //!   caller. `read_order` and `read_report` give legs and reports in range, in every dialect.
@@ -71,7 +71,7 @@ pub use fill::Fill;
 pub use free_text::{ExecId, FreeText, LastPx, MAX_ID, MAX_LAST_PX, OrderId};
 pub use kind::{ORDER_KIND, REPORT_KIND};
 pub use message::Message;
-pub use message_read::see;
+pub use message_read::decode;
 pub use message_write::{append_message, write_message};
 pub use note::Note;
 pub use order_view::OrderView;

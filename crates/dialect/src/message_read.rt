@@ -2,7 +2,7 @@
 ghost use Rattle.std.specs.Prelude.{◌≡◌};
 ghost use Rattle.fix_tags.specs.Readable.{HaveNoSoh, IsReadableBody};
 ghost use Rattle.dialect.specs.Read.{IsRead, IsReadContent};
-ghost use Rattle.dialect.specs.Message.{application, content_of, seen};
+ghost use Rattle.dialect.specs.Message.{application, content_of, decoded};
 ghost use Rattle.dialect.specs.Wording.{Decoding};
 
 use crate::content::Content;
@@ -40,8 +40,8 @@ fn content_of<'a, D: Dialect>(dialect: &D, body: &BodyRef<'a>) -> Content<'a>
 
 /// The message that an envelope is, in this dialect. It takes no memory. An order or a report that the dialect refuses
 /// is a message all the same, with the dialect's fault in it.
-pub fn see<'a, D: Dialect>(dialect: &D, envelope: &EnvelopeRef<'a>) -> Message<'a>
-    ensures value { result ≡ seen
+pub fn decode<'a, D: Dialect>(dialect: &D, envelope: &EnvelopeRef<'a>) -> Message<'a>
+    ensures value { result ≡ decoded
         (D.wording dialect.now).decoding envelope.now }
     ensures in_range { IsRead result }
 {

@@ -1,11 +1,11 @@
 //! A message is written as its frame.
-ghost use Rattle.std.specs.Prelude.{◌≡◌, ◌++◌, None, IfOk, OnOk, OnErr};
+ghost use Rattle.std.specs.Prelude.{◌≡◌, ◌<◌, ◌+◌, ◌++◌, None, IfOk, OnOk, OnErr, length, vec_len, vec_capacity};
 ghost use Rattle.fix_text.specs.Frame.{frame_text};
 ghost use Rattle.fix_tags.specs.CompId.{IsCompId};
 ghost use Rattle.fix_tags.specs.Message.{envelope_fields, envelope_refusal};
 ghost use Rattle.fix_tags.specs.declared.body.Body.TheVariants.{Session};
 ghost use Rattle.dialect.specs.declared.content.Content.TheVariants as content;
-ghost use Rattle.dialect.specs.Framed.{envelope_of, IsFramed, AppendsSession, AppendsFrame};
+ghost use Rattle.dialect.specs.Framed.{envelope_of, IsFramed, AppendsSession, AppendsFrame, WantsFrame};
 ghost use Rattle.dialect.specs.Writable.{IsWritable};
 
 use crate::app_write::{append_order, append_report};
@@ -41,6 +41,8 @@ fn append_envelope(
     requires { envelope_refusal envelope.now stamp.now ≡ None }
     ensures ok { OnOk result (out.new.items ≡ out.old.items ++ frame_text (envelope_fields envelope.now stamp.now)) }
     ensures err { OnErr result (out.new.items ≡ out.old.items) }
+    ensures full { OnErr result
+        (vec_capacity out.old < vec_len out.old + length (frame_text (envelope_fields envelope.now stamp.now))) }
 {
     match write_envelope(envelope, stamp, out) {
         Ok(()) => Ok(()),
@@ -49,7 +51,7 @@ fn append_envelope(
     }
 }
 
-/// Appends the frame of a message of the session. It takes no memory where `out` has room for it.
+/// Appends the frame of a message of the session.
 fn append_session<'a>(
     stamp: &Stamp,
     outgoing: &Outgoing<'a>,
@@ -60,6 +62,8 @@ fn append_session<'a>(
     requires said { outgoing.now.message.content ≡ content.Session says.now }
     ensures ok { OnOk result (AppendsSession outgoing.now.message says.now stamp.now out.old.items out.new.items) }
     ensures err { OnErr result (out.new.items ≡ out.old.items) }
+    ensures full { OnErr result (vec_capacity out.old < vec_len out.old
+        + length (frame_text (envelope_fields (envelope_of outgoing.now.message (Session says.now)) stamp.now))) }
 {
     let envelope = envelope_of(&outgoing.message, says);
     append_envelope(&envelope, stamp, out)
@@ -81,6 +85,8 @@ pub fn append_message<D: Dialect>(
         (D.wording dialect.now).encoding
         stamp.now outgoing.now out.old.items out.new.items) }
     ensures err { OnErr result (out.new.items ≡ out.old.items) }
+    ensures full { OnErr result (WantsFrame (D.wording dialect.now).encoding
+        stamp.now outgoing.now (vec_len out.old) (vec_capacity out.old)) }
 {
     let message = &outgoing.message;
     match &message.content {

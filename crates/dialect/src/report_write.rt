@@ -1,10 +1,10 @@
 //! A report is written.
 
-ghost use Rattle.std.specs.Prelude.{◌≡◌, ◌++◌, OnOk, OnErr};
+ghost use Rattle.std.specs.Prelude.{◌≡◌, ◌+◌, ◌<◌, ◌≤◌, ◌++◌, OnOk, OnErr, length, vec_len, vec_capacity};
 ghost use Rattle.fix_text.specs.Sink.{Pushes};
 ghost use Rattle.dialect.specs.Dialect.{Appends};
 ghost use Rattle.dialect.specs.Fields.{IsGrown};
-ghost use Rattle.dialect.specs.ReportFields.{exec_type_text, ord_status_text, cancelled_fields, fill_fields, event_fields, amount_fields, report_fields, IsReportOf};
+ghost use Rattle.dialect.specs.ReportFields.{exec_type_text, ord_status_text, cancelled_fields, fill_fields, event_fields, amount_fields, report_fields, HasShortIds, IsReportOf, IsShortKind};
 
 use crate::fault::SpellFault;
 use crate::limit::side_text;
@@ -23,8 +23,8 @@ use std::alloc::{AllocError, Global};
 /// AvgPx (6), which must be there and isn't kept.
 const NO_AVERAGE: &[u8] = b"0";
 
-/// The most fields that a report has: those of a trade of a symbol in two parts.
-const REPORT_LEN: usize = 13;
+/// Room for the fields of any report: no report has both those of a trade and that of a bust.
+const REPORT_ROOM: usize = 14;
 
 fn exec_type_text(kind: &ReportKind) -> &'static [u8]
     ensures { result.now ≡ exec_type_text kind.now }
@@ -57,7 +57,9 @@ fn push_cancelled<F: FieldSink>(
     kind: &ReportKind,
     fields: &mut F,
 ) -> Result<(), AllocError>
-    ensures { Pushes F.Takes (cancelled_fields kind.now) fields.old fields.new result }
+    ensures pushed { Pushes F.Takes (cancelled_fields kind.now) fields.old fields.new result }
+    ensures left { F.room fields.old ≤ F.room fields.new + 1 }
+    ensures full { IsShortKind F.short kind.now → OnErr result (F.room fields.old < 1) }
 {
     match kind {
         ReportKind::Bust { cancelled_id } => {
@@ -73,12 +75,14 @@ fn push_fill<F: FieldSink>(
     kind: &ReportKind,
     fields: &mut F,
 ) -> Result<(), AllocError>
-    ensures { Pushes F.Takes (fill_fields kind.now) fields.old fields.new result }
+    ensures pushed { Pushes F.Takes (fill_fields kind.now) fields.old fields.new result }
+    ensures left { F.room fields.old ≤ F.room fields.new + 2 }
+    ensures full { OnErr result (F.room fields.old < 2) }
 {
     match kind {
         ReportKind::Trade(fill) => {
             push_number(alloc, LAST_QTY, fill.shares(), fields)?;
-            fields.push_field(alloc, LAST_PX, fill.px().as_bytes())
+            push_short(alloc, LAST_PX, fill.px().as_bytes(), fields)
         }
         _ => Ok(()),
     }
@@ -92,14 +96,22 @@ fn push_event<S: Spelling, F: FieldSink>(
     view: &OrderView,
     fields: &mut F,
 ) -> Result<(), AllocError>
-    ensures { Pushes F.Takes (event_fields (S.spelling spelling.now) report.now view.now) fields.old fields.new result }
+    ensures pushed { Pushes F.Takes (event_fields (S.spelling spelling.now) report.now view.now)
+        fields.old fields.new result }
+    ensures left { F.room fields.old ≤ F.room fields.new + 6 }
+    ensures full { HasShortIds F.short report.now view.now → OnErr result (F.room fields.old < 6) }
 {
     let kind = &report.kind;
     fields.push_field(alloc, ORDER_ID, view.order_id().as_bytes())?;
     fields.push_field(alloc, EXEC_ID, report.exec.as_bytes())?;
     push_cancelled(alloc, kind, fields)?;
-    fields.push_field(alloc, EXEC_TYPE, exec_type_text(kind))?;
-    fields.push_field(alloc, ORD_STATUS, ord_status_text(kind, view.leaves()))?;
+    push_short(alloc, EXEC_TYPE, exec_type_text(kind), fields)?;
+    push_short(
+        alloc,
+        ORD_STATUS,
+        ord_status_text(kind, view.leaves()),
+        fields,
+    )?;
     push_short(
         alloc,
         CL_ORD_ID,
@@ -115,13 +127,14 @@ fn push_amounts<F: FieldSink>(
     view: &OrderView,
     fields: &mut F,
 ) -> Result<(), AllocError>
-    ensures { Pushes F.Takes (amount_fields report.now view.now) fields.old fields.new result }
+    ensures pushed { Pushes F.Takes (amount_fields report.now view.now) fields.old fields.new result }
+    ensures full { OnErr result (F.room fields.old < 6) }
 {
-    fields.push_field(alloc, SIDE, side_text(view.leg().terms.side()))?;
+    push_short(alloc, SIDE, side_text(view.leg().terms.side()), fields)?;
     push_fill(alloc, &report.kind, fields)?;
     push_number(alloc, LEAVES_QTY, view.leaves(), fields)?;
     push_number(alloc, CUM_QTY, view.cum(), fields)?;
-    fields.push_field(alloc, AVG_PX, NO_AVERAGE)
+    push_short(alloc, AVG_PX, NO_AVERAGE, fields)
 }
 
 /// Pushes the fields of a report, as a venue spells them.
@@ -132,8 +145,9 @@ pub(crate) fn push_report<S: Spelling, F: FieldSink>(
     view: &OrderView,
     fields: &mut F,
 ) -> Result<(), AllocError>
-    ensures { Pushes F.Takes (report_fields (S.spelling spelling.now) report.now view.now)
+    ensures pushed { Pushes F.Takes (report_fields (S.spelling spelling.now) report.now view.now)
         fields.old fields.new result }
+    ensures full { HasShortIds F.short report.now view.now → OnErr result (F.room fields.old < 14) }
 {
     push_event(spelling, alloc, report, view, fields)?;
     spelling.push_symbol(alloc, view.leg().terms.symbol(), fields)?;
@@ -151,13 +165,15 @@ fn list_report<S: Spelling>(
     ensures ok { OnOk result (fields.new.items
         ≡ fields.old.items ++ report_fields (S.spelling spelling.now) report.now view.now) }
     ensures err { OnErr result (IsGrown fields.old.items fields.new.items) }
+    ensures full { HasShortIds 24 report.now view.now → OnErr result (vec_capacity fields.old < vec_len fields.old + 14) }
 {
-    fields.reserve(REPORT_LEN)?;
+    fields.reserve(REPORT_ROOM)?;
     push_report(spelling, alloc, report, view, fields)
 }
 
 /// Appends the fields of a report, as a venue spells them, beside what its exchange knows of the order. V05 leaves the
-/// list as it was.
+/// list as it was; where no id of the exchange's is longer than 24 bytes it comes only where the list has no room for
+/// fourteen more fields.
 pub(crate) fn write_report<S: Spelling>(
     spelling: &S,
     alloc: Global,
@@ -169,6 +185,7 @@ pub(crate) fn write_report<S: Spelling>(
     ensures ok { OnOk result
         (Appends (IsReportOf (S.spelling spelling.now) report.now view.now) fields.old.items fields.new.items) }
     ensures err { OnErr result (fields.new.items ≡ fields.old.items) }
+    ensures full { HasShortIds 24 report.now view.now → OnErr result (vec_capacity fields.old < vec_len fields.old + 14) }
 {
     // That the report and the view are in range is known once they were read.
     report.in_range();

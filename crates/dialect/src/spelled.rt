@@ -20,7 +20,7 @@ impl<S: Spelling> Dialect for S {
     ghost use Rattle.dialect.specs.Lemmas.SpelledLaws.{is_spelled};
     ghost use Rattle.dialect.specs.Order.{IsOrderOf, IsReadingOf, order_read_of};
     ghost use Rattle.dialect.specs.Report.{IsReport as IsInRange};
-    ghost use Rattle.dialect.specs.ReportFields.{IsReportOf};
+    ghost use Rattle.dialect.specs.ReportFields.{HasShortIds, IsReportOf};
     ghost use Rattle.dialect.specs.ReportRead.{report_read_of};
     ghost use Rattle.dialect.specs.ReportReading.{IsReportReadingOf};
     ghost use Rattle.dialect.specs.Spelled.{spelled};
@@ -75,6 +75,8 @@ impl<S: Spelling> Dialect for S {
         ensures ok { OnOk result
             (Appends (IsReportOf (S.spelling self.now) report.now view.now) fields.old.items fields.new.items) }
         ensures err { OnErr result (fields.new.items ≡ fields.old.items) }
+        ensures full { HasShortIds 24 report.now view.now
+            → OnErr result (vec_capacity fields.old < vec_len fields.old + 14) }
     {
         write_report(self, alloc, report, view, fields)
     }

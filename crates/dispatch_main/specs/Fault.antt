@@ -19,7 +19,7 @@ fault_status NotText = 4
 fault_status WriteFailed = 4
 fault_status OutOfMemory = 5
 
--- a fault of the command line, or want of memory
+-- a fault of the command line, or out of memory
 abbrev pub IsOfCommandLine : ProgramFault → Type 0
 IsOfCommandLine (NoCommand help) = Unit {0}
 IsOfCommandLine (CommandLine error) = Unit {0}

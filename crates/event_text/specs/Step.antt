@@ -7,7 +7,7 @@ use Rattle.schedule.specs.World.{World, VenueParts, accepted, closed_at, given, 
 use Rattle.schedule.specs.World as world
 use Rattle.venue_replay.specs.declared.frame.Frame.{Frame}
 use Rattle.venue_replay.specs.Network.{all_said}
-use Rattle.replay.specs.declared.told.Told.{Told}
+use Rattle.replay.specs.declared.event_outcome.EventOutcome.{EventOutcome}
 use Rattle.event_text.specs.declared.before.AtVenue.{AtVenue}
 use Rattle.event_text.specs.declared.before.Before.{Before}
 use Rattle.event_text.specs.declared.idle.Idle.{Idle}
@@ -17,7 +17,7 @@ use Rattle.event_text.specs.Idle.{idle_text, phase_of}
 use Rattle.event_text.specs.Says.{says, says_all}
 
 -- the gate that moved and the leg that left
-abbrev pub desk_deeds : AtVenue → World → Told → List (List (List ℕ))
+abbrev pub desk_deeds : AtVenue → World → EventOutcome → List (List (List ℕ))
 desk_deeds at w told =
     gate_phrases at.gate (gate_of w.desk at.venue)
     ∷ left_phrases at.gate (is_some told.refused) at.leg_due (nat_lt at.left (venue_at w.desk at.venue).left)
@@ -32,7 +32,7 @@ abbrev pub settled_from : World → ℕ → ℕ → ℕ
 settled_from w v place = place + settled_count (state_of w v) (place + 1) (drop place (released_to w v))
 
 -- the legs that were withdrawn, and the note
-abbrev pub book_deeds : Before → AtVenue → World → Told → List (List (List ℕ))
+abbrev pub book_deeds : Before → AtVenue → World → EventOutcome → List (List (List ℕ))
 book_deeds before at w told =
     withdrawn_phrases (drop before.book_entries w.book.entries)
     ∷ note_phrases (slice_get (given w at.venue) at.given) told.answer
@@ -55,7 +55,7 @@ frame_deeds at to from =
     ∷ []
 
 -- the session's connection and phase
-abbrev pub session_deeds : AtVenue → World → Told → List (List (List ℕ))
+abbrev pub session_deeds : AtVenue → World → EventOutcome → List (List (List ℕ))
 session_deeds at w told =
     over_phrases at.phase (phase_of w at.venue) (of_venue w at.venue 0 (λ venue. venue.session.connection)) told.ended
     ∷ phase_phrases at.phase (phase_of w at.venue)
@@ -69,7 +69,7 @@ abbrev pub settled_at : Settled → ℕ → ℕ
 settled_at settled v = slice_index settled.told v
 
 -- what the event did at its venue, behind what was said, where these are the frames of the venue
-abbrev pub venue_said : Settled → Before → World → Told → List Frame → List Frame → AtVenue → List ℕ → List ℕ
+abbrev pub venue_said : Settled → Before → World → EventOutcome → List Frame → List Frame → AtVenue → List ℕ → List ℕ
 venue_said settled before w told to from at said =
     says_all
     (says_all
@@ -86,7 +86,7 @@ abbrev pub AreFrames : World → ℕ → (VenueParts → List world.Frame) → L
 AreFrames w v frames_of frames = (read : Decoding) × (of_venue w v [] frames_of ≡ all_said read frames)
 
 -- what the event did at its venue, if it is at one
-abbrev pub SaidAt : Settled → Before → World → Told → List ℕ → List ℕ → Option AtVenue → Type 0
+abbrev pub SaidAt : Settled → Before → World → EventOutcome → List ℕ → List ℕ → Option AtVenue → Type 0
 SaidAt settled before w told said now None = now ≡ said
 SaidAt settled before w told said now (Some at) =
     (to : List Frame) × (from : List Frame)
@@ -103,7 +103,7 @@ or_idle (Some at) (Some idle) w [] =
 or_idle at idle w [] = codes "nothing"
 
 -- the text of a step: the sweep that was placed, what was done at the venue, and the refusal
-abbrev pub IsStepText : Settled → Before → World → Told → List ℕ → Type 0
+abbrev pub IsStepText : Settled → Before → World → EventOutcome → List ℕ → Type 0
 IsStepText settled before w told text =
     (said : List ℕ)
     × SaidAt settled before w told (says [] (placed_phrases told.placed)) said before.at

@@ -15,7 +15,7 @@ use crate::refusal_text::ended_text;
 use crate::say::say;
 use dialect::{Dialect, Note, Report};
 use leg::{Leg, LegId};
-use replay::{Told, World};
+use replay::{EventOutcome, World};
 use session_core::{Ended, Phase};
 use share_ledger::{Applied, BookEntry};
 use std::alloc::{AllocError, Global};
@@ -74,7 +74,7 @@ pub(crate) fn say_desk<D: Dialect + Drop>(
     text: &mut Vec<u8>,
     at: &AtVenue,
     world: &World<D>,
-    told: &Told,
+    told: &EventOutcome,
 ) -> Result<(), AllocError>
     ensures { OnOk result (text.new.items ≡ says_all text.old.items (desk_deeds at.now world.now told.now)) }
 {
@@ -141,7 +141,7 @@ pub(crate) fn say_book<D: Dialect + Drop>(
     before: &Before,
     at: &AtVenue,
     world: &World<D>,
-    told: &Told,
+    told: &EventOutcome,
 ) -> Result<(), AllocError>
     ensures { OnOk result (text.new.items
         ≡ says_all text.old.items (book_deeds before.now at.now world.now told.now)) }
@@ -314,7 +314,7 @@ pub(crate) fn say_session<D: Dialect + Drop>(
     text: &mut Vec<u8>,
     at: &AtVenue,
     world: &World<D>,
-    told: &Told,
+    told: &EventOutcome,
 ) -> Result<(), AllocError>
     ensures { OnOk result (text.new.items ≡ says_all text.old.items (session_deeds at.now world.now told.now)) }
 {

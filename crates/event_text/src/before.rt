@@ -40,7 +40,7 @@ pub(crate) struct AtVenue {
 }
 
 impl Before {
-    /// How far a world has come at the venue of this event, and in the book. The only refusal is want of memory.
+    /// How far a world has come at the venue of this event, and in the book. The only refusal is out of memory.
     pub(crate) fn of<D: Dialect + Drop>(
         alloc: Global,
         world: &World<D>,

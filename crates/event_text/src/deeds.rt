@@ -12,16 +12,16 @@ use crate::refusal_text::RefusalText;
 use crate::say::say;
 use crate::settled::Settled;
 use dialect::Dialect;
-use replay::{Refusal, Told, World};
+use replay::{Refusal, EventOutcome, World};
 use std::alloc::{AllocError, Global};
 
 /// What an event did, in words. It compares the world before the event with that after it; `told` is what the event
-/// told besides, and `settled` which legs were told as settled. The only refusal is want of memory.
+/// told besides, and `settled` which legs were told as settled. The only refusal is out of memory.
 pub(crate) fn print_deeds<D: Dialect + Drop>(
     alloc: Global,
     before: &Before,
     world: &World<D>,
-    told: &Told,
+    told: &EventOutcome,
     settled: &mut Settled,
 ) -> Result<Vec<u8>, AllocError>
     ensures text { IfOk result (λ text. IsStepText settled.old before.now world.now told.now text.items) }
@@ -56,7 +56,7 @@ fn say_at<D: Dialect + Drop>(
     text: &mut Vec<u8>,
     before: &Before,
     world: &World<D>,
-    told: &Told,
+    told: &EventOutcome,
     settled: &mut Settled,
 ) -> Result<(), AllocError>
     ensures said { OnOk result (SaidAt settled.old before.now world.now told.now text.old.items text.new.items

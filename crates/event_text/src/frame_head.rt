@@ -24,7 +24,7 @@ pub(crate) struct FrameHead {
     pub(crate) number: u64,
 }
 
-/// A stream of these bytes. The only refusal is want of memory.
+/// A stream of these bytes. The only refusal is out of memory.
 fn stream_of(alloc: Global, bytes: &[u8]) -> Result<FrameReader, AllocError>
     ensures { IfOk result (λ stream. stream ≡ stream_of bytes.now) }
 {

@@ -5,7 +5,7 @@
 //!   event, the world after it, and what `happen` told. The frames are some that are read as the world's.
 //! - `tell_event` makes the event happen, exactly as defined, and gives such a text. Which legs were told as settled
 //!   is `settled_now`.
-//! - The only refusal is want of memory. Not said: that memory is wanted only where a growth was refused, and that
+//! - The only refusal is out of memory. Not said: that memory is wanted only where a growth was refused, and that
 //!   the bytes of the frames are those that the world keeps. A text is right that shows other bytes, if they are
 //!   read as the same messages.
 #![tactic(auto)]

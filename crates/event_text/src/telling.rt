@@ -18,7 +18,7 @@ use std::alloc::{AllocError, Global};
 /// sent, dropped, settled, withdrew and booked, what an exchange accepted, took or dropped, which connection ended and
 /// why, which call was refused; or why nothing came of it. `settled` has which legs were told as settled.
 ///
-/// The only refusal is want of memory, and the world is then of no use.
+/// The only refusal is out of memory, and the world is then of no use.
 pub fn tell_event<D: Dialect + Drop>(
     alloc: Global,
     world: &mut World<D>,

@@ -13,13 +13,13 @@ fault_status AcceptFailed = 4
 fault_status WriteFailed = 4
 fault_status OutOfMemory = 5
 
--- a fault of the command line, or want of memory
+-- a fault of the command line, or out of memory
 abbrev pub IsOfCommandLine : CommandFault → Type 0
 IsOfCommandLine (CommandLine error) = Unit {0}
 IsOfCommandLine OutOfMemory = Unit {0}
 IsOfCommandLine other = ⊥
 
--- a fault of the words, or want of memory
+-- a fault of the words, or out of memory
 abbrev pub IsOfWords : CommandFault → Type 0
 IsOfWords (CommandLine error) = Unit {0}
 IsOfWords (NoValue option) = Unit {0}

@@ -14,7 +14,7 @@ use std::net::{OpenListener, OpenStream};
 const MOST_READ: usize = 4_096;
 
 /// Serves one client after another, until one leaves after a Logout. It fails only where the system gives no client any
-/// more, and for want of memory.
+/// more, and for lack of memory.
 pub fn serve<L, D, C>(listener: &L, acceptor: &mut Acceptor<D, C>) -> Result<(), CommandFault>
 where
     L: OpenListener,
@@ -46,7 +46,7 @@ fn is_left_for_good<D: Dialect, C: Clock>(acceptor: &Acceptor<D, C>) -> bool {
     acceptor.is_connected() && acceptor.exchange().closed_at().is_some()
 }
 
-/// Serves a client until it leaves, or the exchange cuts its connection. The only refusal is want of memory.
+/// Serves a client until it leaves, or the exchange cuts its connection. The only refusal is out of memory.
 fn serve_client<S: Read + Write + OpenStream, D: Dialect, C: Clock>(
     stream: &mut S,
     acceptor: &mut Acceptor<D, C>,

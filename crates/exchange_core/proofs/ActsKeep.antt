@@ -17,9 +17,9 @@ use Rattle.exchange_core.specs.Acceptance.{Intake, HasAccepted, MayWrite, May, I
 use Rattle.exchange_core.specs.Acceptance as rules
 use Rattle.exchange_core.specs.declared.ending.Ending.TheVariants.{ByCancel, ByReject}
 use Rattle.exchange_core.specs.Order.{OrderParts, view_of}
-use Rattle.exchange_core.specs.declared.own.Own.{Own}
-use Rattle.exchange_core.specs.declared.own.Own.TheVariants.{Admin, Reported}
-use Rattle.exchange_core.specs.Own.{next_own_number, has_numbers}
+use Rattle.exchange_core.specs.declared.sent_record.SentRecord.{SentRecord}
+use Rattle.exchange_core.specs.declared.sent_record.SentRecord.TheVariants.{Admin, Reported}
+use Rattle.exchange_core.specs.SentRecord.{next_own_number, has_numbers}
 use Rattle.exchange_core.specs.declared.live_connection.LiveConnection.{LiveConnection}
 use Rattle.exchange_core.specs.Exchange.{ExchangeParts, Answer, live_connection, next_report, next_execution_report, next_message, drop_connection, accepted_by}
 use Rattle.exchange_core.specs.Acts.{answered, while_live, reported, trade_answer, trade, end_answer, cancel_rest, reject, bust_answer, bust, test_id, tested, test_answer, test}
@@ -39,7 +39,7 @@ is_accepted orders (suc i) order there = record {
 }
 
 -- one message under the next number, where a connection is live
-written_live : (x y : ExchangeParts) (entry : Own) (out : Outgoing) (live : Option LiveConnection) → IsLastLive x → x.live ≡ live → y.last ≡ x.last → y.own ≡ x.own ++ entry ∷ [] → out.message.number ≡ next_own_number x.own → MaySayNext x None y entry out.message.content → All (MayWrite (rule_state x) None (rule_state y)) (into (option_map (λ (l : LiveConnection). l.connection) live) (while_live live (out ∷ [])))
+written_live : (x y : ExchangeParts) (entry : SentRecord) (out : Outgoing) (live : Option LiveConnection) → IsLastLive x → x.live ≡ live → y.last ≡ x.last → y.own ≡ x.own ++ entry ∷ [] → out.message.number ≡ next_own_number x.own → MaySayNext x None y entry out.message.content → All (MayWrite (rule_state x) None (rule_state y)) (into (option_map (λ (l : LiveConnection). l.connection) live) (while_live live (out ∷ [])))
 written_live x y entry out None sound is last own at says = All-nil (MayWrite (rule_state x) None (rule_state y))
 written_live x y entry out (Some live) sound is last own at says =
     let here : IsLast x.last live.connection = sound live.connection (ap (option_map (λ (l : LiveConnection). l.connection)) is) in
@@ -47,7 +47,7 @@ written_live x y entry out (Some live) sound is last own at says =
     (written_next x y None entry live.connection out.message.content own here.from (omega (arith, here.same, last)) says)
 
 -- one number more
-pub one_more : (own : List Own) (entry : Own) (max_number : ℕ) → next_own_number own + 1 ≤ max_number → next_own_number (own ++ entry ∷ []) ≤ max_number
+pub one_more : (own : List SentRecord) (entry : SentRecord) (max_number : ℕ) → next_own_number own + 1 ≤ max_number → next_own_number (own ++ entry ∷ []) ≤ max_number
 one_more own entry max_number left = omega (arith, length-append own (entry ∷ []))
 
 -- a report on an order at a place
@@ -55,7 +55,7 @@ reported_keeps : (x : ExchangeParts) → IsLastLive x → (place : ℕ) (old new
 reported_keeps x sound place old new kind is =
     let y : ExchangeParts = (reported x place new kind).1 in
     let report = next_report x new kind in
-    let entry : Own = Reported report (view_of place new) in
+    let entry : SentRecord = Reported report (view_of place new) in
     let same : new.leg ≡ old.leg = same_leg AnyPx _ old new kind is.change in
     let legs : accepted_by y ≡ accepted_by x = legs_kept x.orders place old new is.there same in
     let stays : intake_of y ≡ intake_of x = ap (λ ls. let i : Intake = record (intake_of x) { accepted = ls } in i) legs in

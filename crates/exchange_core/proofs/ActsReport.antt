@@ -14,7 +14,7 @@ use Rattle.exchange_core.specs.declared.exchange_fault.ExchangeFault.TheVariants
 use Rattle.exchange_core.specs.declared.ending.Ending.{Ending}
 use Rattle.exchange_core.specs.declared.ending.Ending.TheVariants.{ByCancel, ByReject}
 use Rattle.exchange_core.specs.Order.{OrderParts, TradeParts, moved, traded, ended_by, busted_at, is_cancelled}
-use Rattle.exchange_core.specs.Own.{has_numbers, next_exec, exec_id}
+use Rattle.exchange_core.specs.SentRecord.{has_numbers, next_exec, exec_id}
 use Rattle.exchange_core.specs.declared.live_connection.LiveConnection.{LiveConnection}
 use Rattle.exchange_core.specs.Exchange.{ExchangeParts, Answer}
 use Rattle.exchange_core.specs.Acts.{answered, reported, order_at, still_going, not_busted, trade_at, number_left, trade_answer, trade, end_answer, cancel_rest, reject, bust_answer, bust, tested, test_answer, test}

@@ -10,8 +10,8 @@ use Rattle.dialect.specs.declared.content.Content.TheVariants.{Session, Order}
 use Rattle.fix_tags.specs.declared.session_body.SessionBody.TheVariants.{TestRequest, GapFill, Logout}
 use Rattle.dialect.specs.declared.message.Message.{Message}
 use Rattle.exchange_core.specs.Order.{OrderParts, new_order, view_of}
-use Rattle.exchange_core.specs.declared.own.Own.{Own}
-use Rattle.exchange_core.specs.declared.own.Own.TheVariants.{Admin, Reported, Refused}
+use Rattle.exchange_core.specs.declared.sent_record.SentRecord.{SentRecord}
+use Rattle.exchange_core.specs.declared.sent_record.SentRecord.TheVariants.{Admin, Reported, Refused}
 use Rattle.exchange_core.specs.declared.live_connection.LiveConnection.{LiveConnection}
 use Rattle.exchange_core.specs.Exchange.{ExchangeParts, Answer, accepted_by, next_report, passed_by, with_connection, logon_answer, logon_taken, due_taken, asks, by_number, take, drop_connection}
 use Rattle.exchange_core.specs.Acts.{reported, trade, cancel_rest, reject, bust, tested, test}
@@ -31,7 +31,7 @@ after_same x y config expected last orders own = record {
 }
 
 -- where own numbers are used
-pub after_used : (x y : ExchangeParts) (more : List Own) → y.config ≡ x.config → x.expected ≤ y.expected → x.last ≤ y.last → accepted_by y ≡ accepted_by x → y.own ≡ x.own ++ more → length more ≤ 2 → IsExchangeLater x y
+pub after_used : (x y : ExchangeParts) (more : List SentRecord) → y.config ≡ x.config → x.expected ≤ y.expected → x.last ≤ y.last → accepted_by y ≡ accepted_by x → y.own ≡ x.own ++ more → length more ≤ 2 → IsExchangeLater x y
 after_used x y more config expected last orders own few = record {
   config = config;
   expected = expected;

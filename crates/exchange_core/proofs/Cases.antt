@@ -7,7 +7,7 @@ use Rattle.dialect.specs.declared.content.Content.{Content}
 use Rattle.dialect.specs.declared.content.Content.TheVariants.{Session}
 use Rattle.fix_tags.specs.declared.session_body.SessionBody.TheVariants.{Logon}
 use Rattle.dialect.specs.declared.message.Message.{Message}
-use Rattle.exchange_core.specs.Own.{has_numbers, next_own_number}
+use Rattle.exchange_core.specs.SentRecord.{has_numbers, next_own_number}
 use Rattle.exchange_core.specs.declared.live_connection.LiveConnection.{LiveConnection}
 use Rattle.exchange_core.specs.Exchange.{ExchangeParts, Answer, logon_taken, due_taken, has_asked, asks, ahead, by_number, received, heard, comes, take}
 use Rattle.exchange_core.proofs.Entries.{chosen}

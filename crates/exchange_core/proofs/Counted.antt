@@ -9,9 +9,9 @@ use Rattle.dialect.specs.declared.content.Content.TheVariants.{Session, Order}
 use Rattle.fix_tags.specs.declared.session_body.SessionBody.TheVariants.{TestRequest, GapFill, Logout}
 use Rattle.dialect.specs.declared.message.Message.{Message}
 use Rattle.exchange_core.specs.Order.{OrderParts, new_order, view_of}
-use Rattle.exchange_core.specs.declared.own.Own.{Own}
-use Rattle.exchange_core.specs.declared.own.Own.TheVariants.{Admin, Reported, Refused}
-use Rattle.exchange_core.specs.Own.{report_count, exec_id}
+use Rattle.exchange_core.specs.declared.sent_record.SentRecord.{SentRecord}
+use Rattle.exchange_core.specs.declared.sent_record.SentRecord.TheVariants.{Admin, Reported, Refused}
+use Rattle.exchange_core.specs.SentRecord.{report_count, exec_id}
 use Rattle.exchange_core.specs.Exchange.{ExchangeParts, next_report, logon_answer, with_connection, due_taken, take}
 use Rattle.exchange_core.specs.Acts.{reported, trade, cancel_rest, reject, bust, test}
 use Rattle.exchange_core.specs.Keeping.{AreCounted}
@@ -19,19 +19,19 @@ use Rattle.exchange_core.proofs.Cases.{after_take_is}
 use Rattle.exchange_core.proofs.ActsReport.{IsReported, AnyPx, trade_is, cancel_rest_is, reject_is, bust_is, test_is}
 
 -- a number that carries no report
-more_admin : (count : ℕ) (own : List Own) → AreCounted count own → AreCounted count (own ++ Admin ∷ [])
+more_admin : (count : ℕ) (own : List SentRecord) → AreCounted count own → AreCounted count (own ++ Admin ∷ [])
 more_admin count [] counted = tt
 more_admin count (Admin ∷ own) counted = more_admin count own counted
 more_admin count (Reported report view ∷ own) counted = (counted.0, more_admin (suc count) own counted.1)
 more_admin count (Refused number ∷ own) counted = more_admin count own counted
 
-two_admin : (count : ℕ) (own : List Own) → AreCounted count own → AreCounted count (own ++ Admin ∷ Admin ∷ [])
+two_admin : (count : ℕ) (own : List SentRecord) → AreCounted count own → AreCounted count (own ++ Admin ∷ Admin ∷ [])
 two_admin count [] counted = tt
 two_admin count (Admin ∷ own) counted = two_admin count own counted
 two_admin count (Reported report view ∷ own) counted = (counted.0, two_admin (suc count) own counted.1)
 two_admin count (Refused number ∷ own) counted = two_admin count own counted
 
-more_refused : (count number : ℕ) (own : List Own) → AreCounted count own → AreCounted count (own ++ Refused number ∷ [])
+more_refused : (count number : ℕ) (own : List SentRecord) → AreCounted count own → AreCounted count (own ++ Refused number ∷ [])
 more_refused count number [] counted = tt
 more_refused count number (Admin ∷ own) counted = more_refused count number own counted
 more_refused count number (Reported report view ∷ own) counted = (counted.0, more_refused (suc count) number own counted.1)
@@ -41,7 +41,7 @@ more_refused count number (Refused refused ∷ own) counted = more_refused count
 one_later : (count reports : ℕ) (exec : List ℕ) → exec ≡ exec_id (suc (count + suc reports)) → exec ≡ exec_id (suc (suc count + reports))
 one_later count reports exec is = let same : suc (count + suc reports) ≡ suc (suc count + reports) = omega arith in is ∙ ap exec_id same
 
-more_reported : (count : ℕ) (own : List Own) (report : Report) (view : OrderViewParts) → AreCounted count own → report.exec ≡ exec_id (suc (count + report_count own)) → AreCounted count (own ++ Reported report view ∷ [])
+more_reported : (count : ℕ) (own : List SentRecord) (report : Report) (view : OrderViewParts) → AreCounted count own → report.exec ≡ exec_id (suc (count + report_count own)) → AreCounted count (own ++ Reported report view ∷ [])
 more_reported count [] report view counted is = (let same : suc (count + 0) ≡ suc count = omega arith in is ∙ ap exec_id same, tt)
 more_reported count (Admin ∷ own) report view counted is = more_reported count own report view counted is
 more_reported count (Reported first seen ∷ own) report view counted is = (counted.0, more_reported (suc count) own report view counted.1 (one_later count (report_count own) report.exec is))

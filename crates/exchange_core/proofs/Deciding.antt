@@ -5,8 +5,8 @@ use Rattle.dialect.specs.declared.content.Content.TheVariants.{Session, Order, E
 use Rattle.fix_tags.specs.declared.session_body.SessionBody.TheVariants.{Logon, Heartbeat, TestRequest, ResendRequest, Reject, GapFill, Reset, Logout, BusinessReject}
 use Rattle.dialect.specs.declared.message.Message.{Message}
 use Rattle.dialect.specs.Addressed.{is_for}
-use Rattle.exchange_core.specs.Own.{has_numbers}
-use Rattle.exchange_core.specs.declared.own.Own.TheVariants.{Admin}
+use Rattle.exchange_core.specs.SentRecord.{has_numbers}
+use Rattle.exchange_core.specs.declared.sent_record.SentRecord.TheVariants.{Admin}
 use Rattle.exchange_core.specs.Turn.{used_for}
 use Rattle.exchange_core.specs.Exchange.{ExchangeParts, heard, comes, resends, take}
 

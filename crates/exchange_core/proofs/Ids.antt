@@ -9,7 +9,7 @@ use Rattle.std.proofs.lemmas.List.Folds.{list_any_none}
 use Rattle.leg.proofs.Digits.{IsDigit, digits_of_decimal}
 use Rattle.dialect.specs.FreeText.{IsFreeText, free_text_of}
 use Rattle.exchange_core.specs.Order.{order_id}
-use Rattle.exchange_core.specs.Own.{exec_id}
+use Rattle.exchange_core.specs.SentRecord.{exec_id}
 use Rattle.exchange_core.specs.Acts.{test_id}
 
 abbrev IsNotSoh : ℕ → Type 0

@@ -17,9 +17,9 @@ use Rattle.dialect.specs.declared.message.Message.{Message}
 use Rattle.dialect.specs.Report.{IsReportKind}
 use Rattle.dialect.specs.Writable.{IsReportBeside}
 use Rattle.exchange_core.specs.Order.{OrderParts, new_order, view_of}
-use Rattle.exchange_core.specs.declared.own.Own.{Own}
-use Rattle.exchange_core.specs.declared.own.Own.TheVariants.{Admin, Reported, Refused}
-use Rattle.exchange_core.specs.Own.{report_count, next_exec, next_own_number, has_numbers}
+use Rattle.exchange_core.specs.declared.sent_record.SentRecord.{SentRecord}
+use Rattle.exchange_core.specs.declared.sent_record.SentRecord.TheVariants.{Admin, Reported, Refused}
+use Rattle.exchange_core.specs.SentRecord.{report_count, next_exec, next_own_number, has_numbers}
 use Rattle.exchange_core.specs.Exchange.{ExchangeParts, next_report, logon_answer, with_connection, order_refused, due_taken, asks, take}
 use Rattle.exchange_core.specs.Acts.{reported, trade, tested}
 use Rattle.exchange_core.specs.Keeping.{IsExpectable}
@@ -49,7 +49,7 @@ room_for_one x config left =
 pub room_for_two : (x : ExchangeParts) → IsConfig x.config → HasRoom x → suc (next_own_number x.own) ≤ 999_999_998
 room_for_two x config room = let limit = config.max_number in omega (arith, room, limit)
 
-pub reports_within : (own : List Own) → report_count own ≤ length own
+pub reports_within : (own : List SentRecord) → report_count own ≤ length own
 reports_within [] = omega arith
 reports_within (Admin ∷ own) = let less = reports_within own in omega (arith, less)
 reports_within (Reported report view ∷ own) = let less = reports_within own in omega (arith, less)
@@ -123,14 +123,14 @@ change_reported x sound config place old new kind is =
     (change_sound (next_exec x.own) old new kind (next_exec_small x number) is.change before)
     (kind_sound (next_exec x.own) old new kind is.change before)
 
-one_longer : (own : List Own) (entry : Own) → length (own ++ entry ∷ []) ≡ suc (length own)
+one_longer : (own : List SentRecord) (entry : SentRecord) → length (own ++ entry ∷ []) ≡ suc (length own)
 one_longer own entry = omega (arith, length-append own (entry ∷ []))
 
 pub reported_keeps_parts : (x : ExchangeParts) → HasSoundParts x → IsConfig x.config → (place : ℕ) (old new : OrderParts) (kind : ReportKind) → IsReported (IsFreeText 20) x place old new kind → HasSoundParts (reported x place new kind).1
 reported_keeps_parts x sound config place old new kind is =
     let number : HasNumber x = room_for_one x config is.left in
     let before : IsOrderSound old = all_at IsOrderSound x.orders place old sound.orders is.there in
-    let entry : Own = Reported (next_report x new kind) (view_of place new) in
+    let entry : SentRecord = Reported (next_report x new kind) (view_of place new) in
     let few = sound.few in
     record {
       orders = all_with IsOrderSound x.orders place new sound.orders (change_sound (next_exec x.own) old new kind (next_exec_small x number) is.change before);
@@ -175,7 +175,7 @@ new_reported x leg sound number is =
 ordered_parts : (x : ExchangeParts) (leg : Leg) → HasSoundParts x → HasNumber x → IsLeg leg → HasSoundParts (due_taken x (Order (Ok leg))).1
 ordered_parts x leg sound number is =
     let order : OrderParts = new_order leg in
-    let entry : Own = Reported (next_report x order New) (view_of (suc (length x.orders)) order) in
+    let entry : SentRecord = Reported (next_report x order New) (view_of (suc (length x.orders)) order) in
     let few = sound.few in
     record {
       orders = all_more IsOrderSound x.orders order sound.orders (new_sound leg is);

@@ -6,9 +6,9 @@ use Rattle.dialect.specs.FreeText.{IsFreeText}
 use Rattle.dialect.specs.declared.message.Message.{Message}
 use Rattle.dialect.specs.declared.report.ReportKind.{ReportKind}
 use Rattle.exchange_core.specs.Order.{OrderParts, view_of}
-use Rattle.exchange_core.specs.declared.own.Own.{Own}
-use Rattle.exchange_core.specs.declared.own.Own.TheVariants.{Admin, Reported}
-use Rattle.exchange_core.specs.Own.{has_numbers}
+use Rattle.exchange_core.specs.declared.sent_record.SentRecord.{SentRecord}
+use Rattle.exchange_core.specs.declared.sent_record.SentRecord.TheVariants.{Admin, Reported}
+use Rattle.exchange_core.specs.SentRecord.{has_numbers}
 use Rattle.exchange_core.specs.Exchange.{ExchangeParts, new_exchange, next_report, take, drop_connection}
 use Rattle.exchange_core.specs.Acts.{reported, trade, cancel_rest, reject, bust, tested, test}
 use Rattle.exchange_core.specs.Sound.{IsRead, IsSound}
@@ -50,7 +50,7 @@ take_is_sound x connection m sound read =
 reported_is_sound : (x : ExchangeParts) → IsSound x → (place : ℕ) (old new : OrderParts) (kind : ReportKind) → IsReported (IsFreeText 20) x place old new kind → IsSound (reported x place new kind).1
 reported_is_sound x sound place old new kind is =
     let parts = reported_keeps_parts x (parts_of x sound) sound.config place old new kind is in
-    let entry : Own = Reported (next_report x new kind) (view_of place new) in
+    let entry : SentRecord = Reported (next_report x new kind) (view_of place new) in
     record {
       config = sound.config;
       live = sound.live;

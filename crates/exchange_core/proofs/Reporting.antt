@@ -1,4 +1,4 @@
--- The report of a plan: the order that it is for, the exchange afterwards, and what its soundness says.
+-- The report of a decision: the order that it is for, the exchange afterwards, and what its soundness says.
 use Rattle.std.proofs.Common.{◌≡◌, ℕ, zero, suc, ◌+◌, ◌-◌, ◌≤◌, true, false, nat_le, List, [], ◌∷◌, ◌++◌, length, map, get_or, Option, Some, Result, Ok, Err, IfOk, IsSome, refl, sym, ap, ◌∙◌, subst, arith, length-append}
 use Rattle.std.specs.Prelude.{All, slice_get, slice_set, option_to_list}
 use Rattle.std.specs.Global.{Vec}
@@ -17,20 +17,20 @@ use Rattle.dialect.specs.declared.report.Report.{Report}
 use Rattle.dialect.specs.declared.report.ReportKind.{ReportKind}
 use Rattle.dialect.specs.declared.report.ReportKind.TheVariants.{Canceled, Rejected}
 use Rattle.exchange_core.specs.declared.exchange_fault.ExchangeFault.{ExchangeFault}
-use Rattle.exchange_core.specs.declared.plan.OrderStep.{OrderStep}
-use Rattle.exchange_core.specs.declared.plan.OrderStep.TheVariants.{Traded, Ended, Busted}
-use Rattle.exchange_core.specs.declared.plan.Plan.{Plan}
+use Rattle.exchange_core.specs.declared.order_decision.OrderStep.{OrderStep}
+use Rattle.exchange_core.specs.declared.order_decision.OrderStep.TheVariants.{Traded, Ended, Busted}
+use Rattle.exchange_core.specs.declared.order_decision.OrderDecision.{OrderDecision}
 use Rattle.exchange_core.specs.declared.ending.Ending.TheVariants.{ByCancel, ByReject}
 use Rattle.exchange_core.specs.Order.{OrderParts, order_id, view_of}
-use Rattle.exchange_core.specs.declared.own.Own.{Own}
-use Rattle.exchange_core.specs.declared.own.Own.TheVariants.{Admin, Reported, Refused}
-use Rattle.exchange_core.specs.Own.{next_own_number, next_exec, exec_id, execution_report}
+use Rattle.exchange_core.specs.declared.sent_record.SentRecord.{SentRecord}
+use Rattle.exchange_core.specs.declared.sent_record.SentRecord.TheVariants.{Admin, Reported, Refused}
+use Rattle.exchange_core.specs.SentRecord.{next_own_number, next_exec, exec_id, execution_report}
 use Rattle.exchange_core.specs.Exchange.{ExchangeParts, Answer, next_report}
 use Rattle.exchange_core.specs.Frames.{bytes_of, ActGives}
 use Rattle.exchange_core.specs.Acts.{answered, while_live, reported, trade_answer, trade, end_answer, cancel_rest, reject, bust_answer, bust}
 use Rattle.exchange_core.specs.Keeping.{IsAct}
 use Rattle.exchange_core.specs.Kept.{reports_of}
-use Rattle.exchange_core.specs.Plan.{stepped, plan_answer, IsFit, after_step}
+use Rattle.exchange_core.specs.OrderDecision.{stepped, order_answer, IsFit, after_step}
 use Rattle.exchange_core.specs.Sound.{IsOwnSound, IsSound}
 use Rattle.exchange_core.proofs.ActsKeep.{trade_keeps, cancel_rest_keeps, reject_keeps, bust_keeps}
 use Rattle.exchange_core.proofs.Entries.{all_last}
@@ -43,20 +43,20 @@ fit_by : (x : ExchangeParts) (r : Result Answer ExchangeFault) → IsSound (answ
 fit_by x (Ok a) sound written = record { written = written; sound = sound }
 fit_by x (Err fault) sound written = tt
 
-pub trade_fit : (x : ExchangeParts) (place shares : ℕ) (px : List ℕ) (plan : Plan) → IsSound x → IsFreeText 20 px → trade_answer x place shares px ≡ plan_answer x place plan → IfOk (plan_answer x place plan) IsFit
-trade_fit x place shares px plan sound is answer =
+pub trade_fit : (x : ExchangeParts) (place shares : ℕ) (px : List ℕ) (decision : OrderDecision) → IsSound x → IsFreeText 20 px → trade_answer x place shares px ≡ order_answer x place decision → IfOk (order_answer x place decision) IsFit
+trade_fit x place shares px decision sound is answer =
     subst (λ r. IfOk r IsFit) answer (fit_by x (trade_answer x place shares px) (trade_is_sound x place shares px sound is) (trade_said x place shares px sound is))
 
-pub cancel_fit : (x : ExchangeParts) (place : ℕ) (plan : Plan) → IsSound x → end_answer x place ByCancel Canceled ≡ plan_answer x place plan → IfOk (plan_answer x place plan) IsFit
-cancel_fit x place plan sound answer =
+pub cancel_fit : (x : ExchangeParts) (place : ℕ) (decision : OrderDecision) → IsSound x → end_answer x place ByCancel Canceled ≡ order_answer x place decision → IfOk (order_answer x place decision) IsFit
+cancel_fit x place decision sound answer =
     subst (λ r. IfOk r IsFit) answer (fit_by x (end_answer x place ByCancel Canceled) (cancel_rest_is_sound x place sound) (cancel_rest_said x place sound))
 
-pub reject_fit : (x : ExchangeParts) (place : ℕ) (plan : Plan) → IsSound x → end_answer x place ByReject Rejected ≡ plan_answer x place plan → IfOk (plan_answer x place plan) IsFit
-reject_fit x place plan sound answer =
+pub reject_fit : (x : ExchangeParts) (place : ℕ) (decision : OrderDecision) → IsSound x → end_answer x place ByReject Rejected ≡ order_answer x place decision → IfOk (order_answer x place decision) IsFit
+reject_fit x place decision sound answer =
     subst (λ r. IfOk r IsFit) answer (fit_by x (end_answer x place ByReject Rejected) (reject_is_sound x place sound) (reject_said x place sound))
 
-pub bust_fit : (x : ExchangeParts) (place which : ℕ) (plan : Plan) → IsSound x → bust_answer x place which ≡ plan_answer x place plan → IfOk (plan_answer x place plan) IsFit
-bust_fit x place which plan sound answer =
+pub bust_fit : (x : ExchangeParts) (place which : ℕ) (decision : OrderDecision) → IsSound x → bust_answer x place which ≡ order_answer x place decision → IfOk (order_answer x place decision) IsFit
+bust_fit x place which decision sound answer =
     subst (λ r. IfOk r IsFit) answer (fit_by x (bust_answer x place which) (bust_is_sound x place which sound) (bust_said x place which sound))
 
 -- the rules allow each act
@@ -102,28 +102,28 @@ legs_stepped orders (suc i) split step order there =
     ∙ legs_at orders i order (stepped split step order) there (stepped_leg split step order)
 
 -- one more own number
-pub reports_more : (own : List Own) (report : Report) (view : OrderViewParts) → reports_of (own ++ Reported report view ∷ []) ≡ reports_of own ++ report ∷ []
+pub reports_more : (own : List SentRecord) (report : Report) (view : OrderViewParts) → reports_of (own ++ Reported report view ∷ []) ≡ reports_of own ++ report ∷ []
 reports_more [] report view = refl
 reports_more (Admin ∷ own) report view = reports_more own report view
 reports_more (Reported first seen ∷ own) report view = ap (λ l. first ∷ l) (reports_more own report view)
 reports_more (Refused number ∷ own) report view = reports_more own report view
 
 -- the exchange after a step
-pub seen_stepped : (x : ExchangeParts) (place : ℕ) (split : SplitParts) (step : OrderStep) (entry : Own) (order : OrderParts) (orders : List OrderParts) (own : List Own) → numbered place x.orders ≡ Some order → orders ≡ slice_set x.orders (place - 1) (stepped split step order) → own ≡ x.own ++ entry ∷ [] → (let y : ExchangeParts = record x { orders = orders; own = own } in y) ≡ after_step x place split step entry
+pub seen_stepped : (x : ExchangeParts) (place : ℕ) (split : SplitParts) (step : OrderStep) (entry : SentRecord) (order : OrderParts) (orders : List OrderParts) (own : List SentRecord) → numbered place x.orders ≡ Some order → orders ≡ slice_set x.orders (place - 1) (stepped split step order) → own ≡ x.own ++ entry ∷ [] → (let y : ExchangeParts = record x { orders = orders; own = own } in y) ≡ after_step x place split step entry
 seen_stepped x zero split step entry order orders own there is own_is = cc
 seen_stepped x (suc i) split step entry order orders own there is own_is =
     let low : suc i - 1 ≡ i = omega arith in
     rw (is, low, own_is, there) refl
 
--- the answer of a plan for an order that is there
-pub plan_is : (x : ExchangeParts) (place : ℕ) (plan : Plan) (order : OrderParts) → numbered place x.orders ≡ Some order → plan_answer x place plan ≡ Ok (reported x place (stepped plan.split plan.step order) plan.kind)
-plan_is x place plan order there = rw there refl
+-- the answer of a decision for an order that is there
+pub plan_is : (x : ExchangeParts) (place : ℕ) (decision : OrderDecision) (order : OrderParts) → numbered place x.orders ≡ Some order → order_answer x place decision ≡ Ok (reported x place (stepped decision.split decision.step order) decision.kind)
+plan_is x place decision order there = rw there refl
 
-pub fit_for : (x : ExchangeParts) (place : ℕ) (plan : Plan) (order : OrderParts) → numbered place x.orders ≡ Some order → IfOk (plan_answer x place plan) IsFit → IsFit (reported x place (stepped plan.split plan.step order) plan.kind)
-fit_for x place plan order there fit = subst (λ r. IfOk r IsFit) (plan_is x place plan order there) fit
+pub fit_for : (x : ExchangeParts) (place : ℕ) (decision : OrderDecision) (order : OrderParts) → numbered place x.orders ≡ Some order → IfOk (order_answer x place decision) IsFit → IsFit (reported x place (stepped decision.split decision.step order) decision.kind)
+fit_for x place decision order there fit = subst (λ r. IfOk r IsFit) (plan_is x place decision order there) fit
 
-pub after_is : (x : ExchangeParts) (place : ℕ) (plan : Plan) (order : OrderParts) (entry : Own) → numbered place x.orders ≡ Some order → entry ≡ Reported (next_report x (stepped plan.split plan.step order) plan.kind) (view_of place (stepped plan.split plan.step order)) → after_step x place plan.split plan.step entry ≡ (reported x place (stepped plan.split plan.step order) plan.kind).1
-after_is x place plan order entry there is = rw (is, there) refl
+pub after_is : (x : ExchangeParts) (place : ℕ) (decision : OrderDecision) (order : OrderParts) (entry : SentRecord) → numbered place x.orders ≡ Some order → entry ≡ Reported (next_report x (stepped decision.split decision.step order) decision.kind) (view_of place (stepped decision.split decision.step order)) → after_step x place decision.split decision.step entry ≡ (reported x place (stepped decision.split decision.step order) decision.kind).1
+after_is x place decision order entry there is = rw (is, there) refl
 
 -- the report on an order after a step, and the order as it is then
 abbrev pub view_at : ℕ → OrderParts → SplitParts → OrderViewParts
@@ -150,7 +150,7 @@ pub record IsMade (x : ExchangeParts) (place : ℕ) (order : OrderParts) (kind :
 
 pub made_by : (x : ExchangeParts) (place : ℕ) (order old : OrderParts) (kind : ReportKind) → IsSound x → numbered place x.orders ≡ Some old → IsSound (reported x place order kind).1 → IsMade x place order kind
 made_by x place order old kind before there sound =
-    let entry : Own = Reported (next_report x order kind) (view_of place order) in
+    let entry : SentRecord = Reported (next_report x order kind) (view_of place order) in
     let numbers = sound.numbered in
     let limit = sound.config.max_number in
     let longer = length-append x.own (entry ∷ []) in
@@ -175,15 +175,15 @@ pub within_view : (x : ExchangeParts) (place : ℕ) (split : SplitParts) (step :
 within_view x place split step order kind made =
     subst (λ (v : OrderViewParts). v.cum + v.leaves ≤ v.leg.terms.shares) (view_stepped place split step order) made.beside.view_in_range.within
 
--- the report of a plan was written and kept
-pub report_given : (w : Encoding) (stamp : StampParts) (x : ExchangeParts) (place : ℕ) (plan : Plan) (order : OrderParts) (frame : Option (Vec ℕ)) (now : ExchangeParts) (report : Report) (view : OrderViewParts) → numbered place x.orders ≡ Some order → report ≡ report_on x order plan.kind → view ≡ view_at place order plan.split → AreFramed w stamp (while_live x.live (execution_report x.config (next_own_number x.own) false report view ∷ [])) (bytes_of (option_to_list frame)) → now ≡ after_step x place plan.split plan.step (Reported report view) → ActGives w stamp x (answered x (plan_answer x place plan)) (Ok frame) now
-report_given w stamp x place plan order frame now report view there report_is view_is framed now_is =
-    let after : OrderParts = stepped plan.split plan.step order in
-    let report_same : report ≡ next_report x after plan.kind = report_is ∙ sym (report_stepped x plan.split plan.step order plan.kind) in
-    let view_same : view ≡ view_of place after = view_is ∙ sym (view_stepped place plan.split plan.step order) in
-    let entry : Reported report view ≡ Reported (next_report x after plan.kind) (view_of place after) = cc (report_same, view_same) in
-    subst (λ r. ActGives w stamp x (answered x r) (Ok frame) now) (sym (plan_is x place plan order there)) (
+-- the report of a decision was written and kept
+pub report_given : (w : Encoding) (stamp : StampParts) (x : ExchangeParts) (place : ℕ) (decision : OrderDecision) (order : OrderParts) (frame : Option (Vec ℕ)) (now : ExchangeParts) (report : Report) (view : OrderViewParts) → numbered place x.orders ≡ Some order → report ≡ report_on x order decision.kind → view ≡ view_at place order decision.split → AreFramed w stamp (while_live x.live (execution_report x.config (next_own_number x.own) false report view ∷ [])) (bytes_of (option_to_list frame)) → now ≡ after_step x place decision.split decision.step (Reported report view) → ActGives w stamp x (answered x (order_answer x place decision)) (Ok frame) now
+report_given w stamp x place decision order frame now report view there report_is view_is framed now_is =
+    let after : OrderParts = stepped decision.split decision.step order in
+    let report_same : report ≡ next_report x after decision.kind = report_is ∙ sym (report_stepped x decision.split decision.step order decision.kind) in
+    let view_same : view ≡ view_of place after = view_is ∙ sym (view_stepped place decision.split decision.step order) in
+    let entry : Reported report view ≡ Reported (next_report x after decision.kind) (view_of place after) = cc (report_same, view_same) in
+    subst (λ r. ActGives w stamp x (answered x r) (Ok frame) now) (sym (plan_is x place decision order there)) (
       subst (λ r. AreFramed w stamp (while_live x.live (execution_report x.config (next_own_number x.own) false r (view_of place after) ∷ [])) (bytes_of (option_to_list frame))) report_same
           (subst (λ v. AreFramed w stamp (while_live x.live (execution_report x.config (next_own_number x.own) false report v ∷ [])) (bytes_of (option_to_list frame))) view_same framed),
-      now_is ∙ after_is x place plan order (Reported report view) there entry,
+      now_is ∙ after_is x place decision order (Reported report view) there entry,
     )

@@ -14,14 +14,14 @@ use Rattle.dialect.specs.declared.content.Content.TheVariants.{Session}
 use Rattle.fix_tags.specs.declared.session_body.SessionBody.TheVariants.{GapFill, Reject}
 use Rattle.dialect.specs.declared.outgoing.Outgoing.{Outgoing}
 use Rattle.exchange_core.specs.Acceptance.{Carried, RuleState, MayWrite}
-use Rattle.exchange_core.specs.declared.own.Own.{Own}
-use Rattle.exchange_core.specs.declared.own.Own.TheVariants.{Admin, Reported, Refused}
-use Rattle.exchange_core.specs.Own.{execution_report, again, closing_fill, run_from, resent, resent_answer}
+use Rattle.exchange_core.specs.declared.sent_record.SentRecord.{SentRecord}
+use Rattle.exchange_core.specs.declared.sent_record.SentRecord.TheVariants.{Admin, Reported, Refused}
+use Rattle.exchange_core.specs.SentRecord.{execution_report, again, closing_fill, run_from, resent, resent_answer}
 use Rattle.exchange_core.specs.Keeping.{kept, written_in}
 use Rattle.exchange_core.proofs.Entries.{chosen, numbered-seam}
 
 -- the own numbers from this one on carry what these entries do
-abbrev pub AreFrom : List (Option Content) → ℕ → List Own → Type 0
+abbrev pub AreFrom : List (Option Content) → ℕ → List SentRecord → Type 0
 AreFrom own number [] = Unit {0}
 AreFrom own number (entry ∷ entries) = (numbered number own ≡ Some (kept entry)) × AreFrom own (suc number) entries
 
@@ -81,7 +81,7 @@ module _ (s : RuleState) (coming : Option Carried) (t : RuleState) (connection :
       (closing_written run number is)
       (All-cons (MayWrite s coming t) (written_in connection out) (map (written_in connection) more) (again_written out here) rest))
 
-  pub resent_written : (run : Option ℕ) (number : ℕ) (entries : List Own) → IsRun t.own run number → AreFrom t.own number entries → All (MayWrite s coming t) (map (written_in connection) (resent config run number entries))
+  pub resent_written : (run : Option ℕ) (number : ℕ) (entries : List SentRecord) → IsRun t.own run number → AreFrom t.own number entries → All (MayWrite s coming t) (map (written_in connection) (resent config run number entries))
   resent_written run number [] is are = closing_written run number is
   resent_written run number (Admin ∷ entries) is are = resent_written (Some (run_from run number)) (suc number) entries (longer run number is are.0) are.1
   resent_written run number (Reported report view ∷ entries) is are =
@@ -90,7 +90,7 @@ module _ (s : RuleState) (coming : Option Carried) (t : RuleState) (connection :
       closed_then run number (again config number (Session (Reject refused))) (resent config None (suc number) entries) is are.0 (resent_written None (suc number) entries tt are.1)
 
 -- the entries behind some others
-pub are_from : (front entries back : List Own) → AreFrom (map kept (front ++ (entries ++ back))) (suc (length front)) entries
+pub are_from : (front entries back : List SentRecord) → AreFrom (map kept (front ++ (entries ++ back))) (suc (length front)) entries
 are_from front [] back = tt
 are_from front (entry ∷ entries) back =
     let more : AreFrom (map kept (front ++ entry ∷ [] ++ (entries ++ back))) (suc (length (front ++ entry ∷ []))) entries = are_from (front ++ entry ∷ []) entries back in
@@ -99,7 +99,7 @@ are_from front (entry ∷ entries) back =
     (numbered-seam kept front entry (entries ++ back), rw (shape, size) at more)
 
 -- a list in three parts, and more behind it
-parts_of : (start end : ℕ) (own extra : List Own) → take start (take end own) ++ (drop start (take end own) ++ (drop end own ++ extra)) ≡ own ++ extra
+parts_of : (start end : ℕ) (own extra : List SentRecord) → take start (take end own) ++ (drop start (take end own) ++ (drop end own ++ extra)) ≡ own ++ extra
 parts_of start end own extra =
     sym (append_assoc (take start (take end own)) (drop start (take end own)) (drop end own ++ extra))
     ∙ ap (λ front. front ++ (drop end own ++ extra)) (take-append-drop start (take end own))
@@ -107,7 +107,7 @@ parts_of start end own extra =
     ∙ ap (λ front. front ++ extra) (take-append-drop end own)
 
 -- a range of own numbers, where more may be behind them
-in_range : (begin end : ℕ) (own extra : List Own) → 1 ≤ begin → begin ≤ end → begin ≤ length own → AreFrom (map kept (own ++ extra)) begin (drop (begin - 1) (take end own))
+in_range : (begin end : ℕ) (own extra : List SentRecord) → 1 ≤ begin → begin ≤ end → begin ≤ length own → AreFrom (map kept (own ++ extra)) begin (drop (begin - 1) (take end own))
 in_range begin end own extra low high within =
     let start : ℕ = begin - 1 in
     let size : suc (length (take start (take end own))) ≡ begin = omega (arith, length-take start (take end own), length-take end own) in
@@ -119,7 +119,7 @@ end_of sent begin last true is within either = within
 end_of sent begin last false is within either = let ask : begin ≤ last = grind (arith, nat_tests) in omega arith
 
 -- what a request is answered with, after which own numbers may have been added
-pub answer_written : (s : RuleState) (coming : Option Carried) (t : RuleState) (connection : ℕ) → 1 ≤ connection → connection ≤ t.intake.last → (config : ConfigParts) (own extra : List Own) (begin last : ℕ) → t.own ≡ map kept (own ++ extra) → All (MayWrite s coming t) (map (written_in connection) (resent_answer config own begin last))
+pub answer_written : (s : RuleState) (coming : Option Carried) (t : RuleState) (connection : ℕ) → 1 ≤ connection → connection ≤ t.intake.last → (config : ConfigParts) (own extra : List SentRecord) (begin last : ℕ) → t.own ≡ map kept (own ++ extra) → All (MayWrite s coming t) (map (written_in connection) (resent_answer config own begin last))
 answer_written s coming t connection from to config own extra begin last grown =
     chosen (λ messages. All (MayWrite s coming t) (map (written_in connection) messages)) (is_range (length own) begin last) (resent config None begin (drop (begin - 1) (take (range_end (length own) last) own))) []
     (λ is.

@@ -7,7 +7,7 @@ use Rattle.dialect.specs.declared.content.Content.{Content}
 use Rattle.dialect.specs.declared.content.Content.TheVariants.{Session, Order}
 use Rattle.fix_tags.specs.declared.session_body.SessionBody.TheVariants.{TestRequest, GapFill, Logout}
 use Rattle.dialect.specs.declared.message.Message.{Message}
-use Rattle.exchange_core.specs.Own.{next_own_number}
+use Rattle.exchange_core.specs.SentRecord.{next_own_number}
 use Rattle.exchange_core.specs.declared.live_connection.LiveConnection.{LiveConnection}
 use Rattle.exchange_core.specs.Exchange.{ExchangeParts, live_connection, passed_by, logon_taken, logon_answer, with_connection, due_taken, asks, take}
 use Rattle.exchange_core.specs.Keeping.{IsLastLive, IsExchangeLater, IsExpectable, IsFillInRange, IsInRange, OwnNumbersFit}

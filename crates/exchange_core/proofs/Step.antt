@@ -6,9 +6,9 @@ use Rattle.std.proofs.lemmas.List.Elements.{All-nil, All-cons}
 use Rattle.leg.specs.Numbered.{numbered}
 use Rattle.dialect.specs.declared.content.Content.{Content}
 use Rattle.exchange_core.specs.Acceptance.{Carried, MayMove, MayAnswer, MayRefuse, MayRefuseOther, MayKeep, MaySay, MayWrite, May}
-use Rattle.exchange_core.specs.declared.own.Own.{Own}
-use Rattle.exchange_core.specs.declared.own.Own.TheVariants.{Admin}
-use Rattle.exchange_core.specs.Own.{next_own_number}
+use Rattle.exchange_core.specs.declared.sent_record.SentRecord.{SentRecord}
+use Rattle.exchange_core.specs.declared.sent_record.SentRecord.TheVariants.{Admin}
+use Rattle.exchange_core.specs.SentRecord.{next_own_number}
 use Rattle.exchange_core.specs.Exchange.{ExchangeParts}
 use Rattle.exchange_core.specs.Keeping.{kept, intake_of, rule_state}
 use Rattle.exchange_core.proofs.Entries.{numbered-seam, numbered-second}
@@ -29,17 +29,17 @@ abbrev pub in_connection : ℕ → ℕ → Content → Carried
 in_connection connection number content = record { connection = connection; number = number; content = content }
 
 -- what may be said under the next number, by what the number is kept for
-abbrev pub MaySayNext : ExchangeParts → Option Carried → ExchangeParts → Own → Content → Type 0
+abbrev pub MaySayNext : ExchangeParts → Option Carried → ExchangeParts → SentRecord → Content → Type 0
 MaySayNext x coming y entry said =
     (kept entry ≡ Some said)
     ⊎ ((kept entry ≡ None) × MaySay (rule_state x) coming (rule_state y) (next_own_number x.own) said)
 
-content_next : (x y : ExchangeParts) (coming : Option Carried) (entry : Own) (said : Content) (there : numbered (next_own_number x.own) (map kept y.own) ≡ Some (kept entry)) → MaySayNext x coming y entry said → (numbered (next_own_number x.own) (map kept y.own) ≡ Some (Some said)) ⊎ ((numbered (next_own_number x.own) (map kept y.own) ≡ Some None) × MaySay (rule_state x) coming (rule_state y) (next_own_number x.own) said)
+content_next : (x y : ExchangeParts) (coming : Option Carried) (entry : SentRecord) (said : Content) (there : numbered (next_own_number x.own) (map kept y.own) ≡ Some (kept entry)) → MaySayNext x coming y entry said → (numbered (next_own_number x.own) (map kept y.own) ≡ Some (Some said)) ⊎ ((numbered (next_own_number x.own) (map kept y.own) ≡ Some None) × MaySay (rule_state x) coming (rule_state y) (next_own_number x.own) said)
 content_next x y coming entry said there (inl is) = inl (rw there (rw is refl))
 content_next x y coming entry said there (inr says) = inr (rw there (rw says.0 refl), says.1)
 
 -- a step that uses the next number, whether or not it writes under it
-pub kept_next : (x y : ExchangeParts) (coming : Option Carried) (entry : Own) (written : List Carried) → MayMove (intake_of x) coming (intake_of y) → y.own ≡ x.own ++ entry ∷ [] → MayKeep (rule_state x) coming (rule_state y) (kept entry) → All (MayWrite (rule_state x) coming (rule_state y)) written → May (rule_state x) coming (rule_state y) written
+pub kept_next : (x y : ExchangeParts) (coming : Option Carried) (entry : SentRecord) (written : List Carried) → MayMove (intake_of x) coming (intake_of y) → y.own ≡ x.own ++ entry ∷ [] → MayKeep (rule_state x) coming (rule_state y) (kept entry) → All (MayWrite (rule_state x) coming (rule_state y)) written → May (rule_state x) coming (rule_state y) written
 kept_next x y coming entry written moves own keeps writes = record {
   moves = moves;
   tests = All-nil (MayAnswer (rule_state x) coming (rule_state y));
@@ -54,7 +54,7 @@ kept_next x y coming entry written moves own keeps writes = record {
 }
 
 -- a message under the next number
-pub written_next : (x y : ExchangeParts) (coming : Option Carried) (entry : Own) (connection : ℕ) (said : Content) → y.own ≡ x.own ++ entry ∷ [] → 1 ≤ connection → connection ≤ y.last → MaySayNext x coming y entry said → All (MayWrite (rule_state x) coming (rule_state y)) (in_connection connection (next_own_number x.own) said ∷ [])
+pub written_next : (x y : ExchangeParts) (coming : Option Carried) (entry : SentRecord) (connection : ℕ) (said : Content) → y.own ≡ x.own ++ entry ∷ [] → 1 ≤ connection → connection ≤ y.last → MaySayNext x coming y entry said → All (MayWrite (rule_state x) coming (rule_state y)) (in_connection connection (next_own_number x.own) said ∷ [])
 written_next x y coming entry connection said own from to says =
     let there : numbered (next_own_number x.own) (map kept y.own) ≡ Some (kept entry) = rw own (numbered-seam kept x.own entry []) in
     All-cons (MayWrite (rule_state x) coming (rule_state y)) (in_connection connection (next_own_number x.own) said) []
@@ -62,7 +62,7 @@ written_next x y coming entry connection said own from to says =
     (All-nil (MayWrite (rule_state x) coming (rule_state y)))
 
 -- a step that writes one message under the next number
-pub one : (x y : ExchangeParts) (coming : Option Carried) (entry : Own) (connection : ℕ) (said : Content) → MayMove (intake_of x) coming (intake_of y) → y.own ≡ x.own ++ entry ∷ [] → MayKeep (rule_state x) coming (rule_state y) (kept entry) → 1 ≤ connection → connection ≤ y.last → MaySayNext x coming y entry said → May (rule_state x) coming (rule_state y) (in_connection connection (next_own_number x.own) said ∷ [])
+pub one : (x y : ExchangeParts) (coming : Option Carried) (entry : SentRecord) (connection : ℕ) (said : Content) → MayMove (intake_of x) coming (intake_of y) → y.own ≡ x.own ++ entry ∷ [] → MayKeep (rule_state x) coming (rule_state y) (kept entry) → 1 ≤ connection → connection ≤ y.last → MaySayNext x coming y entry said → May (rule_state x) coming (rule_state y) (in_connection connection (next_own_number x.own) said ∷ [])
 one x y coming entry connection said moves own keeps from to says =
     kept_next x y coming entry (in_connection connection (next_own_number x.own) said ∷ []) moves own keeps (written_next x y coming entry connection said own from to says)
 

@@ -15,8 +15,8 @@ use Rattle.dialect.specs.declared.outgoing.Outgoing.{Outgoing}
 use Rattle.exchange_core.specs.Acceptance.{Carried, Intake, RuleState, IsDue, IsOther, Takes, MayMove, Took, MayWrite, May, IsLast}
 use Rattle.exchange_core.specs.Acceptance as rules
 use Rattle.exchange_core.specs.Order.{OrderParts, new_order, view_of}
-use Rattle.exchange_core.specs.declared.own.Own.{Own}
-use Rattle.exchange_core.specs.declared.own.Own.TheVariants.{Admin, Reported, Refused}
+use Rattle.exchange_core.specs.declared.sent_record.SentRecord.{SentRecord}
+use Rattle.exchange_core.specs.declared.sent_record.SentRecord.TheVariants.{Admin, Reported, Refused}
 use Rattle.exchange_core.specs.declared.live_connection.LiveConnection.{LiveConnection}
 use Rattle.exchange_core.specs.Exchange.{ExchangeParts, Answer, live_connection, next_report, request, passed_by, with_connection, with_logon, with_logon_and_request, logon_answer, logon_taken, expecting_next, order_taken, order_refused, logout_taken, test_taken, due_taken, asks, by_number, resends, received, take, accepted_by}
 use Rattle.exchange_core.specs.Keeping.{kept, intake_of, rule_state, carried, written_in, into, IsLastLive, IsExchangeLater}
@@ -80,7 +80,7 @@ module _ (x : ExchangeParts) (connection number : ℕ) (live : live_connection x
       let coming : Option Carried = Some (in_connection connection number content) in
       let y : ExchangeParts = (order_taken x leg).1 in
       let report = next_report x (new_order leg) New in
-      let entry : Own = Reported report (view_of (suc (length x.orders)) (new_order leg)) in
+      let entry : SentRecord = Reported report (view_of (suc (length x.orders)) (new_order leg)) in
       let legs : accepted_by y ≡ accepted_by x ++ leg ∷ [] = map-append (λ (order : OrderParts). order.leg) x.orders (new_order leg ∷ []) in
       let accepts : intake_of y ≡ record (intake_of x) { expected = suc x.expected; accepted = accepted_by x ++ leg ∷ [] } = ap (λ ls. let i : Intake = record (intake_of x) { expected = suc x.expected; accepted = ls } in i) legs in
       one x y coming entry connection (ExecutionReport (Ok report)) (moved content (intake_of y) (rules.order (is_due content) leg refl accepts)) refl
@@ -119,7 +119,7 @@ module _ (x : ExchangeParts) (connection number : ℕ) (live : LiveConnection) (
       (asks_keeps content)
 
 -- what a request is answered with, after own numbers were used
-resends_written : (x y : ExchangeParts) (coming : Option Carried) (connection : ℕ) (content : Content) → 1 ≤ connection → connection ≤ y.last → (more : List Own) → y.own ≡ x.own ++ more → All (MayWrite (rule_state x) coming (rule_state y)) (map (written_in connection) (resends x content))
+resends_written : (x y : ExchangeParts) (coming : Option Carried) (connection : ℕ) (content : Content) → 1 ≤ connection → connection ≤ y.last → (more : List SentRecord) → y.own ≡ x.own ++ more → All (MayWrite (rule_state x) coming (rule_state y)) (map (written_in connection) (resends x content))
 resends_written x y coming connection (Session (ResendRequest begin last)) from to more own =
     answer_written (rule_state x) coming (rule_state y) connection from to x.config x.own more begin last (ap (map kept) own)
 resends_written x y coming connection content from to more own = All-nil (MayWrite (rule_state x) coming (rule_state y))

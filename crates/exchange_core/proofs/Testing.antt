@@ -8,7 +8,7 @@ use Rattle.dialect.specs.Framed.{IsFramed}
 use Rattle.dialect.specs.Wording.{Encoding}
 use Rattle.dialect.specs.Writable.{IsWritable}
 use Rattle.exchange_core.specs.Acts.{test_id, tested, test}
-use Rattle.exchange_core.specs.Own.{has_numbers, next_own_number}
+use Rattle.exchange_core.specs.SentRecord.{has_numbers, next_own_number}
 use Rattle.exchange_core.specs.declared.live_connection.LiveConnection.{LiveConnection}
 use Rattle.exchange_core.specs.Exchange.{ExchangeParts, next_message}
 use Rattle.exchange_core.specs.Sound.{IsSound}

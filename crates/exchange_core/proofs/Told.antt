@@ -24,9 +24,9 @@ use Rattle.exchange_core.specs.declared.exchange_fault.ExchangeFault.{ExchangeFa
 use Rattle.exchange_core.specs.declared.exchange_fault.ExchangeFault.TheVariants.{TooManyShares, Done, NotCancelled, NoSuchTrade}
 use Rattle.exchange_core.specs.declared.ending.Ending.TheVariants.{ByCancel, ByReject}
 use Rattle.exchange_core.specs.Order.{OrderParts, TradeParts, new_order, order_id, traded, ended_by, busted_at, is_cancelled, view_of}
-use Rattle.exchange_core.specs.declared.own.Own.{Own}
-use Rattle.exchange_core.specs.declared.own.Own.TheVariants.{Admin, Reported, Refused}
-use Rattle.exchange_core.specs.Own.{next_exec, exec_id}
+use Rattle.exchange_core.specs.declared.sent_record.SentRecord.{SentRecord}
+use Rattle.exchange_core.specs.declared.sent_record.SentRecord.TheVariants.{Admin, Reported, Refused}
+use Rattle.exchange_core.specs.SentRecord.{next_exec, exec_id}
 use Rattle.exchange_core.specs.Exchange.{ExchangeParts, Answer, next_report, logon_answer, with_connection, due_taken, take}
 use Rattle.exchange_core.specs.Acts.{reported, order_at, still_going, trade_at, number_left, trade_answer, trade, end_answer, cancel_rest, reject, bust_answer, bust, test}
 use Rattle.exchange_core.specs.Sound.{IsSound}
@@ -52,7 +52,7 @@ if_both : (b : Bool) (told : Told) (xs ys : List Told) → (if b then told ∷ x
 if_both true told xs ys = refl
 if_both false told xs ys = refl
 
-told-append : (place : ℕ) (xs ys : List Own) → told_of place (xs ++ ys) ≡ told_of place xs ++ told_of place ys
+told-append : (place : ℕ) (xs ys : List SentRecord) → told_of place (xs ++ ys) ≡ told_of place xs ++ told_of place ys
 told-append place [] ys = refl
 told-append place (Admin ∷ xs) ys = told-append place xs ys
 told-append place (Refused number ∷ xs) ys = told-append place xs ys
@@ -61,20 +61,20 @@ told-append place (Reported report view ∷ xs) ys =
     ap (λ l. if bytes_eq view.order_id (order_id place) then told ∷ l else l) (told-append place xs ys)
     ∙ sym (if_both (bytes_eq view.order_id (order_id place)) told (told_of place xs) (told_of place ys))
 
-told_silent : (place : ℕ) (own more : List Own) → told_of place more ≡ [] → told_of place (own ++ more) ≡ told_of place own
+told_silent : (place : ℕ) (own more : List SentRecord) → told_of place more ≡ [] → told_of place (own ++ more) ≡ told_of place own
 told_silent place own more none =
     told-append place own more ∙ (ap (λ l. told_of place own ++ l) none ∙ append-nil (told_of place own))
 
-told_here : (place : ℕ) (own : List Own) (report : Report) (view : OrderViewParts) → view.order_id ≡ order_id place → told_of place (own ++ Reported report view ∷ []) ≡ told_of place own ++ record { kind = report.kind; view = view } ∷ []
+told_here : (place : ℕ) (own : List SentRecord) (report : Report) (view : OrderViewParts) → view.order_id ≡ order_id place → told_of place (own ++ Reported report view ∷ []) ≡ told_of place own ++ record { kind = report.kind; view = view } ∷ []
 told_here place own report view is =
     let here : bytes_eq view.order_id (order_id place) ≡ true = (bytes_eq-Decides view.order_id (order_id place)).1 is in
     told-append place own (Reported report view ∷ []) ∙ rw here refl
 
-told_elsewhere : (place : ℕ) (own : List Own) (report : Report) (view : OrderViewParts) → bytes_eq view.order_id (order_id place) ≡ false → told_of place (own ++ Reported report view ∷ []) ≡ told_of place own
+told_elsewhere : (place : ℕ) (own : List SentRecord) (report : Report) (view : OrderViewParts) → bytes_eq view.order_id (order_id place) ≡ false → told_of place (own ++ Reported report view ∷ []) ≡ told_of place own
 told_elsewhere place own report view other = told_silent place own (Reported report view ∷ []) (rw other refl)
 
 -- what holds where no report is made
-unreported : (own more : List Own) (orders : List OrderParts) → ((place : ℕ) → told_of place more ≡ []) → AreToldBy own orders → AreToldBy (own ++ more) orders
+unreported : (own more : List SentRecord) (orders : List OrderParts) → ((place : ℕ) → told_of place more ≡ []) → AreToldBy own orders → AreToldBy (own ++ more) orders
 unreported own more orders none told = record {
   each = λ place order there. subst (AreReportsOn place order) (sym (told_silent place own more (none place))) (told.each place order there);
   others = λ place past small. told_silent place own more (none place) ∙ told.others place past small;

@@ -10,20 +10,20 @@ use Rattle.dialect.specs.declared.outgoing.Outgoing.{Outgoing}
 use Rattle.dialect.specs.declared.content.Content.{Content}
 use Rattle.dialect.specs.declared.content.Content.TheVariants.{Session, Order, ExecutionReport, Other}
 use Rattle.fix_tags.specs.declared.session_body.SessionBody.TheVariants.{Logon, Heartbeat, TestRequest, ResendRequest, Reject, GapFill, Reset, Logout, BusinessReject}
-use Rattle.exchange_core.specs.declared.own.Own.{Own}
+use Rattle.exchange_core.specs.declared.sent_record.SentRecord.{SentRecord}
 use Rattle.exchange_core.specs.declared.turn.Says.{Says}
 use Rattle.exchange_core.specs.declared.turn.Says.TheVariants.{Nothing, One, OneAndRequest}
 use Rattle.exchange_core.specs.declared.turn.Turn.{Turn}
 use Rattle.exchange_core.specs.Exchange.{ExchangeParts, next_message}
 use Rattle.exchange_core.specs.Frames.{Writes}
 use Rattle.exchange_core.specs.Kept.{reports_of}
-use Rattle.exchange_core.specs.Own.{next_own_number}
+use Rattle.exchange_core.specs.SentRecord.{next_own_number}
 use Rattle.exchange_core.specs.Turn.{turn_written, turn_own, turn_answer}
 use Rattle.exchange_core.proofs.Kept.{reports_silent, reports_silent_two, reports_refused}
 use Rattle.exchange_core.proofs.Writing.{writes_both}
 
 -- a turn reports nothing
-pub turn_silent : (own : List Own) (says : Says) → reports_of (turn_own own says) ≡ reports_of own
+pub turn_silent : (own : List SentRecord) (says : Says) → reports_of (turn_own own says) ≡ reports_of own
 turn_silent own Nothing = refl
 turn_silent own (One (Session (Logon heart reset next))) = reports_silent own
 turn_silent own (One (Session (Heartbeat id))) = reports_silent own
@@ -40,7 +40,7 @@ turn_silent own (One Other) = reports_silent own
 turn_silent own (OneAndRequest content) = reports_silent_two own
 
 -- the exchange stands as it says
-pub seen_turned : (x : ExchangeParts) (turn : Turn) (own : List Own) → own ≡ turn_own x.own turn.says → (let y : ExchangeParts = record x {
+pub seen_turned : (x : ExchangeParts) (turn : Turn) (own : List SentRecord) → own ≡ turn_own x.own turn.says → (let y : ExchangeParts = record x {
   expected = turn.expected;
   live = turn.live;
   last = turn.last;

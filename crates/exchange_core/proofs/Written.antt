@@ -22,9 +22,9 @@ use Rattle.dialect.specs.Writable.{IsReportBeside, IsWritableContent, IsWritable
 use Rattle.exchange_core.specs.declared.exchange_fault.ExchangeFault.{ExchangeFault}
 use Rattle.exchange_core.specs.declared.ending.Ending.TheVariants.{ByCancel, ByReject}
 use Rattle.exchange_core.specs.Order.{OrderParts, new_order, view_of}
-use Rattle.exchange_core.specs.declared.own.Own.{Own}
-use Rattle.exchange_core.specs.declared.own.Own.TheVariants.{Admin, Reported, Refused}
-use Rattle.exchange_core.specs.Own.{next_own_number, has_numbers, execution_report, again, closing_fill, run_from, resent, resent_answer}
+use Rattle.exchange_core.specs.declared.sent_record.SentRecord.{SentRecord}
+use Rattle.exchange_core.specs.declared.sent_record.SentRecord.TheVariants.{Admin, Reported, Refused}
+use Rattle.exchange_core.specs.SentRecord.{next_own_number, has_numbers, execution_report, again, closing_fill, run_from, resent, resent_answer}
 use Rattle.exchange_core.specs.declared.live_connection.LiveConnection.{LiveConnection}
 use Rattle.exchange_core.specs.Exchange.{ExchangeParts, Answer, next_report, next_execution_report, next_message, request, passed_by, with_connection, logon_answer, logon_taken, due_taken, asks, by_number, resends, received}
 use Rattle.exchange_core.specs.Exchange as exchange
@@ -69,7 +69,7 @@ closing_said config is None number to within = All-nil IsWritable
 closing_said config is (Some first) number to within =
     one_written (again config first (Session (GapFill number))) (said config first true (Session (GapFill number)) is within.0 (omega (arith, within.1, to)) to)
 
-resent_said : (config : ConfigParts) → IsConfig config → (run : Option ℕ) (number : ℕ) (entries : List Own) → 1 ≤ number → number + length entries ≤ 999_999_999 → IsRunWithin run number → AllByRecursion IsOwnSound entries → AreWritable (resent config run number entries)
+resent_said : (config : ConfigParts) → IsConfig config → (run : Option ℕ) (number : ℕ) (entries : List SentRecord) → 1 ≤ number → number + length entries ≤ 999_999_999 → IsRunWithin run number → AllByRecursion IsOwnSound entries → AreWritable (resent config run number entries)
 resent_said config is run number [] from to within all = closing_said config is run number (omega (arith, to)) within
 resent_said config is run number (Admin ∷ entries) from to within all =
     resent_said config is (Some (run_from run number)) (suc number) entries (omega arith) (omega (arith, to)) (longer_run run number from within) all.1
@@ -88,10 +88,10 @@ resent_said config is run number (Refused refused ∷ entries) from to within al
     (said config number true (Session (Reject refused)) is from (omega (arith, to)) all.0)
     (resent_said config is None (suc number) entries (omega arith) (omega (arith, to)) tt all.1))
 
-answer_said : (config : ConfigParts) → IsConfig config → (own : List Own) (begin last : ℕ) → next_own_number own ≤ config.max_number → AllByRecursion IsOwnSound own → AreWritable (resent_answer config own begin last)
+answer_said : (config : ConfigParts) → IsConfig config → (own : List SentRecord) (begin last : ℕ) → next_own_number own ≤ config.max_number → AllByRecursion IsOwnSound own → AreWritable (resent_answer config own begin last)
 answer_said config is own begin last fits all =
     let end : ℕ = range_end (length own) last in
-    let entries : List Own = drop (begin - 1) (take end own) in
+    let entries : List SentRecord = drop (begin - 1) (take end own) in
     chosen AreWritable (is_range (length own) begin last) (resent config None begin entries) []
     (λ asked.
     let parts = and_parts (nat_le 1 begin && nat_le begin (length own)) (last == 0 || nat_le begin last) asked in

@@ -13,9 +13,9 @@ use Rattle.exchange_core.specs.declared.exchange_fault.ExchangeFault.TheVariants
 use Rattle.exchange_core.specs.declared.ending.Ending.{Ending}
 use Rattle.exchange_core.specs.declared.ending.Ending.TheVariants.{ByCancel, ByReject}
 use Rattle.exchange_core.specs.Order.{OrderParts, TradeParts, traded, ended_by, busted_at, is_cancelled, view_of}
-use Rattle.exchange_core.specs.declared.own.Own.{Own}
-use Rattle.exchange_core.specs.declared.own.Own.TheVariants.{Admin, Reported}
-use Rattle.exchange_core.specs.Own.{next_own_number, has_numbers, next_exec, exec_id}
+use Rattle.exchange_core.specs.declared.sent_record.SentRecord.{SentRecord}
+use Rattle.exchange_core.specs.declared.sent_record.SentRecord.TheVariants.{Admin, Reported}
+use Rattle.exchange_core.specs.SentRecord.{next_own_number, has_numbers, next_exec, exec_id}
 use Rattle.exchange_core.specs.declared.live_connection.LiveConnection.{LiveConnection}
 use Rattle.exchange_core.specs.Exchange.{ExchangeParts, Answer, next_report, next_execution_report, next_message}
 
@@ -36,7 +36,7 @@ while_live (Some live) messages = messages
 -- a report on the order at a place, which is now this one; the report is kept whether or not it is written
 abbrev pub reported : ExchangeParts → ℕ → OrderParts → ReportKind → Answer
 reported x place order kind =
-    let entry : Own = Reported (next_report x order kind) (view_of place order) in (
+    let entry : SentRecord = Reported (next_report x order kind) (view_of place order) in (
       while_live x.live (next_execution_report x place order kind ∷ []),
       record x { orders = with_numbered place order x.orders; own = x.own ++ entry ∷ [] },
     )

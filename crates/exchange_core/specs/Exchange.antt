@@ -14,9 +14,9 @@ use Rattle.dialect.specs.declared.message.Message.{Message}
 use Rattle.dialect.specs.declared.outgoing.Outgoing.{Outgoing}
 use Rattle.dialect.specs.Outgoing.{alone}
 use Rattle.exchange_core.specs.Order.{OrderParts, new_order, view_of}
-use Rattle.exchange_core.specs.declared.own.Own.{Own}
-use Rattle.exchange_core.specs.declared.own.Own.TheVariants.{Admin, Reported, Refused}
-use Rattle.exchange_core.specs.Own.{next_own_number, has_numbers, next_exec, exec_id, execution_report, resent_answer}
+use Rattle.exchange_core.specs.declared.sent_record.SentRecord.{SentRecord}
+use Rattle.exchange_core.specs.declared.sent_record.SentRecord.TheVariants.{Admin, Reported, Refused}
+use Rattle.exchange_core.specs.SentRecord.{next_own_number, has_numbers, next_exec, exec_id, execution_report, resent_answer}
 use Rattle.exchange_core.specs.declared.live_connection.LiveConnection.{LiveConnection}
 
 pub record ExchangeParts : Type 0 where
@@ -31,7 +31,7 @@ pub record ExchangeParts : Type 0 where
   -- how many they were when a Logout was taken, if one was
   pub closed_at : Option ℕ
   -- what the own numbers were used for
-  pub own : List Own
+  pub own : List SentRecord
 
 -- before anything came
 abbrev pub new_exchange : ConfigParts → ExchangeParts
@@ -115,7 +115,7 @@ abbrev pub order_taken : ExchangeParts → Leg → Answer
 order_taken x leg =
     let order : OrderParts = new_order leg in
     let place : ℕ = suc (length x.orders) in
-    let entry : Own = Reported (next_report x order New) (view_of place order) in (
+    let entry : SentRecord = Reported (next_report x order New) (view_of place order) in (
       next_execution_report x place order New ∷ [],
       record (expecting_next x) { orders = x.orders ++ order ∷ []; own = x.own ++ entry ∷ [] },
     )

@@ -23,7 +23,7 @@ bytes_of frames = map (λ (frame : Vec ℕ). frame.items) frames
 abbrev pub ActResult : Type 0
 ActResult = Result (Option (Vec ℕ)) ExchangeFault
 
--- what an act gives: its refusal; or the frame of what is written, if anything is; or want of memory, where it would
+-- what an act gives: its refusal; or the frame of what is written, if anything is; or out of memory, where it would
 -- not have been refused, and the exchange as it was
 abbrev pub ActGives : Encoding → StampParts → ExchangeParts → ActAnswer → ActResult → ExchangeParts → Type 0
 ActGives w stamp before (Err fault, after) answer now = (answer ≡ Err fault) × (now ≡ after)
@@ -41,7 +41,7 @@ pub record Writes (w : Encoding) (stamp : StampParts) (written : List Outgoing) 
 abbrev pub TakeResult : Type 0
 TakeResult = Result (Vec (Vec ℕ)) ExchangeFault
 
--- what is given for it: the frames of what is written; or want of memory, and the exchange as it was
+-- what is given for it: the frames of what is written; or out of memory, and the exchange as it was
 abbrev pub TakeGives : Encoding → StampParts → ExchangeParts → Answer → TakeResult → ExchangeParts → Type 0
 TakeGives w stamp before (written, after) (Ok frames) now =
     AreFramed w stamp written (bytes_of frames.items) × (now ≡ after)

@@ -7,14 +7,14 @@ use Rattle.fix_tags.specs.declared.session_body.SessionBody.TheVariants.{Reject,
 use Rattle.dialect.specs.declared.message.Message.{Message}
 use Rattle.dialect.specs.declared.outgoing.Outgoing.{Outgoing}
 use Rattle.exchange_core.specs.Acceptance.{Carried, Intake, RuleState, LiveIsLast, May}
-use Rattle.exchange_core.specs.declared.own.Own.{Own}
-use Rattle.exchange_core.specs.declared.own.Own.TheVariants.{Admin, Reported, Refused}
-use Rattle.exchange_core.specs.Own.{next_own_number, exec_id}
+use Rattle.exchange_core.specs.declared.sent_record.SentRecord.{SentRecord}
+use Rattle.exchange_core.specs.declared.sent_record.SentRecord.TheVariants.{Admin, Reported, Refused}
+use Rattle.exchange_core.specs.SentRecord.{next_own_number, exec_id}
 use Rattle.exchange_core.specs.Exchange.{ExchangeParts, Answer, accepted_by, live_connection}
 use Rattle.exchange_core.specs.Acts.{ActAnswer}
 
 -- the report or the refusal that an own number carries, if it carries one
-abbrev pub kept : Own → Option Content
+abbrev pub kept : SentRecord → Option Content
 kept Admin = None
 kept (Reported report view) = Some (ExecutionReport (Ok report))
 kept (Refused number) = Some (Session (Reject number))
@@ -57,7 +57,7 @@ pub record IsExchangeLater (x y : ExchangeParts) : Type 0 where
   pub expected : x.expected ≤ y.expected
   pub last : x.last ≤ y.last
   pub accepted : Grew (accepted_by x) (accepted_by y)
-  pub own : (more : List Own) × (y.own ≡ x.own ++ more) × (length more ≤ 2)
+  pub own : (more : List SentRecord) × (y.own ≡ x.own ++ more) × (length more ≤ 2)
 
 -- every own number used is below the one that no message may have
 abbrev pub OwnNumbersFit : ExchangeParts → Type 0
@@ -111,7 +111,7 @@ pub record IsInRange (m : Message) : Type 0 where
   pub fill : IsFillInRange m.content
 
 -- each report has the ExecID of its place among the reports, of which there were so many before
-abbrev pub AreCounted : ℕ → List Own → Type 0
+abbrev pub AreCounted : ℕ → List SentRecord → Type 0
 AreCounted count [] = Unit {0}
 AreCounted count (Reported report view ∷ own) = (report.exec ≡ exec_id (suc count)) × AreCounted (suc count) own
 AreCounted count (entry ∷ own) = AreCounted count own

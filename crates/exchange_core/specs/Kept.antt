@@ -2,8 +2,8 @@
 use Rattle.std.specs.Prelude.{◌≡◌, List, [], ◌∷◌}
 use Rattle.dialect.specs.declared.report.Report.{Report}
 use Rattle.exchange_core.specs.declared.exchange.Exchange.TheInside.{Inside}
-use Rattle.exchange_core.specs.declared.own.Own.{Own}
-use Rattle.exchange_core.specs.declared.own.Own.TheVariants.{Reported}
+use Rattle.exchange_core.specs.declared.sent_record.SentRecord.{SentRecord}
+use Rattle.exchange_core.specs.declared.sent_record.SentRecord.TheVariants.{Reported}
 use Rattle.exchange_core.specs.Exchange.{ExchangeParts, accepted_by}
 use Rattle.exchange_core.specs.Sound.{IsSound}
 
@@ -20,7 +20,7 @@ exchange_seen x = record {
 }
 
 -- the reports among what own numbers were used for
-abbrev pub reports_of : List Own → List Report
+abbrev pub reports_of : List SentRecord → List Report
 reports_of [] = []
 reports_of (Reported report view ∷ own) = report ∷ reports_of own
 reports_of (entry ∷ own) = reports_of own

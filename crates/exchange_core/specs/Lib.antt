@@ -3,10 +3,10 @@ pub mod Acceptance
 pub mod Keeping
 -- Our exchange and its calls.
 pub mod Order
-pub mod Own
+pub mod SentRecord
 pub mod Exchange
 pub mod Acts
-pub mod Plan
+pub mod OrderDecision
 pub mod Resending
 -- What a call hands its caller.
 pub mod Turn

@@ -10,8 +10,8 @@ use Rattle.fix_tags.specs.declared.session_body.SessionBody.TheVariants.{Logon, 
 use Rattle.dialect.specs.declared.message.Message.{Message}
 use Rattle.dialect.specs.Writable.{IsReference, IsReportBeside}
 use Rattle.exchange_core.specs.Order.{OrderParts, TradeParts}
-use Rattle.exchange_core.specs.declared.own.Own.{Own}
-use Rattle.exchange_core.specs.declared.own.Own.TheVariants.{Admin, Reported, Refused}
+use Rattle.exchange_core.specs.declared.sent_record.SentRecord.{SentRecord}
+use Rattle.exchange_core.specs.declared.sent_record.SentRecord.TheVariants.{Admin, Reported, Refused}
 use Rattle.exchange_core.specs.Exchange.{ExchangeParts}
 use Rattle.exchange_core.specs.Keeping.{IsLastLive, OwnNumbersFit, IsExpectable, IsInRange}
 use Rattle.exchange_core.specs.Shares.{SharesAddUp}
@@ -38,7 +38,7 @@ pub record IsOrderSound (order : OrderParts) : Type 0 where
   pub trades : AllByRecursion IsTradeSound order.trades
 
 -- what is kept under an own number can be written again
-abbrev pub IsOwnSound : Own → Type 0
+abbrev pub IsOwnSound : SentRecord → Type 0
 IsOwnSound Admin = Unit {0}
 IsOwnSound (Reported report view) = IsReportBeside report view
 IsOwnSound (Refused number) = IsReference number

@@ -8,8 +8,8 @@ use Rattle.dialect.specs.OrderView.{OrderViewParts}
 use Rattle.dialect.specs.declared.report.ReportKind.{ReportKind}
 use Rattle.dialect.specs.declared.report.ReportKind.TheVariants.{New, Trade, Canceled, Rejected, Bust}
 use Rattle.exchange_core.specs.Order.{OrderParts, new_order, order_id, is_cancelled, view_of}
-use Rattle.exchange_core.specs.declared.own.Own.{Own}
-use Rattle.exchange_core.specs.declared.own.Own.TheVariants.{Reported}
+use Rattle.exchange_core.specs.declared.sent_record.SentRecord.{SentRecord}
+use Rattle.exchange_core.specs.declared.sent_record.SentRecord.TheVariants.{Reported}
 use Rattle.exchange_core.specs.Exchange.{ExchangeParts}
 
 -- a report on an order: what it says, and the order as it was then
@@ -18,7 +18,7 @@ pub record Told : Type 0 where
   pub view : OrderViewParts
 
 -- the reports on the order of a place, which is known by its OrderID (37)
-abbrev pub told_of : ℕ → List Own → List Told
+abbrev pub told_of : ℕ → List SentRecord → List Told
 told_of place [] = []
 told_of place (Reported report view ∷ own) =
     let told : Told = record { kind = report.kind; view = view } in
@@ -79,7 +79,7 @@ pub record AreReportsOn (place : ℕ) (order : OrderParts) (reports : List Told)
   pub standing : IsStanding place order (last_told (new_told place order.leg) rest)
 
 -- each order was reported so, and nothing else was reported
-pub record AreToldBy (own : List Own) (orders : List OrderParts) : Type 0 where
+pub record AreToldBy (own : List SentRecord) (orders : List OrderParts) : Type 0 where
   pub each : (place : ℕ) (order : OrderParts) → numbered place orders ≡ Some order
       → AreReportsOn place order (told_of place own)
   pub others : (place : ℕ) → length orders < place → place ≤ 999_999_999 → told_of place own ≡ []

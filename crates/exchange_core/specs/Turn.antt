@@ -9,19 +9,19 @@ use Rattle.dialect.specs.declared.outgoing.Outgoing.{Outgoing}
 use Rattle.exchange_core.specs.declared.turn.Says.{Says}
 use Rattle.exchange_core.specs.declared.turn.Says.TheVariants as says
 use Rattle.exchange_core.specs.declared.turn.Turn.{Turn}
-use Rattle.exchange_core.specs.declared.turn.Deed.{Deed}
-use Rattle.exchange_core.specs.declared.turn.Deed.TheVariants as deed
+use Rattle.exchange_core.specs.declared.turn.Action.{Action}
+use Rattle.exchange_core.specs.declared.turn.Action.TheVariants as action
 use Rattle.exchange_core.specs.declared.turn.Used.{Used}
 use Rattle.exchange_core.specs.declared.turn.Used.TheVariants as used
 use Rattle.exchange_core.specs.declared.turn.Asked.{Asked}
 use Rattle.exchange_core.specs.declared.turn.Decision.{Decision}
-use Rattle.exchange_core.specs.declared.own.Own.{Own}
-use Rattle.exchange_core.specs.Own.{next_own_number, resent_answer}
-use Rattle.exchange_core.specs.declared.own.Own.TheVariants.{Admin, Refused}
+use Rattle.exchange_core.specs.declared.sent_record.SentRecord.{SentRecord}
+use Rattle.exchange_core.specs.SentRecord.{next_own_number, resent_answer}
+use Rattle.exchange_core.specs.declared.sent_record.SentRecord.TheVariants.{Admin, Refused}
 use Rattle.exchange_core.specs.Exchange.{ExchangeParts, Answer, next_message, order_taken}
 
 -- what an own number is used for, by what is said under it
-abbrev pub used_for : Content → Own
+abbrev pub used_for : Content → SentRecord
 used_for (Session (Reject number)) = Refused number
 used_for content = Admin
 
@@ -35,7 +35,7 @@ turn_written x expected (says.OneAndRequest content) =
     ∷ []
 
 -- the own numbers afterwards
-abbrev pub turn_own : List Own → Says → List Own
+abbrev pub turn_own : List SentRecord → Says → List SentRecord
 turn_own own says.Nothing = own
 turn_own own (says.One content) = own ++ used_for content ∷ []
 turn_own own (says.OneAndRequest content) = own ++ Admin ∷ Admin ∷ []
@@ -52,10 +52,10 @@ turn_answer x turn = (
   },
 )
 
-abbrev pub deed_answer : ExchangeParts → Deed → Answer
-deed_answer x deed.Nothing = ([], x)
-deed_answer x (deed.Accept leg) = order_taken x leg
-deed_answer x (deed.Turn turn) = turn_answer x turn
+abbrev pub action_answer : ExchangeParts → Action → Answer
+action_answer x action.Nothing = ([], x)
+action_answer x (action.Accept leg) = order_taken x leg
+action_answer x (action.Turn turn) = turn_answer x turn
 
 abbrev pub asked_answer : ExchangeParts → Option Asked → List Outgoing
 asked_answer x None = []
@@ -63,10 +63,10 @@ asked_answer x (Some asked) = resent_answer x.config x.own asked.begin asked.las
 
 abbrev pub decided : ExchangeParts → Decision → Answer
 decided x decision =
-    let next : Answer = deed_answer x decision.deed in (asked_answer x decision.asked ++ next.0, next.1)
+    let next : Answer = action_answer x decision.action in (asked_answer x decision.asked ++ next.0, next.1)
 
 -- the own numbers with those that are used
-abbrev pub used_own : List Own → Used → List Own
+abbrev pub used_own : List SentRecord → Used → List SentRecord
 used_own own used.Nothing = own
 used_own own (used.One entry) = own ++ entry ∷ []
 used_own own used.Two = own ++ Admin ∷ Admin ∷ []

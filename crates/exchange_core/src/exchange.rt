@@ -6,12 +6,12 @@ ghost use Rattle.exchange_core.specs.Kept.{reports_of};
 
 mod acts;
 mod decide;
-mod plans;
+mod order_decisions;
 mod take;
 
 use crate::live_connection::LiveConnection;
 use crate::order::Order;
-use crate::own::Own;
+use crate::sent_record::SentRecord;
 use dialect::Report;
 use fix_tags::Config;
 use leg::Leg;
@@ -28,7 +28,7 @@ pub struct Exchange {
     last: u64,
     orders: Vec<Order>,
     closed_at: Option<usize>,
-    own: Vec<Own>,
+    own: Vec<SentRecord>,
     // The legs of the orders, and the reports among what the own numbers were used for, as they are lent.
     accepted: Vec<Leg>,
     reports: Vec<Report>,

@@ -6,7 +6,7 @@
 //!   moment, and the exchange stands as the definition says; or memory was wanted, and nothing changed. It refuses
 //!   nothing else, and asks nothing of its caller.
 //! - `trade`, `cancel_rest`, `reject`, `bust` and `test` are each one equation with the definition (`ActGives`): the
-//!   refusal, in order, or the frame of what is written, if anything is, and the state afterwards. Want of memory is
+//!   refusal, in order, or the frame of what is written, if anything is, and the state afterwards. Out of memory is
 //!   answered only where the act would not have been refused, and then nothing changed. What each of the six does is
 //!   a step that the rules of `docs/exchange.md` allow (their clauses `allowed`).
 //! - `accepted`, `reports`, `expected`, `closed_at` and `drop_connection` take no memory. The reports on an order
@@ -27,8 +27,8 @@ pub mod laws;
 mod live_connection;
 mod numbered_id;
 mod order;
-mod own;
-mod plan;
+mod sent_record;
+mod order_decision;
 mod resend;
 pub mod rows;
 mod to_peer;
@@ -40,4 +40,4 @@ pub use ending::Ending;
 pub use exchange::Exchange;
 pub use exchange_fault::ExchangeFault;
 pub use live_connection::LiveConnection;
-pub use own::Own;
+pub use own::SentRecord;

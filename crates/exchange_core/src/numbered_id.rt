@@ -3,7 +3,7 @@
 ghost use Rattle.std.specs.Prelude.{◌≡◌, ◌≤◌, ◌∷◌, decimal};
 ghost use Rattle.exchange_core.specs.Acts.{test_id};
 ghost use Rattle.exchange_core.specs.Order.{order_id};
-ghost use Rattle.exchange_core.specs.Own.{exec_id};
+ghost use Rattle.exchange_core.specs.SentRecord.{exec_id};
 
 use arrayvec::ArrayVec;
 use dialect::{ExecId, FreeText, MAX_ID, OrderId};

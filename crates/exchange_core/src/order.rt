@@ -3,11 +3,11 @@
 ghost use Rattle.std.specs.Prelude.{◌≡◌, ◌+◌, ◌≤◌, length, OnOk, OnErr};
 ghost use Rattle.leg.specs.Numbered.{numbered};
 ghost use Rattle.exchange_core.specs.Order.{new_order, view_of};
-ghost use Rattle.exchange_core.specs.Plan.{stepped, IsPlaced};
+ghost use Rattle.exchange_core.specs.OrderDecision.{stepped, IsPlaced};
 
 use crate::ending::Ending;
 use crate::numbered_id::id_of_order;
-use crate::plan::OrderStep;
+use crate::order_decision::OrderStep;
 use crate::trade::Trade;
 use dialect::OrderView;
 use leg::{Leg, Split};
@@ -95,7 +95,7 @@ impl Order {
         self.trades.get(index).copied()
     }
 
-    /// Takes a step, with these shares afterwards. Want of memory, which only a trade may meet, leaves it as it was.
+    /// Takes a step, with these shares afterwards. Out of memory, which only a trade may meet, leaves it as it was.
     pub(crate) fn step(&mut self, split: Split, step: OrderStep) -> Result<(), AllocError>
         requires { IsPlaced step self.old }
         ensures ok { OnOk result (self.new ≡ stepped split step self.old) }

@@ -3,10 +3,10 @@
 ghost use Rattle.std.specs.Prelude.{◌≡◌, ◌+◌, ◌≤◌, None, OnOk, IfOk, All, length};
 ghost use Rattle.dialect.specs.Writable.{IsWritable};
 ghost use Rattle.exchange_core.specs.Frames.{Writes};
-ghost use Rattle.exchange_core.specs.Own.{closing_fill, resent};
+ghost use Rattle.exchange_core.specs.SentRecord.{closing_fill, resent};
 ghost use Rattle.exchange_core.specs.Resending.{resent_one, run_after};
 
-use crate::own::Own;
+use crate::sent_record::SentRecord;
 use crate::to_peer::{report_to_peer, to_peer};
 use crate::write::write;
 use dialect::{Content, Dialect};
@@ -20,7 +20,7 @@ pub(crate) fn resend<D: Dialect>(
     dialect: &D,
     config: &Config,
     begin: u64,
-    own: &[Own],
+    own: &[SentRecord],
     stamp: &Stamp,
     frames: &mut Vec<Vec<u8>>,
 ) -> Result<(), AllocError>
@@ -46,7 +46,7 @@ fn resend_one<D: Dialect>(
     config: &Config,
     run: Option<u64>,
     number: u64,
-    entry: &Own,
+    entry: &SentRecord,
     stamp: &Stamp,
     frames: &mut Vec<Vec<u8>>,
 ) -> Result<Option<u64>, AllocError>
@@ -57,17 +57,17 @@ fn resend_one<D: Dialect>(
     ensures run { IfOk result (λ after. after ≡ run_after run number entry.now) }
 {
     match entry {
-        Own::Admin => match run {
+        SentRecord::Admin => match run {
             None => Ok(Some(number)),
             Some(first) => Ok(Some(first)),
         },
-        Own::Reported { report, view } => {
+        SentRecord::Reported { report, view } => {
             close_run(alloc, dialect, config, run, number, stamp, frames)?;
             let outgoing = report_to_peer(config, number, true, report, view);
             write(alloc, dialect, stamp, &outgoing, frames)?;
             Ok(None)
         }
-        Own::Refused { number: refused } => {
+        SentRecord::Refused { number: refused } => {
             close_run(alloc, dialect, config, run, number, stamp, frames)?;
             let content = Content::Session(SessionBody::Reject { number: *refused });
             let outgoing = to_peer(config, number, true, content);

@@ -9,7 +9,7 @@ ghost use Rattle.exchange_core.specs.declared.exchange_fault.ExchangeFault.TheVa
 ghost use Rattle.exchange_core.specs.Acts as acts;
 ghost use Rattle.exchange_core.specs.Exchange.{drop_connection, live_connection};
 ghost use Rattle.exchange_core.specs.Order.{order_id, view_of};
-ghost use Rattle.exchange_core.specs.Own.{exec_id};
+ghost use Rattle.exchange_core.specs.SentRecord.{exec_id};
 ghost use Rattle.exchange_core.specs.Rows.{exchange_to, to_peer, to_peer_again, reports, reports_again, view, begun, coming, ◌then◌, logon, leg, fenced, ordered, half_traded, cancelled, busted, trade, cancel_rest, reject, bust, tests, limited};
 
 /// The ids of orders, reports and tests are a letter and a number.

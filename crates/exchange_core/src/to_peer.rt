@@ -3,7 +3,7 @@
 ghost use Rattle.std.specs.Prelude.{◌≡◌};
 ghost use Rattle.dialect.specs.Addressed.{message_of};
 ghost use Rattle.dialect.specs.Outgoing.{alone};
-ghost use Rattle.exchange_core.specs.Own.{execution_report};
+ghost use Rattle.exchange_core.specs.SentRecord.{execution_report};
 
 use dialect::{Content, Message, OrderView, Outgoing, Report};
 use fix_tags::Config;

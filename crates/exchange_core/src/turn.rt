@@ -1,7 +1,7 @@
 //! What is done with a message: decided before anything changes.
 
 use crate::live_connection::LiveConnection;
-use crate::own::Own;
+use crate::sent_record::SentRecord;
 use dialect::Content;
 use leg::Leg;
 
@@ -18,7 +18,7 @@ pub enum Says<'a> {
 #[derive(Debug, Drop)]
 pub enum Used {
     Nothing,
-    One(Own),
+    One(SentRecord),
     /// Two messages of the session.
     Two,
 }
@@ -35,7 +35,7 @@ pub struct Turn<'a> {
 
 /// What is done with a message.
 #[derive(Debug, Drop)]
-pub enum Deed<'a> {
+pub enum Action<'a> {
     Nothing,
     /// The order of this leg is accepted, and reported as new.
     Accept(Leg),
@@ -53,5 +53,5 @@ pub struct Asked {
 #[derive(Debug, Drop)]
 pub struct Decision<'a> {
     pub asked: Option<Asked>,
-    pub deed: Deed<'a>,
+    pub action: Action<'a>,
 }

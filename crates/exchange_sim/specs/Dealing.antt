@@ -5,7 +5,7 @@ use Rattle.fix_tags.specs.declared.envelope.Envelope.{Envelope}
 use Rattle.fix_tags.specs.declared.tag_fault.TagFault.{TagFault}
 use Rattle.leg.specs.declared.leg.Leg.{Leg}
 use Rattle.dialect.specs.declared.message.Message.{Message}
-use Rattle.dialect.specs.Message.{seen}
+use Rattle.dialect.specs.Message.{decoded}
 use Rattle.dialect.specs.Wording.{Decoding}
 use Rattle.exchange_core.specs.Acts as acts
 use Rattle.exchange_core.specs.Exchange.{ExchangeParts, accepted_by, take}
@@ -37,5 +37,5 @@ takes fill connection x m = dealt_behind fill (length (accepted_by x)) (take x c
 
 -- what a frame says is taken; one that says no message changes nothing
 abbrev pub takes_frame : Decoding → ℕ → ℕ → ExchangeParts → Result Envelope TagFault → ExchangeParts
-takes_frame readers fill connection x (Ok envelope) = takes fill connection x (seen readers envelope)
+takes_frame readers fill connection x (Ok envelope) = takes fill connection x (decoded readers envelope)
 takes_frame readers fill connection x (Err fault) = x

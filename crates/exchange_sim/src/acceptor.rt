@@ -89,7 +89,7 @@ impl<D: Dialect, C: Clock> Acceptor<D, C> {
     }
 
     /// Takes the bytes that come: each frame that they complete, in order. Where the plan cuts the connection behind
-    /// one of them it ends. Where there is no connection they are dropped. Want of memory may come when some of them
+    /// one of them it ends. Where there is no connection they are dropped. Out of memory may come when some of them
     /// were taken.
     pub fn receive(&mut self, bytes: &[u8]) -> Result<(), AllocError>
         ensures dropped { self.old.is_connected ≡ false → self.new ≡ self.old }

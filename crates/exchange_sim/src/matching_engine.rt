@@ -4,7 +4,7 @@ ghost use Rattle.std.specs.Prelude.{◌≡◌, ◌++◌, [], OnOk, if◌then◌e
 ghost use Rattle.std.specs.List.{concat};
 ghost use Rattle.fix_text.specs.FrameFields.{fields_in};
 ghost use Rattle.fix_tags.specs.Reading.{envelope_read};
-ghost use Rattle.dialect.specs.Message.{seen};
+ghost use Rattle.dialect.specs.Message.{decoded};
 ghost use Rattle.exchange_core.specs.Acts as acts;
 ghost use Rattle.exchange_core.specs.Exchange.{new_exchange, take, drop_connection};
 ghost use Rattle.exchange_core.specs.Frames.{bytes_of};
@@ -92,9 +92,9 @@ impl<D: Dialect, C: Clock> MatchingEngine<D, C> {
     /// Takes a message, and deals with the order that it accepts, if it is one.
     fn take(&mut self, connection: u64, envelope: &EnvelopeRef<'_>) -> Result<(), AllocError>
         ensures exchange { OnOk result (self.new.exchange ≡ takes self.old.fill connection self.old.exchange
-            (seen (D.wording self.old.dialect).decoding envelope.now)) }
+            (decoded (D.wording self.old.dialect).decoding envelope.now)) }
         ensures answers { OnOk result (Answers (D.wording self.old.dialect).encoding self.old.fill connection
-            self.old.exchange (seen (D.wording self.old.dialect).decoding envelope.now)
+            self.old.exchange (decoded (D.wording self.old.dialect).decoding envelope.now)
             self.old.outbox self.new.outbox) }
         ensures dialect { self.new.dialect ≡ self.old.dialect }
         ensures fill { self.new.fill ≡ self.old.fill }
@@ -114,9 +114,9 @@ impl<D: Dialect, C: Clock> MatchingEngine<D, C> {
     /// Hands the exchange a message, and collects what it answers.
     fn hand_in(&mut self, connection: u64, envelope: &EnvelopeRef<'_>) -> Result<(), AllocError>
         ensures exchange { OnOk result (self.new.exchange ≡ (take self.old.exchange connection
-            (seen (D.wording self.old.dialect).decoding envelope.now)).1) }
+            (decoded (D.wording self.old.dialect).decoding envelope.now)).1) }
         ensures sends { OnOk result (Sends (D.wording self.old.dialect).encoding (C.last self.new.clock)
-            (take self.old.exchange connection (seen (D.wording self.old.dialect).decoding envelope.now)).0
+            (take self.old.exchange connection (decoded (D.wording self.old.dialect).decoding envelope.now)).0
             self.old.outbox self.new.outbox) }
         ensures dialect { self.new.dialect ≡ self.old.dialect }
         ensures fill { self.new.fill ≡ self.old.fill }

@@ -41,7 +41,7 @@ impl Outbox {
         self.bytes.as_slice().split_at(self.sent).1
     }
 
-    /// Puts bytes behind those that wait. The only refusal is want of memory.
+    /// Puts bytes behind those that wait. The only refusal is out of memory.
     pub fn put(&mut self, bytes: &[u8]) -> Result<(), AllocError>
         ensures ok { OnOk result (self.new ≡ self.old ++ bytes.now) }
         ensures err { OnErr result (self.new ≡ self.old) }

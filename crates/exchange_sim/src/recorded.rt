@@ -31,7 +31,7 @@ impl Recorded {
         }
     }
 
-    /// A write took these bytes. The only refusal is want of memory.
+    /// A write took these bytes. The only refusal is out of memory.
     pub fn wrote(&mut self, bytes: &[u8]) -> Result<(), AllocError>
         ensures ok { OnOk result (self.new ≡ record { written = self.old.written ++ bytes.now; read = self.old.read }) }
         ensures err { OnErr result (self.new ≡ self.old) }
@@ -39,7 +39,7 @@ impl Recorded {
         self.written.extend_from_slice(bytes)
     }
 
-    /// A read gave these bytes. The only refusal is want of memory.
+    /// A read gave these bytes. The only refusal is out of memory.
     pub fn gave(&mut self, bytes: &[u8]) -> Result<(), AllocError>
         ensures ok { OnOk result (self.new ≡ record { written = self.old.written; read = self.old.read ++ bytes.now }) }
         ensures err { OnErr result (self.new ≡ self.old) }

@@ -53,7 +53,7 @@ impl Recording {
         LinkFault::counted(&mut self.faults)
     }
 
-    /// A new connection was dialled. It fails only for want of memory.
+    /// A new connection was dialled. It fails only for lack of memory.
     pub fn dialled(&mut self) -> Result<(), LinkFault>
         ensures traffic { MatchResult result (λ _. Dials self.old.traffic self.new.traffic)
             (λ _. Stays self.old.traffic self.new.traffic) }
@@ -75,7 +75,7 @@ impl Recording {
         }
     }
 
-    /// A write took these bytes. It fails where nothing was dialled yet, and for want of memory.
+    /// A write took these bytes. It fails where nothing was dialled yet, and for lack of memory.
     pub fn wrote(&mut self, bytes: &[u8]) -> Result<(), LinkFault>
         ensures traffic { MatchResult result (λ _. Takes bytes.now self.old.traffic self.new.traffic)
             (λ _. Stays self.old.traffic self.new.traffic) }
@@ -90,7 +90,7 @@ impl Recording {
         }
     }
 
-    /// A read gave these bytes. It fails where nothing was dialled yet, and for want of memory.
+    /// A read gave these bytes. It fails where nothing was dialled yet, and for lack of memory.
     pub fn gave(&mut self, bytes: &[u8]) -> Result<(), LinkFault>
         ensures traffic { MatchResult result (λ _. GivesBytes bytes.now self.old.traffic self.new.traffic)
             (λ _. Stays self.old.traffic self.new.traffic) }

@@ -16,7 +16,7 @@ const MOST_READ: usize = 1_024;
 
 /// Serves one client after another until `is_over`, or for so many turns, each of which waits ten milliseconds at most
 /// for a client or its bytes. Where a connection fails, or the plan cuts it, the next client is waited for. The only
-/// refusal is want of memory.
+/// refusal is out of memory.
 pub fn serve<D: Dialect, C: Clock>(
     port: &mut Port,
     acceptor: &mut Acceptor<D, C>,

@@ -81,7 +81,7 @@ no_app_fault (f ∷ fields) good =
 not_long : (n : ℕ) → n ≤ 4096 → nat_lt 4096 n ≡ false
 not_long n short = grind (arith, nat_tests)
 
--- nothing keeps such a message from being written but want of memory
+-- nothing keeps such a message from being written but out of memory
 pub app_not_refused : (e : Envelope) (s : StampParts) (kind : List ℕ) (fields : List Tagged) → e.body ≡ App kind fields → is_app_kind kind ≡ true → are_app_fields fields ≡ true
     → length (fields_text fields) ≤ 3000 → IsCompId e.sender → IsCompId e.target → is_message_number e.number ≡ true → envelope_refusal e s ≡ None
 app_not_refused e s kind fields body is good short sender target number =

@@ -1,4 +1,4 @@
--- No fault of a field is want of memory.
+-- No fault of a field is out of memory.
 use Rattle.std.proofs.Common.{◌≡◌, ℕ, Bool, true, false, cond, List, [], ◌∷◌, Option, Some, None, Result, Err, sym, ap, subst, ◌∙◌}
 use Rattle.fix_text.specs.Tagged.{Tagged}
 use Rattle.fix_tags.specs.App.{is_app_field}
@@ -10,7 +10,7 @@ use Rattle.fix_tags.specs.declared.envelope.Envelope.{Envelope}
 use Rattle.fix_tags.specs.declared.write_fault.WriteFault.{WriteFault}
 use Rattle.fix_tags.specs.declared.write_fault.WriteFault.TheVariants.{BadValue, OutOfMemory}
 
--- a fault, if there is one, is another than want of memory
+-- a fault, if there is one, is another than out of memory
 abbrev pub NoWantOfMemory : Option WriteFault → Type 0
 NoWantOfMemory (Some OutOfMemory) = ⊥
 NoWantOfMemory _ = Unit {0}
@@ -64,7 +64,7 @@ of_message e = of_either _ _ (of_kind e.body) (of_either _ _ (of_test (is_messag
 err_is : (a b : WriteFault) → ◌≡◌ {A = Result (Unit {0}) WriteFault} (Err a) (Err b) → a ≡ b
 err_is a b e = cc
 
--- a message that is refused for a field is not refused for want of memory
+-- a message that is refused for a field is not refused for lack of memory
 pub refused_for_field : (e : Envelope) (found : Option WriteFault) (fault : WriteFault) → found ≡ field_fault e → found ≡ Some fault → ◌≡◌ {A = Result (Unit {0}) WriteFault} (Err fault) (Err OutOfMemory) → ⊥
 refused_for_field e found fault is some memory =
     subst NoWantOfMemory (sym is ∙ some ∙ ap Some (err_is fault OutOfMemory memory)) (of_message e)

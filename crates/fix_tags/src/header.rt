@@ -57,7 +57,7 @@ fn push_original_time<F: FieldSink>(
 ) -> Result<(), AllocError>
     ensures pushed { Pushes F.Takes (original_time poss_dup time.now) fields.old fields.new result }
     ensures left { F.room fields.old ≤ F.room fields.new + 1 }
-    ensures full { length time.now ≤ 24 → OnErr result (F.room fields.old < 1) }
+    ensures full { length time.now ≤ F.short → OnErr result (F.room fields.old < 1) }
 {
     if poss_dup {
         fields.push_field(alloc, ORIG_SENDING_TIME, time)
@@ -78,7 +78,7 @@ fn push_marks_and_time<F: FieldSink>(
 ) -> Result<(), AllocError>
     ensures pushed { Pushes F.Takes (marks_and_time poss_dup poss_resend time.now) fields.old fields.new result }
     ensures left { F.room fields.old ≤ F.room fields.new + 4 }
-    ensures full { length time.now ≤ 24 → OnErr result (F.room fields.old < 4) }
+    ensures full { length time.now ≤ F.short → OnErr result (F.room fields.old < 4) }
 {
     push_flag(alloc, POSS_DUP_FLAG, poss_dup, fields)?;
     push_flag(alloc, POSS_RESEND, poss_resend, fields)?;
@@ -87,7 +87,7 @@ fn push_marks_and_time<F: FieldSink>(
 }
 
 /// Pushes the fields of a header, in written order. A refused growth leaves some of them behind; none comes where there
-/// is room for eight more fields and no text of the header is longer than 24 bytes.
+/// is room for eight more fields and each text of the header is short.
 #[inline(always)]
 pub fn push_header<F: FieldSink>(
     alloc: Global,
@@ -99,8 +99,8 @@ pub fn push_header<F: FieldSink>(
         ∷ marks_and_time header.now.poss_dup header.now.poss_resend header.now.time.now)
         fields.old fields.new result }
     ensures left { F.room fields.old ≤ F.room fields.new + 8 }
-    ensures full { length header.now.kind.now ≤ 24 → length header.now.sender.now ≤ 24
-        → length header.now.target.now ≤ 24 → length header.now.time.now ≤ 24
+    ensures full { length header.now.kind.now ≤ F.short → length header.now.sender.now ≤ F.short
+        → length header.now.target.now ≤ F.short → length header.now.time.now ≤ F.short
         → OnErr result (F.room fields.old < 8) }
 {
     let mut digits = Buffer::new();

@@ -2,23 +2,23 @@
 use Rattle.std.proofs.Common.{◌≡◌, ℕ, ◌-◌, ◌<◌, List, [], ◌∷◌, ◌++◌, length, take, replicate, Result, Ok, Err, refl, sym, ap, subst, ◌∙◌, arith, append_assoc, inl, inr}
 use Rattle.std.proofs.lemmas.List.{length-append, length-replicate}
 use Rattle.fix_text.specs.Then.{◌>>=◌}
-use Rattle.fix_text.specs.declared.parse.Stop.{Stop}
-use Rattle.fix_text.specs.declared.parse.Stop.TheVariants.{Short, Differs}
+use Rattle.fix_text.specs.declared.parse.NoFrame.{NoFrame}
+use Rattle.fix_text.specs.declared.parse.NoFrame.TheVariants.{Short, Differs}
 use Rattle.fix_text.specs.Grammar.{digits_number, IsLength, IsCheck, EndsInSoh, IsFrame, opening, header_of, trailer_of}
-use Rattle.fix_text.specs.Reading.{literal_at, length_at, body_at, trailer_at, frame_at, WholeParts}
+use Rattle.fix_text.specs.Reading.{literal_at, length_at, body_at, trailer_at, frame_at, RawFrameParts}
 use Rattle.fix_text.proofs.Readers.{literal_takes, length_takes, body_takes, length_step, body_step, end_step, frame_takes, frame_again, is_length_from, Completes, Spelled}
 use Rattle.fix_text.proofs.Prefixes.{bind_err, ok_differs, literal_more, literal_stays, literal_completes, length_more, length_stays, length_completes, body_more, body_stays, body_completes}
 use Rattle.fix_text.proofs.TrailerPrefixes.{trailer_stays, trailer_completes, three_is}
 
 -- ---- what is whole
 
-spelled_again : (text : List ℕ) (whole : WholeParts) (rest : List ℕ) → Spelled text whole → frame_at (text ++ rest) ≡ Ok (record whole { rest = rest })
+spelled_again : (text : List ℕ) (whole : RawFrameParts) (rest : List ℕ) → Spelled text whole → frame_at (text ++ rest) ≡ Ok (record whole { rest = rest })
 spelled_again text whole rest s =
     ap (λ (t : List ℕ). frame_at (t ++ rest)) s.text_is
     ∙ frame_again s.digits whole.body s.check rest whole.check s.is_length s.is_body s.is_check
     ∙ ap (λ (before : List ℕ). Ok (record { before = before; body = whole.body; check = whole.check; rest = rest })) (sym s.before_is)
 
-pub frame_more : (bytes more : List ℕ) (whole : WholeParts) → frame_at bytes ≡ Ok whole → frame_at (bytes ++ more) ≡ Ok (record whole { rest = whole.rest ++ more })
+pub frame_more : (bytes more : List ℕ) (whole : RawFrameParts) → frame_at bytes ≡ Ok whole → frame_at (bytes ++ more) ≡ Ok (record whole { rest = whole.rest ++ more })
 frame_more bytes more whole e =
     let t = frame_takes bytes whole e in
     ap frame_at (ap (λ (x : List ℕ). x ++ more) t.2 ∙ append_assoc t.0 whole.rest more) ∙ spelled_again t.0 whole (whole.rest ++ more) t.1
@@ -28,32 +28,32 @@ frame_more bytes more whole e =
 end_stays : (bytes other : List ℕ) (body : List ℕ × List ℕ) (more : List ℕ) → end_step bytes body ≡ Err Differs → end_step other (body.0, body.1 ++ more) ≡ Err Differs
 end_stays bytes other body more e =
     elim (bind_err (trailer_at body.1) (λ (trailer : ℕ × List ℕ). Ok (record { before = take (length bytes - length body.1) bytes; body = body.0; check = trailer.0; rest = trailer.1 })) Differs e) [
-      | inl here ↦ ap (λ (r : Result (ℕ × List ℕ) Stop). r >>= λ trailer. Ok (record { before = take (length other - length (body.1 ++ more)) other; body = body.0; check = trailer.0; rest = trailer.1 })) (trailer_stays body.1 more here)
+      | inl here ↦ ap (λ (r : Result (ℕ × List ℕ) NoFrame). r >>= λ trailer. Ok (record { before = take (length other - length (body.1 ++ more)) other; body = body.0; check = trailer.0; rest = trailer.1 })) (trailer_stays body.1 more here)
       | inr later ↦ absurd (ok_differs _ Differs later.2)
     ]
 
 body_step_stays : (bytes other : List ℕ) (size : ℕ × List ℕ) (more : List ℕ) → 0 < size.0 → body_step bytes size ≡ Err Differs → body_step other (size.0, size.1 ++ more) ≡ Err Differs
 body_step_stays bytes other size more positive e =
     elim (bind_err (body_at size.0 size.1) (end_step bytes) Differs e) [
-      | inl here ↦ ap (λ (r : Result (List ℕ × List ℕ) Stop). r >>= end_step other) (body_stays size.0 size.1 more positive here)
-      | inr later ↦ ap (λ (r : Result (List ℕ × List ℕ) Stop). r >>= end_step other) (body_more size.0 size.1 later.0.0 later.0.1 more positive later.1) ∙ end_stays bytes other later.0 more later.2
+      | inl here ↦ ap (λ (r : Result (List ℕ × List ℕ) NoFrame). r >>= end_step other) (body_stays size.0 size.1 more positive here)
+      | inr later ↦ ap (λ (r : Result (List ℕ × List ℕ) NoFrame). r >>= end_step other) (body_more size.0 size.1 later.0.0 later.0.1 more positive later.1) ∙ end_stays bytes other later.0 more later.2
     ]
 
 length_step_stays : (bytes other digits more : List ℕ) → length_step bytes digits ≡ Err Differs → length_step other (digits ++ more) ≡ Err Differs
 length_step_stays bytes other digits more e =
     elim (bind_err (length_at 6 0 digits) (body_step bytes) Differs e) [
-      | inl here ↦ ap (λ (r : Result (ℕ × List ℕ) Stop). r >>= body_step other) (length_stays 6 0 digits more here)
+      | inl here ↦ ap (λ (r : Result (ℕ × List ℕ) NoFrame). r >>= body_step other) (length_stays 6 0 digits more here)
       | inr later ↦
           let is = length_takes 6 0 digits later.0.0 later.0.1 later.1 in
-          ap (λ (r : Result (ℕ × List ℕ) Stop). r >>= body_step other) (length_more 6 0 digits later.0.0 later.0.1 more later.1) ∙ body_step_stays bytes other later.0 more is.2.positive later.2
+          ap (λ (r : Result (ℕ × List ℕ) NoFrame). r >>= body_step other) (length_more 6 0 digits later.0.0 later.0.1 more later.1) ∙ body_step_stays bytes other later.0 more is.2.positive later.2
     ]
 
 pub frame_stays : (bytes more : List ℕ) → frame_at bytes ≡ Err Differs → frame_at (bytes ++ more) ≡ Err Differs
 unfolding frame_at
 frame_stays bytes more e =
     elim (bind_err (literal_at opening bytes) (length_step bytes) Differs e) [
-      | inl here ↦ ap (λ (r : Result (List ℕ) Stop). r >>= length_step (bytes ++ more)) (literal_stays opening bytes more here)
-      | inr later ↦ ap (λ (r : Result (List ℕ) Stop). r >>= length_step (bytes ++ more)) (literal_more opening bytes later.0 more later.1) ∙ length_step_stays bytes (bytes ++ more) later.0 more later.2
+      | inl here ↦ ap (λ (r : Result (List ℕ) NoFrame). r >>= length_step (bytes ++ more)) (literal_stays opening bytes more here)
+      | inr later ↦ ap (λ (r : Result (List ℕ) NoFrame). r >>= length_step (bytes ++ more)) (literal_more opening bytes later.0 more later.1) ∙ length_step_stays bytes (bytes ++ more) later.0 more later.2
     ]
 
 -- ---- what is short

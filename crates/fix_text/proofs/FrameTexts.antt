@@ -5,14 +5,14 @@ use Rattle.std.specs.List.{list_all}
 use Rattle.std.specs.Option.{option_and_then}
 use Rattle.std.proofs.lemmas.Bool.{eqb-true, eq-eqb, and_parts}
 use Rattle.std.proofs.lemmas.List.{append-nil, length-append, append_cancel_right}
-use Rattle.fix_text.specs.declared.parse.Stop.{Stop}
-use Rattle.fix_text.specs.declared.parse.Stop.TheVariants.{Short, Differs}
+use Rattle.fix_text.specs.declared.parse.NoFrame.{NoFrame}
+use Rattle.fix_text.specs.declared.parse.NoFrame.TheVariants.{Short, Differs}
 use Rattle.fix_text.specs.Tagged.{Tagged}
 use Rattle.fix_text.specs.Text.{field_text, fields_text, begins_with_type, is_writable_tag, has_writable_tags, has_writable_values}
 use Rattle.fix_text.specs.Frame.{three_digits, frame_text}
 use Rattle.fix_text.specs.Grammar.{header_of, trailer_of, IsLength, IsFrame, IsValidFrame, BeginsWithFrame, IsBeginning, IsNeither}
 use Rattle.fix_text.specs.Deciding.{Decides}
-use Rattle.fix_text.specs.Reading.{WholeParts, fields_of, if_typed, typed_fields, valid_fields, frame_at}
+use Rattle.fix_text.specs.Reading.{RawFrameParts, fields_of, if_typed, typed_fields, valid_fields, frame_at}
 use Rattle.fix_text.proofs.Readers.{chosen, ok_is, frame_takes, frame_again, Spelled}
 use Rattle.fix_text.proofs.Prefixes.{ok_differs}
 use Rattle.fix_text.proofs.FramePrefixes.{frame_more, frame_stays, frame_completes}
@@ -21,11 +21,11 @@ use Rattle.fix_text.proofs.FieldTexts.{some_is, none_given, fields_take, check_w
 
 -- ---- frames
 
-pub spelled_frame : (text : List ℕ) (whole : WholeParts) → Spelled text whole → IsFrame text
+pub spelled_frame : (text : List ℕ) (whole : RawFrameParts) → Spelled text whole → IsFrame text
 spelled_frame text whole s = record { digits = s.digits; body = whole.body; check = s.check; number = whole.check; bytes_are = s.text_is; length_is = s.is_length; body_ends = s.is_body; check_is = s.is_check }
 
 -- a frame is read whole, whatever follows it
-pub frame_read_whole : (text rest : List ℕ) → IsFrame text → (whole : WholeParts) × (frame_at (text ++ rest) ≡ Ok whole) × (whole.rest ≡ rest)
+pub frame_read_whole : (text rest : List ℕ) → IsFrame text → (whole : RawFrameParts) × (frame_at (text ++ rest) ≡ Ok whole) × (whole.rest ≡ rest)
 frame_read_whole text rest f =
     let before : List ℕ = header_of f.digits ++ f.body in (
       record { before = before; body = f.body; check = f.number; rest = rest },
@@ -34,7 +34,7 @@ frame_read_whole text rest f =
     )
 
 -- bytes that begin with a frame are read as one
-pub begins_read : (bytes : List ℕ) → BeginsWithFrame bytes → (whole : WholeParts) × (frame_at bytes ≡ Ok whole)
+pub begins_read : (bytes : List ℕ) → BeginsWithFrame bytes → (whole : RawFrameParts) × (frame_at bytes ≡ Ok whole)
 begins_read bytes b =
     let read = frame_read_whole b.frame b.rest b.is_frame in
     (read.0, ap frame_at b.parts ∙ read.1)
@@ -42,12 +42,12 @@ begins_read bytes b =
 -- ---- the three cases of a place
 
 -- bytes that are the beginning of a frame are read as such
-beginning_place : (bytes more : List ℕ) (place : Result WholeParts Stop) → place ≡ frame_at bytes → 0 < length more → IsFrame (bytes ++ more) → place ≡ Err Short
+beginning_place : (bytes more : List ℕ) (place : Result RawFrameParts NoFrame) → place ≡ frame_at bytes → 0 < length more → IsFrame (bytes ++ more) → place ≡ Err Short
 beginning_place bytes more (Ok whole) is some f =
     let here = frame_more bytes more whole (sym is) in
     let read = frame_read_whole (bytes ++ more) [] f in
     let there : frame_at (bytes ++ more) ≡ Ok read.0 = ap frame_at (sym (append-nil (bytes ++ more))) ∙ read.1 in
-    let left : whole.rest ++ more ≡ [] = ap (λ (w : WholeParts). w.rest) (ok_is (record whole { rest = whole.rest ++ more }) read.0 (sym here ∙ there)) ∙ read.2 in
+    let left : whole.rest ++ more ≡ [] = ap (λ (w : RawFrameParts). w.rest) (ok_is (record whole { rest = whole.rest ++ more }) read.0 (sym here ∙ there)) ∙ read.2 in
     absurd (omega (arith, some, ap length left, length-append whole.rest more))
 beginning_place bytes more (Err Short) is some f = refl
 beginning_place bytes more (Err Differs) is some f =
@@ -58,13 +58,13 @@ beginning_place bytes more (Err Differs) is some f =
 pub beginning_read : (bytes : List ℕ) → IsBeginning bytes → frame_at bytes ≡ Err Short
 beginning_read bytes b = beginning_place bytes b.more (frame_at bytes) refl b.some b.is_frame
 
-not_short : (whole : WholeParts) → ◌≡◌ {A = Result WholeParts Stop} (Ok whole) (Err Short) → ⊥
+not_short : (whole : RawFrameParts) → ◌≡◌ {A = Result RawFrameParts NoFrame} (Ok whole) (Err Short) → ⊥
 not_short whole e = cc
 
-short_is_not : ◌≡◌ {A = Result WholeParts Stop} (Err Differs) (Err Short) → ⊥
+short_is_not : ◌≡◌ {A = Result RawFrameParts NoFrame} (Err Differs) (Err Short) → ⊥
 short_is_not e = cc
 
-decided : (bytes : List ℕ) (place : Result WholeParts Stop) → place ≡ frame_at bytes → Decides bytes place
+decided : (bytes : List ℕ) (place : Result RawFrameParts NoFrame) → place ≡ frame_at bytes → Decides bytes place
 decided bytes (Ok whole) is =
     let t = frame_takes bytes whole (sym is) in
     (t.0, spelled_frame t.0 whole t.1, t.2, λ b. not_short whole (is ∙ beginning_read bytes b))
@@ -81,7 +81,7 @@ place_decided bytes = decided bytes (frame_at bytes) refl
 -- ---- valid frames
 
 -- a valid frame is read as one of its fields, whatever follows it
-pub valid_read : (text rest : List ℕ) (fields : List Tagged) → IsValidFrame text fields → (whole : WholeParts) × (frame_at (text ++ rest) ≡ Ok whole) × (valid_fields whole ≡ Some fields) × (whole.rest ≡ rest)
+pub valid_read : (text rest : List ℕ) (fields : List Tagged) → IsValidFrame text fields → (whole : RawFrameParts) × (frame_at (text ++ rest) ≡ Ok whole) × (valid_fields whole ≡ Some fields) × (whole.rest ≡ rest)
 unfolding valid_fields
 valid_read text rest [] v = absurd (true_is v.typed) where
   true_is : ◌≡◌ {A = Bool} false true → ⊥
@@ -90,7 +90,7 @@ valid_read text rest (field ∷ fields) v =
     let body : List ℕ = fields_text (field ∷ fields) in
     let before : List ℕ = header_of v.digits ++ body in
     let check : ℕ = sum before % 256 in
-    let whole : WholeParts = record { before = before; body = body; check = check; rest = rest } in
+    let whole : RawFrameParts = record { before = before; body = body; check = check; rest = rest } in
     let again = frame_again v.digits body (three_digits check) rest check v.length_is (ends_in_soh field fields) (is_check-three_digits check (omega arith)) in
     let same : eqb check check ≡ true = eq-eqb _ _ refl in
     (whole, ap (λ (t : List ℕ). frame_at (t ++ rest)) v.bytes_are ∙ again, rw same (typed_again (field ∷ fields) v.fields_are v.typed), refl)
@@ -120,7 +120,7 @@ typed_takes (Some later) fields e =
     ]
 
 -- what is read as a valid frame is one
-pub valid_takes : (text : List ℕ) (whole : WholeParts) (fields : List Tagged) → Spelled text whole → valid_fields whole ≡ Some fields → IsValidFrame text fields
+pub valid_takes : (text : List ℕ) (whole : RawFrameParts) (fields : List Tagged) → Spelled text whole → valid_fields whole ≡ Some fields → IsValidFrame text fields
 unfolding valid_fields typed_fields
 valid_takes text whole fields s e =
     elim (chosen (eqb (sum whole.before % 256) whole.check) (typed_fields whole.body) None (Some fields) e) [
@@ -154,12 +154,12 @@ frame_unique a b rest more fa fb e =
     let ra = frame_read_whole a rest fa in
     let rb = frame_read_whole b more fb in
     let same : ra.0 ≡ rb.0 = ok_is ra.0 rb.0 (sym ra.1 ∙ ap frame_at e ∙ rb.1) in
-    let left : rest ≡ more = sym ra.2 ∙ ap (λ (w : WholeParts). w.rest) same ∙ rb.2 in
+    let left : rest ≡ more = sym ra.2 ∙ ap (λ (w : RawFrameParts). w.rest) same ∙ rb.2 in
     (append_cancel_right a b more (ap (λ (t : List ℕ). a ++ t) (sym left) ∙ e), left)
 
 -- ---- the three cases, by themselves
 
-three : (bytes : List ℕ) (place : Result WholeParts Stop) → Decides bytes place → BeginsWithFrame bytes ⊎ (IsBeginning bytes ⊎ IsNeither bytes)
+three : (bytes : List ℕ) (place : Result RawFrameParts NoFrame) → Decides bytes place → BeginsWithFrame bytes ⊎ (IsBeginning bytes ⊎ IsNeither bytes)
 three bytes (Ok whole) d = inl (record { frame = d.0; rest = whole.rest; parts = d.2; is_frame = d.1 })
 three bytes (Err Short) d = inr (inl d.0)
 three bytes (Err Differs) d = inr (inr (record { no_frame = d.0; no_beginning = d.1 }))

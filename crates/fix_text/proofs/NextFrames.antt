@@ -1,11 +1,11 @@
 -- What a call of the reader gives is the next valid frame in the words of the grammar, and nothing else is.
 use Rattle.std.proofs.Common.{◌≡◌, ℕ, zero, suc, ◌<◌, ◌≤◌, add-one, List, [], ◌∷◌, ◌++◌, length, get_or, drop, Option, Some, None, Result, Ok, Err, refl, sym, ap, subst, ◌∙◌, arith}
 use Rattle.std.proofs.lemmas.List.{length-drop, nil_from_length, drop_more}
-use Rattle.fix_text.specs.declared.parse.Stop.{Stop}
-use Rattle.fix_text.specs.declared.parse.Stop.TheVariants.{Short, Differs}
+use Rattle.fix_text.specs.declared.parse.NoFrame.{NoFrame}
+use Rattle.fix_text.specs.declared.parse.NoFrame.TheVariants.{Short, Differs}
 use Rattle.fix_text.specs.Tagged.{Tagged}
 use Rattle.fix_text.specs.Grammar.{IsFrame, IsValidFrame, BeginsWithFrame, IsBeginning, Pass, Given, Garbled, Skipped, Takes, Passes, given_of, garbled_of, skipped_of}
-use Rattle.fix_text.specs.Reading.{WholeParts, Stream, NextFrame, frame_at, literal_at, valid_fields, at_frame, at_place, after_garbled, after_byte, one_more, read_on, next_read}
+use Rattle.fix_text.specs.Reading.{RawFrameParts, Stream, NextFrame, frame_at, literal_at, valid_fields, at_frame, at_place, after_garbled, after_byte, one_more, read_on, next_read}
 use Rattle.fix_text.specs.Deciding.{Decides, counted, Ends, IsNext}
 use Rattle.fix_text.proofs.Readers.{ok_is, frame_takes, frame_shorter, differs_some}
 use Rattle.fix_text.proofs.FramePrefixes.{frame_completes}
@@ -21,13 +21,13 @@ nothing_begins = let m = frame_completes [] refl in record { more = m.0; some = 
 -- ---- what is read is the next
 
 -- a frame that is read and isn't given is not valid
-garbled_is : (bytes : List ℕ) (whole : WholeParts) (text : List ℕ) → frame_at bytes ≡ Ok whole → bytes ≡ text ++ whole.rest → valid_fields whole ≡ None → (fields : List Tagged) → IsValidFrame text fields → ⊥
+garbled_is : (bytes : List ℕ) (whole : RawFrameParts) (text : List ℕ) → frame_at bytes ≡ Ok whole → bytes ≡ text ++ whole.rest → valid_fields whole ≡ None → (fields : List Tagged) → IsValidFrame text fields → ⊥
 garbled_is bytes whole text is parts none fields v =
     let read = valid_read text whole.rest fields v in
     let same : whole ≡ read.0 = ok_is whole read.0 (sym is ∙ ap frame_at parts ∙ read.1) in
     none_given fields (sym none ∙ ap valid_fields same ∙ read.2)
 
-behind_garbled : (stream : Stream) (whole : WholeParts) (text : List ℕ) (new : NextFrame) → Takes (Garbled text) stream.rest whole.rest → IsNext (after_garbled stream whole) new → IsNext stream new
+behind_garbled : (stream : Stream) (whole : RawFrameParts) (text : List ℕ) (new : NextFrame) → Takes (Garbled text) stream.rest whole.rest → IsNext (after_garbled stream whole) new → IsNext stream new
 behind_garbled stream whole text new takes next = record {
   before = Garbled text ∷ next.before;
   middle = next.middle;
@@ -49,7 +49,7 @@ behind_byte stream byte new takes next = record {
   garbled = next.garbled;
 }
 
-next_at_frame : (later : Stream → NextFrame) (stream : Stream) (whole : WholeParts) (fields : Option (List Tagged)) → frame_at stream.rest ≡ Ok whole → valid_fields whole ≡ fields
+next_at_frame : (later : Stream → NextFrame) (stream : Stream) (whole : RawFrameParts) (fields : Option (List Tagged)) → frame_at stream.rest ≡ Ok whole → valid_fields whole ≡ fields
     → ((s : Stream) → length s.rest < length stream.rest → IsNext s (later s)) → IsNext stream (at_frame later stream whole fields)
 next_at_frame later stream whole (Some fields) is valid each =
     let t = frame_takes stream.rest whole is in
@@ -58,7 +58,7 @@ next_at_frame later stream whole None is valid each =
     let t = frame_takes stream.rest whole is in
     behind_garbled stream whole t.0 _ (t.2, spelled_frame t.0 whole t.1, garbled_is stream.rest whole t.0 is t.2 valid) (each (after_garbled stream whole) (frame_shorter stream.rest whole (sym is)))
 
-next_at_place : (later : Stream → NextFrame) (stream : Stream) (place : Result WholeParts Stop) → place ≡ frame_at stream.rest → Decides stream.rest place
+next_at_place : (later : Stream → NextFrame) (stream : Stream) (place : Result RawFrameParts NoFrame) → place ≡ frame_at stream.rest → Decides stream.rest place
     → ((s : Stream) → length s.rest < length stream.rest → IsNext s (later s)) → IsNext stream (at_place later stream place)
 next_at_place later stream (Ok whole) is d each = next_at_frame later stream whole (valid_fields whole) (sym is) refl each
 next_at_place later stream (Err Short) is d each = record { before = []; middle = stream.rest; passes = refl; no_valid = refl; ends = (refl, d.0); skipped = refl; garbled = refl }
@@ -82,13 +82,13 @@ next_is stream = next_on (length stream.rest) stream (omega arith)
 -- ---- and nothing else is
 
 -- where neither a frame stands nor the beginning of one, that is what is read
-pub differs_read : (bytes : List ℕ) (place : Result WholeParts Stop) → place ≡ frame_at bytes → (BeginsWithFrame bytes → ⊥) → (IsBeginning bytes → ⊥) → Decides bytes place → place ≡ Err Differs
+pub differs_read : (bytes : List ℕ) (place : Result RawFrameParts NoFrame) → place ≡ frame_at bytes → (BeginsWithFrame bytes → ⊥) → (IsBeginning bytes → ⊥) → Decides bytes place → place ≡ Err Differs
 differs_read bytes (Ok whole) is no_frame no_beginning d = absurd (no_frame (record { frame = d.0; rest = whole.rest; parts = d.2; is_frame = d.1 }))
 differs_read bytes (Err Short) is no_frame no_beginning d = absurd (no_beginning d.0)
 differs_read bytes (Err Differs) is no_frame no_beginning d = refl
 
 -- a frame that isn't valid is read as such
-garbled_read : (bytes rest text : List ℕ) (whole : WholeParts) (fields : Option (List Tagged)) → frame_at bytes ≡ Ok whole → bytes ≡ text ++ rest → IsFrame text → ((fields : List Tagged) → IsValidFrame text fields → ⊥) → valid_fields whole ≡ fields → fields ≡ None
+garbled_read : (bytes rest text : List ℕ) (whole : RawFrameParts) (fields : Option (List Tagged)) → frame_at bytes ≡ Ok whole → bytes ≡ text ++ rest → IsFrame text → ((fields : List Tagged) → IsValidFrame text fields → ⊥) → valid_fields whole ≡ fields → fields ≡ None
 garbled_read bytes rest text whole None is parts f no_valid valid = refl
 garbled_read bytes rest text whole (Some fields) is parts f no_valid valid =
     let t = frame_takes bytes whole is in

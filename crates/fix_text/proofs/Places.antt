@@ -3,7 +3,7 @@ use Rattle.std.proofs.Common.{◌≡◌, ℕ, ◌+◌, ◌-◌, ◌<◌, ◌≤�
 use Rattle.std.specs.Prelude.{slice_range}
 use Rattle.std.proofs.lemmas.List.{length-append, length-take-le, take_at, drop_at, take-append-drop}
 use Rattle.fix_text.specs.Grammar.{header_of, trailer_of}
-use Rattle.fix_text.specs.Reading.{WholeParts, frame_at}
+use Rattle.fix_text.specs.Reading.{RawFrameParts, frame_at}
 use Rattle.fix_text.proofs.Readers.{frame_takes}
 
 -- a part of a list, by what stands before it and behind it
@@ -13,7 +13,7 @@ part_found bytes front part back start end parted s e =
     ap (take (end - start)) dropped ∙ take_at part back (end - start) (omega arith)
 
 -- a frame at a place of some bytes
-pub record LiesAt (bytes : List ℕ) (at : ℕ) (whole : WholeParts) : Type 0 where
+pub record LiesAt (bytes : List ℕ) (at : ℕ) (whole : RawFrameParts) : Type 0 where
   pub front : List ℕ
   pub front_len : at + length whole.before ≡ length front + length whole.body
   pub body_len : length whole.body ≤ length whole.before
@@ -23,7 +23,7 @@ pub record LiesAt (bytes : List ℕ) (at : ℕ) (whole : WholeParts) : Type 0 wh
   pub trailer_short : length trailer ≤ 7
   pub parts : bytes ≡ front ++ (whole.body ++ (trailer ++ whole.rest))
 
-pub lies_at : (bytes : List ℕ) (at : ℕ) (whole : WholeParts) → at ≤ length bytes → Ok whole ≡ frame_at (drop at bytes) → LiesAt bytes at whole
+pub lies_at : (bytes : List ℕ) (at : ℕ) (whole : RawFrameParts) → at ≤ length bytes → Ok whole ≡ frame_at (drop at bytes) → LiesAt bytes at whole
 lies_at bytes at whole within is =
     let t = frame_takes (drop at bytes) whole (sym is) in
     let header : List ℕ = header_of t.1.digits in
@@ -40,16 +40,16 @@ lies_at bytes at whole within is =
       parts = sym (take-append-drop at bytes) ∙ ap (λ (x : List ℕ). take at bytes ++ x) (t.2 ∙ inner) ∙ sym (append_assoc (take at bytes) header (whole.body ++ (trailer ++ whole.rest)));
     }
 
-pub lies_length : (bytes : List ℕ) (at : ℕ) (whole : WholeParts) (lies : LiesAt bytes at whole) → length bytes ≡ (at + length whole.before) + (length lies.trailer + length whole.rest)
+pub lies_length : (bytes : List ℕ) (at : ℕ) (whole : RawFrameParts) (lies : LiesAt bytes at whole) → length bytes ≡ (at + length whole.before) + (length lies.trailer + length whole.rest)
 lies_length bytes at whole lies = omega (arith, lies.front_len, ap length lies.parts, length-append lies.front (whole.body ++ (lies.trailer ++ whole.rest)), length-append whole.body (lies.trailer ++ whole.rest), length-append lies.trailer whole.rest)
 
 -- the body, by the lengths of what was found
-pub body_found : (bytes : List ℕ) (at : ℕ) (whole : WholeParts) → LiesAt bytes at whole → slice_range bytes (at + length whole.before - length whole.body) (at + length whole.before) ≡ whole.body
+pub body_found : (bytes : List ℕ) (at : ℕ) (whole : RawFrameParts) → LiesAt bytes at whole → slice_range bytes (at + length whole.before - length whole.body) (at + length whole.before) ≡ whole.body
 body_found bytes at whole lies =
     part_found bytes lies.front whole.body (lies.trailer ++ whole.rest) _ _ lies.parts (omega (arith, lies.front_len)) (omega (arith, lies.front_len, lies.body_len))
 
 -- and what follows the frame
-pub rest_found : (bytes : List ℕ) (at : ℕ) (whole : WholeParts) → LiesAt bytes at whole → drop (length bytes - length whole.rest) bytes ≡ whole.rest
+pub rest_found : (bytes : List ℕ) (at : ℕ) (whole : RawFrameParts) → LiesAt bytes at whole → drop (length bytes - length whole.rest) bytes ≡ whole.rest
 rest_found bytes at whole lies =
     let front : List ℕ = lies.front ++ (whole.body ++ lies.trailer) in
     let parted : bytes ≡ front ++ whole.rest = lies.parts ∙ ap (λ (x : List ℕ). lies.front ++ x) (sym (append_assoc whole.body lies.trailer whole.rest)) ∙ sym (append_assoc lies.front (whole.body ++ lies.trailer) whole.rest) in

@@ -6,26 +6,26 @@ use Rattle.std.specs.Str.{all_ascii_digits}
 use Rattle.std.proofs.lemmas.Bool.{eqb-true, ltb-true, ltb-false, leb-true, le-ltb, and_parts, and_from, and_cases, and_left, and_right, or_parts, or_cases, cases_lt}
 use Rattle.std.proofs.lemmas.List.{length-append, length-replicate, get_or_append_left}
 use Rattle.fix_text.specs.Then.{◌>>=◌}
-use Rattle.fix_text.specs.declared.parse.Stop.{Stop}
-use Rattle.fix_text.specs.declared.parse.Stop.TheVariants.{Short, Differs}
+use Rattle.fix_text.specs.declared.parse.NoFrame.{NoFrame}
+use Rattle.fix_text.specs.declared.parse.NoFrame.TheVariants.{Short, Differs}
 use Rattle.fix_text.specs.Grammar.{EndsInSoh}
 use Rattle.fix_text.specs.Reading.{literal_at, digit_at, length_at, body_at}
 use Rattle.fix_text.proofs.Readers.{chosen, done, literal_takes, literal_again, digit_takes, digit_again, Completes, length_takes, length_again, body_takes, body_again, digit_is}
 
 -- where a step stopped: at its first part, or behind it
-pub bind_err : {A B : Type 0} (r : Result A Stop) (f : A → Result B Stop) (stop : Stop) → (r >>= f) ≡ Err stop → (r ≡ Err stop) ⊎ ((x : A) × (r ≡ Ok x) × (f x ≡ Err stop))
+pub bind_err : {A B : Type 0} (r : Result A NoFrame) (f : A → Result B NoFrame) (stop : NoFrame) → (r >>= f) ≡ Err stop → (r ≡ Err stop) ⊎ ((x : A) × (r ≡ Ok x) × (f x ≡ Err stop))
 bind_err (Ok x) f stop e = inr (x, refl, e)
-bind_err (Err s) f stop e = inl (ap (λ (t : Stop). Err t) (stop_is s stop e)) where
-  stop_is : {B : Type 0} (s t : Stop) → ◌≡◌ {A = Result B Stop} (Err s) (Err t) → s ≡ t
+bind_err (Err s) f stop e = inl (ap (λ (t : NoFrame). Err t) (stop_is s stop e)) where
+  stop_is : {B : Type 0} (s t : NoFrame) → ◌≡◌ {A = Result B NoFrame} (Err s) (Err t) → s ≡ t
   stop_is s t e = cc
 
-abbrev stopped : {A : Type 0} → Stop → Result A Stop
+abbrev stopped : {A : Type 0} → NoFrame → Result A NoFrame
 stopped stop = Err stop
 
 pub short_differs : {A : Type 0} → stopped {A = A} Short ≡ stopped {A = A} Differs → ⊥
 short_differs e = cc
 
-pub ok_differs : {A : Type 0} (x : A) (stop : Stop) → done x ≡ stopped stop → ⊥
+pub ok_differs : {A : Type 0} (x : A) (stop : NoFrame) → done x ≡ stopped stop → ⊥
 ok_differs x stop e = cc
 
 -- ---- a literal

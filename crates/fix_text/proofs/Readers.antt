@@ -6,13 +6,13 @@ use Rattle.std.specs.Str.{all_ascii_digits}
 use Rattle.std.proofs.lemmas.Bool.{eqb-true, ltb-true, ltb-false, lt-ltb, le-ltb, le-leb, ne_eqb, eq-eqb, and_parts, and_from}
 use Rattle.std.proofs.lemmas.List.{take_at, drop_at, take-append-drop, length-append, length-take-le, length_push, get_or_at, take_more}
 use Rattle.fix_text.specs.Then.{◌>>=◌}
-use Rattle.fix_text.specs.declared.parse.Stop.{Stop}
-use Rattle.fix_text.specs.declared.parse.Stop.TheVariants.{Short, Differs}
+use Rattle.fix_text.specs.declared.parse.NoFrame.{NoFrame}
+use Rattle.fix_text.specs.declared.parse.NoFrame.TheVariants.{Short, Differs}
 use Rattle.fix_text.specs.Grammar.{number_after, IsLength, IsCheck, EndsInSoh, opening, header_of, trailer_of}
-use Rattle.fix_text.specs.Reading.{literal_at, digit_at, length_at, body_at, trailer_at, frame_at, WholeParts}
+use Rattle.fix_text.specs.Reading.{literal_at, digit_at, length_at, body_at, trailer_at, frame_at, RawFrameParts}
 
 -- the value of a step that went well
-pub bind_ok : {A B : Type 0} (r : Result A Stop) (f : A → Result B Stop) (y : B) → (r >>= f) ≡ Ok y → (x : A) × (r ≡ Ok x) × (f x ≡ Ok y)
+pub bind_ok : {A B : Type 0} (r : Result A NoFrame) (f : A → Result B NoFrame) (y : B) → (r >>= f) ≡ Ok y → (x : A) × (r ≡ Ok x) × (f x ≡ Ok y)
 bind_ok (Ok x) f y e = (x, refl, e)
 bind_ok (Err d) f y e = absurd cc
 
@@ -21,13 +21,13 @@ pub chosen : {A : Type 0} (b : Bool) (x y z : A) → cond b x y ≡ z → ((b �
 chosen true x y z e = inl (refl, e)
 chosen false x y z e = inr (refl, e)
 
-abbrev pub done : {A : Type 0} → A → Result A Stop
+abbrev pub done : {A : Type 0} → A → Result A NoFrame
 done x = Ok x
 
 pub ok_is : {A : Type 0} (x y : A) → done x ≡ done y → x ≡ y
 ok_is x y e = cc
 
-pub not_ok : {A : Type 0} (stop : Stop) (y : A) → Err stop ≡ done y → ⊥
+pub not_ok : {A : Type 0} (stop : NoFrame) (y : A) → Err stop ≡ done y → ⊥
 not_ok stop y e = cc
 
 -- the two parts of what a reader found
@@ -167,16 +167,16 @@ body_again body rest h =
 -- ---- the trailer
 
 -- the steps of a trailer
-abbrev pub last_step : ℕ → ℕ → ℕ × List ℕ → Result (ℕ × List ℕ) Stop
+abbrev pub last_step : ℕ → ℕ → ℕ × List ℕ → Result (ℕ × List ℕ) NoFrame
 last_step a b c = literal_at (1 ∷ []) c.1 >>= λ rest. Ok (100 * a + 10 * b + c.0, rest)
 
-abbrev pub third_step : ℕ → ℕ × List ℕ → Result (ℕ × List ℕ) Stop
+abbrev pub third_step : ℕ → ℕ × List ℕ → Result (ℕ × List ℕ) NoFrame
 third_step a b = digit_at b.1 >>= last_step a b.0
 
-abbrev pub second_step : ℕ × List ℕ → Result (ℕ × List ℕ) Stop
+abbrev pub second_step : ℕ × List ℕ → Result (ℕ × List ℕ) NoFrame
 second_step a = digit_at a.1 >>= third_step a.0
 
-abbrev pub first_step : List ℕ → Result (ℕ × List ℕ) Stop
+abbrev pub first_step : List ℕ → Result (ℕ × List ℕ) NoFrame
 first_step digits = digit_at digits >>= second_step
 
 pub digit_is : (d : ℕ) → d ≤ 9 → IsTrue (is_ascii_digit (48 + d))
@@ -211,18 +211,18 @@ trailer_again (a ∷ b ∷ c ∷ []) check rest h =
     let second = and_parts (is_ascii_digit b) (all_ascii_digits (c ∷ [])) first.1 in
     let third = and_parts (is_ascii_digit c) true second.1 in
     let value : 100 * (a - 48) + 10 * (b - 48) + (c - 48) ≡ check = omega (arith, h.value) in
-    ap (λ (r : Result (List ℕ) Stop). r >>= first_step) (literal_again (codes "10=") (a ∷ b ∷ c ∷ 1 ∷ rest))
-    ∙ ap (λ (r : Result (ℕ × List ℕ) Stop). r >>= second_step) (digit_again a (b ∷ c ∷ 1 ∷ rest) first.0)
-    ∙ ap (λ (r : Result (ℕ × List ℕ) Stop). r >>= third_step (a - 48)) (digit_again b (c ∷ 1 ∷ rest) second.0)
-    ∙ ap (λ (r : Result (ℕ × List ℕ) Stop). r >>= last_step (a - 48) (b - 48)) (digit_again c (1 ∷ rest) third.0)
-    ∙ ap (λ (r : Result (List ℕ) Stop). r >>= λ after. Ok (100 * (a - 48) + 10 * (b - 48) + (c - 48), after)) (literal_again (1 ∷ []) rest)
+    ap (λ (r : Result (List ℕ) NoFrame). r >>= first_step) (literal_again (codes "10=") (a ∷ b ∷ c ∷ 1 ∷ rest))
+    ∙ ap (λ (r : Result (ℕ × List ℕ) NoFrame). r >>= second_step) (digit_again a (b ∷ c ∷ 1 ∷ rest) first.0)
+    ∙ ap (λ (r : Result (ℕ × List ℕ) NoFrame). r >>= third_step (a - 48)) (digit_again b (c ∷ 1 ∷ rest) second.0)
+    ∙ ap (λ (r : Result (ℕ × List ℕ) NoFrame). r >>= last_step (a - 48) (b - 48)) (digit_again c (1 ∷ rest) third.0)
+    ∙ ap (λ (r : Result (List ℕ) NoFrame). r >>= λ after. Ok (100 * (a - 48) + 10 * (b - 48) + (c - 48), after)) (literal_again (1 ∷ []) rest)
     ∙ ap (λ (n : ℕ). Ok (n, rest)) value
 trailer_again (a ∷ b ∷ c ∷ d ∷ digits) check rest h = absurd (omega (arith, h.three))
 
 -- ---- a frame
 
 -- what a frame is spelled of: header, body and trailer
-pub record Spelled (text : List ℕ) (whole : WholeParts) : Type 0 where
+pub record Spelled (text : List ℕ) (whole : RawFrameParts) : Type 0 where
   pub digits : List ℕ
   pub check : List ℕ
   pub text_is : text ≡ (header_of digits ++ whole.body) ++ trailer_of check
@@ -232,13 +232,13 @@ pub record Spelled (text : List ℕ) (whole : WholeParts) : Type 0 where
   pub is_check : IsCheck check whole.check
 
 -- the steps of a frame
-abbrev pub end_step : List ℕ → List ℕ × List ℕ → Result WholeParts Stop
+abbrev pub end_step : List ℕ → List ℕ × List ℕ → Result RawFrameParts NoFrame
 end_step bytes body = trailer_at body.1 >>= λ trailer. Ok (record { before = take (length bytes - length body.1) bytes; body = body.0; check = trailer.0; rest = trailer.1 })
 
-abbrev pub body_step : List ℕ → ℕ × List ℕ → Result WholeParts Stop
+abbrev pub body_step : List ℕ → ℕ × List ℕ → Result RawFrameParts NoFrame
 body_step bytes size = body_at size.0 size.1 >>= end_step bytes
 
-abbrev pub length_step : List ℕ → List ℕ → Result WholeParts Stop
+abbrev pub length_step : List ℕ → List ℕ → Result RawFrameParts NoFrame
 length_step bytes digits = length_at 6 0 digits >>= body_step bytes
 
 regroup : (o d b r : List ℕ) → o ++ (d ++ 1 ∷ (b ++ r)) ≡ (o ++ (d ++ 1 ∷ []) ++ b) ++ r
@@ -250,14 +250,14 @@ front_taken bytes front rest e = rw e (take_at front rest (length (front ++ rest
 pub is_length_from : (digits : List ℕ) (size : ℕ) → Completes 6 0 size digits → IsLength digits size
 is_length_from digits size h = record { few = h.few; each = h.each; value = h.value; positive = h.positive; bound = h.bound }
 
-pub frame_takes : (bytes : List ℕ) (whole : WholeParts) → frame_at bytes ≡ Ok whole → (text : List ℕ) × Spelled text whole × (bytes ≡ text ++ whole.rest)
+pub frame_takes : (bytes : List ℕ) (whole : RawFrameParts) → frame_at bytes ≡ Ok whole → (text : List ℕ) × Spelled text whole × (bytes ≡ text ++ whole.rest)
 unfolding frame_at
 frame_takes bytes whole e =
     let o = bind_ok (literal_at opening bytes) (length_step bytes) whole e in
     let l = bind_ok (length_at 6 0 o.0) (body_step bytes) whole o.2 in
     let b = bind_ok (body_at l.0.0 l.0.1) (end_step bytes) whole l.2 in
     let t = bind_ok (trailer_at b.0.1) (λ (trailer : ℕ × List ℕ). Ok (record { before = take (length bytes - length b.0.1) bytes; body = b.0.0; check = trailer.0; rest = trailer.1 })) whole b.2 in
-    let made : WholeParts = record { before = take (length bytes - length b.0.1) bytes; body = b.0.0; check = t.0.0; rest = t.0.1 } in
+    let made : RawFrameParts = record { before = take (length bytes - length b.0.1) bytes; body = b.0.0; check = t.0.0; rest = t.0.1 } in
     let o-is = literal_takes opening bytes o.0 o.1 in
     let l-is = length_takes 6 0 o.0 l.0.0 l.0.1 l.1 in
     let b-is = body_takes l.0.0 l.0.1 b.0.0 b.0.1 l-is.2.positive b.1 in
@@ -274,7 +274,7 @@ frame_takes bytes whole e =
       is_body = b-is.2;
       is_check = t-is.2;
     } in
-    subst (λ (w : WholeParts). (text : List ℕ) × Spelled text w × (bytes ≡ text ++ w.rest)) (ok_is made whole t.2) (front ++ trailer_of t-is.0, spelled, whole_parted)
+    subst (λ (w : RawFrameParts). (text : List ℕ) × Spelled text w × (bytes ≡ text ++ w.rest)) (ok_is made whole t.2) (front ++ trailer_of t-is.0, spelled, whole_parted)
 
 pub frame_again : (digits body check rest : List ℕ) (number : ℕ) → IsLength digits (length body) → EndsInSoh body → IsCheck check number
     → frame_at (((header_of digits ++ body) ++ trailer_of check) ++ rest) ≡ Ok (record { before = header_of digits ++ body; body = body; check = number; rest = rest })
@@ -287,10 +287,10 @@ frame_again digits body check rest number is_length is_body is_check =
     let opened : bytes ≡ opening ++ (digits ++ 1 ∷ (body ++ after)) = parted ∙ sym (regroup opening digits body after) in
     let completes : Completes 6 0 (length body) digits = record { few = is_length.few; each = is_length.each; value = is_length.value; positive = is_length.positive; bound = is_length.bound } in
     let o : literal_at opening bytes ≡ Ok (digits ++ 1 ∷ (body ++ after)) = ap (literal_at opening) opened ∙ literal_again opening (digits ++ 1 ∷ (body ++ after)) in
-    ap (λ (r : Result (List ℕ) Stop). r >>= length_step bytes) o
-    ∙ ap (λ (r : Result (ℕ × List ℕ) Stop). r >>= body_step bytes) (length_again 6 0 (length body) digits (body ++ after) completes)
-    ∙ ap (λ (r : Result (List ℕ × List ℕ) Stop). r >>= end_step bytes) (body_again body after is_body)
-    ∙ ap (λ (r : Result (ℕ × List ℕ) Stop). r >>= λ trailer. Ok (record { before = take (length bytes - length after) bytes; body = body; check = trailer.0; rest = trailer.1 })) (trailer_again check number rest is_check)
+    ap (λ (r : Result (List ℕ) NoFrame). r >>= length_step bytes) o
+    ∙ ap (λ (r : Result (ℕ × List ℕ) NoFrame). r >>= body_step bytes) (length_again 6 0 (length body) digits (body ++ after) completes)
+    ∙ ap (λ (r : Result (List ℕ × List ℕ) NoFrame). r >>= end_step bytes) (body_again body after is_body)
+    ∙ ap (λ (r : Result (ℕ × List ℕ) NoFrame). r >>= λ trailer. Ok (record { before = take (length bytes - length after) bytes; body = body; check = trailer.0; rest = trailer.1 })) (trailer_again check number rest is_check)
     ∙ ap (λ (before : List ℕ). Ok (record { before = before; body = body; check = number; rest = rest })) (front_taken bytes front after parted)
 
 -- ---- what a reader needs of them
@@ -302,7 +302,7 @@ differs_some [] e = absurd cc
 differs_some (b ∷ bytes) e = omega arith
 
 -- a frame takes bytes, and what follows it is what is left
-pub frame_shorter : (bytes : List ℕ) (whole : WholeParts) → Ok whole ≡ frame_at bytes → length whole.rest < length bytes
+pub frame_shorter : (bytes : List ℕ) (whole : RawFrameParts) → Ok whole ≡ frame_at bytes → length whole.rest < length bytes
 frame_shorter bytes whole e =
     let t = frame_takes bytes whole (sym e) in
     omega (arith, ap length t.2, length-append t.0 whole.rest, ap length t.1.text_is, length-append (header_of t.1.digits ++ whole.body) (trailer_of t.1.check))

@@ -13,7 +13,7 @@ use Rattle.fix_text.specs.Tagged.{Tagged}
 use Rattle.fix_text.specs.Text.{field_text, fields_text, holds_soh, is_writable_tag, is_writable_value, begins_with_type, has_writable_tags, has_writable_values}
 use Rattle.fix_text.specs.Frame.{three_digits, header_text, trailer_text, frame_text}
 use Rattle.fix_text.specs.Grammar.{number_after, digits_number, header_of, trailer_of, IsLength, IsCheck, EndsInSoh, IsField, AreFields}
-use Rattle.fix_text.specs.Reading.{WholeParts, Stream, field_from, field_of, fields_of, parts_of, fields_of_parts, with_field, if_typed, typed_fields, valid_fields, frame_at, at_frame, at_place, next_read, BeginsWritten}
+use Rattle.fix_text.specs.Reading.{RawFrameParts, Stream, field_from, field_of, fields_of, parts_of, fields_of_parts, with_field, if_typed, typed_fields, valid_fields, frame_at, at_frame, at_place, next_read, BeginsWritten}
 use Rattle.fix_text.proofs.Readers.{number_after-ge, digit_range, digit_is, frame_again}
 use Rattle.fix_text.proofs.FieldLists.{fields_of-part}
 use Rattle.fix_text.proofs.Turns.{next_turn}
@@ -121,7 +121,7 @@ unfolding typed_fields
 typed_again fields h typed = ap (option_and_then if_typed) (fields_again fields h) ∙ rw typed refl
 
 pub frame_read : (fields : List Tagged) (rest : List ℕ) → AreFields fields → IsTrue (begins_with_type fields) → length (fields_text fields) ≤ 4096
-    → (whole : WholeParts) × (frame_at (frame_text fields ++ rest) ≡ Ok whole) × (valid_fields whole ≡ Some fields) × (whole.rest ≡ rest)
+    → (whole : RawFrameParts) × (frame_at (frame_text fields ++ rest) ≡ Ok whole) × (valid_fields whole ≡ Some fields) × (whole.rest ≡ rest)
 unfolding valid_fields
 frame_read [] rest h typed short = absurd cc
 frame_read (field ∷ fields) rest h typed short =
@@ -129,7 +129,7 @@ frame_read (field ∷ fields) rest h typed short =
     let size : ℕ = length body in
     let before : List ℕ = header_of (decimal size) ++ body in
     let check : ℕ = sum before % 256 in
-    let whole : WholeParts = record { before = before; body = body; check = check; rest = rest } in
+    let whole : RawFrameParts = record { before = before; body = body; check = check; rest = rest } in
     let written : frame_text (field ∷ fields) ≡ before ++ trailer_of (three_digits check) = ap (λ (header : List ℕ). (header ++ body) ++ trailer_text (header ++ body)) (header_is size) in
     let positive : 0 < size = omega (arith, length-append (field_text field) (fields_text fields), length-append (decimal field.tag ++ 61 ∷ field.value) (1 ∷ [])) in
     let again = frame_again (decimal size) body (three_digits check) rest check (is_length-decimal size positive short) (ends_in_soh field fields) (is_check-three_digits check (omega arith)) in

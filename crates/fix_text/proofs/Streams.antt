@@ -1,7 +1,7 @@
 -- What was read of a stream stays read when more bytes come, and no other reading is there.
 use Rattle.std.proofs.Common.{◌≡◌, ℕ, zero, suc, ◌+◌, zero-add, List, [], ◌∷◌, ◌++◌, Result, Err, refl, sym, ap, subst, ◌∙◌, arith, append_assoc, inl, inr, ◌⊎◌}
-use Rattle.fix_text.specs.declared.parse.Stop.{Stop}
-use Rattle.fix_text.specs.declared.parse.Stop.TheVariants.{Short, Differs}
+use Rattle.fix_text.specs.declared.parse.NoFrame.{NoFrame}
+use Rattle.fix_text.specs.declared.parse.NoFrame.TheVariants.{Short, Differs}
 use Rattle.fix_text.specs.Tagged.{Tagged}
 use Rattle.fix_text.specs.Grammar.{IsValidFrame, Pass, Given, Garbled, Skipped, Takes, Passes, given_of, garbled_of, skipped_of}
 use Rattle.fix_text.specs.Reading.{Stream, frame_at, one_more}
@@ -20,7 +20,7 @@ takes_more (Garbled text) bytes rest more t = (ap (λ (x : List ℕ). x ++ more)
 takes_more (Skipped byte) bytes rest more t =
     let is = frame_stays bytes more (differs_read bytes (frame_at bytes) refl t.1 t.2 (place_decided bytes)) in
     (ap (λ (x : List ℕ). x ++ more) t.0, λ b. let read = begins_read (bytes ++ more) b in ok_differs read.0 Differs (sym read.1 ∙ is), λ b. short_is_not (sym is ∙ beginning_read (bytes ++ more) b)) where
-      short_is_not : {A : Type 0} → ◌≡◌ {A = Result A Stop} (Err Differs) (Err Short) → ⊥
+      short_is_not : {A : Type 0} → ◌≡◌ {A = Result A NoFrame} (Err Differs) (Err Short) → ⊥
       short_is_not e = cc
 
 -- what was passed stays passed

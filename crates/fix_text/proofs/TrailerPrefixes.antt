@@ -4,8 +4,8 @@ use Rattle.std.specs.Prelude.{codes}
 use Rattle.std.proofs.lemmas.Bool.{and_from}
 use Rattle.std.proofs.lemmas.List.{length-append}
 use Rattle.fix_text.specs.Then.{◌>>=◌}
-use Rattle.fix_text.specs.declared.parse.Stop.{Stop}
-use Rattle.fix_text.specs.declared.parse.Stop.TheVariants.{Short, Differs}
+use Rattle.fix_text.specs.declared.parse.NoFrame.{NoFrame}
+use Rattle.fix_text.specs.declared.parse.NoFrame.TheVariants.{Short, Differs}
 use Rattle.fix_text.specs.Grammar.{digits_number, IsCheck, trailer_of}
 use Rattle.fix_text.specs.Reading.{literal_at, digit_at, trailer_at}
 use Rattle.fix_text.proofs.Readers.{literal_takes, digit_takes, first_step, second_step, third_step, last_step, digit_is}
@@ -16,37 +16,37 @@ use Rattle.fix_text.proofs.Prefixes.{bind_err, ok_differs, literal_more, literal
 last_stays : (a b : ℕ) (c : ℕ × List ℕ) (more : List ℕ) → last_step a b c ≡ Err Differs → last_step a b (c.0, c.1 ++ more) ≡ Err Differs
 last_stays a b c more e =
     elim (bind_err (literal_at (1 ∷ []) c.1) (λ (rest : List ℕ). Ok (100 * a + 10 * b + c.0, rest)) Differs e) [
-      | inl here ↦ ap (λ (r : Result (List ℕ) Stop). r >>= λ rest. Ok (100 * a + 10 * b + c.0, rest)) (literal_stays (1 ∷ []) c.1 more here)
+      | inl here ↦ ap (λ (r : Result (List ℕ) NoFrame). r >>= λ rest. Ok (100 * a + 10 * b + c.0, rest)) (literal_stays (1 ∷ []) c.1 more here)
       | inr later ↦ absurd (ok_differs (100 * a + 10 * b + c.0, later.0) Differs later.2)
     ]
 
 third_stays : (a : ℕ) (b : ℕ × List ℕ) (more : List ℕ) → third_step a b ≡ Err Differs → third_step a (b.0, b.1 ++ more) ≡ Err Differs
 third_stays a b more e =
     elim (bind_err (digit_at b.1) (last_step a b.0) Differs e) [
-      | inl here ↦ ap (λ (r : Result (ℕ × List ℕ) Stop). r >>= last_step a b.0) (digit_stays b.1 more here)
-      | inr later ↦ ap (λ (r : Result (ℕ × List ℕ) Stop). r >>= last_step a b.0) (digit_more b.1 later.0.0 later.0.1 more later.1) ∙ last_stays a b.0 later.0 more later.2
+      | inl here ↦ ap (λ (r : Result (ℕ × List ℕ) NoFrame). r >>= last_step a b.0) (digit_stays b.1 more here)
+      | inr later ↦ ap (λ (r : Result (ℕ × List ℕ) NoFrame). r >>= last_step a b.0) (digit_more b.1 later.0.0 later.0.1 more later.1) ∙ last_stays a b.0 later.0 more later.2
     ]
 
 second_stays : (a : ℕ × List ℕ) (more : List ℕ) → second_step a ≡ Err Differs → second_step (a.0, a.1 ++ more) ≡ Err Differs
 second_stays a more e =
     elim (bind_err (digit_at a.1) (third_step a.0) Differs e) [
-      | inl here ↦ ap (λ (r : Result (ℕ × List ℕ) Stop). r >>= third_step a.0) (digit_stays a.1 more here)
-      | inr later ↦ ap (λ (r : Result (ℕ × List ℕ) Stop). r >>= third_step a.0) (digit_more a.1 later.0.0 later.0.1 more later.1) ∙ third_stays a.0 later.0 more later.2
+      | inl here ↦ ap (λ (r : Result (ℕ × List ℕ) NoFrame). r >>= third_step a.0) (digit_stays a.1 more here)
+      | inr later ↦ ap (λ (r : Result (ℕ × List ℕ) NoFrame). r >>= third_step a.0) (digit_more a.1 later.0.0 later.0.1 more later.1) ∙ third_stays a.0 later.0 more later.2
     ]
 
 first_stays : (digits more : List ℕ) → first_step digits ≡ Err Differs → first_step (digits ++ more) ≡ Err Differs
 first_stays digits more e =
     elim (bind_err (digit_at digits) second_step Differs e) [
-      | inl here ↦ ap (λ (r : Result (ℕ × List ℕ) Stop). r >>= second_step) (digit_stays digits more here)
-      | inr later ↦ ap (λ (r : Result (ℕ × List ℕ) Stop). r >>= second_step) (digit_more digits later.0.0 later.0.1 more later.1) ∙ second_stays later.0 more later.2
+      | inl here ↦ ap (λ (r : Result (ℕ × List ℕ) NoFrame). r >>= second_step) (digit_stays digits more here)
+      | inr later ↦ ap (λ (r : Result (ℕ × List ℕ) NoFrame). r >>= second_step) (digit_more digits later.0.0 later.0.1 more later.1) ∙ second_stays later.0 more later.2
     ]
 
 pub trailer_stays : (bytes more : List ℕ) → trailer_at bytes ≡ Err Differs → trailer_at (bytes ++ more) ≡ Err Differs
 unfolding trailer_at
 trailer_stays bytes more e =
     elim (bind_err (literal_at (codes "10=") bytes) first_step Differs e) [
-      | inl here ↦ ap (λ (r : Result (List ℕ) Stop). r >>= first_step) (literal_stays (codes "10=") bytes more here)
-      | inr later ↦ ap (λ (r : Result (List ℕ) Stop). r >>= first_step) (literal_more (codes "10=") bytes later.0 more later.1) ∙ first_stays later.0 more later.2
+      | inl here ↦ ap (λ (r : Result (List ℕ) NoFrame). r >>= first_step) (literal_stays (codes "10=") bytes more here)
+      | inr later ↦ ap (λ (r : Result (List ℕ) NoFrame). r >>= first_step) (literal_more (codes "10=") bytes later.0 more later.1) ∙ first_stays later.0 more later.2
     ]
 
 -- ---- what is short

@@ -5,21 +5,21 @@ use Rattle.std.specs.Prelude.{is_some, OnErr}
 use Rattle.std.proofs.lemmas.Bool.{ne_eqb}
 use Rattle.std.proofs.lemmas.Grind.{get_or_after_one}
 use Rattle.std.proofs.lemmas.List.{drop-drop, length-drop, nil_from_length}
-use Rattle.fix_text.specs.declared.parse.Stop.{Stop}
-use Rattle.fix_text.specs.declared.parse.Stop.TheVariants.{Short, Differs}
+use Rattle.fix_text.specs.declared.parse.NoFrame.{NoFrame}
+use Rattle.fix_text.specs.declared.parse.NoFrame.TheVariants.{Short, Differs}
 use Rattle.fix_text.specs.Tagged.{Tagged}
-use Rattle.fix_text.specs.Reading.{WholeParts, Stream, NextFrame, frame_at, literal_at, valid_fields, at_frame, at_place, after_given, after_garbled, after_byte, read_on, next_read}
+use Rattle.fix_text.specs.Reading.{RawFrameParts, Stream, NextFrame, frame_at, literal_at, valid_fields, at_frame, at_place, after_given, after_garbled, after_byte, read_on, next_read}
 use Rattle.fix_text.specs.Placing.{AreMore}
 use Rattle.fix_text.proofs.Readers.{differs_some, frame_shorter}
 
 -- a frame that is passed needs only what shorter streams give
-same_frame : (later other : Stream → NextFrame) (stream : Stream) (whole : WholeParts) (fields : Option (List Tagged)) → length whole.rest < length stream.rest
+same_frame : (later other : Stream → NextFrame) (stream : Stream) (whole : RawFrameParts) (fields : Option (List Tagged)) → length whole.rest < length stream.rest
     → ((s : Stream) → length s.rest < length stream.rest → later s ≡ other s) → at_frame later stream whole fields ≡ at_frame other stream whole fields
 same_frame later other stream whole (Some fields) shorter same = refl
 same_frame later other stream whole None shorter same = same (after_garbled stream whole) shorter
 
 -- so does any place
-same_place : (later other : Stream → NextFrame) (stream : Stream) (place : Result WholeParts Stop) → place ≡ frame_at stream.rest
+same_place : (later other : Stream → NextFrame) (stream : Stream) (place : Result RawFrameParts NoFrame) → place ≡ frame_at stream.rest
     → ((s : Stream) → length s.rest < length stream.rest → later s ≡ other s) → at_place later stream place ≡ at_place other stream place
 same_place later other stream (Ok whole) is same = same_frame later other stream whole (valid_fields whole) (frame_shorter stream.rest whole is) same
 same_place later other stream (Err Short) is same = refl
@@ -47,14 +47,14 @@ next_turn stream =
 
 -- ---- the turns of a loop
 
-turn_at : (stream : Stream) (place : Result WholeParts Stop) (total : NextFrame) → place ≡ frame_at stream.rest → next_read stream ≡ total → at_place next_read stream place ≡ total
+turn_at : (stream : Stream) (place : Result RawFrameParts NoFrame) (total : NextFrame) → place ≡ frame_at stream.rest → next_read stream ≡ total → at_place next_read stream place ≡ total
 turn_at stream place total is so_far = ap (at_place next_read stream) is ∙ sym (next_turn stream) ∙ so_far
 
-pub waits : (stream : Stream) (stop : Stop) (total : NextFrame) → stop ≡ Short → Err stop ≡ frame_at stream.rest → next_read stream ≡ total → record { frame = None; stream = stream } ≡ total
-waits stream stop total short is so_far = turn_at stream (Err Short) total (ap (λ (s : Stop). Err s) (sym short) ∙ is) so_far
+pub waits : (stream : Stream) (stop : NoFrame) (total : NextFrame) → stop ≡ Short → Err stop ≡ frame_at stream.rest → next_read stream ≡ total → record { frame = None; stream = stream } ≡ total
+waits stream stop total short is so_far = turn_at stream (Err Short) total (ap (λ (s : NoFrame). Err s) (sym short) ∙ is) so_far
 
-pub skips : (stream next : Stream) (stop : Stop) (total : NextFrame) → stop ≡ Differs → Err stop ≡ frame_at stream.rest → next ≡ after_byte stream → next_read stream ≡ total → next_read next ≡ total
-skips stream next stop total differs is after so_far = ap next_read after ∙ turn_at stream (Err Differs) total (ap (λ (s : Stop). Err s) (sym differs) ∙ is) so_far
+pub skips : (stream next : Stream) (stop : NoFrame) (total : NextFrame) → stop ≡ Differs → Err stop ≡ frame_at stream.rest → next ≡ after_byte stream → next_read stream ≡ total → next_read next ≡ total
+skips stream next stop total differs is after so_far = ap next_read after ∙ turn_at stream (Err Differs) total (ap (λ (s : NoFrame). Err s) (sym differs) ∙ is) so_far
 
 -- no frame begins with a byte that isn't `8`
 no_start : (byte : ℕ) (bytes : List ℕ) → (byte ≡ 56 → ⊥) → Err Differs ≡ frame_at (byte ∷ bytes)
@@ -85,7 +85,7 @@ skips_on (suc count) skipped garbled (byte ∷ bytes) small within none =
     ∙ turn_at stream (Err Differs) (next_read stream) is refl
 
 -- a byte at which no frame begins, and those behind it that aren't `8`
-pub skips_all : (stream : Stream) (stop : Stop) (total : NextFrame) (count : ℕ) → stop ≡ Differs → Err stop ≡ frame_at stream.rest
+pub skips_all : (stream : Stream) (stop : NoFrame) (total : NextFrame) (count : ℕ) → stop ≡ Differs → Err stop ≡ frame_at stream.rest
     → 0 < count → count ≤ length stream.rest
     → ((k : ℕ) → 0 < k → k < count → get_or stream.rest k 0 ≡ 56 → ⊥)
     → next_read stream ≡ total → next_read (after_bytes stream count) ≡ total
@@ -101,23 +101,23 @@ skips_all stream stop total (suc count) differs is some within none so_far =
     ∙ skips_on count (min (stream.skipped + 1) (2 ^ 64 - 1)) stream.garbled (drop 1 stream.rest) one (omega (arith, length-drop 1 stream.rest)) later
     ∙ skips stream (after_byte stream) stop total differs is refl so_far
 
-pub some_left : (bytes : List ℕ) (stop : Stop) → stop ≡ Differs → Err stop ≡ frame_at bytes → 1 ≤ length bytes
-some_left bytes stop differs is = differs_some bytes (ap (λ (s : Stop). Err s) (sym differs) ∙ is)
+pub some_left : (bytes : List ℕ) (stop : NoFrame) → stop ≡ Differs → Err stop ≡ frame_at bytes → 1 ≤ length bytes
+some_left bytes stop differs is = differs_some bytes (ap (λ (s : NoFrame). Err s) (sym differs) ∙ is)
 
-given_some : (stream : Stream) (whole : WholeParts) (fields : Option (List Tagged)) → is_some fields ≡ true → at_frame next_read stream whole fields ≡ record { frame = fields; stream = after_given stream whole }
+given_some : (stream : Stream) (whole : RawFrameParts) (fields : Option (List Tagged)) → is_some fields ≡ true → at_frame next_read stream whole fields ≡ record { frame = fields; stream = after_given stream whole }
 given_some stream whole None some = absurd cc
 given_some stream whole (Some fields) some = refl
 
-given_none : (stream : Stream) (whole : WholeParts) (fields : Option (List Tagged)) → is_some fields ≡ false → at_frame next_read stream whole fields ≡ next_read (after_garbled stream whole)
+given_none : (stream : Stream) (whole : RawFrameParts) (fields : Option (List Tagged)) → is_some fields ≡ false → at_frame next_read stream whole fields ≡ next_read (after_garbled stream whole)
 given_none stream whole None none = refl
 given_none stream whole (Some fields) none = absurd cc
 
-pub gives : (stream next : Stream) (whole : WholeParts) (fields : Option (List Tagged)) (total : NextFrame) → Ok whole ≡ frame_at stream.rest → fields ≡ valid_fields whole → is_some fields ≡ true → next ≡ after_given stream whole
+pub gives : (stream next : Stream) (whole : RawFrameParts) (fields : Option (List Tagged)) (total : NextFrame) → Ok whole ≡ frame_at stream.rest → fields ≡ valid_fields whole → is_some fields ≡ true → next ≡ after_given stream whole
     → next_read stream ≡ total → record { frame = fields; stream = next } ≡ total
 gives stream next whole fields total is valid some after so_far =
     ap (λ (s : Stream). record { frame = fields; stream = s }) after ∙ sym (given_some stream whole fields some) ∙ ap (at_frame next_read stream whole) valid ∙ turn_at stream (Ok whole) total is so_far
 
-pub garbles : (stream next : Stream) (whole : WholeParts) (fields : Option (List Tagged)) (total : NextFrame) → Ok whole ≡ frame_at stream.rest → fields ≡ valid_fields whole → is_some fields ≡ false → next ≡ after_garbled stream whole
+pub garbles : (stream next : Stream) (whole : RawFrameParts) (fields : Option (List Tagged)) (total : NextFrame) → Ok whole ≡ frame_at stream.rest → fields ≡ valid_fields whole → is_some fields ≡ false → next ≡ after_garbled stream whole
     → next_read stream ≡ total → next_read next ≡ total
 garbles stream next whole fields total is valid none after so_far =
     ap next_read after ∙ sym (given_none stream whole fields none) ∙ ap (at_frame next_read stream whole) valid ∙ turn_at stream (Ok whole) total is so_far
@@ -143,13 +143,13 @@ pub record Shortens (stream : Stream) (reader : NextFrame) : Type 0 where
   pub at_most : length reader.stream.rest ≤ length stream.rest
   pub shorter : is_some reader.frame ≡ true → length reader.stream.rest < length stream.rest
 
-shortens_frame : (later : Stream → NextFrame) (stream : Stream) (whole : WholeParts) (fields : Option (List Tagged)) → length whole.rest < length stream.rest → ((s : Stream) → Shortens s (later s)) → Shortens stream (at_frame later stream whole fields)
+shortens_frame : (later : Stream → NextFrame) (stream : Stream) (whole : RawFrameParts) (fields : Option (List Tagged)) → length whole.rest < length stream.rest → ((s : Stream) → Shortens s (later s)) → Shortens stream (at_frame later stream whole fields)
 shortens_frame later stream whole (Some fields) less each = record { at_most = omega arith; shorter = λ given. less }
 shortens_frame later stream whole None less each =
     let after = each (after_garbled stream whole) in
     record { at_most = omega (arith, after.at_most); shorter = λ given. omega (arith, after.at_most) }
 
-shortens_place : (later : Stream → NextFrame) (stream : Stream) (place : Result WholeParts Stop) → place ≡ frame_at stream.rest → ((s : Stream) → Shortens s (later s)) → Shortens stream (at_place later stream place)
+shortens_place : (later : Stream → NextFrame) (stream : Stream) (place : Result RawFrameParts NoFrame) → place ≡ frame_at stream.rest → ((s : Stream) → Shortens s (later s)) → Shortens stream (at_place later stream place)
 shortens_place later stream (Ok whole) is each = shortens_frame later stream whole (valid_fields whole) (frame_shorter stream.rest whole is) each
 shortens_place later stream (Err Short) is each = record { at_most = omega arith; shorter = λ given. absurd cc }
 shortens_place later stream (Err Differs) is each =

@@ -4,8 +4,8 @@ use Rattle.std.specs.Prelude.{OnOk, OnErr}
 use Rattle.std.proofs.lemmas.Bool.{lt-ltb}
 use Rattle.std.proofs.lemmas.List.{length-append, drop-append-le}
 use Rattle.fix_text.specs.Then.{◌>>=◌}
-use Rattle.fix_text.specs.declared.parse.Stop.{Stop}
-use Rattle.fix_text.specs.declared.parse.Stop.TheVariants.{Short}
+use Rattle.fix_text.specs.declared.parse.NoFrame.{NoFrame}
+use Rattle.fix_text.specs.declared.parse.NoFrame.TheVariants.{Short}
 use Rattle.fix_text.specs.Tagged.{Tagged}
 use Rattle.fix_text.specs.Grammar.{opening, IsBeginning}
 use Rattle.fix_text.specs.Reading.{Stream, NextFrame, literal_at, length_at, body_at, frame_at, next_read}
@@ -33,16 +33,16 @@ short_frame bytes more missing is few =
     let l = bind_ok (length_at 6 0 o.0) (λ (size : ℕ × List ℕ). Ok (size.0 - length size.1)) missing o.2 in
     let left : l.0.0 - length l.0.1 ≡ missing = ok_is _ _ l.2 in
     let all = bytes ++ more in
-    ap (λ (r : Result (List ℕ) Stop). r >>= length_step all) (literal_more opening bytes o.0 more o.1)
-    ∙ ap (λ (r : Result (ℕ × List ℕ) Stop). r >>= body_step all) (length_more 6 0 o.0 l.0.0 l.0.1 more l.1)
-    ∙ ap (λ (r : Result (List ℕ × List ℕ) Stop). r >>= end_step all) (body_short l.0.0 (l.0.1 ++ more) (omega (arith, left, few, length-append l.0.1 more)))
+    ap (λ (r : Result (List ℕ) NoFrame). r >>= length_step all) (literal_more opening bytes o.0 more o.1)
+    ∙ ap (λ (r : Result (ℕ × List ℕ) NoFrame). r >>= body_step all) (length_more 6 0 o.0 l.0.0 l.0.1 more l.1)
+    ∙ ap (λ (r : Result (List ℕ × List ℕ) NoFrame). r >>= end_step all) (body_short l.0.0 (l.0.1 ++ more) (omega (arith, left, few, length-append l.0.1 more)))
 
 begins : (bytes : List ℕ) → frame_at bytes ≡ Err Short → IsBeginning bytes
 begins bytes short = let m = frame_completes bytes short in record { more = m.0; some = m.1; is_frame = m.2 }
 
 -- ---- the beginning of a frame
 
-stays : (bytes more : List ℕ) (place : Result ℕ Stop) → body_missing bytes ≡ place → IsBeginning bytes → length (bytes ++ more) < with_missing (length bytes) place → IsBeginning (bytes ++ more)
+stays : (bytes more : List ℕ) (place : Result ℕ NoFrame) → body_missing bytes ≡ place → IsBeginning bytes → length (bytes ++ more) < with_missing (length bytes) place → IsBeginning (bytes ++ more)
 stays bytes [] place is b few = subst IsBeginning (sym (append-nil bytes)) b
 stays bytes (byte ∷ more) (Err stop) is b few = absurd (omega (arith, few, length-append bytes (byte ∷ more)))
 stays bytes (byte ∷ more) (Ok missing) is b few =

@@ -1,13 +1,13 @@
 -- What the reading decides of a place, in the words of the grammar.
 use Rattle.std.specs.Prelude.{◌≡◌, ℕ, zero, suc, List, [], ◌++◌, Option, Some, None, Result, Ok, Err}
-use Rattle.fix_text.specs.declared.parse.Stop.{Stop}
-use Rattle.fix_text.specs.declared.parse.Stop.TheVariants.{Short, Differs}
+use Rattle.fix_text.specs.declared.parse.NoFrame.{NoFrame}
+use Rattle.fix_text.specs.declared.parse.NoFrame.TheVariants.{Short, Differs}
 use Rattle.fix_text.specs.Tagged.{Tagged}
 use Rattle.fix_text.specs.Grammar.{IsFrame, BeginsWithFrame, IsBeginning, Pass, Given, Takes, Passes, given_of, garbled_of, skipped_of}
-use Rattle.fix_text.specs.Reading.{WholeParts, Stream, NextFrame, one_more}
+use Rattle.fix_text.specs.Reading.{RawFrameParts, Stream, NextFrame, one_more}
 
 -- a frame stands there, the beginning of one, or neither; never two of them
-abbrev pub Decides : List ℕ → Result WholeParts Stop → Type 0
+abbrev pub Decides : List ℕ → Result RawFrameParts NoFrame → Type 0
 Decides bytes (Ok whole) = (frame : List ℕ) × IsFrame frame × (bytes ≡ frame ++ whole.rest) × (IsBeginning bytes → ⊥)
 Decides bytes (Err Short) = IsBeginning bytes × (BeginsWithFrame bytes → ⊥)
 Decides bytes (Err Differs) = (BeginsWithFrame bytes → ⊥) × (IsBeginning bytes → ⊥)

@@ -3,13 +3,13 @@ use Rattle.std.specs.Prelude.{ℕ, ◌+◌, ◌-◌, ◌*◌, ◌≤◌, List, l
 use Rattle.std.specs.Prelude.{Option, Some, None, option_map, IfSome}
 use Rattle.fix_text.specs.Reading.{Stream, NextFrame}
 use Rattle.fix_text.specs.Placing.{fields_at, AreWithin}
-use Rattle.fix_text.specs.declared.passed.Body.{Body}
-use Rattle.fix_text.specs.declared.passed.Found.{Found}
-use Rattle.fix_text.specs.declared.passed.Passed.{Passed}
+use Rattle.fix_text.specs.declared.cursor.Body.{Body}
+use Rattle.fix_text.specs.declared.cursor.Scan.{Scan}
+use Rattle.fix_text.specs.declared.cursor.Cursor.{Cursor}
 use Rattle.fix_text.specs.declared.place.Place.{Place}
 
 -- the stream that is left
-abbrev pub left_of : List ℕ → Passed → Stream
+abbrev pub left_of : List ℕ → Cursor → Stream
 left_of bytes passed = record { rest = drop passed.end bytes; skipped = passed.skipped; garbled = passed.garbled }
 
 -- the bytes of a body
@@ -17,7 +17,7 @@ abbrev pub body_in : List ℕ → Body → List ℕ
 body_in bytes body = slice_range bytes body.start body.end
 
 -- the fields at the places of a body, if there is one, and the stream that is left
-abbrev pub found_in : List ℕ → List Place → Option Body → Passed → NextFrame
+abbrev pub found_in : List ℕ → List Place → Option Body → Cursor → NextFrame
 found_in bytes places body passed =
     record { frame = option_map (λ body. fields_at (body_in bytes body) places) body; stream = left_of bytes passed }
 
@@ -28,11 +28,11 @@ pub record IsBody (bytes : List ℕ) (body : Body) (places : List Place) : Type 
   pub each : AreWithin (body_in bytes body) places
 
 -- what was found lies within the bytes, and no more than 4,103 bytes lie from the start of a frame's body to its end
-pub record LiesWithin (bytes : List ℕ) (found : Found) : Type 0 where
-  pub end : found.passed.end ≤ length bytes
+pub record LiesWithin (bytes : List ℕ) (found : Scan) : Type 0 where
+  pub end : found.cursor.end ≤ length bytes
   pub ordered : IfSome found.body (λ body. body.start ≤ body.end)
-  pub body : IfSome found.body (λ body. body.end ≤ found.passed.end)
-  pub near : IfSome found.body (λ body. found.passed.end ≤ body.start + 4103)
+  pub body : IfSome found.body (λ body. body.end ≤ found.cursor.end)
+  pub near : IfSome found.body (λ body. found.cursor.end ≤ body.start + 4103)
 
 -- where that begins which is still of use: the body that was found, or what isn't passed
 abbrev pub useful_from : Option Body → ℕ → ℕ

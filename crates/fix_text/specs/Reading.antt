@@ -7,23 +7,23 @@ use Rattle.fix_text.specs.Tagged.{Tagged}
 use Rattle.fix_text.specs.Text.{fields_text, begins_with_type, has_writable_tags, has_writable_values}
 use Rattle.fix_text.specs.Frame.{frame_text}
 use Rattle.fix_text.specs.Grammar.{opening}
-use Rattle.fix_text.specs.declared.parse.Stop.{Stop}
-use Rattle.fix_text.specs.declared.parse.Stop.TheVariants.{Short, Differs}
+use Rattle.fix_text.specs.declared.parse.NoFrame.{NoFrame}
+use Rattle.fix_text.specs.declared.parse.NoFrame.TheVariants.{Short, Differs}
 
 -- what follows these very bytes
-unfoldable pub literal_at : List ℕ → List ℕ → Result (List ℕ) Stop
+unfoldable pub literal_at : List ℕ → List ℕ → Result (List ℕ) NoFrame
 literal_at [] bytes = Ok bytes
 literal_at (wanted ∷ more) [] = Err Short
 literal_at (wanted ∷ more) (byte ∷ bytes) = if byte == wanted then literal_at more bytes else Err Differs
 
 -- a digit's value, and what follows it
-unfoldable pub digit_at : List ℕ → Result (ℕ × List ℕ) Stop
+unfoldable pub digit_at : List ℕ → Result (ℕ × List ℕ) NoFrame
 digit_at [] = Err Short
 digit_at (byte ∷ bytes) = if is_ascii_digit byte then Ok (byte - 48, bytes) else Err Differs
 
 -- BodyLength (9) up to its SOH, and what follows it: the digits so far have the value n, and at most `left` may still
 -- come
-unfoldable pub length_at : ℕ → ℕ → List ℕ → Result (ℕ × List ℕ) Stop
+unfoldable pub length_at : ℕ → ℕ → List ℕ → Result (ℕ × List ℕ) NoFrame
 length_at left n [] = if nat_le n 4096 && (nat_lt 0 n || nat_lt 0 left) then Err Short else Err Differs
 length_at left n (byte ∷ bytes) =
     if byte == 1 then (if nat_lt 0 n && nat_le n 4096 then Ok (n, bytes) else Err Differs)
@@ -31,13 +31,13 @@ length_at left n (byte ∷ bytes) =
     then length_at (left - 1) (10 * n + (byte - 48)) bytes else Err Differs)
 
 -- n bytes of which the last is SOH, and what follows them
-unfoldable pub body_at : ℕ → List ℕ → Result (List ℕ × List ℕ) Stop
+unfoldable pub body_at : ℕ → List ℕ → Result (List ℕ × List ℕ) NoFrame
 body_at n bytes =
     if nat_lt (length bytes) n then Err Short
     else (if slice_index bytes (n - 1) == 1 then Ok (take n bytes, drop n bytes) else Err Differs)
 
 -- the number of `10=ddd|`, and what follows it
-unfoldable pub trailer_at : List ℕ → Result (ℕ × List ℕ) Stop
+unfoldable pub trailer_at : List ℕ → Result (ℕ × List ℕ) NoFrame
 trailer_at bytes = do
   digits ← literal_at (codes "10=") bytes
   a ← digit_at digits
@@ -47,14 +47,14 @@ trailer_at bytes = do
   Ok (100 * a.0 + 10 * b.0 + c.0, rest)
 
 -- what a frame is made of, and what follows it: header with body, the body, and the number of the trailer
-pub record WholeParts : Type 0 where
+pub record RawFrameParts : Type 0 where
   pub before : List ℕ
   pub body : List ℕ
   pub check : ℕ
   pub rest : List ℕ
 
 -- the frame that begins at a place. `Short`: what is there is the beginning of one; `Differs`: no frame begins so
-unfoldable pub frame_at : List ℕ → Result WholeParts Stop
+unfoldable pub frame_at : List ℕ → Result RawFrameParts NoFrame
 frame_at bytes = do
   digits ← literal_at opening bytes
   size ← length_at 6 0 digits
@@ -109,7 +109,7 @@ unfoldable pub typed_fields : List ℕ → Option (List Tagged)
 typed_fields body = option_and_then if_typed (fields_of body)
 
 -- the fields of a frame, if it is valid
-unfoldable pub valid_fields : WholeParts → Option (List Tagged)
+unfoldable pub valid_fields : RawFrameParts → Option (List Tagged)
 valid_fields frame = if sum frame.before % 256 == frame.check then typed_fields frame.body else None
 
 -- a stream as its reader sees it: the bytes fed and not yet passed, how many bytes were passed one by one, and how many
@@ -124,11 +124,11 @@ abbrev pub one_more : ℕ → ℕ
 one_more n = min (n + 1) (2 ^ 64 - 1)
 
 -- the stream once a frame is passed and given
-abbrev pub after_given : Stream → WholeParts → Stream
+abbrev pub after_given : Stream → RawFrameParts → Stream
 after_given stream whole = record stream { rest = whole.rest }
 
 -- the stream once a frame is passed and not given
-abbrev pub after_garbled : Stream → WholeParts → Stream
+abbrev pub after_garbled : Stream → RawFrameParts → Stream
 after_garbled stream whole = record stream { rest = whole.rest; garbled = one_more stream.garbled }
 
 -- the stream once one byte is passed
@@ -141,12 +141,12 @@ pub record NextFrame : Type 0 where
   pub stream : Stream
 
 -- a frame is given with its fields, or else passed, and `later` goes on
-abbrev pub at_frame : (Stream → NextFrame) → Stream → WholeParts → Option (List Tagged) → NextFrame
+abbrev pub at_frame : (Stream → NextFrame) → Stream → RawFrameParts → Option (List Tagged) → NextFrame
 at_frame later stream whole (Some fields) = record { frame = Some fields; stream = after_given stream whole }
 at_frame later stream whole None = later (after_garbled stream whole)
 
 -- what is done at a place where this stands
-abbrev pub at_place : (Stream → NextFrame) → Stream → Result WholeParts Stop → NextFrame
+abbrev pub at_place : (Stream → NextFrame) → Stream → Result RawFrameParts NoFrame → NextFrame
 at_place later stream (Ok whole) = at_frame later stream whole (valid_fields whole)
 at_place later stream (Err Short) = record { frame = None; stream = stream }
 at_place later stream (Err Differs) = later (after_byte stream)

@@ -4,17 +4,17 @@ use Rattle.fix_text.specs.Then.{◌>>=◌}
 use Rattle.fix_text.specs.Tagged.{Tagged}
 use Rattle.fix_text.specs.Grammar.{opening, IsBeginning}
 use Rattle.fix_text.specs.Reading.{literal_at, length_at}
-use Rattle.fix_text.specs.declared.parse.Stop.{Stop}
+use Rattle.fix_text.specs.declared.parse.NoFrame.{NoFrame}
 
 -- how many bytes of its body are still to come, once its BodyLength (9) is there
-unfoldable pub body_missing : List ℕ → Result ℕ Stop
+unfoldable pub body_missing : List ℕ → Result ℕ NoFrame
 body_missing bytes = do
   digits ← literal_at opening bytes
   size ← length_at 6 0 digits
   Ok (size.0 - length size.1)
 
 -- so many bytes, with those that are missing, and one at least
-abbrev pub with_missing : ℕ → Result ℕ Stop → ℕ
+abbrev pub with_missing : ℕ → Result ℕ NoFrame → ℕ
 with_missing count (Ok missing) = count + max missing 1
 with_missing count (Err stop) = count + 1
 

@@ -7,7 +7,7 @@ ghost use Rattle.fix_text.specs.Text.{holds_soh};
 
 use crate::checksum::sum256;
 use crate::field::FieldRef;
-use crate::parse::Whole;
+use crate::parse::RawFrame;
 use crate::place::Place;
 use crate::reader_fault::ReaderFault;
 use memchr::memchr_iter;
@@ -111,7 +111,7 @@ pub fn place_fields(text: &[u8], places: &mut Vec<Place>) -> Result<bool, Reader
 
 /// The same of the body of a whole frame, if the frame is valid. Its bytes are summed up once.
 #[tactic(auto, unfolding(crate::specs::Reading::valid_fields))]
-pub fn place_valid_fields(frame: &Whole, places: &mut Vec<Place>) -> Result<bool, ReaderFault>
+pub fn place_valid_fields(frame: &RawFrame, places: &mut Vec<Place>) -> Result<bool, ReaderFault>
     ensures placed { IfOk result (λ is. ArePlaced is frame.now.body places.new.items (valid_fields frame.now)) }
     ensures refusal { IsOkUnless result ReaderFault.OutOfMemory }
     ensures full { OnErr result (AreMore (vec_capacity places.old) (valid_fields frame.now)) }

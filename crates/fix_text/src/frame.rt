@@ -24,7 +24,7 @@ impl<'a> Frame<'a> {
     ghost use Rattle.fix_text.specs.FrameFields.{fields_in, fields_left};
 
     /// A frame of any text that is nothing but fields, with `places` as the room for where they lie; what it held is
-    /// dropped. The only refusal is want of memory, which comes only where the text is more fields than `places` has
+    /// dropped. The only refusal is out of memory, which comes only where the text is more fields than `places` has
     /// room for.
     pub fn read(
         text: &'a [u8],

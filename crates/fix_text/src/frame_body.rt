@@ -77,11 +77,13 @@ impl FrameBody {
 
 impl FieldSink for FrameBody {
     ghost use Rattle.fix_text.specs.Sink.{TakesFields};
-    ghost use Rattle.fix_text.specs.Lemmas.SinkLaws.{body_takes_none, body_takes_more};
+    ghost use Rattle.fix_text.specs.Lemmas.SinkLaws.{body_takes_short, body_takes_none, body_takes_more};
 
     ghost Takes = { TakesFields };
 
     // A push wants no memory, so none is ever refused: the room is that of more fields than a message has.
+    ghost short = { 1152 };
+
     ghost room = { λ _. 1152 };
 
     fn push_field(&mut self, _alloc: Global, tag: u32, value: &[u8]) -> Result<(), AllocError> {
@@ -90,6 +92,8 @@ impl FieldSink for FrameBody {
         self.push_text(&[SOH]);
         Ok(())
     }
+
+    ghost takes_short = { body_takes_short };
 
     ghost takes_none = { body_takes_none };
 

@@ -3,8 +3,8 @@ ghost use Rattle.std.specs.Prelude.{◌≡◌, ◌+◌, ◌<◌, ◌++◌, ◌�
 ghost use Rattle.fix_text.specs.Placing.{fields_at};
 ghost use Rattle.fix_text.specs.Passing.{body_in, IsBody};
 
+use crate::cursor::Body;
 use crate::frame::Frame;
-use crate::passed::Body;
 use crate::place::Place;
 use std::alloc::{AllocError, Global};
 

@@ -3,7 +3,7 @@
 //! Promises:
 //! - `write_frame` and `write_frame_parts` append the one written frame of the fields, `frame_text`, or refuse as
 //!   `frame_refusal` says: T01, T02 and T03, each tried over all fields before the next; `write_writable_parts` does
-//!   so where the caller knows that each field can be written. T04, want of memory, comes only where the buffer had
+//!   so where the caller knows that each field can be written. T04, out of memory, comes only where the buffer had
 //!   no room for the frame (clause `full`), and a refusal leaves the buffer and its room as they were (`err`,
 //!   `asked`). Not said: that they ask for no more room than the frame needs.
 //! - A `FieldSink` is what fields are pushed to, so that the same proved code fills a list (`Vec<Field>`) or the
@@ -34,6 +34,7 @@
 #![tactic(auto)]
 
 mod checksum;
+mod cursor;
 mod fault;
 mod field;
 mod fields;
@@ -45,7 +46,6 @@ mod kept;
 pub mod laws;
 mod lists;
 mod parse;
-mod passed;
 mod place;
 mod reader;
 mod reader_fault;

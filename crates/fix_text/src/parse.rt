@@ -12,7 +12,7 @@ const SOH: u8 = 1;
 
 /// Why no whole frame stands at a place.
 #[derive(Clone, Copy)]
-pub enum Stop {
+pub enum NoFrame {
     /// The bytes are the beginning of a frame.
     Short,
     /// No frame begins so.
@@ -21,17 +21,17 @@ pub enum Stop {
 
 /// A whole frame, which may not be valid, and what follows it.
 #[derive(Drop)]
-pub struct Whole<'a> {
+pub struct RawFrame<'a> {
     before: &'a [u8],
     body: &'a [u8],
     check: u32,
     rest: &'a [u8],
 }
 
-impl<'a> Model for Whole<'a> {
-    ghost use Rattle.fix_text.specs.Reading.{WholeParts};
+impl<'a> Model for RawFrame<'a> {
+    ghost use Rattle.fix_text.specs.Reading.{RawFrameParts};
 
-    ghost Value = { WholeParts };
+    ghost Value = { RawFrameParts };
 
     ghost view = { λ whole. record {
       before = whole.before.now;
@@ -41,7 +41,7 @@ impl<'a> Model for Whole<'a> {
     } };
 }
 
-impl<'a> Whole<'a> {
+impl<'a> RawFrame<'a> {
     pub fn before(&self) -> &'a [u8]
         ensures { result.now ≡ self.now.before }
     {
@@ -67,33 +67,33 @@ impl<'a> Whole<'a> {
     }
 }
 
-fn literal_at<'a>(wanted: &[u8], bytes: &'a [u8]) -> Result<&'a [u8], Stop>
+fn literal_at<'a>(wanted: &[u8], bytes: &'a [u8]) -> Result<&'a [u8], NoFrame>
     ensures found { result_map_both (λ rest. rest.now) (λ stop. stop) result ≡ literal_at wanted.now bytes.now }
     ensures within { IfOk result (λ rest. length rest.now ≤ length bytes.now) }
 {
     match bytes.strip_prefix(wanted) {
         Some(rest) => Ok(rest),
-        None if wanted.starts_with(bytes) => Err(Stop::Short),
-        None => Err(Stop::Differs),
+        None if wanted.starts_with(bytes) => Err(NoFrame::Short),
+        None => Err(NoFrame::Differs),
     }
 }
 
 #[tactic(auto, unfolding(crate::specs::Reading::digit_at))]
-fn digit_at(bytes: &[u8]) -> Result<(u32, &[u8]), Stop>
+fn digit_at(bytes: &[u8]) -> Result<(u32, &[u8]), NoFrame>
     ensures found { result_map_both (λ found. (found.0, found.1.now)) (λ stop. stop) result ≡ digit_at bytes.now }
     ensures small { IfOk result (λ found. found.0 ≤ 9) }
 {
     match bytes {
-        [] => Err(Stop::Short),
+        [] => Err(NoFrame::Short),
         [byte @ b'0'..=b'9', rest @ ..] => Ok((u32::from(*byte - b'0'), rest)),
-        [_, ..] => Err(Stop::Differs),
+        [_, ..] => Err(NoFrame::Differs),
     }
 }
 
 /// BodyLength, behind `9=`.
 #[tactic(auto, unfolding(crate::specs::Reading::length_at))]
 #[inline(always)]
-fn length_at(bytes: &[u8]) -> Result<(usize, &[u8]), Stop>
+fn length_at(bytes: &[u8]) -> Result<(usize, &[u8]), NoFrame>
     ensures found { result_map_both (λ found. (found.0, found.1.now)) (λ stop. stop) result ≡ length_at 6 0 bytes.now }
     ensures positive { IfOk result (λ found. 0 < found.0) }
     ensures bound { IfOk result (λ found. found.0 ≤ 4096) }
@@ -119,7 +119,7 @@ fn length_at(bytes: &[u8]) -> Result<(usize, &[u8]), Stop>
 
 /// The same, digit by digit.
 #[tactic(auto, unfolding(crate::specs::Reading::length_at))]
-fn length_by_digits(bytes: &[u8]) -> Result<(usize, &[u8]), Stop>
+fn length_by_digits(bytes: &[u8]) -> Result<(usize, &[u8]), NoFrame>
     ensures found { result_map_both (λ found. (found.0, found.1.now)) (λ stop. stop) result ≡ length_at 6 0 bytes.now }
     ensures positive { IfOk result (λ found. 0 < found.0) }
     ensures bound { IfOk result (λ found. found.0 ≤ 4096) }
@@ -132,14 +132,18 @@ fn length_by_digits(bytes: &[u8]) -> Result<(usize, &[u8]), Stop>
         match rest {
             [] => {
                 let may_end = number <= MAX_BODY && (0 < number || 0 < left);
-                return Err(if may_end { Stop::Short } else { Stop::Differs });
+                return Err(if may_end {
+                    NoFrame::Short
+                } else {
+                    NoFrame::Differs
+                });
             }
             [SOH, after @ ..] => {
                 let is_size = 0 < number && number <= MAX_BODY;
                 return if is_size {
                     Ok((number, after))
                 } else {
-                    Err(Stop::Differs)
+                    Err(NoFrame::Differs)
                 };
             }
             [digit @ b'0'..=b'9', after @ ..] if 0 < left && number <= MAX_BODY => {
@@ -147,29 +151,29 @@ fn length_by_digits(bytes: &[u8]) -> Result<(usize, &[u8]), Stop>
                 left -= 1;
                 rest = after;
             }
-            _ => return Err(Stop::Differs),
+            _ => return Err(NoFrame::Differs),
         }
     }
 }
 
 #[tactic(auto, unfolding(crate::specs::Reading::body_at))]
-fn body_at(size: usize, bytes: &[u8]) -> Result<(&[u8], &[u8]), Stop>
+fn body_at(size: usize, bytes: &[u8]) -> Result<(&[u8], &[u8]), NoFrame>
     requires { 0 < size }
     ensures found { result_map_both (λ found. (found.0.now, found.1.now)) (λ stop. stop) result
         ≡ body_at size bytes.now }
     ensures within { IfOk result (λ found. length found.1.now ≤ length bytes.now) }
 {
     if bytes.len() < size {
-        return Err(Stop::Short);
+        return Err(NoFrame::Short);
     }
     if bytes[size - 1] != SOH {
-        return Err(Stop::Differs);
+        return Err(NoFrame::Differs);
     }
     Ok(bytes.split_at(size))
 }
 
 #[tactic(auto, unfolding(crate::specs::Reading::trailer_at, crate::specs::Reading::literal_at, crate::specs::Reading::digit_at))]
-fn trailer_at(bytes: &[u8]) -> Result<(u32, &[u8]), Stop>
+fn trailer_at(bytes: &[u8]) -> Result<(u32, &[u8]), NoFrame>
     ensures { result_map_both (λ found. (found.0, found.1.now)) (λ stop. stop) result ≡ trailer_at bytes.now }
 {
     match bytes {
@@ -194,7 +198,7 @@ fn trailer_at(bytes: &[u8]) -> Result<(u32, &[u8]), Stop>
 
 /// The same, where it may be cut short or spoilt.
 #[tactic(auto, unfolding(crate::specs::Reading::trailer_at))]
-fn trailer_by_steps(bytes: &[u8]) -> Result<(u32, &[u8]), Stop>
+fn trailer_by_steps(bytes: &[u8]) -> Result<(u32, &[u8]), NoFrame>
     ensures { result_map_both (λ found. (found.0, found.1.now)) (λ stop. stop) result ≡ trailer_at bytes.now }
 {
     let rest = literal_at(b"10=", bytes)?;
@@ -208,7 +212,7 @@ fn trailer_by_steps(bytes: &[u8]) -> Result<(u32, &[u8]), Stop>
 /// What follows the opening of a frame: BeginString (8) of FIX 4.4, and tag 9.
 #[tactic(auto, unfolding(crate::specs::Reading::literal_at))]
 #[inline(always)]
-fn opening_at(bytes: &[u8]) -> Result<&[u8], Stop>
+fn opening_at(bytes: &[u8]) -> Result<&[u8], NoFrame>
     ensures found { result_map_both (λ rest. rest.now) (λ stop. stop) result ≡ literal_at opening bytes.now }
     ensures within { IfOk result (λ rest. length rest.now ≤ length bytes.now) }
 {
@@ -234,7 +238,7 @@ fn opening_at(bytes: &[u8]) -> Result<&[u8], Stop>
 
 /// The frame at the front of the bytes. It looks at no byte of the body but the last.
 #[tactic(auto, unfolding(crate::specs::Reading::frame_at))]
-pub fn frame_at(bytes: &[u8]) -> Result<Whole<'_>, Stop>
+pub fn frame_at(bytes: &[u8]) -> Result<RawFrame<'_>, NoFrame>
     ensures { result ≡ frame_at bytes.now }
 {
     let digits = opening_at(bytes)?;
@@ -242,7 +246,7 @@ pub fn frame_at(bytes: &[u8]) -> Result<Whole<'_>, Stop>
     let (body, trailer) = body_at(size, rest)?;
     let (check, rest) = trailer_at(trailer)?;
     let before = &bytes[..bytes.len() - trailer.len()];
-    Ok(Whole {
+    Ok(RawFrame {
         before,
         body,
         check,
@@ -252,7 +256,7 @@ pub fn frame_at(bytes: &[u8]) -> Result<Whole<'_>, Stop>
 
 /// How many bytes of its body are still to come, once its BodyLength (9) is there.
 #[tactic(auto, unfolding(crate::specs::Waiting::body_missing))]
-fn body_missing(bytes: &[u8]) -> Result<usize, Stop>
+fn body_missing(bytes: &[u8]) -> Result<usize, NoFrame>
     ensures found { result ≡ body_missing bytes.now }
     ensures bound { IfOk result (λ missing. missing ≤ 4096) }
 {

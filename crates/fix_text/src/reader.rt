@@ -8,9 +8,9 @@ ghost use Rattle.fix_text.specs.Placing.{AreMore};
 ghost use Rattle.fix_text.specs.Passing.{most_kept};
 ghost use Rattle.fix_text.specs.Deciding.{IsNext};
 
+use crate::cursor::Cursor;
 use crate::frame::Frame;
 use crate::kept::Kept;
-use crate::passed::Passed;
 use crate::reader_fault::ReaderFault;
 use std::alloc::Global;
 use std::marker::Model;
@@ -20,7 +20,7 @@ use std::marker::Model;
 #[derive(Drop)]
 pub struct FrameReader {
     kept: Kept,
-    passed: Passed,
+    cursor: Cursor,
 }
 
 impl Model for FrameReader {
@@ -31,12 +31,12 @@ impl Model for FrameReader {
 
     ghost Value = { Stream };
 
-    ghost view = { λ reader. left_of reader.kept.buffer.items reader.passed };
+    ghost view = { λ reader. left_of reader.kept.buffer.items reader.cursor };
 
-    ghost invariant = { λ reader. (reader.passed.end ≤ length reader.kept.buffer.items)
-        × (length reader.kept.buffer.items ≤ most_kept (length reader.kept.buffer.items - reader.passed.end))
+    ghost invariant = { λ reader. (reader.cursor.end ≤ length reader.kept.buffer.items)
+        × (length reader.kept.buffer.items ≤ most_kept (length reader.kept.buffer.items - reader.cursor.end))
         × (0 < length reader.kept.buffer.items → 64 ≤ vec_capacity reader.kept.places)
-        × WaitsFor reader.passed.waits_for (drop reader.passed.end reader.kept.buffer.items) };
+        × WaitsFor reader.cursor.waits_for (drop reader.cursor.end reader.kept.buffer.items) };
 }
 
 impl FrameReader {
@@ -49,7 +49,7 @@ impl FrameReader {
     {
         FrameReader {
             kept: Kept::new(alloc),
-            passed: Passed::new(),
+            cursor: Cursor::new(),
         }
     }
 
@@ -57,14 +57,14 @@ impl FrameReader {
     pub fn skipped(&self) -> u64
         ensures { result ≡ self.now.skipped }
     {
-        self.passed.skipped
+        self.cursor.skipped
     }
 
     /// How many frames were passed whole and not given, since they weren't valid; it stops at its greatest value.
     pub fn garbled(&self) -> u64
         ensures { result ≡ self.now.garbled }
     {
-        self.passed.garbled
+        self.cursor.garbled
     }
 
     /// How many bytes are kept: those that aren't passed, and some that are.
@@ -75,7 +75,7 @@ impl FrameReader {
         self.kept.buffer.len()
     }
 
-    /// Adds bytes to the end of the stream. The only refusal is want of memory.
+    /// Adds bytes to the end of the stream. The only refusal is out of memory.
     pub fn feed(&mut self, bytes: &[u8]) -> Result<(), ReaderFault>
         ensures ok { OnOk result (self.new ≡ fed self.old bytes.now) }
         ensures err { OnErr result (self.new ≡ self.old) }
@@ -106,7 +106,7 @@ impl FrameReader {
         // The frame would else have been given.
         ensures full { OnErr result (AreMore 64 (next_read self.old).frame) }
     {
-        if self.kept.buffer.len() - self.passed.end < self.passed.waits_for {
+        if self.kept.buffer.len() - self.cursor.end < self.cursor.waits_for {
             return Ok(None);
         }
         self.look()
@@ -121,9 +121,9 @@ impl FrameReader {
         ensures full { OnErr result (AreMore 64 (next_read self.old).frame) }
     {
         let bytes = self.kept.buffer.as_slice();
-        let found = self.passed.pass(bytes, &mut self.kept.places)?;
+        let found = self.cursor.pass(bytes, &mut self.kept.places)?;
         let found = found.let_go(&mut self.kept.buffer);
-        self.passed = found.passed;
+        self.cursor = found.cursor;
         match found.body {
             Some(body) => Ok(Some(self.kept.frame(body))),
             None => Ok(None),

@@ -32,7 +32,7 @@ fn write_legs(text: &mut String, legs: &[LegId]) -> Result<(), AllocError>
     Ok(())
 }
 
-/// The legs of a venue that stay in doubt at the end of the day. The only refusal is want of memory.
+/// The legs of a venue that stay in doubt at the end of the day. The only refusal is out of memory.
 pub fn doubt_json(alloc: Global, venue: &VenueName, legs: &[LegId]) -> Result<String, AllocError>
     ensures { IfOk result (λ text. string_bytes text ≡ doubt_json venue.now legs.now) }
 {
@@ -42,7 +42,7 @@ pub fn doubt_json(alloc: Global, venue: &VenueName, legs: &[LegId]) -> Result<St
     Ok(text)
 }
 
-/// The shares of a day. The only refusal is want of memory.
+/// The shares of a day. The only refusal is out of memory.
 pub fn totals_json(alloc: Global, totals: &DayTotals) -> Result<String, AllocError>
     ensures { IfOk result (λ text. string_bytes text ≡ totals_json totals.now) }
 {

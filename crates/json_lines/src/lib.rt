@@ -4,7 +4,7 @@
 //! Promises:
 //! - Each text is the stated one, over the value that it is written of (`Line::json`, `doubt_json`, `totals_json`).
 //!   Texts of others stand in them as strings of JSON. That a whole text is JSON is only tested.
-//! - Each call refuses for want of memory alone; that memory was wanted isn't said.
+//! - Each call refuses for lack of memory alone; that memory was wanted isn't said.
 //!
 //! See `docs/run.md`.
 #![tactic(auto)]

@@ -10,7 +10,7 @@ pub trait Line: Display {
     // the object
     ghost json: { Self → List ℕ };
 
-    /// The line as an object of JSON, without its end. The only refusal is want of memory.
+    /// The line as an object of JSON, without its end. The only refusal is out of memory.
     fn json(&self, alloc: Global) -> Result<String, AllocError>
         ensures { IfOk result (λ text. string_bytes text ≡ json self.now) };
 }

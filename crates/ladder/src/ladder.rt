@@ -34,12 +34,12 @@ impl Ladder {
     }
 
     /// Sees an event that is to happen in this world. It takes no memory.
-    pub fn see<D: Dialect + Drop>(&mut self, world: &World<D>, event: &Event) {
+    pub fn decode<D: Dialect + Drop>(&mut self, world: &World<D>, event: &Event) {
         self.seen = Some(Seen::of(world, event));
     }
 
     /// Draws the event that was seen, which the line of this number and text says: the world is the one after it. The
-    /// only refusal is want of memory.
+    /// only refusal is out of memory.
     pub fn draw<D: Dialect + Drop>(
         &mut self,
         alloc: Global,

@@ -2,7 +2,7 @@
 //! exchange.
 //!
 //! Promises:
-//! - It is safe, it ends, and its only refusal is want of memory. `see` takes no memory.
+//! - It is safe, it ends, and its only refusal is out of memory. `see` takes no memory.
 //! - The texts that a picture is made of are exact, each against its definition in `specs/`: a line, a bent line, a
 //!   rectangle and a text (`Elements`), what stands at a frame (`Label`), the coordinates of slots and life lines,
 //!   whole numbers (`Places`), and text within XML, in which nothing stands but printable ASCII, with `&`, `<`, `>`

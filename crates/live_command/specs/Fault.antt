@@ -31,7 +31,7 @@ fault_status MismatchQueue = 6
 fault_status MismatchShares = 6
 fault_status MismatchPlaced = 6
 
--- a fault of the command line, or want of memory
+-- a fault of the command line, or out of memory
 abbrev pub IsOfCommandLine : CommandFault → Type 0
 IsOfCommandLine (CommandLine error) = Unit {0}
 IsOfCommandLine OutOfMemory = Unit {0}

@@ -8,7 +8,7 @@ use std::alloc::{AllocError, Global};
 use world_text::write_sweep_line;
 
 /// The text of a day: a line for each sweep and for each venue, how many sweeps were given up, the shares of all, and
-/// that the audit found nothing wrong. The only refusal is want of memory.
+/// that the audit found nothing wrong. The only refusal is out of memory.
 pub fn day_text(alloc: Global, day: &LiveDay) -> Result<Vec<u8>, AllocError>
     ensures { IfOk result (λ text. text.items ≡ day_text day.now) }
 {

@@ -83,7 +83,7 @@ where
     ended
 }
 
-/// Runs the exchanges until they are stopped. The only refusals are want of memory and of threads.
+/// Runs the exchanges until they are stopped. The only refusals are out of memory and of threads.
 fn run_exchanges<X, L, M, R>(
     rt: &R,
     alloc: Global,

@@ -12,7 +12,7 @@ use session_worker::WorkerEnd;
 use std::alloc::{AllocError, Global};
 use std::sync::ledger::Ledger;
 
-/// The venues of these workers, in order. The only refusal is want of memory.
+/// The venues of these workers, in order. The only refusal is out of memory.
 pub fn left_venues<K: Link, L: Run, M: Ledger>(
     alloc: Global,
     ends: &[WorkerEnd<K, L, M>],

@@ -23,7 +23,7 @@ fn byte_logged(byte: u8) -> ArrayVec<u8, 4>
 }
 
 /// Appends bytes as this program's logs have those of a message: `|` for SOH, and an escape for each other byte that
-/// isn't printable, for a bar and for a backslash. The only refusal is want of memory.
+/// isn't printable, for a bar and for a backslash. The only refusal is out of memory.
 pub fn append_logged(text: &mut Vec<u8>, bytes: &[u8]) -> Result<(), AllocError>
     ensures { OnOk result (text.new.items ≡ text.old.items ++ logged bytes.now) }
 {

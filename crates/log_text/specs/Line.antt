@@ -39,7 +39,7 @@ said_at_places line = do
 abbrev pub line_said : List ℕ → Result LineSaid LineFault
 line_said line = if nat_lt (length line) 24 then Err fault.Short else said_at_places line
 
--- what a line says, or its first fault; or want of memory
+-- what a line says, or its first fault; or out of memory
 abbrev pub ReadsLine : Result LineSaid LineFault → Result LogLine LineFault → List ℕ → Type 0
 ReadsLine said (Ok line) message =
     said ≡ Ok (record { stamp = line.stamp; direction = line.direction; message = message })

@@ -83,7 +83,7 @@ read_on (c ∷ cs) escape = stepped (read_on cs) (step escape c)
 abbrev pub message_said : List ℕ → Result (List ℕ) LineFault
 message_said text = read_on text Closed
 
--- the message that a text says, or its first fault; or want of memory
+-- the message that a text says, or its first fault; or out of memory
 abbrev pub ReadsMessage : Result (List ℕ) LineFault → Result (Unit {0}) LineFault → List ℕ → Type 0
 ReadsMessage said (Ok done) message = said ≡ Ok message
 ReadsMessage said (Err OutOfMemory) message = Unit {0}

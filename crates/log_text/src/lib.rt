@@ -2,7 +2,7 @@
 //! nothing.
 //!
 //! Promises:
-//! - `read_line` gives exactly what a line says (`line_said`), or its first fault from the front. Want of memory
+//! - `read_line` gives exactly what a line says (`line_said`), or its first fault from the front. Out of memory
 //!   comes only where the list that is handed in has less room than the line is long.
 //! - What `log_line` wrote reads back (`logged_lines_read_back`): its time, its direction and its bytes. That
 //!   nothing else reads as a line isn't said.

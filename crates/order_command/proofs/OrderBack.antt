@@ -121,7 +121,7 @@ order_back w read leg header bytes agrees frame =
     let message = order_message leg header in
     let back = frame_back w read header.at message bytes [] (stream_of bytes) agrees frame.in_range frame.framed whole in
     let first : (next_read (stream_of bytes)).frame ≡ Some back.fields = ap (λ (n : NextFrame). n.frame) back.next in
-    let said : content_of read back.envelope.body ≡ Order (Ok leg) = ap (λ (m : Message). m.content) back.is_seen in
+    let said : content_of read back.envelope.body ≡ Order (Ok leg) = ap (λ (m : Message). m.content) back.is_decoded in
     ap (order_of_fields read.order) first
     ∙ ap (order_of_message read.order) back.is_read
     ∙ order_said read back.envelope.body leg said

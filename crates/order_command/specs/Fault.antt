@@ -25,7 +25,7 @@ fault_status ReadFailed = 4
 fault_status WriteFailed = 4
 fault_status OutOfMemory = 5
 
--- a fault of the command line, or want of memory
+-- a fault of the command line, or out of memory
 abbrev pub IsOfCommandLine : CommandFault → Type 0
 IsOfCommandLine (CommandLine error) = Unit {0}
 IsOfCommandLine OutOfMemory = Unit {0}

@@ -94,12 +94,12 @@ stream_of bytes = record { rest = bytes; skipped = 0; garbled = 0 }
 abbrev pub order_read_from : (List Tagged → Result Leg DialectFault) → Stream → Result Leg OrderFault
 order_read_from read stream = order_of_fields read (next_read stream).frame
 
--- want of memory may be answered for a frame alone that is there, of more than 64 fields
+-- out of memory may be answered for a frame alone that is there, of more than 64 fields
 abbrev pub MayWantMemory : Option (List Tagged) → Type 0
 MayWantMemory (Some fields) = 64 < length fields
 MayWantMemory None = ⊥
 
--- what a call answers for the frame with these fields, if there is one: what is read of them, or want of memory
+-- what a call answers for the frame with these fields, if there is one: what is read of them, or out of memory
 abbrev pub ReadsOrder : (List Tagged → Result Leg DialectFault) → Option (List Tagged) → Result Leg OrderFault → Type 0
 ReadsOrder read frame (Ok leg) = order_of_fields read frame ≡ Ok leg
 ReadsOrder read frame (Err of.OutOfMemory) = MayWantMemory frame

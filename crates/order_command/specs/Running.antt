@@ -26,7 +26,7 @@ use Rattle.order_command.specs.OrderFrame.{order_read_from, stream_of}
 use Rattle.order_command.specs.OrderLines.{IsOrderText, PrintsText, EndsOrder, EndsReading}
 use Rattle.order_command.specs.Request.{request_of}
 
--- a fault of the words, or want of memory
+-- a fault of the words, or out of memory
 abbrev pub IsOfWords : CommandFault → Type 0
 IsOfWords (CommandLine error) = Unit {0}
 IsOfWords (NoValue option) = Unit {0}

@@ -65,7 +65,7 @@ fn order_of_frame<D: Dialect>(dialect: &D, frame: &Frame<'_>) -> Result<Leg, Ord
     }
 }
 
-/// A stream of these bytes. The only refusal is want of memory.
+/// A stream of these bytes. The only refusal is out of memory.
 pub fn stream_of(alloc: Global, bytes: &[u8]) -> Result<FrameReader, AllocError>
     ensures { IfOk result (λ stream. stream ≡ stream_of bytes.now) }
 {

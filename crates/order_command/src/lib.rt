@@ -8,7 +8,7 @@
 //!   what they ask for is printed: the frame and the leg of the request that the options make, or the leg of the
 //!   input's first frame; or the first fault is named. What the words match is the command line parser's.
 //! - `read_order_frame` is `order_read_from` for any stream: the leg of the first frame, by the reader, the envelope
-//!   and the dialect, or the fault. Want of memory is answered only where a frame is there that has more than 64
+//!   and the dialect, or the fault. Out of memory is answered only where a frame is there that has more than 64
 //!   fields. Its clause `order`: the frame of an order for a leg, in every dialect, is read back as that leg.
 //! - What is printed are the lines of the frame of the request and of the leg that was read from that frame
 //!   (`order_text`, `print_order`). The request is the one that the options make, or the first bad value in their
@@ -113,7 +113,7 @@ fn print_order<D: Dialect, C: Clock, W: Write>(
 }
 
 /// The frame of what is asked for, in this dialect, and the leg that is read back from it, each in a line. The only
-/// refusal is want of memory.
+/// refusal is out of memory.
 fn order_text<D: Dialect>(
     alloc: Global,
     dialect: &D,

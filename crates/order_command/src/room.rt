@@ -19,7 +19,7 @@ pub struct OrderRoom {
 }
 
 impl OrderRoom {
-    /// Room for an order of any leg, in any dialect and under any header. The only refusal is want of memory.
+    /// Room for an order of any leg, in any dialect and under any header. The only refusal is out of memory.
     pub fn new(alloc: Global) -> Result<OrderRoom, AllocError> {
         Ok(OrderRoom {
             fields: Vec::with_capacity(alloc, ORDER_FIELDS)?,

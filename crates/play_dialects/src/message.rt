@@ -5,7 +5,7 @@ ghost use Rattle.dialect.specs.Writable.{IsInRange, IsWritableContent};
 use crate::content_in::write_content;
 use crate::content_text::content_text;
 use case_text::{Answers, PlayFault, bytes_of, number, shown};
-use dialect::{AnyDialect, Content, Message, OrderView, Outgoing, see, write_message};
+use dialect::{AnyDialect, Content, Message, OrderView, Outgoing, decode, write_message};
 use fix_tags::{CompId, MAX_MESSAGE_NUMBER, SessionBody, Stamp, TextRef, read_envelope};
 use fix_text::{Frame, Place};
 use std::alloc::Global;
@@ -108,7 +108,7 @@ pub fn answer_message(
         Ok(envelope) => envelope,
         Err(fault) => return answers.say(&format!(in alloc; "refused {fault}")?),
     };
-    let message = see(&dialect, &envelope);
+    let message = decode(&dialect, &envelope);
     let from = shown(alloc, message.from.as_bytes())?;
     let to = shown(alloc, message.to.as_bytes())?;
     let number = message.number;

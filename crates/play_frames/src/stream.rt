@@ -12,7 +12,7 @@ pub struct Stream {
     reader: FrameReader,
 }
 
-/// The only refusal of a reader is want of memory.
+/// The only refusal of a reader is out of memory.
 fn read_fault(fault: ReaderFault) -> PlayFault {
     match fault {
         ReaderFault::OutOfMemory => PlayFault::OutOfMemory,

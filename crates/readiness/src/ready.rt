@@ -26,7 +26,7 @@ pub struct Readiness {
 }
 
 impl Readiness {
-    /// Watches the input of a descriptor. The only refusals are want of memory and of descriptors.
+    /// Watches the input of a descriptor. The only refusals are out of memory and of descriptors.
     pub fn new(net: &impl Net, alloc: Global, fd: RawFd) -> io::Result<Readiness> {
         let poll = Poll::new(net)?;
         let events = Events::with_capacity(alloc, SOURCES)?;

@@ -12,8 +12,8 @@ use Rattle.share_ledger.specs.Book.{BookParts}
 use Rattle.schedule.specs.declared.event.Event.TheVariants as event
 use Rattle.schedule.specs.World.{World, VenueParts, Frame, venue_in}
 use Rattle.schedule.specs.Happening.{with_venue, withdrawn_in, booked, session_turn, to_dispatcher, happens}
-use Rattle.venue_replay.specs.declared.news.News.{News}
-use Rattle.venue_replay.specs.Hearing.{turn_on, heard, news_of, confirmed}
+use Rattle.venue_replay.specs.declared.inbound.Inbound.{Inbound}
+use Rattle.venue_replay.specs.Hearing.{turn_on, heard, inbound_of, confirmed}
 use Rattle.venue_replay.proofs.WorldAfter.{at_there, is_there, with_same}
 
 set_again : {A : Type 0} (xs : List A) (k : ℕ) (x y : A) → slice_set (slice_set xs k x) k y ≡ slice_set xs k y
@@ -34,44 +34,44 @@ turned w v venue (Some frame) t is =
     (is_connected venue.session.phase && frame.connection == venue.session.connection) is
 
 -- what was told is of a turn
-told_of : (w : World) (v : ℕ) (before : VenueParts) (frame : Option Frame) (turn : Option Turn) (news : News)
+told_of : (w : World) (v : ℕ) (before : VenueParts) (frame : Option Frame) (turn : Option Turn) (inbound : Inbound)
     → turn_on before frame ≡ turn
-    → Some news ≡ option_map news_of turn
-    → with_venue (record w { book = booked v news.note (withdrawn_in w.book news.withdrawn) }) v (confirmed (heard before turn) news.note)
+    → Some inbound ≡ option_map inbound_of turn
+    → with_venue (record w { book = booked v inbound.note (withdrawn_in w.book inbound.withdrawn) }) v (confirmed (heard before turn) inbound.note)
     ≡ to_dispatcher w v before frame
-told_of w v before frame None news is says = absurd cc
-told_of w v before frame (Some t) news is says =
-    let same : news ≡ news_of t = cc in
-    ap (λ (n : News). with_venue (record w { book = booked v n.note (withdrawn_in w.book n.withdrawn) }) v (confirmed (heard before (Some t)) n.note)) same
+told_of w v before frame None inbound is says = absurd cc
+told_of w v before frame (Some t) inbound is says =
+    let same : inbound ≡ inbound_of t = cc in
+    ap (λ (n : Inbound). with_venue (record w { book = booked v n.note (withdrawn_in w.book n.withdrawn) }) v (confirmed (heard before (Some t)) n.note)) same
     ∙ sym (turned w v before frame t is)
 
-dispatcher_happens : (w : World) (v n : ℕ) (before mid now : VenueParts) (book : BookParts) (news : News)
+dispatcher_happens : (w : World) (v n : ℕ) (before mid now : VenueParts) (book : BookParts) (inbound : Inbound)
     → venue_in w v ≡ Some before
     → mid ≡ heard before (turn_on before (numbered n before.from_exchange))
-    → Some news ≡ option_map news_of (turn_on before (numbered n before.from_exchange))
-    → book ≡ booked v news.note (withdrawn_in w.book news.withdrawn)
-    → now ≡ confirmed mid news.note
+    → Some inbound ≡ option_map inbound_of (turn_on before (numbered n before.from_exchange))
+    → book ≡ booked v inbound.note (withdrawn_in w.book inbound.withdrawn)
+    → now ≡ confirmed mid inbound.note
     → with_venue (with_venue (record w { book = book }) v mid) v now ≡ happens w (event.ToDispatcher v n)
-dispatcher_happens w v n before mid now book news there hears says told confirms =
+dispatcher_happens w v n before mid now book inbound there hears says told confirms =
     (λ k. record w { book = book; venues = set_again w.venues v mid now k })
-    ∙ ((λ k. with_venue (record w { book = told k }) v ((confirms ∙ ap (λ (venue : VenueParts). confirmed venue news.note) hears) k))
-    ∙ (told_of w v before (numbered n before.from_exchange) (turn_on before (numbered n before.from_exchange)) news refl says
+    ∙ ((λ k. with_venue (record w { book = told k }) v ((confirms ∙ ap (λ (venue : VenueParts). confirmed venue inbound.note) hears) k))
+    ∙ (told_of w v before (numbered n before.from_exchange) (turn_on before (numbered n before.from_exchange)) inbound refl says
     ∙ sym (at_there w v before (λ venue. to_dispatcher w v venue (numbered n venue.from_exchange)) there)))
 
 -- told and confirmed at an index
-pub dispatcher_at : (w : World) (i v n : ℕ) (before mid again now : VenueParts) (book : BookParts) (news : News)
+pub dispatcher_at : (w : World) (i v n : ℕ) (before mid again now : VenueParts) (book : BookParts) (inbound : Inbound)
     → i ≡ v → v < length w.venues → before ≡ get_or w.venues i before
     → again ≡ get_or (slice_set w.venues i mid) i again
     → mid ≡ heard before (turn_on before (numbered n before.from_exchange))
-    → Some news ≡ option_map news_of (turn_on before (numbered n before.from_exchange))
-    → book ≡ booked v news.note (withdrawn_in w.book news.withdrawn)
-    → now ≡ confirmed again news.note
+    → Some inbound ≡ option_map inbound_of (turn_on before (numbered n before.from_exchange))
+    → book ≡ booked v inbound.note (withdrawn_in w.book inbound.withdrawn)
+    → now ≡ confirmed again inbound.note
     → with_venue (with_venue (record w { book = book }) i mid) i now ≡ happens w (event.ToDispatcher v n)
-dispatcher_at w i v n before mid again now book news same low is found hears says told confirms =
+dispatcher_at w i v n before mid again now book inbound same low is found hears says told confirms =
     let kept : again ≡ mid = found ∙ get_or-set_same w.venues i mid again (omega (arith, same, low)) in
     (λ k. with_venue (with_venue (record w { book = book }) (same k) mid) (same k) now)
-    ∙ dispatcher_happens w v n before mid now book news (is_there w.venues i v before same low is) hears says told
-    (confirms ∙ ap (λ (venue : VenueParts). confirmed venue news.note) kept)
+    ∙ dispatcher_happens w v n before mid now book inbound (is_there w.venues i v before same low is) hears says told
+    (confirms ∙ ap (λ (venue : VenueParts). confirmed venue inbound.note) kept)
 
 -- the session had no turn
 no_turn_by : (w : World) (v : ℕ) (venue : VenueParts) (turn : Turn) (b : Bool) → (if b then Some turn else None) ≡ None
@@ -87,7 +87,7 @@ unturned w v venue (Some frame) is =
     (is_connected venue.session.phase && frame.connection == venue.session.connection) is
 
 waits : (w : World) (v : ℕ) (venue : VenueParts) (frame : Option Frame) (turn : Option Turn) → turn_on venue frame ≡ turn
-    → None ≡ option_map news_of turn
+    → None ≡ option_map inbound_of turn
     → venue_in w v ≡ Some venue
     → with_venue w v (heard venue turn) ≡ to_dispatcher w v venue frame
 waits w v venue frame None is says there = with_same w v venue there ∙ sym (unturned w v venue frame is)
@@ -95,7 +95,7 @@ waits w v venue frame (Some t) is says there = absurd cc
 
 pub dispatcher_waits : (w : World) (v n : ℕ) (before mid : VenueParts) → venue_in w v ≡ Some before
     → mid ≡ heard before (turn_on before (numbered n before.from_exchange))
-    → None ≡ option_map news_of (turn_on before (numbered n before.from_exchange))
+    → None ≡ option_map inbound_of (turn_on before (numbered n before.from_exchange))
     → with_venue w v mid ≡ happens w (event.ToDispatcher v n)
 dispatcher_waits w v n before mid there hears says =
     ap (with_venue w v) hears

@@ -19,7 +19,7 @@ use Rattle.venue_replay.specs.AtVenue.{sent, called, acted}
 use Rattle.venue_replay.proofs.ExchangeActs.{act_in_live, acted_is}
 use Rattle.venue_replay.proofs.WorldAfter.{at_there, is_there, with_same, connected_is, called_is}
 
--- what happens at a venue by its index, where that was not for want of memory
+-- what happens at a venue by its index, where that was not for lack of memory
 pub at_index : {T E : Type 0} (w : World) (i v : ℕ) (before now : VenueParts) (Now : Type 0) (e : Event)
     (result : Result T E) → i ≡ v → v < length w.venues → before ≡ get_or w.venues i before → OnOk result Now
     → (venue_in w v ≡ Some before → Now → with_venue w v now ≡ happens w e)

@@ -10,7 +10,7 @@ use Rattle.schedule.specs.Happening.{happens}
 use Rattle.schedule.specs.Growing.{named}
 use Rattle.schedule.specs.declared.event.Event.TheVariants as event
 use Rattle.schedule.proofs.Happened.{absent_unchanged}
-use Rattle.replay.specs.declared.told.Told.{Told}
+use Rattle.replay.specs.declared.event_outcome.EventOutcome.{EventOutcome}
 use Rattle.replay.specs.Telling.{nothing_told, told}
 
 pub nowhere : (w : World) (e : Event) (v : ℕ) → named e ≡ Some v → nat_lt v (length w.venues) ≡ false → w ≡ happens w e
@@ -19,7 +19,7 @@ nowhere w e v names gone =
     sym (absent_unchanged w e v names (slice_get_past w.venues v past))
 
 -- and tells nothing
-of_nowhere : (w : World) (u v : ℕ) (f : VenueParts → Told) → u ≡ v → venue_in w v ≡ None
+of_nowhere : (w : World) (u v : ℕ) (f : VenueParts → EventOutcome) → u ≡ v → venue_in w v ≡ None
     → nothing_told ≡ of_venue w u nothing_told f
 of_nowhere w u v f same gone =
     sym (ap (λ (venue : Option VenueParts). option_map_or f venue nothing_told) (ap (venue_in w) same ∙ gone))

@@ -24,7 +24,7 @@ use Rattle.venue_replay.specs.declared.sending.Sending.TheVariants.{Sent, Number
 use Rattle.venue_replay.specs.AtVenue.{sent}
 use Rattle.venue_replay.specs.Ending.{refusal_of}
 use Rattle.venue_replay.specs.Taking.{leg_to_send, outcome_of}
-use Rattle.replay.specs.declared.told.Told.{Told}
+use Rattle.replay.specs.declared.event_outcome.EventOutcome.{EventOutcome}
 use Rattle.replay.specs.Telling.{by_session, nothing_told, told, told_of_leg}
 use Rattle.replay.proofs.Tells.{told_here}
 use Rattle.venue_replay.proofs.WorldAfter.{at_there, with_same}

@@ -20,42 +20,42 @@ use Rattle.schedule.specs.declared.event.Event.TheVariants as event
 use Rattle.schedule.specs.World.{World, VenueParts, of_venue}
 use Rattle.schedule.specs.Happening.{desk_and_book, is_session_up, may_connect, act_of, withdrawn_in}
 use Rattle.replay.specs.declared.refusal.Refusal.TheVariants.{Release, Gate, Session, Exchange}
-use Rattle.replay.specs.declared.told.Told.{Told}
+use Rattle.replay.specs.declared.event_outcome.EventOutcome.{EventOutcome}
 use Rattle.venue_replay.specs.Ending.{ending_of, refusal_of}
 use Rattle.venue_replay.specs.Hearing.{turn_on}
 use Rattle.venue_replay.specs.Taking.{leg_to_send}
 
-abbrev pub nothing_told : Told
+abbrev pub nothing_told : EventOutcome
 nothing_told = record { placed = None; refused = None; answer = None; ended = None }
 
 -- by what a call answered
-abbrev pub by_release : Result Receipt ReleaseFault → Told
+abbrev pub by_release : Result Receipt ReleaseFault → EventOutcome
 by_release (Ok receipt) = record nothing_told { placed = Some receipt.number }
 by_release (Err fault) = record nothing_told { refused = Some (Release fault) }
 
-abbrev pub by_gate : Result (Unit {0}) GateFault → Told
+abbrev pub by_gate : Result (Unit {0}) GateFault → EventOutcome
 by_gate (Ok done) = nothing_told
 by_gate (Err fault) = record nothing_told { refused = Some (Gate fault) }
 
-abbrev pub by_session : Option SessionFault → Told
+abbrev pub by_session : Option SessionFault → EventOutcome
 by_session None = nothing_told
 by_session (Some fault) = record nothing_told { refused = Some (Session fault) }
 
-abbrev pub by_exchange : Option ExchangeFault → Told
+abbrev pub by_exchange : Option ExchangeFault → EventOutcome
 by_exchange None = nothing_told
 by_exchange (Some fault) = record nothing_told { refused = Some (Exchange fault) }
 
-abbrev pub by_silence : Result (Option Ended) SessionFault → Told
+abbrev pub by_silence : Result (Option Ended) SessionFault → EventOutcome
 by_silence (Ok ended) = record nothing_told { ended = ended }
 by_silence (Err fault) = by_session (Some fault)
 
 -- the session's refusal of the leg that is to be sent
-abbrev pub told_of_leg : VenueParts → Option PlacedLeg → Told
+abbrev pub told_of_leg : VenueParts → Option PlacedLeg → EventOutcome
 told_of_leg venue None = nothing_told
 told_of_leg venue (Some placed) = by_session (refusal_of (send_leg venue.session placed.ordinal placed.leg))
 
 -- of the session's turn on a frame: the book withdraws what the step names before it takes the note
-abbrev pub told_by : World → ℕ → Option Turn → Told
+abbrev pub told_by : World → ℕ → Option Turn → EventOutcome
 told_by w v None = nothing_told
 told_by w v (Some turn) = record nothing_told {
   answer = option_map (answer_to (withdrawn_in w.book turn.step.withdrawn) v) turn.step.note;
@@ -63,7 +63,7 @@ told_by w v (Some turn) = record nothing_told {
 }
 
 -- a call that isn't made tells nothing
-abbrev pub told : World → Event → Told
+abbrev pub told : World → Event → EventOutcome
 told w (event.Release sweep) = by_release (place (desk_and_book w) sweep.legs).0
 told w (event.GateUp v) =
     of_venue w v nothing_told

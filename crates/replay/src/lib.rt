@@ -20,10 +20,10 @@
 mod refusal;
 mod running;
 mod telling;
-mod told;
+mod event_outcome;
 mod world;
 
 pub use refusal::Refusal;
 pub use running::run;
-pub use told::Told;
+pub use event_outcome::EventOutcome;
 pub use world::{World, venue_of};

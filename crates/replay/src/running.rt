@@ -11,7 +11,7 @@ use std::alloc::{AllocError, Global};
 
 /// The world after these events: of a venue for each dialect, 1 to 16, and for each whether its session's Logons say
 /// which number it expects next (789). `max_number`, which no message of a session has, is 16 to 999,999,999. It takes
-/// the events, since the desk keeps the sweeps. The only refusal is want of memory.
+/// the events, since the desk keeps the sweeps. The only refusal is out of memory.
 ///
 /// The sweep theorem holds of the world: what an exchange accepted, what is missing before it, the close and the
 /// shares.

@@ -12,7 +12,7 @@ use share_ledger::{Applied, Book};
 use std::alloc::AllocError;
 
 /// Tells a book what the session of a venue received: the legs that are now withdrawn, and then the note, if there is
-/// one. It gives the book's answer to the note. The only refusal is want of memory.
+/// one. It gives the book's answer to the note. The only refusal is out of memory.
 pub fn tell(
     book: &mut Book,
     venue: VenueId,

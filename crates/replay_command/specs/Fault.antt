@@ -30,7 +30,7 @@ IsOfPicture (PictureIsThere name) = Unit {0}
 IsOfPicture (PictureFailed name) = Unit {0}
 IsOfPicture other = ⊥
 
--- a fault of the command line, or want of memory
+-- a fault of the command line, or out of memory
 abbrev pub IsOfCommandLine : CommandFault → Type 0
 IsOfCommandLine (CommandLine error) = Unit {0}
 IsOfCommandLine OutOfMemory = Unit {0}

@@ -167,7 +167,7 @@ impl OutLog {
         }
     }
 
-    /// The legs in doubt at or above a number, in the order of their numbers. The only refusal is want of memory, and
+    /// The legs in doubt at or above a number, in the order of their numbers. The only refusal is out of memory, and
     /// only where there is such a leg.
     pub fn legs_from(&self, number: u64) -> Result<Vec<LegId>, LogFault>
         ensures ok { IfOk result (λ ids. ids.items ≡ doubt_from number self.now.entries) }

@@ -63,7 +63,7 @@ fault_status MismatchShares = 6
 fault_status MismatchPlaced = 6
 fault_status GivenUp = 7
 
--- a fault of the command line, or want of memory
+-- a fault of the command line, or out of memory
 abbrev pub IsOfCommandLine : CommandFault → Type 0
 IsOfCommandLine (CommandLine error) = Unit {0}
 IsOfCommandLine OutOfMemory = Unit {0}
@@ -92,13 +92,13 @@ day_fault day.MismatchQueue = MismatchQueue
 day_fault day.MismatchShares = MismatchShares
 day_fault day.MismatchPlaced = MismatchPlaced
 
--- a file gives no configuration for want of memory
+-- a file gives no configuration for lack of memory
 abbrev pub WantsMemory : ConfigFault → Type 0
 WantsMemory (config.Toml error) = IsMemory error
 WantsMemory (config.Key fault) = ⊥
 WantsMemory config.OutOfMemory = Unit {0}
 
--- want of memory isn't told as a fault of the file
+-- out of memory isn't told as a fault of the file
 abbrev pub IsToldSo : CommandFault → Type 0
 IsToldSo (BadFile name fault) = ¬ WantsMemory fault
 IsToldSo other = Unit {0}

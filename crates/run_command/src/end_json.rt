@@ -12,7 +12,7 @@ use session_worker::DayReport;
 use std::alloc::{AllocError, Global};
 
 /// The text of a day in JSON, an object a line: each sweep, each venue with legs that stay in doubt, the shares of the
-/// day, and that the audit found nothing wrong. The only refusal is want of memory.
+/// day, and that the audit found nothing wrong. The only refusal is out of memory.
 pub fn json_text(alloc: Global, day: &DeskDay) -> Result<Vec<u8>, AllocError>
     ensures { IfOk result (λ text. text.items ≡ json_text day.now) }
 {

@@ -15,7 +15,7 @@ use std::{fs, str};
 /// The most bytes of a file.
 const MAX_FILE: u64 = 1_048_576;
 
-/// Whether a file gives no configuration for want of memory.
+/// Whether a file gives no configuration for lack of memory.
 fn wants_memory(fault: &ConfigFault) -> bool
     ensures { IsTrue result ↔ WantsMemory fault.now }
 {
@@ -26,7 +26,7 @@ fn wants_memory(fault: &ConfigFault) -> bool
     }
 }
 
-/// The fault of a file of this name. Want of memory is none of the file's.
+/// The fault of a file of this name. Out of memory is none of the file's.
 fn file_fault(name: String, fault: ConfigFault) -> CommandFault
     ensures { IsToldSo result }
 {

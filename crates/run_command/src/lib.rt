@@ -4,7 +4,7 @@
 //! - The exit status is 0, or that of the fault (`run_run`). A fault of the words or of the file prints nothing.
 //! - What is printed behind a day is exactly the stated text of what became of it (`day_text`, or `json_text` with
 //!   `--json`).
-//! - Want of memory while the file is read is never told as a fault of the file (`file_fault`, private).
+//! - Out of memory while the file is read is never told as a fault of the file (`file_fault`, private).
 //! - The folder of the logs is that which the file names, from the file's own folder on (`folder_of`, private).
 //! - That `--check` prints the file's venues, and that a day runs as the command line asks, is only tested.
 //!

@@ -9,7 +9,7 @@ use session_worker::DayReport;
 use std::alloc::{AllocError, Global};
 
 /// The text of a day: a line for each sweep, one for each venue with legs that stay in doubt, the shares of the day,
-/// and that the audit found nothing wrong. The only refusal is want of memory.
+/// and that the audit found nothing wrong. The only refusal is out of memory.
 pub fn day_text(alloc: Global, day: &DeskDay) -> Result<Vec<u8>, AllocError>
     ensures { IfOk result (λ text. text.items ≡ day_text day.now) }
 {

@@ -10,8 +10,8 @@ use Rattle.dialect.specs.declared.content.Content.TheVariants.{Session, Order}
 use Rattle.fix_tags.specs.declared.session_body.SessionBody.TheVariants.{TestRequest, GapFill, Logout}
 use Rattle.dialect.specs.declared.message.Message.{Message}
 use Rattle.resend.specs.Log.{Entry}
-use Rattle.exchange_core.specs.declared.own.Own.{Own}
-use Rattle.exchange_core.specs.declared.own.Own.TheVariants.{Admin, Reported, Refused}
+use Rattle.exchange_core.specs.declared.sent_record.SentRecord.{SentRecord}
+use Rattle.exchange_core.specs.declared.sent_record.SentRecord.TheVariants.{Admin, Reported, Refused}
 use Rattle.exchange_core.specs.Exchange.{ExchangeParts, logon_answer, with_connection, due_taken, take}
 use Rattle.exchange_core.specs.Keeping.{kept}
 use Rattle.exchange_core.proofs.Cases.{after_take_is}
@@ -23,13 +23,13 @@ use Rattle.schedule.specs.World.{reports_in}
 use Rattle.schedule.specs.Happening.{act_of}
 
 -- no own number carries a refusal
-abbrev pub IsClean : List Own → Type 0
+abbrev pub IsClean : List SentRecord → Type 0
 IsClean [] = Unit {0}
 IsClean (Admin ∷ own) = IsClean own
 IsClean (Reported report view ∷ own) = IsClean own
 IsClean (Refused number ∷ own) = ⊥
 
-clean-append : (xs ys : List Own) → IsClean xs → IsClean ys → IsClean (xs ++ ys)
+clean-append : (xs ys : List SentRecord) → IsClean xs → IsClean ys → IsClean (xs ++ ys)
 clean-append [] ys clean more = more
 clean-append (Admin ∷ xs) ys clean more = clean-append xs ys clean more
 clean-append (Reported report view ∷ xs) ys clean more = clean-append xs ys clean more
@@ -86,7 +86,7 @@ none_taken : {A : Type 0} (xs : List A) → list_take 0 xs ≡ []
 none_taken [] = refl
 none_taken (x ∷ xs) = refl
 
-pub first_reports : (log : List Entry) (own : List Own) (count : ℕ) → IsClean own
+pub first_reports : (log : List Entry) (own : List SentRecord) (count : ℕ) → IsClean own
     → (first : ℕ) × (notes_under log (list_take count (map kept own)) ≡ report_notes (list_take first (reports_in own)))
 first_reports log own zero clean =
     (0, ap (notes_under log) (none_taken (map kept own)) ∙ sym (ap report_notes (none_taken (reports_in own))))

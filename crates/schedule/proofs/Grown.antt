@@ -5,8 +5,8 @@ use Rattle.std.proofs.lemmas.Option.{same_Some}
 use Rattle.std.proofs.lemmas.List.{append-nil}
 use Rattle.leg.specs.Growing.{Grew}
 use Rattle.dialect.specs.declared.report.Report.{Report}
-use Rattle.exchange_core.specs.declared.own.Own.{Own}
-use Rattle.exchange_core.specs.declared.own.Own.TheVariants.{Admin, Reported, Refused}
+use Rattle.exchange_core.specs.declared.sent_record.SentRecord.{SentRecord}
+use Rattle.exchange_core.specs.declared.sent_record.SentRecord.TheVariants.{Admin, Reported, Refused}
 use Rattle.exchange_core.specs.Exchange.{ExchangeParts, accepted_by}
 use Rattle.session_core.proofs.Adding.{onward-refl, onward-trans}
 use Rattle.schedule.specs.World.{World, VenueParts, reports_in}
@@ -22,7 +22,7 @@ pub grew-trans : {A : Type 0} (xs ys zs : List A) → Grew xs ys → Grew ys zs 
 grew-trans xs ys zs first next =
     (first.0 ++ next.0, next.1 ∙ (ap (λ l. l ++ next.0) first.1 ∙ append_assoc xs first.0 next.0))
 
-pub reports_in-append : (xs ys : List Own) → reports_in (xs ++ ys) ≡ reports_in xs ++ reports_in ys
+pub reports_in-append : (xs ys : List SentRecord) → reports_in (xs ++ ys) ≡ reports_in xs ++ reports_in ys
 reports_in-append [] ys = refl
 reports_in-append (Admin ∷ xs) ys = reports_in-append xs ys
 reports_in-append (Refused number ∷ xs) ys = reports_in-append xs ys

@@ -10,9 +10,9 @@ use Rattle.leg.specs.declared.sweep.Routed.{Routed}
 use Rattle.dialect.specs.declared.note.Note.{Note}
 use Rattle.dialect.specs.declared.note.Note.TheVariants as note
 use Rattle.dialect.specs.declared.report.Report.{Report}
-use Rattle.exchange_core.specs.declared.own.Own.{Own}
-use Rattle.exchange_core.specs.declared.own.Own.TheVariants.{Admin, Reported, Refused}
-use Rattle.exchange_core.specs.Own.{exec_id}
+use Rattle.exchange_core.specs.declared.sent_record.SentRecord.{SentRecord}
+use Rattle.exchange_core.specs.declared.sent_record.SentRecord.TheVariants.{Admin, Reported, Refused}
+use Rattle.exchange_core.specs.SentRecord.{exec_id}
 use Rattle.exchange_core.specs.Keeping.{AreCounted}
 use Rattle.share_ledger.specs.declared.applied.Applied.{Applied}
 use Rattle.share_ledger.specs.declared.applied.Applied.TheVariants as applied
@@ -99,7 +99,7 @@ abbrev pub AreNumbered : ℕ → List Report → Type 0
 AreNumbered count [] = Unit {0}
 AreNumbered count (report ∷ reports) = (report.exec ≡ exec_id (suc count)) × AreNumbered (suc count) reports
 
-pub numbered_reports : (count : ℕ) (own : List Own) → AreCounted count own → AreNumbered count (reports_in own)
+pub numbered_reports : (count : ℕ) (own : List SentRecord) → AreCounted count own → AreNumbered count (reports_in own)
 numbered_reports count [] all = tt
 numbered_reports count (Admin ∷ own) all = numbered_reports count own all
 numbered_reports count (Refused number ∷ own) all = numbered_reports count own all

@@ -9,7 +9,7 @@ use Rattle.leg.specs.declared.leg_state.LegState.TheVariants.{Queued, Doubt, Tak
 use Rattle.dialect.specs.declared.note.Note.TheVariants as note
 use Rattle.dialect.specs.declared.report.Report.{Report}
 use Rattle.session_core.specs.Session.{leg_state}
-use Rattle.venue_line.specs.Given.{Given}
+use Rattle.venue_line.specs.DeliveredReports.{Given}
 use Rattle.schedule.proofs.Clean.{IsClean, first_reports}
 use Rattle.sweep_release.specs.Desk.{venue_at}
 use Rattle.schedule.specs.Happening.{run}

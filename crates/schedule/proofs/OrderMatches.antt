@@ -15,7 +15,7 @@ use Rattle.leg.specs.Numbered.{numbered}
 use Rattle.dialect.specs.declared.report.ReportKind.{ReportKind}
 use Rattle.exchange_core.specs.declared.ending.Ending.{Ending}
 use Rattle.exchange_core.specs.Order.{OrderParts, TradeParts, ended_by}
-use Rattle.exchange_core.specs.Own.{exec_id}
+use Rattle.exchange_core.specs.SentRecord.{exec_id}
 use Rattle.exchange_core.specs.Shares.{live_shares, busted_shares, SharesAddUp}
 use Rattle.exchange_core.proofs.Entries.{all_more}
 use Rattle.exchange_core.proofs.ActsReport.{AnyPx, IsChange, by_trade, by_end, by_bust, after_trade, after_bust}

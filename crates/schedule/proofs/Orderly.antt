@@ -15,9 +15,9 @@ use Rattle.dialect.specs.declared.content.Content.TheVariants.{Session, Order}
 use Rattle.fix_tags.specs.declared.session_body.SessionBody.TheVariants.{TestRequest, GapFill, Logout}
 use Rattle.dialect.specs.declared.message.Message.{Message}
 use Rattle.exchange_core.specs.Order.{OrderParts, new_order, view_of}
-use Rattle.exchange_core.specs.declared.own.Own.{Own}
-use Rattle.exchange_core.specs.declared.own.Own.TheVariants.{Admin, Reported, Refused}
-use Rattle.exchange_core.specs.Own.{next_own_number, report_count, next_exec}
+use Rattle.exchange_core.specs.declared.sent_record.SentRecord.{SentRecord}
+use Rattle.exchange_core.specs.declared.sent_record.SentRecord.TheVariants.{Admin, Reported, Refused}
+use Rattle.exchange_core.specs.SentRecord.{next_own_number, report_count, next_exec}
 use Rattle.exchange_core.specs.Exchange.{ExchangeParts, new_exchange, accepted_by, next_report, logon_answer, with_connection, due_taken, asks, take, drop_connection}
 use Rattle.exchange_core.specs.Acts.{reported, tested}
 use Rattle.exchange_core.specs.Keeping.{AreCounted}
@@ -35,19 +35,19 @@ use Rattle.schedule.proofs.ReportedLegs.{AreOn, made_on, take_on, act_on}
 use Rattle.schedule.proofs.ReportsFit.{AreApart, AreMatched, legs_of, report_on, reported_match, accepted_match}
 
 -- reports of own numbers, one list behind the other
-pub reports_in-append : (xs ys : List Own) → reports_in (xs ++ ys) ≡ reports_in xs ++ reports_in ys
+pub reports_in-append : (xs ys : List SentRecord) → reports_in (xs ++ ys) ≡ reports_in xs ++ reports_in ys
 reports_in-append [] ys = refl
 reports_in-append (Admin ∷ xs) ys = reports_in-append xs ys
 reports_in-append (Refused number ∷ xs) ys = reports_in-append xs ys
 reports_in-append (Reported report view ∷ xs) ys = ap (λ l. report ∷ l) (reports_in-append xs ys)
 
-count_is : (own : List Own) → report_count own ≡ length (reports_in own)
+count_is : (own : List SentRecord) → report_count own ≡ length (reports_in own)
 count_is [] = refl
 count_is (Admin ∷ own) = count_is own
 count_is (Refused number ∷ own) = count_is own
 count_is (Reported report view ∷ own) = ap suc (count_is own)
 
-pub reports_within : (own : List Own) → length (reports_in own) ≤ length own
+pub reports_within : (own : List SentRecord) → length (reports_in own) ≤ length own
 reports_within [] = omega arith
 reports_within (Admin ∷ own) = let rest = reports_within own in omega arith
 reports_within (Refused number ∷ own) = let rest = reports_within own in omega arith
@@ -58,11 +58,11 @@ pub record HasSmallNumbers (x : ExchangeParts) : Type 0 where
   pub limit : x.config.max_number ≤ 999999999
   pub used : next_own_number x.own ≤ x.config.max_number
 
-small_after : (x y : ExchangeParts) (more : List Own) → y.config ≡ x.config → y.own ≡ x.own ++ more
+small_after : (x y : ExchangeParts) (more : List SentRecord) → y.config ≡ x.config → y.own ≡ x.own ++ more
     → next_own_number x.own + length more ≤ x.config.max_number → HasSmallNumbers x → HasSmallNumbers y
 small_after x y more config own left small =
     let same : y.config.max_number ≡ x.config.max_number = ap (λ (c : ConfigParts). c.max_number) config in
-    let all : length y.own ≡ length x.own + length more = ap (λ (l : List Own). length l) own
+    let all : length y.own ≡ length x.own + length more = ap (λ (l : List SentRecord). length l) own
     ∙ length-append x.own more in
     let limit = small.limit in
     record { limit = omega (arith, limit, same); used = omega (arith, all, same, left) }
@@ -80,7 +80,7 @@ pub record IsOrderly (x : ExchangeParts) : Type 0 where
   pub matched : IsMatched x
 
 -- no order changed, and no report was made
-unreported : (x y : ExchangeParts) (more : List Own) → y.orders ≡ x.orders → y.own ≡ x.own ++ more
+unreported : (x y : ExchangeParts) (more : List SentRecord) → y.orders ≡ x.orders → y.own ≡ x.own ++ more
     → reports_in more ≡ [] → IsMatched x → IsMatched y
 unreported x y more orders own none matched apart =
     let reports : reports_in y.own ≡ reports_in x.own =
@@ -91,7 +91,7 @@ unreported x y more orders own none matched apart =
     (subst (AreMatched x.orders) (sym reports) before)
 
 -- one report more
-reports_push : (own : List Own) (entry : Own) (report : Report) → reports_in (entry ∷ []) ≡ report ∷ []
+reports_push : (own : List SentRecord) (entry : SentRecord) (report : Report) → reports_in (entry ∷ []) ≡ report ∷ []
     → reports_in (own ++ entry ∷ []) ≡ reports_in own ++ report ∷ []
 reports_push own entry report is = reports_in-append own (entry ∷ []) ∙ ap (λ l. reports_in own ++ l) is
 

@@ -12,9 +12,9 @@ use Rattle.dialect.specs.declared.content.Content.TheVariants.{Session, Order}
 use Rattle.fix_tags.specs.declared.session_body.SessionBody.TheVariants.{TestRequest, GapFill, Logout}
 use Rattle.dialect.specs.declared.message.Message.{Message}
 use Rattle.exchange_core.specs.Order.{OrderParts, new_order}
-use Rattle.exchange_core.specs.declared.own.Own.{Own}
-use Rattle.exchange_core.specs.declared.own.Own.TheVariants.{Admin, Reported, Refused}
-use Rattle.exchange_core.specs.Own.{next_exec}
+use Rattle.exchange_core.specs.declared.sent_record.SentRecord.{SentRecord}
+use Rattle.exchange_core.specs.declared.sent_record.SentRecord.TheVariants.{Admin, Reported, Refused}
+use Rattle.exchange_core.specs.SentRecord.{next_exec}
 use Rattle.exchange_core.specs.Exchange.{ExchangeParts, accepted_by, logon_answer, with_connection, due_taken, take}
 use Rattle.exchange_core.specs.Acts.{reported}
 use Rattle.exchange_core.proofs.After.{legs_kept}
@@ -34,13 +34,13 @@ pub record IsNumberOf (legs : List Leg) (id : LegIdParts) : Type 0 where
   pub same : leg.id ≡ id
 
 -- each report is on one of these legs
-abbrev pub AreOn : List Leg → List Own → Type 0
+abbrev pub AreOn : List Leg → List SentRecord → Type 0
 AreOn legs [] = Unit {0}
 AreOn legs (Admin ∷ own) = AreOn legs own
 AreOn legs (Refused number ∷ own) = AreOn legs own
 AreOn legs (Reported report view ∷ own) = IsNumberOf legs report.id × AreOn legs own
 
-on-append : (legs : List Leg) (xs ys : List Own) → AreOn legs xs → AreOn legs ys → AreOn legs (xs ++ ys)
+on-append : (legs : List Leg) (xs ys : List SentRecord) → AreOn legs xs → AreOn legs ys → AreOn legs (xs ++ ys)
 on-append legs [] ys on more = more
 on-append legs (Admin ∷ xs) ys on more = on-append legs xs ys on more
 on-append legs (Refused number ∷ xs) ys on more = on-append legs xs ys on more
@@ -55,7 +55,7 @@ number_more legs more id is = record {
       is.same;
 }
 
-on-more : (legs more : List Leg) (own : List Own) → AreOn legs own → AreOn (legs ++ more) own
+on-more : (legs more : List Leg) (own : List SentRecord) → AreOn legs own → AreOn (legs ++ more) own
 on-more legs more [] on = on
 on-more legs more (Admin ∷ own) on = on-more legs more own on
 on-more legs more (Refused number ∷ own) on = on-more legs more own on
@@ -117,7 +117,7 @@ act_on (act.Bust order which) x on =
 act_on act.Test x on = test_is x ReportsOn on (λ left. on-append (accepted_by x) x.own (Admin ∷ []) on tt)
 
 -- the leg of each report that was made
-pub made_on : (legs : List Leg) (own : List Own) (report : Report) → AreOn legs own → Contains (reports_in own) report
+pub made_on : (legs : List Leg) (own : List SentRecord) (report : Report) → AreOn legs own → Contains (reports_in own) report
     → IsNumberOf legs report.id
 made_on legs [] report on there = absurd (let h = there.1 in omega arith)
 made_on legs (Admin ∷ own) report on there = made_on legs own report on there

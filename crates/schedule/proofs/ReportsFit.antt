@@ -16,7 +16,7 @@ use Rattle.dialect.specs.declared.report.Report.{Report}
 use Rattle.dialect.specs.declared.report.ReportKind.{ReportKind}
 use Rattle.dialect.specs.declared.report.ReportKind.TheVariants.{New}
 use Rattle.exchange_core.specs.Order.{OrderParts, new_order}
-use Rattle.exchange_core.specs.Own.{exec_id}
+use Rattle.exchange_core.specs.SentRecord.{exec_id}
 use Rattle.exchange_core.proofs.After.{legs_kept}
 use Rattle.exchange_core.proofs.ActsReport.{AnyPx, IsChange, same_leg}
 use Rattle.exchange_core.proofs.SharesLaws.{new_adds}

@@ -11,8 +11,8 @@ use Rattle.dialect.specs.declared.note.Note.{Note}
 use Rattle.dialect.specs.declared.report.Report.{Report}
 use Rattle.dialect.specs.declared.message.Message.{Message}
 use Rattle.session_core.specs.Session.{SessionParts, new_session, leg_state}
-use Rattle.exchange_core.specs.declared.own.Own.{Own}
-use Rattle.exchange_core.specs.declared.own.Own.TheVariants.{Admin, Reported, Refused}
+use Rattle.exchange_core.specs.declared.sent_record.SentRecord.{SentRecord}
+use Rattle.exchange_core.specs.declared.sent_record.SentRecord.TheVariants.{Admin, Reported, Refused}
 use Rattle.exchange_core.specs.Exchange.{ExchangeParts, new_exchange, accepted_by}
 use Rattle.share_ledger.specs.Book.{BookParts, new_book}
 use Rattle.share_ledger.specs.Book as book
@@ -84,7 +84,7 @@ abbrev pub given : World → ℕ → List Note
 given w v = of_venue w v [] (λ venue. venue.given)
 
 -- the reports that the exchange made, in order
-abbrev pub reports_in : List Own → List Report
+abbrev pub reports_in : List SentRecord → List Report
 reports_in [] = []
 reports_in (Admin ∷ own) = reports_in own
 reports_in (Refused number ∷ own) = reports_in own

@@ -11,7 +11,7 @@ use Rattle.script.specs.Lines.{LinesLeft}
 use Rattle.script.specs.declared.line_fault.LineFault.{LineFault}
 use Rattle.script.specs.declared.line_fault.LineFault.TheVariants.{Bad, OutOfMemory}
 
--- what a line says; or want of memory, where it says something
+-- what a line says; or out of memory, where it says something
 abbrev pub ReadsLine : {X : Type 0} → Option X → Result X LineFault → Type 0
 ReadsLine None answer = answer ≡ Err Bad
 ReadsLine (Some said) (Ok read) = read ≡ said
@@ -39,7 +39,7 @@ KeepsLine number None answer was_refused before is_refused after = answer ≡ Er
 KeepsLine number (Some said) answer was_refused before is_refused after =
     (answer ≡ Ok tt) × (is_refused ≡ false → (was_refused ≡ false) × (after ≡ before ++ option_to_list said))
 
--- what the text says, or its first bad line; or want of memory, where the text says something
+-- what the text says, or its first bad line; or out of memory, where the text says something
 abbrev pub ReadsScript : {X : Type 0} → Result X ℕ → Result X ScriptFault → Type 0
 ReadsScript (Err line) answer = answer ≡ Err (fault.Line line)
 ReadsScript (Ok said) (Ok read) = read ≡ said

@@ -84,7 +84,7 @@ impl Head {
         self.max_number
     }
 
-    /// The dialect of each venue. The only refusal is want of memory.
+    /// The dialect of each venue. The only refusal is out of memory.
     pub fn dialects(&self, alloc: Global) -> Result<Vec<AnyDialect>, AllocError>
         ensures dialects { IfOk result (λ dialects. dialects.items
             ≡ map (λ (venue : ScriptVenue). venue.dialect) self.now.venues) }
@@ -96,7 +96,7 @@ impl Head {
             .collect(alloc)
     }
 
-    /// Of each venue, whether its Logons say which number is expected next (789). The only refusal is want of memory.
+    /// Of each venue, whether its Logons say which number is expected next (789). The only refusal is out of memory.
     pub fn next(&self, alloc: Global) -> Result<Vec<bool>, AllocError>
         ensures next { IfOk result (λ next. next.items ≡ map (λ (venue : ScriptVenue). venue.next) self.now.venues) }
         ensures each { IfOk result (λ next. length next.items ≡ length self.now.venues) }

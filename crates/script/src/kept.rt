@@ -5,7 +5,7 @@ ghost use Rattle.std.specs.Prelude.{◌≡◌, ◌∷◌, ◌++◌, [], false, t
 use std::alloc::{AllocError, Global};
 
 /// What was read so far, or that memory was refused for it. Reading goes on to the end of the text all the same, so
-/// that a fault of the text comes before want of memory.
+/// that a fault of the text comes before out of memory.
 #[derive(Drop)]
 pub(crate) struct Kept<T> {
     pub(crate) items: Vec<T>,

@@ -2,7 +2,7 @@
 //!
 //! Promises:
 //! - `read_script` gives the script of a text, or the number of its first bad line, exactly as `script_of` says, for
-//!   every text. It answers want of memory only where the text is a script.
+//!   every text. It answers out of memory only where the text is a script.
 //! - Every `Script` is within the limits that a world asks for (its invariant, `IsWithinLimits`). `into_parts` hands
 //!   over by value exactly its parts, and says so.
 //! - Not said: that memory is refused only where a growth really was.

@@ -6,7 +6,7 @@ use Rattle.leg.specs.declared.leg.Leg.{Leg}
 use Rattle.dialect.specs.declared.content.Content.TheVariants.{Session}
 use Rattle.fix_tags.specs.declared.session_body.SessionBody.TheVariants.{Heartbeat}
 use Rattle.dialect.specs.declared.message.Message.{Message}
-use Rattle.dialect.specs.Message.{seen}
+use Rattle.dialect.specs.Message.{decoded}
 use Rattle.dialect.specs.Wording.{Decoding}
 use Rattle.resend.specs.Log.{last_ordinal}
 use Rattle.resend.specs.Log.Entry.{Sent}
@@ -61,7 +61,7 @@ called_onward read s (call.SendLeg ordinal leg) =
     message_state (IsOnward s) (send_leg s ordinal leg)
     (unchanged_onward s (SendsLeg s ordinal leg) (send_leg s ordinal leg) (λ m t does. does.keeps.onward)
     (send_leg_keeps s ordinal leg))
-called_onward read s (call.Receive envelope) = (receive_is_received s (seen read envelope)).onward
+called_onward read s (call.Receive envelope) = (receive_is_received s (decoded read envelope)).onward
 called_onward read s call.Confirm = (confirm_keeps s).onward
 called_onward read s call.Quiet = call_onward s (quiet s) (quiet_keeps s)
 called_onward read s call.Silent = call_onward s (silent s) (silent_keeps s)
@@ -83,7 +83,7 @@ called_sound : (read : Decoding) (s : SessionParts) (one : SessionCall) → IsSo
 called_sound read s call.Connect is read_so = message_state IsSound (connect s) (connect_sound s is)
 called_sound read s (call.SendLeg ordinal leg) is read_so =
     message_state IsSound (send_leg s ordinal leg) (send_leg_sound s ordinal leg is)
-called_sound read s (call.Receive envelope) is read_so = (kept-receive s (seen read envelope) is read_so).sound
+called_sound read s (call.Receive envelope) is read_so = (kept-receive s (decoded read envelope) is read_so).sound
 called_sound read s call.Confirm is read_so = confirm_sound s is
 called_sound read s call.Quiet is read_so = step_state IsSound (quiet s) (quiet_sound s is)
 called_sound read s call.Silent is read_so = step_state IsSound (silent s) (silent_sound s is)
@@ -110,7 +110,7 @@ called_over : (read : Decoding) (s : SessionParts) (one : SessionCall) → s.pha
 called_over read s call.Connect closed = rw (closed-connect s closed) (over_none s closed)
 called_over read s (call.SendLeg ordinal leg) closed = rw (closed-send_leg s closed ordinal leg) (over_none s closed)
 called_over read s (call.Receive envelope) closed =
-    rw (closed-receive s closed (seen read envelope)) (record { phase = closed; nothing = refl })
+    rw (closed-receive s closed (decoded read envelope)) (record { phase = closed; nothing = refl })
 called_over read s call.Confirm closed = record { phase = closed-confirm s closed; nothing = tt }
 called_over read s call.Quiet closed = rw (closed-quiet s closed) (over_none s closed)
 called_over read s call.Silent closed = rw (closed-silent s closed) (over_none s closed)
@@ -268,7 +268,7 @@ calls_above read s (call.Connect ∷ calls) =
     other_first read s call.Connect _ (connect_in-last s s.phase)
     (calls_above read (called read s call.Connect).1 calls)
 calls_above read s (call.Receive envelope ∷ calls) =
-    other_first read s (call.Receive envelope) _ (receive-last s (seen read envelope))
+    other_first read s (call.Receive envelope) _ (receive-last s (decoded read envelope))
     (calls_above read (called read s (call.Receive envelope)).1 calls)
 calls_above read s (call.Confirm ∷ calls) =
     other_first read s call.Confirm _ (confirm-last s) (calls_above read (called read s call.Confirm).1 calls)

@@ -22,7 +22,7 @@ use Rattle.session_core.specs.declared.step.Step.{Step}
 use Rattle.session_core.specs.Session.{SessionParts, is_connected, is_still, may_write}
 use Rattle.session_core.specs.Turn.{StepParts, Turn, quietly, puts, puts_fence, ends}
 use Rattle.session_core.specs.Calling.{SessionAnswer, refuses, answers, answers_numbered, connect, connect_in, send_leg, send_in, quiet, silent, hushed, close, close_in, closing_up}
-use Rattle.session_core.specs.Given.{IsStep, Gives}
+use Rattle.session_core.specs.CallResult.{IsStep, Gives}
 use Rattle.session_core.specs.Trial.{Addition, added, added_message, called, after_calls, steps_of, AreSteps, unless_refused, StepAdded, Adds, Tries}
 use Rattle.session_core.proofs.Adding.{chosen}
 
@@ -63,7 +63,7 @@ steps-more read s calls i one below is =
     ∙ ap (λ (steps : List StepParts). steps_of read s (take i calls) ++ steps)
     (append-nil (option_to_list (called read (after_calls read s (take i calls)) one).0)))
 
--- no answer of a definition is want of memory
+-- no answer of a definition is out of memory
 abbrev NeverWants : {X : Type 0} → SessionAnswer X → Type 0
 NeverWants (Ok given, after) = Unit {0}
 NeverWants (Err why, after) = why ≡ fault.OutOfMemory → ⊥
@@ -116,7 +116,7 @@ close_in-never s Settling = tt
 close_in-never s Closing = tt
 close_in-never s LoggedOut = tt
 
--- a refusal that isn't want of memory adds nothing
+-- a refusal that isn't out of memory adds nothing
 refused : {X : Type 0} (why : SessionFault) → (why ≡ fault.OutOfMemory → ⊥) → unless_refused {X = X} (Err why) ≡ Ok None
 refused fault.NotDown never = refl
 refused fault.Closed never = refl

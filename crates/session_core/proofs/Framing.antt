@@ -18,8 +18,8 @@ use Rattle.resend.specs.Log.{Entry, has_number, next_to_send}
 use Rattle.resend.specs.Log.Entry.{Admin}
 use Rattle.session_core.specs.declared.line.Line.{Line}
 use Rattle.session_core.specs.Sound.{AreWritable}
-use Rattle.session_core.specs.Draft.{logged, is_fence, with_fences}
-use Rattle.session_core.proofs.Drafted.{logged-push, with_fences-push, length-logged}
+use Rattle.session_core.specs.Decision.{logged, is_fence, with_fences}
+use Rattle.session_core.proofs.DecidedTurn.{logged-push, with_fences-push, length-logged}
 
 -- one frame more
 pub framed-push : (w : Encoding) (stamp : StampParts) (ms : List Message) (fs : List (List ℕ)) (m : Message) (b : List ℕ)

@@ -10,34 +10,34 @@ use Rattle.resend.specs.Log.Entry.{Admin, Sent}
 use Rattle.leg.specs.Answering.{Answers}
 use Rattle.resend.specs.Window.{OutLogParts, push}
 use Rattle.session_core.specs.declared.phase.Phase.TheVariants.{LoggingOn, Up}
-use Rattle.session_core.specs.declared.standing.Standing.{Standing}
-use Rattle.session_core.specs.declared.draft.Draft.{Draft}
+use Rattle.session_core.specs.declared.session_state.SessionState.{SessionState}
+use Rattle.session_core.specs.declared.decision.Decision.{Decision}
 use Rattle.session_core.specs.Session.{SessionParts, may_write}
 use Rattle.session_core.specs.Calling.{doubted}
 use Rattle.session_core.specs.Sound.{IsSound}
-use Rattle.session_core.specs.Kept.{seen, IsKept}
-use Rattle.session_core.specs.Draft.{drafted}
+use Rattle.session_core.specs.Kept.{viewed, IsKept}
+use Rattle.session_core.specs.Decision.{decided}
 use Rattle.session_core.proofs.Sound.{sound-connecting, sound-sending}
-use Rattle.session_core.proofs.Drafted.{next-drafted}
+use Rattle.session_core.proofs.DecidedTurn.{next-decided}
 use Rattle.session_core.proofs.Framing.{pushed_admin, pushed_leg, wanting_leg}
 
 -- what was decided on
-pub kept-committed : (max_number : ℕ) (s : SessionParts) (draft : Draft) → IsKept max_number s
-    → IsSound (drafted s draft).session → IsKept max_number (drafted s draft).session
-kept-committed max_number s draft kept sound =
+pub kept-committed : (max_number : ℕ) (s : SessionParts) (decision : Decision) → IsKept max_number s
+    → IsSound (decided s decision).session → IsKept max_number (decided s decision).session
+kept-committed max_number s decision kept sound =
     (let counted = kept.counted in
     record {
       sound = sound;
       limit = kept.limit;
-      counted = omega (arith, counted, next-drafted s draft);
+      counted = omega (arith, counted, next-decided s decision);
     })
 
 -- a new connection
 pub kept-begun : (config : ConfigParts) (old now : OutLogParts) (fences left : List ℕ) (connection logon_number : ℕ)
-    (at : Standing) (r : Result ℕ LogFault) → IsKept old.max_number (seen config old.entries fences connection at)
-    → may_write (seen config old.entries fences connection at) ≡ true → (r, now) ≡ push Admin old
+    (at : SessionState) (r : Result ℕ LogFault) → IsKept old.max_number (viewed config old.entries fences connection at)
+    → may_write (viewed config old.entries fences connection at) ≡ true → (r, now) ≡ push Admin old
     → logon_number ≡ next_to_send old.entries → left ≡ []
-    → IsKept now.max_number (seen config now.entries left (connection + 1) (record at {
+    → IsKept now.max_number (viewed config now.entries left (connection + 1) (record at {
       phase = LoggingOn;
       logon_number = logon_number;
       closing_fence = None;
@@ -46,7 +46,7 @@ pub kept-begun : (config : ConfigParts) (old now : OutLogParts) (fences left : L
       silent = false;
     }))
 kept-begun config old now fences left connection logon_number at r kept may is number none =
-    (let s : SessionParts = seen config old.entries fences connection at in
+    (let s : SessionParts = viewed config old.entries fences connection at in
     let limit = kept.limit in
     let has : has_number old.max_number old.entries ≡ true = rw limit may in
     let counted = kept.counted in
@@ -57,16 +57,16 @@ kept-begun config old now fences left connection logon_number at r kept may is n
       counted = omega (arith, counted, length-append old.entries (Admin ∷ []));
     }))
 
--- a leg that is sent, or isn't for want of memory
-pub kept-logged : (config : ConfigParts) (old now : OutLogParts) (fences : List ℕ) (connection : ℕ) (at : Standing)
-    (ordinal : ℕ) (leg : Leg) (r : Result ℕ LogFault) → IsKept old.max_number (seen config old.entries fences
+-- a leg that is sent, or isn't for lack of memory
+pub kept-logged : (config : ConfigParts) (old now : OutLogParts) (fences : List ℕ) (connection : ℕ) (at : SessionState)
+    (ordinal : ℕ) (leg : Leg) (r : Result ℕ LogFault) → IsKept old.max_number (viewed config old.entries fences
     connection at)
     → at.phase ≡ Up → last_ordinal old.entries < ordinal
-    → may_write (seen config old.entries fences connection at) ≡ true
+    → may_write (viewed config old.entries fences connection at) ≡ true
     → Answers OutOfMemory old (push (Sent (doubted ordinal leg)) old) r now
-    → IsKept now.max_number (seen config now.entries fences connection at)
+    → IsKept now.max_number (viewed config now.entries fences connection at)
 kept-logged config old now fences connection at ordinal leg (Ok number) kept up above may is =
-    (let s : SessionParts = seen config old.entries fences connection at in
+    (let s : SessionParts = viewed config old.entries fences connection at in
     let limit = kept.limit in
     let has : has_number old.max_number old.entries ≡ true = rw limit may in
     let counted = kept.counted in

@@ -9,7 +9,7 @@ pub mod LoggedOut
 pub mod Sound
 pub mod Kept
 pub mod Promised
-pub mod Drafted
+pub mod DecidedTurn
 pub mod Framing
 pub mod Decided
 pub mod KeptOn

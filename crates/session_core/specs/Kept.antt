@@ -2,13 +2,13 @@
 use Rattle.std.specs.Prelude.{◌≡◌, ◌<◌, ℕ, List}
 use Rattle.fix_tags.specs.Config.{ConfigParts}
 use Rattle.resend.specs.Log.{Entry}
-use Rattle.session_core.specs.declared.standing.Standing.{Standing}
+use Rattle.session_core.specs.declared.session_state.SessionState.{SessionState}
 use Rattle.session_core.specs.Session.{SessionParts, next_out}
 use Rattle.session_core.specs.Sound.{IsSound}
 
 -- the state of which these are the parts
-abbrev pub seen : ConfigParts → List Entry → List ℕ → ℕ → Standing → SessionParts
-seen config log fences connection at = record {
+abbrev pub viewed : ConfigParts → List Entry → List ℕ → ℕ → SessionState → SessionParts
+viewed config log fences connection at = record {
   config = config;
   phase = at.phase;
   log = log;
@@ -33,5 +33,5 @@ pub record IsKept (max_number : ℕ) (s : SessionParts) : Type 0 where
   pub counted : s.connection < next_out s
 
 -- the session with another standing
-abbrev pub standing_at : SessionParts → Standing → SessionParts
-standing_at s at = seen s.config s.log s.current.fences s.connection at
+abbrev pub standing_at : SessionParts → SessionState → SessionParts
+standing_at s at = viewed s.config s.log s.current.fences s.connection at

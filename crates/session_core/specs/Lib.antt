@@ -4,8 +4,8 @@ pub mod Turn
 pub mod Receiving
 pub mod Calling
 -- What a call hands its caller.
-pub mod Given
-pub mod Draft
+pub mod CallResult
+pub mod Decision
 -- What every call keeps.
 pub mod Onward
 pub mod Counting

@@ -5,7 +5,7 @@ use Rattle.std.specs.Global.{Vec}
 use Rattle.fix_tags.specs.Stamp.{StampParts}
 use Rattle.dialect.specs.declared.message.Message.{Message}
 use Rattle.dialect.specs.Wording.{Decoding, Encoding}
-use Rattle.dialect.specs.Message.{seen}
+use Rattle.dialect.specs.Message.{decoded}
 use Rattle.session_core.specs.declared.phase.Phase.TheVariants.{Closed}
 use Rattle.session_core.specs.declared.session_call.SessionCall.{SessionCall}
 use Rattle.session_core.specs.declared.session_call.SessionCall.TheVariants as call
@@ -18,7 +18,7 @@ use Rattle.session_core.specs.Receiving.{receive, confirm}
 use Rattle.session_core.specs.Calling.{SessionAnswer, answers, connect, send_leg, quiet, silent, close, malformed, broken, abandon}
 use Rattle.session_core.specs.Onward.{IsOnward}
 use Rattle.session_core.specs.Sound.{IsRead}
-use Rattle.session_core.specs.Given.{IsStep}
+use Rattle.session_core.specs.CallResult.{IsStep}
 
 -- the step that a call adds, if it adds one, and the state after it: a refused call adds none, and changes nothing
 abbrev pub Addition : Type 0
@@ -36,7 +36,7 @@ added_message (Err fault, after) = (None, after)
 abbrev pub called : Decoding → SessionParts → SessionCall → Addition
 called read s call.Connect = added_message (connect s)
 called read s (call.SendLeg ordinal leg) = added_message (send_leg s ordinal leg)
-called read s (call.Receive envelope) = added (answers (receive s (seen read envelope)))
+called read s (call.Receive envelope) = added (answers (receive s (decoded read envelope)))
 called read s call.Confirm = (None, confirm s)
 called read s call.Quiet = added (quiet s)
 called read s call.Silent = added (silent s)
@@ -56,7 +56,7 @@ steps_of read s (call ∷ calls) = option_to_list (called read s call).0 ++ step
 
 -- what is received was read
 abbrev pub IsReadCall : Decoding → SessionCall → Type 0
-IsReadCall read (call.Receive envelope) = IsRead (seen read envelope)
+IsReadCall read (call.Receive envelope) = IsRead (decoded read envelope)
 IsReadCall read _ = Unit {0}
 
 abbrev pub AreRead : Decoding → List SessionCall → Type 0
@@ -69,7 +69,7 @@ AreSteps w stamp [] (step ∷ steps) = ⊥
 AreSteps w stamp (said ∷ more) [] = ⊥
 AreSteps w stamp (said ∷ more) (step ∷ steps) = IsStep w stamp said step × AreSteps w stamp more steps
 
--- what a call of the code gives where it isn't refused; want of memory is none of the definition's refusals
+-- what a call of the code gives where it isn't refused; out of memory is none of the definition's refusals
 abbrev pub unless_refused : {X : Type 0} → Result X SessionFault → Result (Option X) SessionFault
 unless_refused (Ok given) = Ok (Some given)
 unless_refused (Err OutOfMemory) = Err OutOfMemory
@@ -86,7 +86,7 @@ StepAdded (Ok (Some frame)) (Err fault) = fault ≡ OutOfMemory
 StepAdded (Ok None) given = given ≡ Ok None
 StepAdded (Err fault) given = given ≡ Err fault
 
--- what a call gives: want of memory is answered only where it was to add a step
+-- what a call gives: out of memory is answered only where it was to add a step
 abbrev pub Adds : Encoding → StampParts → Addition → Result (Option Step) SessionFault → SessionParts → Type 0
 Adds w stamp (None, after) (Ok None) now = now ≡ after
 Adds w stamp (None, after) (Ok (Some step)) now = ⊥
@@ -95,7 +95,7 @@ Adds w stamp (Some said, after) (Ok None) now = ⊥
 Adds w stamp (Some said, after) (Ok (Some step)) now = IsStep w stamp said step × (now ≡ after)
 Adds w stamp (Some said, after) (Err fault) now = fault ≡ OutOfMemory
 
--- what a trial gives: the steps, and the session after the calls; want of memory only where some call adds a step
+-- what a trial gives: the steps, and the session after the calls; out of memory only where some call adds a step
 abbrev pub Tries : Encoding → StampParts → List StepParts → SessionParts → Result (SessionParts × Vec Step) SessionFault
     → Type 0
 Tries w stamp said after (Ok given) = (given.0 ≡ after) × AreSteps w stamp said given.1.items

@@ -2,9 +2,9 @@
 
 ghost use Rattle.std.specs.Prelude.{◌≡◌, ◌≤◌, ◌+◌, length, vec_len, vec_capacity};
 ghost use Rattle.session_core.specs.Receiving.{above};
-ghost use Rattle.session_core.specs.Draft.{settled_log, fences_left, logged, with_fences};
+ghost use Rattle.session_core.specs.Decision.{settled_log, fences_left, logged, with_fences};
 
-use crate::draft::Settling;
+use crate::decision::Settling;
 use crate::line::Line;
 use resend::OutLog;
 

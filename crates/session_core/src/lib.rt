@@ -3,13 +3,13 @@
 //! Promises:
 //! - `Session` has every call of `docs/session.md`, and each is one equation with its definition: the refusals in
 //!   their order, the state after, and what is handed back, whose frames are those of the definition's messages at
-//!   the call's moment, in order (`Gives` and `IsStep` in `specs/Given.antt`, `AreFramed` of dialect). Want of
+//!   the call's moment, in order (`Gives` and `IsStep` in `specs/CallResult.antt`, `AreFramed` of dialect). Want of
 //!   memory, S04, is answered only where the definition's answer is Ok, and then the session is as it was.
 //! - `confirm`, `malformed`, `broken`, `abandon` and all questions take no memory and are never refused. Every
 //!   session keeps its promises (`IsSound`), and whatever was read is in range, so no call asks anything of its
 //!   caller.
 //! - `trial` makes any list of calls on a new session: the session after them and the steps are those of the
-//!   definition's run of these calls, and want of memory is answered only where some call adds a step (clause
+//!   definition's run of these calls, and out of memory is answered only where some call adds a step (clause
 //!   `run`). Whatever is called and received, orders have rising numbers and rising ordinals, a leg leaves doubt at
 //!   most once and for good, and a session that is closed writes nothing (clause `rules`, `KeepsRules` in
 //!   `specs/Trial.antt`). A leg that a message settles is taken only below the number that it tells, of the fence
@@ -27,7 +27,7 @@
 
 mod calls;
 mod commit;
-mod draft;
+mod decision;
 mod ended;
 mod fence;
 pub mod laws;
@@ -38,7 +38,7 @@ mod rows;
 mod session;
 mod session_call;
 mod session_fault;
-mod standing;
+mod session_state;
 mod step;
 mod trial_run;
 mod write;

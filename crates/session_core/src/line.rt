@@ -13,7 +13,7 @@ pub(crate) enum Says<'a> {
 }
 
 impl<'a> Says<'a> {
-    ghost use Rattle.session_core.specs.Draft.{is_fence};
+    ghost use Rattle.session_core.specs.Decision.{is_fence};
 
     /// Whether it is a fence.
     pub fn is_fence(&self) -> bool

@@ -10,35 +10,35 @@ ghost use Rattle.session_core.specs.Receiving.{settles_told, logon_row, resend_w
 ghost use Rattle.session_core.specs.Session.{SessionParts};
 ghost use Rattle.session_core.specs.Kept.{standing_at};
 ghost use Rattle.session_core.specs.Sound.{IsReadContent, IsRead};
-ghost use Rattle.session_core.specs.Draft.{drafted};
+ghost use Rattle.session_core.specs.Decision.{decided};
 
-use crate::draft::{Draft, Settling};
+use crate::decision::{Decision, Settling};
 use crate::ended::Ended;
 use crate::phase::Phase;
 use crate::session::Session;
-use crate::standing::Standing;
+use crate::session_state::SessionState;
 use dialect::{Content, DialectFault, Message, Note, Report};
 use fix_tags::{MAX_MESSAGE_NUMBER, SessionBody, TextRef};
 use resend::{GapFill, Judged};
 
 /// Nothing is done.
-fn nothing<'a>(at: Standing) -> Draft<'a>
-    ensures turn { (s : SessionParts) → drafted s result ≡ quietly (standing_at s at) }
+fn nothing<'a>(at: SessionState) -> Decision<'a>
+    ensures turn { (s : SessionParts) → decided s result ≡ quietly (standing_at s at) }
     ensures standing { result.standing ≡ at }
     ensures room { length result.lines.items ≤ 0 }
 {
-    Draft::new(at, Settling::Nothing)
+    Decision::new(at, Settling::Nothing)
 }
 
 /// The connection ends, and nothing else is done.
-fn ending<'a>(at: Standing, why: Ended) -> Draft<'a>
-    ensures turn { (s : SessionParts) → drafted s result ≡ ends why (standing_at s at) }
+fn ending<'a>(at: SessionState, why: Ended) -> Decision<'a>
+    ensures turn { (s : SessionParts) → decided s result ≡ ends why (standing_at s at) }
     ensures expected { result.standing.expected ≡ at.expected }
     ensures room { length result.lines.items ≤ 0 }
 {
-    let mut draft = Draft::new(at, Settling::Nothing);
-    draft.end(why);
-    draft
+    let mut decision = Decision::new(at, Settling::Nothing);
+    decision.end(why);
+    decision
 }
 
 /// Whether a range is one of numbers that were sent; 0 as its last number means all that was sent.
@@ -61,34 +61,34 @@ fn note_of(read: Result<Report, DialectFault>) -> Note
 impl Session {
     /// Every leg in doubt is settled by the number that the exchange expects next (789), if it told one, and what lies
     /// between it and the session's own Logon is filled.
-    fn settled_as_told<'a>(&self, at: Standing, next: Option<u64>) -> Draft<'a>
+    fn settled_as_told<'a>(&self, at: SessionState, next: Option<u64>) -> Decision<'a>
         requires { at.logon_number ≤ 999999999 }
-        ensures turn { drafted self.now result ≡ settles_told (standing_at self.now at) next }
+        ensures turn { decided self.now result ≡ settles_told (standing_at self.now at) next }
         ensures standing { result.standing ≡ at }
         ensures room { length result.lines.items ≤ 1 }
     {
         match next {
-            None => Draft::new(at, Settling::Nothing),
+            None => Decision::new(at, Settling::Nothing),
             Some(number) => {
                 let logon_number = at.logon_number;
-                let mut draft = Draft::new(at, Settling::At(number));
+                let mut decision = Decision::new(at, Settling::At(number));
                 if number <= logon_number {
                     let fill = GapFill {
                         first: number,
                         new_number: logon_number + 1,
                     };
-                    draft.fill(fill);
+                    decision.fill(fill);
                 }
-                draft
+                decision
             }
         }
     }
 
     /// A Logon.
-    fn logon<'a>(&self, at: Standing, due: bool, next: Option<u64>) -> Draft<'a>
+    fn logon<'a>(&self, at: SessionState, due: bool, next: Option<u64>) -> Decision<'a>
         requires logon { at.logon_number ≤ 999999999 }
         requires due { due ≡ true → at.expected ≤ MAX_MESSAGE_NUMBER }
-        ensures turn { drafted self.now result ≡ logon_row due (standing_at self.now at) next }
+        ensures turn { decided self.now result ≡ logon_row due (standing_at self.now at) next }
         ensures room { length result.lines.items ≤ 3 }
     {
         if !at.phase.is_logging_on() {
@@ -98,90 +98,90 @@ impl Session {
         if at.is_too_high(told) {
             return ending(at, Ended::BadNextExpected);
         }
-        let mut draft = self.settled_as_told(at, told);
-        draft.count_if(due);
-        draft.ask_if(self, !due);
-        draft.write_fence(self);
-        draft.come_to(Phase::Settling);
-        draft
+        let mut decision = self.settled_as_told(at, told);
+        decision.count_if(due);
+        decision.ask_if(self, !due);
+        decision.write_fence(self);
+        decision.come_to(Phase::Settling);
+        decision
     }
 
     /// A ResendRequest while legs of earlier connections aren't settled: every leg in doubt is, and the range is
     /// filled.
-    fn resend_settling<'a>(&self, at: Standing, begin: u64, last: u64) -> Draft<'a>
-        ensures turn { drafted self.now result ≡ resend_while_settling (standing_at self.now at) begin last }
+    fn resend_settling<'a>(&self, at: SessionState, begin: u64, last: u64) -> Decision<'a>
+        ensures turn { decided self.now result ≡ resend_while_settling (standing_at self.now at) begin last }
         ensures standing { result.standing ≡ at }
         ensures room { length result.lines.items ≤ 2 }
     {
-        let mut draft = Draft::new(at, Settling::At(begin));
+        let mut decision = Decision::new(at, Settling::At(begin));
         if let Some(fill) = self.fill_to(begin, last, self.last_number()) {
-            draft.fill(fill);
+            decision.fill(fill);
         }
-        draft.write_fence(self);
-        draft
+        decision.write_fence(self);
+        decision
     }
 
     /// A ResendRequest later: what was settled is filled.
-    fn resend_settled<'a>(&self, at: Standing, fill: Option<GapFill>) -> Draft<'a>
-        ensures turn { drafted self.now result ≡ resend_later fill (standing_at self.now at) }
+    fn resend_settled<'a>(&self, at: SessionState, fill: Option<GapFill>) -> Decision<'a>
+        ensures turn { decided self.now result ≡ resend_later fill (standing_at self.now at) }
         ensures standing { result.standing.expected ≡ at.expected }
         ensures room { length result.lines.items ≤ 1 }
     {
         match fill {
             None => ending(at, Ended::ResendInDoubt),
             Some(fill) => {
-                let mut draft = Draft::new(at, Settling::Nothing);
-                draft.fill(fill);
-                draft
+                let mut decision = Decision::new(at, Settling::Nothing);
+                decision.fill(fill);
+                decision
             }
         }
     }
 
     /// A ResendRequest.
-    fn resend<'a>(&self, at: Standing, due: bool, begin: u64, last: u64) -> Draft<'a>
+    fn resend<'a>(&self, at: SessionState, due: bool, begin: u64, last: u64) -> Decision<'a>
         requires { due ≡ true → at.expected ≤ MAX_MESSAGE_NUMBER }
-        ensures turn { drafted self.now result ≡ resend_row due (standing_at self.now at) begin last }
+        ensures turn { decided self.now result ≡ resend_row due (standing_at self.now at) begin last }
         ensures room { length result.lines.items ≤ 3 }
     {
         if !is_range_of(self.last_number(), begin, last) {
             return ending(at, Ended::BadResend);
         }
         if at.phase.is_settling() {
-            let mut draft = self.resend_settling(at, begin, last);
-            draft.count_if(due);
-            return draft;
+            let mut decision = self.resend_settling(at, begin, last);
+            decision.count_if(due);
+            return decision;
         }
         let fill = self.fill_to(begin, last, at.settled);
-        let mut draft = self.resend_settled(at, fill);
-        draft.count_if(due);
-        draft
+        let mut decision = self.resend_settled(at, fill);
+        decision.count_if(due);
+        decision
     }
 
     /// A Heartbeat, by the fence that it names.
-    fn fence_answered<'a>(&self, at: Standing, fence: Option<u64>) -> Draft<'a>
-        ensures turn { drafted self.now result ≡ passes_fence (standing_at self.now at) fence }
+    fn fence_answered<'a>(&self, at: SessionState, fence: Option<u64>) -> Decision<'a>
+        ensures turn { decided self.now result ≡ passes_fence (standing_at self.now at) fence }
         ensures standing { result.standing.expected ≡ at.expected }
         ensures room { length result.lines.items ≤ 1 }
     {
         let Some(fence) = fence else {
-            return Draft::new(at, Settling::Nothing);
+            return Decision::new(at, Settling::Nothing);
         };
-        let passed = Standing {
+        let passed = SessionState {
             settled: fence,
             ..at
         };
-        let mut draft = Draft::new(passed, Settling::Passed(fence));
+        let mut decision = Decision::new(passed, Settling::Passed(fence));
         match at.phase {
             Phase::Settling => {
                 if at.close_asked {
-                    draft.log_out(self);
+                    decision.log_out(self);
                 } else {
-                    draft.come_to(Phase::Up);
+                    decision.come_to(Phase::Up);
                 }
             }
             Phase::Closing => {
                 if at.is_closing_fence(fence) {
-                    draft.log_out(self);
+                    decision.log_out(self);
                 }
             }
             Phase::Down => {}
@@ -190,31 +190,31 @@ impl Session {
             Phase::LoggedOut => {}
             Phase::Closed => {}
         }
-        draft
+        decision
     }
 
     /// A TestRequest in its turn.
-    fn test<'a>(&self, at: Standing, id: TextRef<'a>) -> Draft<'a>
+    fn test<'a>(&self, at: SessionState, id: TextRef<'a>) -> Decision<'a>
         requires { at.expected ≤ MAX_MESSAGE_NUMBER }
-        ensures turn { drafted self.now result ≡ counts (answers_test (standing_at self.now at) id.entry) }
+        ensures turn { decided self.now result ≡ counts (answers_test (standing_at self.now at) id.entry) }
         ensures room { length result.lines.items ≤ 1 }
     {
         if at.phase.is_logged_out() {
-            let mut draft = nothing(at);
-            draft.count();
-            return draft;
+            let mut decision = nothing(at);
+            decision.count();
+            return decision;
         }
-        let mut draft = nothing(at);
-        draft.write(self, SessionBody::Heartbeat { id: Some(id) });
-        draft.count();
-        draft
+        let mut decision = nothing(at);
+        decision.write(self, SessionBody::Heartbeat { id: Some(id) });
+        decision.count();
+        decision
     }
 
     /// A gap fill in its turn, to the number that comes next behind it.
-    fn gap_fill<'a>(&self, at: Standing, number: u64, new_number: u64) -> Draft<'a>
+    fn gap_fill<'a>(&self, at: SessionState, number: u64, new_number: u64) -> Decision<'a>
         requires due { number ≡ at.expected }
         requires reference { new_number ≤ 999999999 }
-        ensures turn { drafted self.now result ≡ gap_fill_row (standing_at self.now at) number new_number }
+        ensures turn { decided self.now result ≡ gap_fill_row (standing_at self.now at) number new_number }
         ensures room { length result.lines.items ≤ 0 }
     {
         if number >= new_number {
@@ -222,44 +222,44 @@ impl Session {
         }
         let mut at = at;
         at.expected.fill_to(new_number);
-        Draft::new(at, Settling::Nothing)
+        Decision::new(at, Settling::Nothing)
     }
 
     /// A Reject or a BusinessReject in its turn, of the message under a number.
-    fn refused<'a>(&self, at: Standing, number: Option<u64>) -> Draft<'a>
+    fn refused<'a>(&self, at: SessionState, number: Option<u64>) -> Decision<'a>
         requires { at.expected ≤ MAX_MESSAGE_NUMBER }
-        ensures turn { drafted self.now result ≡ refused_row (standing_at self.now at) number }
+        ensures turn { decided self.now result ≡ refused_row (standing_at self.now at) number }
         ensures room { length result.lines.items ≤ 0 }
     {
-        let mut draft = Draft::new(at, Settling::Nothing);
+        let mut decision = Decision::new(at, Settling::Nothing);
         match self.leg_of(number) {
-            Some(id) => draft.give(Note::Refused(id)),
-            None => draft.count(),
+            Some(id) => decision.give(Note::Refused(id)),
+            None => decision.count(),
         }
-        draft
+        decision
     }
 
     /// A Logout.
-    fn logout<'a>(&self, at: Standing) -> Draft<'a>
-        ensures turn { drafted self.now result ≡ logout_row (standing_at self.now at) }
+    fn logout<'a>(&self, at: SessionState) -> Decision<'a>
+        ensures turn { decided self.now result ≡ logout_row (standing_at self.now at) }
         ensures room { length result.lines.items ≤ 1 }
     {
         if at.phase.is_logged_out() {
             return ending(at, Ended::LogoutDone);
         }
-        let mut draft = Draft::new(at, Settling::Nothing);
-        draft.write(self, SessionBody::Logout);
-        draft.end(Ended::PeerLogout);
-        draft
+        let mut decision = Decision::new(at, Settling::Nothing);
+        decision.write(self, SessionBody::Logout);
+        decision.end(Ended::PeerLogout);
+        decision
     }
 
     /// A message under the number that is expected, which is due, or ahead of it.
-    fn row<'a>(&self, at: Standing, due: bool, number: u64, content: Content<'a>) -> Draft<'a>
+    fn row<'a>(&self, at: SessionState, due: bool, number: u64, content: Content<'a>) -> Decision<'a>
         requires logon { at.logon_number ≤ 999999999 }
         requires low { due ≡ true → at.expected ≤ MAX_MESSAGE_NUMBER }
         requires due { due ≡ true → number ≡ at.expected }
         requires read { IsReadContent content }
-        ensures turn { drafted self.now result ≡ row due (standing_at self.now at) number content.entry }
+        ensures turn { decided self.now result ≡ row due (standing_at self.now at) number content.entry }
         ensures room { length result.lines.items ≤ 3 }
     {
         match content {
@@ -273,16 +273,16 @@ impl Session {
     /// A message of the session.
     fn session_row<'a>(
         &self,
-        at: Standing,
+        at: SessionState,
         due: bool,
         number: u64,
         says: SessionBody<'a>,
-    ) -> Draft<'a>
+    ) -> Decision<'a>
         requires logon { at.logon_number ≤ 999999999 }
         requires low { due ≡ true → at.expected ≤ MAX_MESSAGE_NUMBER }
         requires due { due ≡ true → number ≡ at.expected }
         requires read { IsReadContent (content.Session says) }
-        ensures turn { drafted self.now result ≡ row due (standing_at self.now at) number (content.Session says.entry) }
+        ensures turn { decided self.now result ≡ row due (standing_at self.now at) number (content.Session says.entry) }
         ensures room { length result.lines.items ≤ 3 }
     {
         match says {
@@ -290,9 +290,9 @@ impl Session {
             SessionBody::ResendRequest { begin, last } => self.resend(at, due, begin, last),
             SessionBody::Heartbeat { id } => {
                 let fence = self.fence_of(id);
-                let mut draft = self.fence_answered(at, fence);
-                draft.count_if(due);
-                draft
+                let mut decision = self.fence_answered(at, fence);
+                decision.count_if(due);
+                decision
             }
             SessionBody::Logout => self.logout(at),
             SessionBody::TestRequest { id } => { if due { self.test(at, id) } else { nothing(at) } }
@@ -310,9 +310,9 @@ impl Session {
     }
 
     /// A Reject or a BusinessReject, of the message under a number.
-    fn refused_if<'a>(&self, at: Standing, due: bool, number: Option<u64>) -> Draft<'a>
+    fn refused_if<'a>(&self, at: SessionState, due: bool, number: Option<u64>) -> Decision<'a>
         requires { due ≡ true → at.expected ≤ MAX_MESSAGE_NUMBER }
-        ensures turn { drafted self.now result
+        ensures turn { decided self.now result
             ≡ in_turn due (standing_at self.now at) (refused_row (standing_at self.now at) number) }
         ensures room { length result.lines.items ≤ 0 }
     {
@@ -324,10 +324,10 @@ impl Session {
     }
 
     /// A message, by how its number stands to the expected one.
-    fn by_number<'a>(&self, at: Standing, message: Message<'a>) -> Draft<'a>
+    fn by_number<'a>(&self, at: SessionState, message: Message<'a>) -> Decision<'a>
         requires logon { at.logon_number ≤ 999999999 }
         requires read { IsRead message }
-        ensures { drafted self.now result
+        ensures { decided self.now result
             ≡ by_number (standing_at self.now at) message.entry
             (judged at.expected message.entry.number message.entry.poss_dup) }
     {
@@ -335,9 +335,9 @@ impl Session {
         match at.expected.judge(number, message.poss_dup) {
             Judged::Due => self.row(at, true, number, message.content),
             Judged::Ahead => {
-                let mut draft = self.row(at, false, number, message.content);
-                draft.ask_missing(self);
-                draft
+                let mut decision = self.row(at, false, number, message.content);
+                decision.ask_missing(self);
+                decision
             }
             Judged::Repeat => nothing(at),
             Judged::TooLow => ending(at, Ended::TooLow),
@@ -345,10 +345,10 @@ impl Session {
     }
 
     /// A message, by the checks before its number's, in order.
-    fn checked<'a>(&self, at: Standing, message: Message<'a>) -> Draft<'a>
+    fn checked<'a>(&self, at: SessionState, message: Message<'a>) -> Decision<'a>
         requires logon { at.logon_number ≤ 999999999 }
         requires read { IsRead message }
-        ensures { drafted self.now result ≡ received (standing_at self.now at) message.entry }
+        ensures { decided self.now result ≡ received (standing_at self.now at) message.entry }
     {
         if !self.is_peer_of(&message) {
             return ending(at, Ended::WrongComp);
@@ -363,15 +363,15 @@ impl Session {
     }
 
     /// A message received. Whatever it is, a note that wasn't confirmed is given up.
-    pub(crate) fn on_message<'a>(&self, message: Message<'a>) -> Draft<'a>
+    pub(crate) fn on_message<'a>(&self, message: Message<'a>) -> Decision<'a>
         requires { IsRead message }
-        ensures { drafted self.now result ≡ receive self.now message.entry }
+        ensures { decided self.now result ≡ receive self.now message.entry }
     {
         let standing = self.standing();
         if !standing.is_connected() {
             return nothing(standing);
         }
-        let heard = Standing {
+        let heard = SessionState {
             pending: false,
             silent: false,
             ..standing
@@ -399,28 +399,28 @@ fn resets(content: &Content<'_>) -> bool
 }
 
 /// A message of which nothing but its number counts.
-fn counted_if<'a>(at: Standing, due: bool) -> Draft<'a>
+fn counted_if<'a>(at: SessionState, due: bool) -> Decision<'a>
     requires { due ≡ true → at.expected ≤ MAX_MESSAGE_NUMBER }
-    ensures turn { (s : SessionParts) → drafted s result
+    ensures turn { (s : SessionParts) → decided s result
         ≡ in_turn due (standing_at s at) (counts (quietly (standing_at s at))) }
     ensures room { length result.lines.items ≤ 0 }
 {
-    let mut draft = Draft::new(at, Settling::Nothing);
+    let mut decision = Decision::new(at, Settling::Nothing);
     if due {
-        draft.count();
+        decision.count();
     }
-    draft
+    decision
 }
 
 /// A report, or why it can't be read.
-fn reported_if<'a>(at: Standing, due: bool, read: Result<Report, DialectFault>) -> Draft<'a>
-    ensures turn { (s : SessionParts) → drafted s result
+fn reported_if<'a>(at: SessionState, due: bool, read: Result<Report, DialectFault>) -> Decision<'a>
+    ensures turn { (s : SessionParts) → decided s result
         ≡ in_turn due (standing_at s at) (notes (report_note read) (standing_at s at)) }
     ensures room { length result.lines.items ≤ 0 }
 {
-    let mut draft = Draft::new(at, Settling::Nothing);
+    let mut decision = Decision::new(at, Settling::Nothing);
     if due {
-        draft.give(note_of(read));
+        decision.give(note_of(read));
     }
-    draft
+    decision
 }

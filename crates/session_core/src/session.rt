@@ -1,14 +1,14 @@
 //! A session with an exchange.
 
-ghost use Rattle.std.specs.Prelude.{◌≡◌, ◌≤◌, ◌<◌, ◌+◌, true, IfOk, OnOk, OnErr, IsOkUnless};
+ghost use Rattle.std.specs.Prelude.{length, ◌≡◌, ◌≤◌, ◌<◌, ◌+◌, true, IfOk, OnOk, OnErr, IsOkUnless};
 
 use crate::commit::{keep, let_go, settle, spend};
-use crate::draft::Draft;
+use crate::decision::Decision;
 use crate::ended::Ended;
 use crate::fence::first_named;
 use crate::phase::Phase;
 use crate::session_fault::SessionFault;
-use crate::standing::Standing;
+use crate::session_state::SessionState;
 use crate::step::LegIds;
 use dialect::Message;
 use fix_tags::{Config, TextRef};
@@ -24,7 +24,7 @@ pub struct Session {
     log: OutLog,
     fences: Vec<u64>,
     connection: u64,
-    standing: Standing,
+    standing: SessionState,
 }
 
 impl Model for Session {
@@ -32,12 +32,12 @@ impl Model for Session {
 
     ghost Value = { SessionParts };
 
-    ghost use Rattle.session_core.specs.Kept.{seen, IsKept};
+    ghost use Rattle.session_core.specs.Kept.{viewed, IsKept};
 
-    ghost view = { λ s. seen s.config s.log.entries s.fences.items s.connection s.standing };
+    ghost view = { λ s. viewed s.config s.log.entries s.fences.items s.connection s.standing };
 
     ghost invariant = { λ s. IsKept s.log.max_number
-        (seen s.config s.log.entries s.fences.items s.connection s.standing) };
+        (viewed s.config s.log.entries s.fences.items s.connection s.standing) };
 }
 
 impl Session {
@@ -46,7 +46,7 @@ impl Session {
     ghost use Rattle.dialect.specs.Addressed.{is_for};
     ghost use Rattle.session_core.specs.Kept.{standing_at};
     ghost use Rattle.session_core.specs.Sound.{IsSound};
-    ghost use Rattle.session_core.specs.Draft.{drafted};
+    ghost use Rattle.session_core.specs.Decision.{decided};
     ghost use Rattle.resend.specs.Log.{last_number, last_ordinal, leg_at, fill_for, doubt_from};
     ghost use Rattle.session_core.specs.Receiving.{named_fence, confirm};
     ghost use Rattle.session_core.specs.Calling.{own_next, connecting, sending, broken, malformed, abandon};
@@ -61,7 +61,7 @@ impl Session {
             log: OutLog::new(alloc, max_number),
             fences: Vec::new(alloc),
             connection: 0,
-            standing: Standing {
+            standing: SessionState {
                 phase: Phase::Down,
                 settled: 0,
                 logon_number: 0,
@@ -169,7 +169,7 @@ impl Session {
         let _ = self.log.push_admin();
         self.fences.clear();
         self.connection += 1;
-        self.standing = Standing {
+        self.standing = SessionState {
             phase: Phase::LoggingOn,
             logon_number,
             closing_fence: None,
@@ -204,6 +204,7 @@ impl Session {
     pub(crate) fn legs_from(&self, number: u64) -> Result<LegIds, SessionFault>
         ensures ok { IfOk result (λ ids. ids ≡ doubt_from number self.now.log) }
         ensures refusal { IsOkUnless result SessionFault.OutOfMemory }
+        ensures some { OnErr result (0 < length (doubt_from number self.now.log)) }
     {
         match self.log.legs_from(number) {
             Ok(ids) => Ok(LegIds::new(ids)),
@@ -212,24 +213,25 @@ impl Session {
     }
 
     /// What was decided is put in place. A place for each fence is reserved first, and nothing else takes memory.
-    pub(crate) fn commit(&mut self, draft: &Draft<'_>) -> Result<(), SessionFault>
-        requires { IsSound (drafted self.old draft.now).session }
-        ensures ok { OnOk result (self.new ≡ (drafted self.old draft.now).session) }
+    pub(crate) fn commit(&mut self, decision: &Decision<'_>) -> Result<(), SessionFault>
+        requires { IsSound (decided self.old decision.now).session }
+        ensures ok { OnOk result (self.new ≡ (decided self.old decision.now).session) }
         ensures err { OnErr result (self.new ≡ self.old) }
         ensures refusal { IsOkUnless result SessionFault.OutOfMemory }
+        ensures some { OnErr result (0 < length decision.now.lines.items) }
     {
-        let lines = draft.lines.as_slice();
+        let lines = decision.lines.as_slice();
         self.fences.reserve(lines.len())?;
-        settle(&mut self.log, draft.settling);
+        settle(&mut self.log, decision.settling);
         spend(&mut self.log, lines);
-        let_go(&mut self.fences, draft.settling);
+        let_go(&mut self.fences, decision.settling);
         keep(&mut self.fences, lines);
-        self.standing = draft.standing;
+        self.standing = decision.standing;
         Ok(())
     }
 
     /// Where the session stands.
-    pub(crate) fn standing(&self) -> Standing
+    pub(crate) fn standing(&self) -> SessionState
         ensures at { standing_at self.now result ≡ self.now }
         ensures sound { IsSound self.now }
         ensures logon { result.logon_number ≤ 999999999 }

@@ -12,7 +12,7 @@ use dialect::Dialect;
 use fix_tags::{Config, Stamp};
 use std::alloc::Global;
 
-/// What a call answers, where it wasn't refused. Want of memory is no refusal here.
+/// What a call answers, where it wasn't refused. Out of memory is no refusal here.
 fn given<T: Drop>(answer: Result<T, SessionFault>) -> Result<Option<T>, SessionFault>
     ensures { result ≡ unless_refused answer }
 {
@@ -52,7 +52,7 @@ fn step_given(
 }
 
 impl Session {
-    /// Makes a call, and gives the step that it adds, if it adds one. A refused call adds none; want of memory is none
+    /// Makes a call, and gives the step that it adds, if it adds one. A refused call adds none; out of memory is none
     /// of its refusals, and is answered.
     fn make<D: Dialect>(
         &mut self,
@@ -96,7 +96,7 @@ impl Session {
 
 /// Makes the calls in their order on a new session, and gives the session after them and the steps. `connect` and
 /// `send_leg` add a step whose one frame is theirs, `confirm`, `malformed`, `broken` and `abandon` none; a refused call
-/// changes nothing and adds none. Only want of memory, S04, ends the run.
+/// changes nothing and adds none. Only out of memory, S04, ends the run.
 pub fn trial<D: Dialect>(
     alloc: Global,
     config: Config,

@@ -1,6 +1,6 @@
 //! What was decided is written as frames, and put in place.
 
-ghost use Rattle.std.specs.Prelude.{◌≡◌, false, Ok, IfOk, IsOkUnless, map};
+ghost use Rattle.std.specs.Prelude.{◌≡◌, ◌<◌, false, length, Ok, IfOk, IsOkUnless, OnErr, map};
 ghost use Rattle.dialect.specs.Addressed.{message_of};
 ghost use Rattle.dialect.specs.declared.content.Content.TheVariants as content;
 ghost use Rattle.dialect.specs.declared.content.Content.TheVariants.{Order};
@@ -10,10 +10,10 @@ ghost use Rattle.dialect.specs.Outgoing.{alone};
 ghost use Rattle.dialect.specs.Writable.{IsWritable};
 ghost use Rattle.session_core.specs.Calling.{answers};
 ghost use Rattle.session_core.specs.Sound.{IsSound, AreWritable};
-ghost use Rattle.session_core.specs.Draft.{message_in, withdrawn_by, drafted};
-ghost use Rattle.session_core.specs.Given.{IsStep, Gives};
+ghost use Rattle.session_core.specs.Decision.{message_in, withdrawn_by, decided};
+ghost use Rattle.session_core.specs.CallResult.{IsStep, Gives, TakesMemory};
 
-use crate::draft::{Draft, Settling};
+use crate::decision::{Decision, Settling};
 use crate::fence::fence_id_text;
 use crate::line::{Line, Says};
 use crate::session::Session;
@@ -127,6 +127,7 @@ fn frames<D: Dialect>(
     ensures ok { IfOk result (λ frames. AreFramed (D.wording dialect.now).encoding stamp.now
         (map alone (map (message_in config.now) lines.now)) (map (λ frame. frame.items) frames.items)) }
     ensures refusal { IsOkUnless result SessionFault.OutOfMemory }
+    ensures some { OnErr result (0 < length lines.now) }
 {
     let mut frames = Vec::with_capacity(alloc, lines.len())?;
     for line in lines {
@@ -141,6 +142,7 @@ impl Session {
     fn withdrawn(&self, settling: Settling) -> Result<LegIds, SessionFault>
         ensures ok { IfOk result (λ ids. ids ≡ withdrawn_by settling self.now.log) }
         ensures refusal { IsOkUnless result SessionFault.OutOfMemory }
+        ensures some { OnErr result (0 < length (withdrawn_by settling self.now.log)) }
     {
         match settling {
             Settling::Nothing => Ok(LegIds::new(Vec::new(self.alloc()))),
@@ -149,32 +151,34 @@ impl Session {
         }
     }
 
-    /// What was decided is written and put in place. Everything that takes memory comes first.
+    /// What was decided is written and put in place. All that takes memory comes first: the frames, the ids of legs that
+    /// are withdrawn, and a place for each fence.
     pub(crate) fn carry_out<D: Dialect>(
         &mut self,
         dialect: &D,
         stamp: &Stamp,
-        draft: Draft<'_>,
+        decision: Decision<'_>,
     ) -> Result<Step, SessionFault>
-        requires sound { IsSound self.old → IsSound (drafted self.old draft).session }
-        requires writable { IsSound self.old → AreWritable (drafted self.old draft).step.written }
-        ensures { Gives (IsStep (D.wording dialect.now).encoding stamp.now) self.old
-            (answers (drafted self.old draft.entry)) result self.new }
+        requires sound { IsSound self.old → IsSound (decided self.old decision).session }
+        requires writable { IsSound self.old → AreWritable (decided self.old decision).step.written }
+        ensures gives { Gives (IsStep (D.wording dialect.now).encoding stamp.now) self.old
+            (answers (decided self.old decision.entry)) result self.new }
+        ensures memory { OnErr result (TakesMemory (decided self.old decision.entry).step) }
     {
         let out = frames(
             self.alloc(),
             dialect,
             stamp,
             self.config(),
-            draft.lines.as_slice(),
+            decision.lines.as_slice(),
         )?;
-        let withdrawn = self.withdrawn(draft.settling)?;
-        self.commit(&draft)?;
+        let withdrawn = self.withdrawn(decision.settling)?;
+        self.commit(&decision)?;
         Ok(Step {
             out: Frames::new(out),
-            note: draft.note,
+            note: decision.note,
             withdrawn,
-            ended: draft.ended,
+            ended: decision.ended,
         })
     }
 }

@@ -27,7 +27,7 @@ use Rattle.session_core.specs.Session.{SessionParts, is_connected, is_logged_out
 use Rattle.session_core.specs.Turn.{StepParts, quietly, puts_fence, disconnected}
 use Rattle.session_core.specs.Calling.{SessionAnswer, refuses, answers, connect, connect_in, send_leg, close, close_in, closing_up, malformed, broken, abandon}
 use Rattle.session_core.specs.Trial.{Addition, added, added_message, called, after_calls}
-use Rattle.session_core.specs.Given.{IsStep, Gives}
+use Rattle.session_core.specs.CallResult.{IsStep, Gives}
 use Rattle.session_core.specs.Onward.{OrUnchanged, IsConnection, SendsLeg}
 use Rattle.session_core.proofs.Adding.{chosen}
 use Rattle.session_core.proofs.Called.{connect_keeps, send_leg_keeps}
@@ -415,7 +415,7 @@ refused_send Is s now leg why gives =
     refused Is (SendsLeg s leg.ordinal leg.leg) s now (send_leg s leg.ordinal leg.leg) why
     (send_leg_keeps s leg.ordinal leg.leg) gives
 
--- where it wasn't want of memory the state is that of the answer
+-- where it wasn't out of memory the state is that of the answer
 answered : {X Y : Type 0} (Is : X → Y → Type 0) (s now : SessionParts) (answer : SessionAnswer X) (why : SessionFault)
     → (why ≡ fault.OutOfMemory → ⊥) → Gives Is s answer (Err why) now → now ≡ answer.1
 answered Is s now (Ok said, after) why other gives = absurd (other gives.0)

@@ -17,7 +17,7 @@ use Rattle.session_core.specs.Turn.{StepParts}
 use Rattle.session_core.specs.Receiving.{confirm}
 use Rattle.session_core.specs.Calling.{broken, malformed}
 use Rattle.session_core.specs.Trial.{called, after_calls}
-use Rattle.session_core.specs.Given.{IsStep}
+use Rattle.session_core.specs.CallResult.{IsStep}
 use Rattle.release_lock.specs.Queues.{Took}
 use Rattle.exec_collector.specs.Seats.{Seat}
 use Rattle.session_worker.specs.declared.reading.Heard.{Heard}

@@ -68,7 +68,7 @@ impl<L: Run> Takings<L> {
         lock.raise(rt, &self.drain)
     }
 
-    /// The next leg, if the ring has one; there is room for it before it is popped. The only refusal is want of memory.
+    /// The next leg, if the ring has one; there is room for it before it is popped. The only refusal is out of memory.
     pub(crate) fn next(&mut self, rt: &impl Wait) -> Result<Option<PlacedLeg>, AllocError>
         ensures { MatchResult result (TakesNext self.old self.new) (λ _. self.new ≡ self.old) }
     {

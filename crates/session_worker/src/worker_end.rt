@@ -37,7 +37,7 @@ impl<K: Link, L: Run, M: Ledger> Model for WorkerEnd<K, L, M> {
 
 impl<K: Link, L: Run, M: Ledger> WorkerEnd<K, L, M> {
     /// The ordinals of the legs that it sent and that aren't settled, in order: the exchange may have them or not. The
-    /// only refusal is want of memory.
+    /// only refusal is out of memory.
     pub fn in_doubt(&self, alloc: Global) -> Result<Vec<u64>, AllocError>
         ensures { IfOk result (λ ordinals. ordinals.items
             ≡ in_doubt_of self.now.parts.session self.now.parts.took.taken) }

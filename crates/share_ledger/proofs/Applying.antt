@@ -30,7 +30,7 @@ told_kept ledger h = subst IsTold h.replays (told-replay (length ledger.resolved
 pub same_venue : (a b : ℕ) → not (nat_eq a b) ≡ false → a ≡ b
 same_venue a b e = eqb-true a b (not-false (nat_eq a b) e)
 
--- what is said where a call answers want of memory, of a call that may
+-- what is said where a call answers out of memory, of a call that may
 pub wants : (r : Result Applied BookFault) (P : Type 0) → P → OnErr r P
 wants (Ok x) P p = tt
 wants (Err fault) P p = p

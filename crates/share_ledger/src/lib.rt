@@ -3,7 +3,7 @@
 //! Promises:
 //! - `Book` takes each sweep as it is opened, each leg as it is withdrawn and each venue's notes, and says what
 //!   became of the shares. Each call is one equation with its definition over the whole history (`open_sweep`,
-//!   `apply`, `withdraw`, `totals`, `venue_resolved`), refusals in their order; want of memory changes nothing, and
+//!   `apply`, `withdraw`, `totals`, `venue_resolved`), refusals in their order; out of memory changes nothing, and
 //!   is answered by `open_sweep` only for a sweep that would be opened, and by `apply` only for a note that would
 //!   have moved. That it comes only where memory was refused is tried, and not proved: `Book::new` and `open_sweep`
 //!   make new lists.

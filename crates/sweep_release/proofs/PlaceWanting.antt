@@ -1,4 +1,4 @@
--- Where the desk has the room, want of memory comes from the book alone, for a sweep that would be placed.
+-- Where the desk has the room, out of memory comes from the book alone, for a sweep that would be placed.
 use Rattle.std.proofs.Common.{◌≡◌, ◌≢◌, ℕ, ◌+◌, ◌==◌, Bool, true, false, not, List, [], ◌∷◌, ◌++◌, length, Option, Some}
 use Rattle.std.proofs.Common.{None, Result, Ok, Err, refl, ap, sym, ◌∙◌, subst, if◌then◌else◌}
 use Rattle.std.specs.Prelude.{IsOk, nat_le, nat_lt}
@@ -20,7 +20,7 @@ use Rattle.sweep_release.specs.History.{DeskWithHistory, with_entries}
 use Rattle.sweep_release.specs.Place.{KeptDeskAndBook, place_kept, book_refusal}
 use Rattle.sweep_release.proofs.PlaceAnswered.{from_desk, from_book, opened, receipt_of, is_ready}
 
--- no refusal of a sweep is want of memory
+-- no refusal of a sweep is out of memory
 
 other_one : (b : Bool) (fault : ReleaseFault) (rest : Option ReleaseFault) → fault ≢ OutOfMemory
     → rest ≢ Some OutOfMemory → (if b then Some fault else rest) ≢ Some OutOfMemory

@@ -61,14 +61,14 @@ book_refusal Unfit = WrongBook
 book_refusal AlreadyMoved = WrongBook
 book_refusal fault.OutOfMemory = OutOfMemory
 
--- whether want of memory may be answered in place of this: where the sweep would be placed; and, as the desk is asked
+-- whether out of memory may be answered in place of this: where the sweep would be placed; and, as the desk is asked
 -- before the book, where the book would refuse it
 abbrev pub may_want : Result Receipt ReleaseFault → Bool
 may_want (Ok receipt) = true
 may_want (Err WrongBook) = true
 may_want (Err _) = false
 
--- this answer, and what is after it; or want of memory, and all as it was
+-- this answer, and what is after it; or out of memory, and all as it was
 abbrev pub PlaceAnswers : KeptDeskAndBook → Result Receipt ReleaseFault × KeptDeskAndBook
     → Result Receipt ReleaseFault → KeptDeskAndBook → Type 0
 PlaceAnswers before step answer now =

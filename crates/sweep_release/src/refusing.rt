@@ -9,7 +9,7 @@ use crate::{Desk, Gate, ReleaseFault};
 use leg::{MAX_SWEEP, Routed, VenueId};
 use share_ledger::{MAX_DAY_SHARES, MAX_LEGS, shares_of};
 
-/// The first refusal of a sweep, want of memory aside.
+/// The first refusal of a sweep, out of memory aside.
 pub fn refusal(desk: &Desk, legs: &[Routed]) -> Option<ReleaseFault>
     ensures value { result ≡ release_refusal desk.now.desk legs.now }
     ensures short { IfNone result (length legs.now ≤ 32) }

@@ -18,7 +18,7 @@ use Rattle.venue_line.specs.Line.{Line, noted, latest, after_turn, after_hearing
 use Rattle.venue_line.specs.Copies.{IsReportOrRefusal}
 use Rattle.venue_line.specs.LineInvariant.{LineInvariant}
 use Rattle.venue_line.specs.Notes.{note_under, notes_under}
-use Rattle.venue_line.specs.Given.{IsPlainSaid, IsUnder, Given}
+use Rattle.venue_line.specs.DeliveredReports.{IsPlainSaid, IsUnder, Given}
 use Rattle.venue_line.proofs.Kept.{numbered_contains}
 use Rattle.session_core.specs.Counting.{note_for, Quiet, Counted, stays, counted, passed, gives}
 use Rattle.session_core.proofs.Counted.{connected_counted}

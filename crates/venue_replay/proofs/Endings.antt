@@ -8,7 +8,7 @@ use Rattle.session_core.specs.declared.session_fault.SessionFault.{SessionFault}
 use Rattle.session_core.specs.declared.session_fault.SessionFault.TheVariants as fault
 use Rattle.session_core.specs.declared.step.Step.{Step}
 use Rattle.session_core.specs.Calling.{SessionAnswer}
-use Rattle.session_core.specs.Given.{Gives, IsStep}
+use Rattle.session_core.specs.CallResult.{Gives, IsStep}
 use Rattle.session_core.specs.Session.{SessionParts}
 use Rattle.session_core.specs.Turn.{StepParts}
 use Rattle.exchange_core.specs.declared.exchange_fault.ExchangeFault.{ExchangeFault}

@@ -237,7 +237,7 @@ delivered_kept w r agrees s x now to from new frame written kept is gives added 
     let parts = took w x now (take x frame.connection m) written gives in
     taken_kept w s x now to from new frame.connection m written.items kept (said_range w r agrees frame is) parts.0 parts.1 added
 
--- what it wrote is lost for want of memory, and so is its connection
+-- what it wrote is lost for lack of memory, and so is its connection
 pub dropped_kept : (w : Encoding) (r : Decoding) → Agrees w r → (s : SessionParts) (x now left : ExchangeParts)
     (to from new : List Frame) (frame : Frame) (written : Vec (Vec ℕ)) → IsKept w s x to from → IsWritten w frame
     → TakeGives w moment x (take x frame.connection (said_by r frame.bytes.items)) (Ok written) now
@@ -256,7 +256,7 @@ dropped_kept w r agrees s x now left to from new frame written kept is gives dro
       live = subst (λ (y : ExchangeParts). IfSome (live_connection y) (λ live. last_connection new ≡ Some live)) (sym dropped) tt;
     }
 
--- the message was not taken, for want of memory
+-- the message was not taken, for lack of memory
 pub untaken_kept : (w : Encoding) (s : SessionParts) (x now : ExchangeParts) (to from : List Frame) (a : Answer) (why : ExchangeFault)
     → IsKept w s x to from → TakeGives w moment x a (Err why) now
     → IsKept w s now to from

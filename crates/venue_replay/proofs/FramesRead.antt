@@ -24,7 +24,7 @@ pub reads : (w : Encoding) (r : Decoding) → Agrees w r → (out : Outgoing) (b
     → said_by r bytes ≡ out.message
 reads w r agrees out bytes can framed =
     let back = frame_back w r moment out bytes [] (stream_of bytes) agrees can framed (sym (append-nil bytes)) in
-    ap (λ (next : NextFrame). message_in r next.frame) back.next ∙ (ap (message_of r) back.is_read ∙ back.is_seen)
+    ap (λ (next : NextFrame). message_in r next.frame) back.next ∙ (ap (message_of r) back.is_read ∙ back.is_decoded)
 
 -- more frames are read as more messages
 pub said_more : (r : Decoding) (frames more : List Frame) → all_said r (frames ++ more) ≡ all_said r frames ++ all_said r more

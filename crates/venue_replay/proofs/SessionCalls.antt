@@ -16,7 +16,7 @@ use Rattle.session_core.specs.declared.step.Step.{Step}
 use Rattle.session_core.specs.Session.{SessionParts}
 use Rattle.session_core.specs.Turn.{StepParts}
 use Rattle.session_core.specs.Calling.{SessionAnswer}
-use Rattle.session_core.specs.Given.{IsStep, Gives}
+use Rattle.session_core.specs.CallResult.{IsStep, Gives}
 use Rattle.session_core.specs.Sound.{IsSound, AreWritable}
 use Rattle.schedule.specs.World.{VenueParts}
 use Rattle.schedule.specs.Happening.{in_connection}
@@ -159,7 +159,7 @@ message_said w r agrees venue to new at connection answer bytes now said then gi
     is ∙ ap (λ (n : ℕ). to ++ record { connection = n; bytes = bytes } ∷ []) here in
     sent_said w r agrees venue to new answer bytes now said wrote can added
 
--- the frames of a call's step are kept, or the frames stay, for want of memory
+-- the frames of a call's step are kept, or the frames stay, for lack of memory
 pub step_kept : {T E : Type 0} (w : Encoding) (s now : SessionParts) (x : ExchangeParts) (to new from : List Frame)
     (at : StampParts) (connection : ℕ) (answer : SessionAnswer StepParts) (step : Step) (written : List (Vec ℕ))
     (result : Result T E) → IsKept w s x to from → at ≡ moment
@@ -195,7 +195,7 @@ step_said w r agrees venue to new at connection answer step written now said the
     let added : new ≡ to ++ written_in now.connection written = is ∙ ap (λ (n : ℕ). to ++ written_in n written) here in
     called_said w r agrees venue to new answer step written now said wrote can all added
 
--- where that was not for want of memory
+-- where that was not for lack of memory
 pub step_said_if : {T E : Type 0} (w : Encoding) (r : Decoding) → Agrees w r → (venue : VenueParts) (to new : List Frame)
     (at : StampParts) (connection : ℕ) (answer : SessionAnswer StepParts) (step : Step) (written : List (Vec ℕ))
     (now : SessionParts) (result : Result T E) → venue.to_exchange ≡ all_said r to

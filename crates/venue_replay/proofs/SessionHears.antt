@@ -11,7 +11,7 @@ use Rattle.exchange_core.specs.Exchange.{ExchangeParts}
 use Rattle.session_core.specs.declared.session_fault.SessionFault.{SessionFault}
 use Rattle.session_core.specs.declared.step.Step.{Step}
 use Rattle.session_core.specs.Calling.{answers}
-use Rattle.session_core.specs.Given.{Gives, IsStep}
+use Rattle.session_core.specs.CallResult.{Gives, IsStep}
 use Rattle.session_core.specs.Receiving.{receive, confirm}
 use Rattle.session_core.specs.Session.{SessionParts, is_connected}
 use Rattle.session_core.specs.Sound as session
@@ -78,7 +78,7 @@ pub elsewhere : (connected : Bool) (n m : ℕ) → (n ≡ m → ⊥) → (connec
 elsewhere true n m other = grind (arith, nat_tests)
 elsewhere false n m other = refl
 
--- the frames of its step are kept, or the frames stay, for want of memory
+-- the frames of its step are kept, or the frames stay, for lack of memory
 pub heard_kept : {T E : Type 0} (w : Encoding) (r : Decoding) → Agrees w r → (s now : SessionParts) (x : ExchangeParts)
     (to new from : List Frame) (connection : ℕ) (frame : Frame) (step : Step) (written : List (Vec ℕ)) (result : Result T E)
     → IsKept w s x to from
@@ -113,7 +113,7 @@ heard_said w r agrees venue to from new number connection frame step written now
     turned.written all here added
     ∙ sym (ap (heard venue) (turn_is r venue from number frame said_from there current))
 
--- the session received nothing, for want of memory
+-- the session received nothing, for lack of memory
 pub unheard_sound : (w : Encoding) (r : Decoding) → Agrees w r → (s now : SessionParts) (frame : Frame)
     (result : Result Step SessionFault) → IsWritten w frame
     → Gives (IsStep w moment) s (answers (receive s (said_by r frame.bytes.items))) result now

@@ -7,7 +7,7 @@ use Rattle.session_core.specs.Receiving.{receive, confirm}
 use Rattle.venue_line.specs.Line.{noted}
 use Rattle.schedule.specs.World.{VenueParts, Frame}
 use Rattle.schedule.specs.Happening.{session_wrote}
-use Rattle.venue_replay.specs.declared.news.News.{News}
+use Rattle.venue_replay.specs.declared.inbound.Inbound.{Inbound}
 
 -- the session's turn, if the frame was written in its present connection
 abbrev pub turn_on : VenueParts → Option Frame → Option Turn
@@ -23,8 +23,8 @@ heard venue None = venue
 heard venue (Some turn) = session_wrote turn.session turn.step.written venue
 
 -- what the frame told: what the book is to be told, and why the connection ended
-abbrev pub news_of : Turn → News
-news_of turn = record { note = turn.step.note; withdrawn = turn.step.withdrawn; ended = turn.step.ended }
+abbrev pub inbound_of : Turn → Inbound
+inbound_of turn = record { note = turn.step.note; withdrawn = turn.step.withdrawn; ended = turn.step.ended }
 
 -- the venue whose book was told
 abbrev pub confirmed : VenueParts → Option Note → VenueParts

@@ -11,7 +11,7 @@ use Rattle.dialect.specs.declared.message.Message.{Message}
 use Rattle.dialect.specs.declared.outgoing.Outgoing.{Outgoing}
 use Rattle.dialect.specs.Framed.{IsFramed}
 use Rattle.dialect.specs.Wording.{Decoding, Encoding}
-use Rattle.dialect.specs.Message.{seen}
+use Rattle.dialect.specs.Message.{decoded}
 use Rattle.dialect.specs.Writable.{IsWritable}
 use Rattle.venue_replay.specs.declared.frame.Frame.{Frame}
 use Rattle.schedule.specs.World as world
@@ -25,7 +25,7 @@ abbrev pub nothing : Message
 nothing = record { from = []; to = []; number = 0; poss_dup = false; content = Other }
 
 abbrev pub message_of : Decoding → Result Envelope TagFault → Message
-message_of read (Ok envelope) = seen read envelope
+message_of read (Ok envelope) = decoded read envelope
 message_of read (Err fault) = nothing
 
 abbrev pub message_in : Decoding → Option (List Tagged) → Message

@@ -7,11 +7,11 @@ mod frame;
 mod keep;
 mod moment;
 mod network;
-mod news;
+mod inbound;
 mod sending;
 mod venue;
 
 pub use frame::Frame;
-pub use news::News;
+pub use inbound::Inbound;
 pub use sending::Sending;
 pub use venue::Venue;

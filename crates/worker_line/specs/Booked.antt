@@ -1,7 +1,7 @@
 -- Which notes a session's calls say were booked.
 use Rattle.std.specs.Prelude.{List, [], ◌∷◌, ◌++◌, Option, if◌then◌else◌}
 use Rattle.dialect.specs.declared.note.Note.{Note}
-use Rattle.dialect.specs.Message.{seen}
+use Rattle.dialect.specs.Message.{decoded}
 use Rattle.dialect.specs.Wording.{Decoding}
 use Rattle.session_core.specs.declared.session_call.SessionCall.{SessionCall}
 use Rattle.session_core.specs.declared.session_call.SessionCall.TheVariants as call
@@ -14,7 +14,7 @@ use Rattle.venue_line.specs.Line.{noted, latest}
 abbrev pub booked_by : Decoding → SessionParts → Option Note → List SessionCall → List Note
 booked_by read s waiting [] = []
 booked_by read s waiting (call.Receive envelope ∷ calls) =
-    let turn = receive s (seen read envelope) in
+    let turn = receive s (decoded read envelope) in
     booked_by read turn.session (latest waiting turn.step.note) calls
 booked_by read s waiting (call.Confirm ∷ calls) =
     (if s.current.pending then noted waiting else []) ++ booked_by read (confirm s) waiting calls

@@ -4,7 +4,7 @@ use Rattle.std.specs.Prelude.{◌+◌, List, [], ◌∷◌, ◌++◌, length, dr
 use Rattle.std.specs.List.{Contains}
 use mathlib.Core.List.{IsPrefix}
 use Rattle.leg.specs.declared.leg.Leg.{Leg}
-use Rattle.dialect.specs.Message.{seen}
+use Rattle.dialect.specs.Message.{decoded}
 use Rattle.dialect.specs.Wording.{Decoding}
 use Rattle.session_core.specs.declared.session_call.SessionCall.{SessionCall}
 use Rattle.session_core.specs.declared.session_call.SessionCall.TheVariants as call
@@ -42,7 +42,7 @@ after_addition a said = record a {
 
 -- the line after a call: the note of a message that is received waits for its Confirm
 abbrev pub after_called : Decoding → Line → SessionCall → Line
-after_called read a (call.Receive envelope) = after_hearing a (receive a.session (seen read envelope))
+after_called read a (call.Receive envelope) = after_hearing a (receive a.session (decoded read envelope))
 after_called read a call.Confirm = after_booking a
 after_called read a made = after_addition a (called read a.session made)
 
@@ -72,7 +72,7 @@ moments_of read a (event ∷ events) = a ∷ moments_of read (after_event read a
 -- a message that the worker receives is one that the exchange wrote in the present connection
 abbrev pub MayHear : Decoding → Line → WorkerEvent → Type 0
 MayHear read a (Calls (call.Receive envelope)) =
-    Contains a.from_exchange (carried a.session.connection (seen read envelope))
+    Contains a.from_exchange (carried a.session.connection (decoded read envelope))
 MayHear read a _ = Unit {0}
 
 -- and the exchange keeps the rules, at a message that was written to it if it has one

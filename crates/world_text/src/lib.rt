@@ -5,7 +5,7 @@
 //!   each venue, and then one for each sweep.
 //! - `print_summary` gives exactly its sums, `summed` in `specs/Summary.antt`: how many legs each venue has of each
 //!   kind, and what became of the shares of all sweeps.
-//! - The only refusal is want of memory. Not said: that memory is wanted only where a growth was refused.
+//! - The only refusal is out of memory. Not said: that memory is wanted only where a growth was refused.
 #![tactic(auto)]
 
 mod leg_list;

@@ -12,7 +12,7 @@ use std::alloc::{AllocError, Global};
 use sweep_release::DeskEntry;
 
 /// The text of a world: for each venue a line of its accepted, withdrawn and doubtful legs, its phase and whether its
-/// exchange took the session's Logout; and for each sweep a line of its shares. The only refusal is want of memory.
+/// exchange took the session's Logout; and for each sweep a line of its shares. The only refusal is out of memory.
 pub fn print_world<D: Dialect + Drop>(
     alloc: Global,
     world: &World<D>,

@@ -15,7 +15,7 @@ use std::alloc::{AllocError, Global};
 
 /// The sums of a world: for each venue a line with how many legs its exchange accepted, and how many were withdrawn and
 /// are in doubt, its phase and whether its exchange took the session's Logout; and a line with what became of the
-/// shares of all sweeps. The only refusal is want of memory.
+/// shares of all sweeps. The only refusal is out of memory.
 pub fn print_summary<D: Dialect + Drop>(
     alloc: Global,
     world: &World<D>,

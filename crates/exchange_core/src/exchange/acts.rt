@@ -3,20 +3,20 @@
 ghost use Rattle.std.specs.Prelude.{◌≡◌, [], ◌∷◌, false, IfOk, OnErr, OnOk, All, option_to_list};
 ghost use Rattle.dialect.specs.Framed.{AreFramed};
 ghost use Rattle.dialect.specs.Writable.{IsWritable};
-ghost use Rattle.exchange_core.specs.declared.own.Own.TheVariants.{Reported};
-ghost use Rattle.exchange_core.specs.Own.{next_own_number, execution_report};
+ghost use Rattle.exchange_core.specs.declared.sent_record.SentRecord.TheVariants.{Reported};
+ghost use Rattle.exchange_core.specs.SentRecord.{next_own_number, execution_report};
 ghost use Rattle.exchange_core.specs.Acts.{while_live, answered, trade, cancel_rest, reject, bust, test};
 ghost use Rattle.exchange_core.specs.Frames.{ActGives, bytes_of, no_dialect};
 ghost use Rattle.exchange_core.specs.Keeping.{IsAct};
-ghost use Rattle.exchange_core.specs.Plan.{plan_answer, IsFor, IsFit, after_step};
+ghost use Rattle.exchange_core.specs.OrderDecision.{order_answer, IsFor, IsFit, after_step};
 ghost use Rattle.exchange_core.specs.Sound.{IsSound};
 
 use super::Exchange;
 use crate::ExchangeFault;
 use crate::ending::Ending;
 use crate::numbered_id::{id_of_order, id_of_report, id_of_test};
-use crate::own::Own;
-use crate::plan::{OrderStep, Plan};
+use crate::sent_record::SentRecord;
+use crate::order_decision::{OrderStep, OrderDecision};
 use crate::to_peer::{report_to_peer, to_peer};
 use dialect::{Content, Dialect, LastPx, OrderView, Plain, Report, ReportKind, write_message};
 use fix_tags::{SessionBody, Stamp, TextRef};
@@ -40,8 +40,8 @@ impl Exchange {
             self.old (trade self.old place shares px) result self.new }
         ensures allowed { IsAct self.old (trade self.old place shares px) }
     {
-        let plan = self.plan_of_trade(place, shares, px)?;
-        self.report(alloc, dialect, place, plan, stamp)
+        let decision = self.decide_trade(place, shares, px)?;
+        self.report(alloc, dialect, place, decision, stamp)
     }
 
     /// Cancels what is open of the order at a place, counted from 1. X01, X03, X05, X04.
@@ -57,8 +57,8 @@ impl Exchange {
             self.old (cancel_rest self.old place) result self.new }
         ensures allowed { IsAct self.old (cancel_rest self.old place) }
     {
-        let plan = self.plan_of_end(place, Ending::ByCancel, ReportKind::Canceled)?;
-        self.report(alloc, dialect, place, plan, stamp)
+        let decision = self.decide_end(place, Ending::ByCancel, ReportKind::Canceled)?;
+        self.report(alloc, dialect, place, decision, stamp)
     }
 
     /// Rejects the order at a place, counted from 1: nothing of it is open any more. X01, X03, X05, X04.
@@ -74,8 +74,8 @@ impl Exchange {
             self.old (reject self.old place) result self.new }
         ensures allowed { IsAct self.old (reject self.old place) }
     {
-        let plan = self.plan_of_end(place, Ending::ByReject, ReportKind::Rejected)?;
-        self.report(alloc, dialect, place, plan, stamp)
+        let decision = self.decide_end(place, Ending::ByReject, ReportKind::Rejected)?;
+        self.report(alloc, dialect, place, decision, stamp)
     }
 
     /// Undoes a trade of the order at a place, after the rest of the order was cancelled. Both places are counted from
@@ -93,8 +93,8 @@ impl Exchange {
             self.old (bust self.old place which) result self.new }
         ensures allowed { IsAct self.old (bust self.old place which) }
     {
-        let plan = self.plan_of_bust(place, which)?;
-        self.report(alloc, dialect, place, plan, stamp)
+        let decision = self.decide_bust(place, which)?;
+        self.report(alloc, dialect, place, decision, stamp)
     }
 
     /// Asks the peer for a sign of life, while a connection is live, and gives the frame of the TestRequest. X05, X04.
@@ -118,26 +118,26 @@ impl Exchange {
         // Every dialect spells it the same.
         let outgoing = to_peer(&self.config, number, false, content);
         let frame = write_message(alloc, &Plain, stamp, &outgoing)?;
-        self.own.push(Own::Admin)?;
+        self.own.push(SentRecord::Admin)?;
         Ok(Some(frame))
     }
 
-    /// Reports what a plan says of the order at a place, and takes its step. The report is kept whether or not it is
+    /// Reports what a decision says of the order at a place, and takes its step. The report is kept whether or not it is
     /// written.
     fn report<D: Dialect>(
         &mut self,
         alloc: Global,
         dialect: &D,
         place: usize,
-        plan: Plan,
+        decision: OrderDecision,
         stamp: &Stamp,
     ) -> Result<Option<Vec<u8>>, ExchangeFault>
-        requires there { IsFor self.old place plan.step }
-        requires fit { IfOk (plan_answer self.old place plan) IsFit }
+        requires there { IsFor self.old place decision.step }
+        requires fit { IfOk (order_answer self.old place decision) IsFit }
         ensures { ActGives (D.wording dialect.now).encoding stamp.now
-            self.old (answered self.old (plan_answer self.old place plan)) result self.new }
+            self.old (answered self.old (order_answer self.old place decision)) result self.new }
     {
-        let Plan { split, step, kind } = plan;
+        let OrderDecision { split, step, kind } = decision;
         let leg = self.orders[place - 1].leg();
         let report = Report {
             id: leg.id,
@@ -178,7 +178,7 @@ impl Exchange {
     }
 
     /// Takes the step of the order at a place, with these shares afterwards, and keeps the report on it under the next
-    /// own number. Want of memory leaves the exchange as it was.
+    /// own number. Out of memory leaves the exchange as it was.
     fn keep_report(
         &mut self,
         place: usize,
@@ -196,7 +196,7 @@ impl Exchange {
         self.reports.reserve(1)?;
         self.orders[place - 1].step(split, step)?;
         self.reports.push_reserved(report.clone().unwrap());
-        self.own.push_reserved(Own::Reported { report, view });
+        self.own.push_reserved(SentRecord::Reported { report, view });
         Ok(())
     }
 }

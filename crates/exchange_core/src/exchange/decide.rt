@@ -5,13 +5,13 @@ ghost use Rattle.dialect.specs.Addressed.{is_for};
 ghost use Rattle.dialect.specs.declared.content.Content.TheVariants.{Session};
 ghost use Rattle.fix_tags.specs.declared.session_body.SessionBody.TheVariants.{Logon};
 ghost use Rattle.exchange_core.specs.Exchange.{ExchangeParts, passed_by, logon_taken, due_taken, has_asked, by_number, resends, heard, take};
-ghost use Rattle.exchange_core.specs.declared.turn.Deed.TheVariants.{Nothing, Turn as Turned};
+ghost use Rattle.exchange_core.specs.declared.turn.Action.TheVariants.{Nothing, Turn as Turned};
 ghost use Rattle.exchange_core.specs.Sound.{IsSound};
-ghost use Rattle.exchange_core.specs.Turn.{turn_answer, deed_answer, asked_answer, decided};
+ghost use Rattle.exchange_core.specs.Turn.{turn_answer, action_answer, asked_answer, decided};
 
 use super::Exchange;
 use crate::live_connection::LiveConnection;
-use crate::turn::{Asked, Decision, Deed, Says, Turn};
+use crate::turn::{Asked, Decision, Action, Says, Turn};
 use dialect::{Content, Message};
 use fix_tags::SessionBody;
 
@@ -58,7 +58,7 @@ impl Exchange {
         }
         Decision {
             asked: None,
-            deed: Deed::Turn(self.logon_turn(connection, number, heart, next)),
+            action: Action::Turn(self.logon_turn(connection, number, heart, next)),
         }
     }
 
@@ -137,7 +137,7 @@ impl Exchange {
                 if live.connection == connection {
                     Decision {
                         asked: asked_by(&content),
-                        deed: self.deed_by_number(live, number, content),
+                        action: self.action_by_number(live, number, content),
                     }
                 } else {
                     ignored()
@@ -148,25 +148,25 @@ impl Exchange {
 
     /// A message by its number: what is missing is asked for once in a connection for an expected number, and one below
     /// the expected number is not looked at.
-    fn deed_by_number<'a>(
+    fn action_by_number<'a>(
         &self,
         live: LiveConnection,
         number: u64,
         content: Content<'a>,
-    ) -> Deed<'a>
-        ensures { by_number self.now live number content.entry ≡ deed_answer self.now result }
+    ) -> Action<'a>
+        ensures { by_number self.now live number content.entry ≡ action_answer self.now result }
     {
         if number == self.expected {
-            return self.deed_when_due(content);
+            return self.action_when_due(content);
         }
         if number < self.expected || was_asked(live, self.expected) {
-            return Deed::Nothing;
+            return Action::Nothing;
         }
         let request = Content::Session(SessionBody::ResendRequest {
             begin: self.expected,
             last: 0,
         });
-        Deed::Turn(Turn {
+        Action::Turn(Turn {
             expected: self.expected,
             live: Some(LiveConnection {
                 connection: live.connection,
@@ -179,12 +179,12 @@ impl Exchange {
     }
 
     /// The message of the expected number.
-    fn deed_when_due<'a>(&self, content: Content<'a>) -> Deed<'a>
-        ensures { due_taken self.now content.entry ≡ deed_answer self.now result }
+    fn action_when_due<'a>(&self, content: Content<'a>) -> Action<'a>
+        ensures { due_taken self.now content.entry ≡ action_answer self.now result }
     {
         let next = self.expected + 1;
         match content {
-            Content::Order(Ok(leg)) => Deed::Accept(leg),
+            Content::Order(Ok(leg)) => Action::Accept(leg),
             Content::Order(Err(_)) => {
                 let number = self.expected;
                 self.expects(next, says(SessionBody::Reject { number }))
@@ -192,7 +192,7 @@ impl Exchange {
             Content::Session(SessionBody::GapFill { new_number }) => {
                 self.expects(self.expected.max(new_number), Says::Nothing)
             }
-            Content::Session(SessionBody::Logout) => Deed::Turn(Turn {
+            Content::Session(SessionBody::Logout) => Action::Turn(Turn {
                 expected: next,
                 live: None,
                 last: self.last,
@@ -207,7 +207,7 @@ impl Exchange {
     }
 
     /// Another number is expected, and the connection stays.
-    fn expects<'a>(&self, expected: u64, says: Says<'a>) -> Deed<'a>
+    fn expects<'a>(&self, expected: u64, says: Says<'a>) -> Action<'a>
         ensures { result ≡ Turned (record {
           expected = expected;
           live = self.now.live;
@@ -216,7 +216,7 @@ impl Exchange {
           says = says.entry;
         }) }
     {
-        Deed::Turn(Turn {
+        Action::Turn(Turn {
             expected,
             live: self.live,
             last: self.last,
@@ -235,11 +235,11 @@ fn says<'a>(body: SessionBody<'a>) -> Says<'a>
 
 /// Nothing is done.
 fn ignored<'a>() -> Decision<'a>
-    ensures { result ≡ record { asked = None; deed = Nothing } }
+    ensures { result ≡ record { asked = None; action = Nothing } }
 {
     Decision {
         asked: None,
-        deed: Deed::Nothing,
+        action: Action::Nothing,
     }
 }
 

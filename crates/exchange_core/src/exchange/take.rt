@@ -2,25 +2,25 @@
 
 ghost use Rattle.std.specs.Prelude.{◌≡◌, List, OnOk, OnErr, All};
 ghost use Rattle.fix_tags.specs.Range.{range_end, is_range};
-ghost use Rattle.dialect.specs.Message.{seen};
+ghost use Rattle.dialect.specs.Message.{decoded};
 ghost use Rattle.dialect.specs.Writable.{IsWritable};
 ghost use Rattle.exchange_core.specs.Exchange.{order_taken, take};
 ghost use Rattle.exchange_core.specs.Frames.{TakeGives, Writes};
 ghost use Rattle.exchange_core.specs.Keeping.{IsAnswer};
 ghost use Rattle.exchange_core.specs.Sound.{IsSound};
-ghost use Rattle.exchange_core.specs.Turn.{turn_answer, turn_written, turn_own, used_own, used_for, asked_answer, deed_answer};
-ghost use Rattle.exchange_core.specs.declared.own.Own.{Own as OwnUse};
+ghost use Rattle.exchange_core.specs.Turn.{turn_answer, turn_written, turn_own, used_own, used_for, asked_answer, action_answer};
+ghost use Rattle.exchange_core.specs.declared.sent_record.SentRecord.{SentRecord as OwnUse};
 
 use super::Exchange;
 use crate::ExchangeFault;
 use crate::numbered_id::id_of_report;
 use crate::order::Order;
-use crate::own::Own;
+use crate::sent_record::SentRecord;
 use crate::resend::resend;
 use crate::to_peer::{report_to_peer, to_peer};
-use crate::turn::{Asked, Deed, Says, Turn, Used};
+use crate::turn::{Asked, Action, Says, Turn, Used};
 use crate::write::write;
-use dialect::{Content, Dialect, Report, ReportKind, see};
+use dialect::{Content, Dialect, Report, ReportKind, decode};
 use fix_tags::{EnvelopeRef, SessionBody, Stamp};
 use leg::Leg;
 use std::alloc::{AllocError, Global};
@@ -38,15 +38,15 @@ impl Exchange {
         stamp: &Stamp,
     ) -> Result<Vec<Vec<u8>>, ExchangeFault>
         ensures gives { TakeGives (D.wording dialect.now).encoding stamp.now self.old
-            (take self.old connection (seen (D.wording dialect.now).decoding envelope.now)) result self.new }
-        ensures allowed { IsAnswer self.old connection (seen (D.wording dialect.now).decoding envelope.now)
-            (take self.old connection (seen (D.wording dialect.now).decoding envelope.now)) }
+            (take self.old connection (decoded (D.wording dialect.now).decoding envelope.now)) result self.new }
+        ensures allowed { IsAnswer self.old connection (decoded (D.wording dialect.now).decoding envelope.now)
+            (take self.old connection (decoded (D.wording dialect.now).decoding envelope.now)) }
     {
-        let message = see(dialect, envelope);
+        let message = decode(dialect, envelope);
         let decision = self.decide(connection, message);
         let mut frames = Vec::new(alloc);
         self.send_again(alloc, dialect, decision.asked, stamp, &mut frames)?;
-        self.carry_out(alloc, dialect, decision.deed, stamp, &mut frames)?;
+        self.carry_out(alloc, dialect, decision.action, stamp, &mut frames)?;
         Ok(frames)
     }
 
@@ -91,21 +91,21 @@ impl Exchange {
         &mut self,
         alloc: Global,
         dialect: &D,
-        deed: Deed<'_>,
+        action: Action<'_>,
         stamp: &Stamp,
         frames: &mut Vec<Vec<u8>>,
     ) -> Result<(), AllocError>
-        requires writable { All IsWritable (deed_answer self.old deed).0 }
-        requires sound { IsSound (deed_answer self.old deed).1 }
+        requires writable { All IsWritable (action_answer self.old action).0 }
+        requires sound { IsSound (action_answer self.old action).1 }
         ensures written { OnOk result (Writes (D.wording dialect.now).encoding stamp.now
-            (deed_answer self.old deed.entry).0 frames.old.items frames.new.items) }
-        ensures ok { OnOk result (self.new ≡ (deed_answer self.old deed.entry).1) }
+            (action_answer self.old action.entry).0 frames.old.items frames.new.items) }
+        ensures ok { OnOk result (self.new ≡ (action_answer self.old action.entry).1) }
         ensures err { OnErr result (self.new ≡ self.old) }
     {
-        match deed {
-            Deed::Nothing => Ok(()),
-            Deed::Accept(leg) => self.accept(alloc, dialect, leg, stamp, frames),
-            Deed::Turn(turn) => self.turn(alloc, dialect, turn, stamp, frames),
+        match action {
+            Action::Nothing => Ok(()),
+            Action::Accept(leg) => self.accept(alloc, dialect, leg, stamp, frames),
+            Action::Turn(turn) => self.turn(alloc, dialect, turn, stamp, frames),
         }
     }
 
@@ -143,7 +143,7 @@ impl Exchange {
         self.accepted.push_reserved(order.leg());
         self.orders.push_reserved(order);
         self.reports.push_reserved(report.clone().unwrap());
-        self.own.push_reserved(Own::Reported { report, view });
+        self.own.push_reserved(SentRecord::Reported { report, view });
         Ok(())
     }
 
@@ -229,17 +229,17 @@ fn used_by(says: &Says<'_>) -> Used
 
 /// What an own number is used for, by what is said under it.
 #[tactic(auto, using(crate::proofs::Deciding::used_admin))]
-fn use_of(content: &Content<'_>) -> Own
+fn use_of(content: &Content<'_>) -> SentRecord
     ensures { result ≡ used_for content.now }
 {
     match content {
-        Content::Session(SessionBody::Reject { number }) => Own::Refused { number: *number },
-        _ => Own::Admin,
+        Content::Session(SessionBody::Reject { number }) => SentRecord::Refused { number: *number },
+        _ => SentRecord::Admin,
     }
 }
 
-/// Uses the next own numbers. Want of memory leaves them as they were.
-fn use_numbers(own: &mut Vec<Own>, used: Used) -> Result<(), AllocError>
+/// Uses the next own numbers. Out of memory leaves them as they were.
+fn use_numbers(own: &mut Vec<SentRecord>, used: Used) -> Result<(), AllocError>
     ensures ok { OnOk result (own.new.items ≡ used_own own.old.items used) }
     ensures err { OnErr result (own.new.items ≡ own.old.items) }
 {
@@ -248,8 +248,8 @@ fn use_numbers(own: &mut Vec<Own>, used: Used) -> Result<(), AllocError>
         Used::Nothing => {}
         Used::One(entry) => own.push_reserved(entry),
         Used::Two => {
-            own.push_reserved(Own::Admin);
-            own.push_reserved(Own::Admin);
+            own.push_reserved(SentRecord::Admin);
+            own.push_reserved(SentRecord::Admin);
         }
     }
     Ok(())

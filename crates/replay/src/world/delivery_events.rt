@@ -6,7 +6,7 @@ ghost use Rattle.schedule.specs.Happening.{happens};
 ghost use Rattle.replay.specs.Telling.{told};
 
 use super::World;
-use crate::Told;
+use crate::EventOutcome;
 use crate::telling::tell;
 use dialect::Dialect;
 use leg::VenueId;
@@ -32,21 +32,21 @@ impl<D: Dialect + Drop> World<D> {
         &mut self,
         venue: VenueId,
         frame: FrameNumber,
-    ) -> Result<Told, AllocError>
+    ) -> Result<EventOutcome, AllocError>
         requires { venue < length self.old.venues }
         ensures world { OnOk result (self.new ≡ happens self.old (event.ToDispatcher venue frame)) }
         ensures told { IfOk result (λ answer. answer ≡ told self.old (event.ToDispatcher venue frame)) }
     {
         let at = usize::from(venue.number());
-        let Some(news) = self.venues[at].hear(frame)? else {
-            return Ok(Told::NOTHING);
+        let Some(inbound) = self.venues[at].hear(frame)? else {
+            return Ok(EventOutcome::NOTHING);
         };
-        let answer = tell(&mut self.book, venue, news.withdrawn, &news.note)?;
-        self.venues[at].confirm(news.note)?;
-        Ok(Told {
+        let answer = tell(&mut self.book, venue, inbound.withdrawn, &inbound.note)?;
+        self.venues[at].confirm(inbound.note)?;
+        Ok(EventOutcome {
             answer,
-            ended: news.ended,
-            ..Told::NOTHING
+            ended: inbound.ended,
+            ..EventOutcome::NOTHING
         })
     }
 }

@@ -6,7 +6,7 @@ ghost use Rattle.schedule.specs.Happening.{happens};
 ghost use Rattle.replay.specs.Telling.{told};
 
 use super::World;
-use crate::Told;
+use crate::EventOutcome;
 use dialect::Dialect;
 use leg::{Sweep, VenueId};
 use std::alloc::AllocError;
@@ -14,29 +14,29 @@ use sweep_release::{GateFault, ReleaseFault, place};
 
 impl<D: Dialect + Drop> World<D> {
     /// A sweep is released at the desk and opened in the book, or neither.
-    pub(crate) fn release(&mut self, sweep: Sweep) -> Result<Told, AllocError>
+    pub(crate) fn release(&mut self, sweep: Sweep) -> Result<EventOutcome, AllocError>
         ensures world { OnOk result (self.new ≡ happens self.old (event.Release sweep)) }
         ensures told { IfOk result (λ answer. answer ≡ told self.old (event.Release sweep)) }
     {
         let placed = place(&mut self.desk, &mut self.book, sweep);
         match placed {
             Err(ReleaseFault::OutOfMemory) => Err(AllocError),
-            _ => Ok(Told::by_release(placed)),
+            _ => Ok(EventOutcome::by_release(placed)),
         }
     }
 
     /// The gate of a venue whose session is up goes up, if it may.
-    pub(crate) fn gate_up(&mut self, venue: VenueId) -> Result<Told, AllocError>
+    pub(crate) fn gate_up(&mut self, venue: VenueId) -> Result<EventOutcome, AllocError>
         requires { venue < length self.old.venues }
         ensures world { OnOk result (self.new ≡ happens self.old (event.GateUp venue)) }
         ensures told { IfOk result (λ answer. answer ≡ told self.old (event.GateUp venue)) }
     {
         if !self.at(venue).is_up() {
-            return Ok(Told::NOTHING);
+            return Ok(EventOutcome::NOTHING);
         }
         match self.desk.gate_up(venue) {
             Err(GateFault::OutOfMemory) => Err(AllocError),
-            put => Ok(Told::by_gate(put)),
+            put => Ok(EventOutcome::by_gate(put)),
         }
     }
 

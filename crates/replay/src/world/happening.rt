@@ -6,7 +6,7 @@ ghost use Rattle.schedule.specs.Happening.{happens};
 ghost use Rattle.replay.specs.Telling.{told};
 
 use super::World;
-use crate::Told;
+use crate::EventOutcome;
 use dialect::Dialect;
 use leg::VenueId;
 use schedule::Event;
@@ -44,22 +44,22 @@ impl<D: Dialect + Drop> World<D> {
     }
 
     /// An event happens: what it told, besides the world after it. At a venue that isn't there it does nothing. The
-    /// only refusal is want of memory, and the world is then of no use: a part of the event may have happened.
+    /// only refusal is out of memory, and the world is then of no use: a part of the event may have happened.
     #[tactic(auto, using(crate::proofs::Nowhere::nowhere, crate::proofs::Nowhere::nothing_is_told))]
-    pub fn happen(&mut self, event: Event) -> Result<Told, AllocError>
+    pub fn happen(&mut self, event: Event) -> Result<EventOutcome, AllocError>
         ensures world { OnOk result (self.new ≡ happens self.old event) }
         ensures told { IfOk result (λ answer. answer ≡ told self.old event) }
     {
         if let Some(venue) = venue_of(&event) {
             if !self.has(venue) {
-                return Ok(Told::NOTHING);
+                return Ok(EventOutcome::NOTHING);
             }
         }
         self.happen_here(event)
     }
 
     /// What an event does at no venue, or at one that is there.
-    fn happen_here(&mut self, event: Event) -> Result<Told, AllocError>
+    fn happen_here(&mut self, event: Event) -> Result<EventOutcome, AllocError>
         requires { IfSome (named event) (λ venue. venue < length self.old.venues) }
         ensures world { OnOk result (self.new ≡ happens self.old event) }
         ensures told { IfOk result (λ answer. answer ≡ told self.old event) }
@@ -83,6 +83,6 @@ impl<D: Dialect + Drop> World<D> {
             Event::Close(venue) => return self.close(venue),
             Event::Abandon(venue) => self.abandon(venue),
         }
-        Ok(Told::NOTHING)
+        Ok(EventOutcome::NOTHING)
     }
 }

@@ -34,7 +34,7 @@ fn new_venues<D: Dialect + Drop>(
 impl<D: Dialect + Drop> World<D> {
     /// A new world of a venue for each dialect, 1 to 16, and for each whether its session's Logons say which number it
     /// expects next (789). `max_number`, which no message of a session has, is 16 to 999,999,999. The only refusal is
-    /// want of memory.
+    /// out of memory.
     pub fn new(
         alloc: Global,
         dialects: Vec<D>,

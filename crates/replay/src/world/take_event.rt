@@ -7,7 +7,7 @@ ghost use Rattle.replay.specs.Telling.{told};
 ghost use Rattle.venue_replay.specs.Taking.{leg_to_send};
 
 use super::World;
-use crate::Told;
+use crate::EventOutcome;
 use dialect::Dialect;
 use leg::{PlacedLeg, VenueId};
 use session_core::SessionFault;
@@ -18,28 +18,28 @@ use venue_replay::Sending;
 impl<D: Dialect + Drop> World<D> {
     /// The next leg of a venue whose gate and session are up leaves the desk and is sent. Where the session has no
     /// number left for it the leg is withdrawn in the book.
-    pub(crate) fn take(&mut self, venue: VenueId) -> Result<Told, AllocError>
+    pub(crate) fn take(&mut self, venue: VenueId) -> Result<EventOutcome, AllocError>
         requires { venue < length self.old.venues }
         ensures world { OnOk result (self.new ≡ happens self.old (event.Take venue)) }
         ensures told { IfOk result (λ answer. answer ≡ told self.old (event.Take venue)) }
     {
         let Some(placed) = self.leg_to_send(venue) else {
-            return Ok(Told::NOTHING);
+            return Ok(EventOutcome::NOTHING);
         };
         let at = usize::from(venue.number());
-        // The leg leaves the desk only once its frame is kept: want of memory leaves it placed.
+        // The leg leaves the desk only once its frame is kept: out of memory leaves it placed.
         match self.venues[at].send(placed.ordinal, &placed.leg)? {
             Sending::Sent => {
                 self.desk.take(venue);
-                Ok(Told::NOTHING)
+                Ok(EventOutcome::NOTHING)
             }
             Sending::NumbersSpent => {
                 self.desk.take(venue);
                 // A leg that the book has as moved stays as it is.
                 let _ = self.book.withdraw(placed.leg.id);
-                Ok(Told::by_session(Some(SessionFault::NumbersSpent)))
+                Ok(EventOutcome::by_session(Some(SessionFault::NumbersSpent)))
             }
-            Sending::Refused(fault) => Ok(Told::by_session(Some(fault))),
+            Sending::Refused(fault) => Ok(EventOutcome::by_session(Some(fault))),
         }
     }
 

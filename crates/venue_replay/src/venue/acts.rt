@@ -18,7 +18,7 @@ use std::alloc::{AllocError, Global};
 
 impl<D: Dialect + Drop> Venue<D> {
     /// The exchange acts, if it may. What it writes goes into its live connection, which is that of its last frame. It
-    /// gives the exchange's refusal, if it refuses; want of memory is this call's own.
+    /// gives the exchange's refusal, if it refuses; out of memory is this call's own.
     pub fn act(&mut self, act: &Act) -> Result<Option<ExchangeFault>, AllocError>
         ensures now { OnOk result (self.new ≡ acted self.old (act_of act.now self.old.exchange)) }
         ensures refused { IfOk result (λ refused. refused ≡ refusal_of (act_of act.now self.old.exchange)) }

@@ -31,7 +31,7 @@ impl<D: Dialect + Drop> Venue<D> {
         }
     }
 
-    /// Nothing was written for a while. It gives the session's refusal, if it refuses; want of memory is this call's
+    /// Nothing was written for a while. It gives the session's refusal, if it refuses; out of memory is this call's
     /// own.
     pub fn quiet(&mut self) -> Result<Option<SessionFault>, AllocError>
         ensures now { OnOk result (self.new ≡ called self.old (quiet self.old.session)) }
@@ -65,7 +65,7 @@ impl<D: Dialect + Drop> Venue<D> {
         }
     }
 
-    /// The session is to close. It gives the session's refusal, if it refuses; want of memory is this call's own.
+    /// The session is to close. It gives the session's refusal, if it refuses; out of memory is this call's own.
     pub fn close(&mut self) -> Result<Option<SessionFault>, AllocError>
         ensures now { OnOk result (self.new ≡ called self.old (close self.old.session)) }
         ensures refused { IfOk result (λ refused. refused ≡ refusal_of (close self.old.session)) }

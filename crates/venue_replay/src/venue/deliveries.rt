@@ -20,7 +20,7 @@ use std::alloc::{AllocError, Global};
 
 impl<D: Dialect + Drop> Venue<D> {
     /// A frame that was written to the exchange comes to it, in the connection that it was written in. Where there is
-    /// no such frame nothing happens. The only refusal is want of memory.
+    /// no such frame nothing happens. The only refusal is out of memory.
     pub fn deliver_to_exchange(&mut self, number: FrameNumber) -> Result<(), AllocError>
         ensures { OnOk result (self.new ≡ taken self.old (numbered number self.old.to_exchange)) }
     {
@@ -50,7 +50,7 @@ impl<D: Dialect + Drop> Venue<D> {
     }
 }
 
-/// An exchange takes the next frame of a stream, which comes in a connection. The only refusal is want of memory, X04.
+/// An exchange takes the next frame of a stream, which comes in a connection. The only refusal is out of memory, X04.
 fn take_next<D: Dialect>(
     alloc: Global,
     dialect: &D,

@@ -5,17 +5,17 @@ ghost use Rattle.std.specs.Option.{option_map};
 ghost use Rattle.leg.specs.Numbered.{numbered};
 ghost use Rattle.fix_text.specs.Reading.{next_read};
 ghost use Rattle.session_core.specs.Calling.{answers};
-ghost use Rattle.session_core.specs.Given.{Gives, IsStep};
+ghost use Rattle.session_core.specs.CallResult.{Gives, IsStep};
 ghost use Rattle.session_core.specs.Receiving.{receive};
 ghost use Rattle.venue_replay.specs.Delivering.{IsFrameOfMessage};
-ghost use Rattle.venue_replay.specs.Hearing.{turn_on, heard, news_of, confirmed};
+ghost use Rattle.venue_replay.specs.Hearing.{turn_on, heard, inbound_of, confirmed};
 ghost use Rattle.venue_replay.specs.Network.{moment, message_in};
 
 use super::Venue;
 use crate::keep::keep;
 use crate::moment::stamp;
 use crate::network::{frame_at, next_message, stream_of};
-use crate::news::News;
+use crate::inbound::Inbound;
 use dialect::{Dialect, Note};
 use fix_text::FrameReader;
 use schedule::FrameNumber;
@@ -24,11 +24,11 @@ use std::alloc::{AllocError, Global};
 
 impl<D: Dialect + Drop> Venue<D> {
     /// A frame that the exchange wrote comes to the session, if it was written in the session's present connection. It
-    /// gives what the frame told. The only refusal is want of memory.
-    pub fn hear(&mut self, number: FrameNumber) -> Result<Option<News>, AllocError>
+    /// gives what the frame told. The only refusal is out of memory.
+    pub fn hear(&mut self, number: FrameNumber) -> Result<Option<Inbound>, AllocError>
         ensures now { OnOk result (self.new ≡ heard self.old
             (turn_on self.old (numbered number self.old.from_exchange))) }
-        ensures told { IfOk result (λ told. told ≡ option_map news_of
+        ensures told { IfOk result (λ told. told ≡ option_map inbound_of
             (turn_on self.old (numbered number self.old.from_exchange))) }
     {
         let alloc = *self.given.allocator();
@@ -46,7 +46,7 @@ impl<D: Dialect + Drop> Venue<D> {
             Ok(step) => {
                 let connection = self.session.connection();
                 keep(&mut self.to_exchange, connection, step.out.into_vec())?;
-                Ok(Some(News {
+                Ok(Some(Inbound {
                     note: step.note,
                     withdrawn: step.withdrawn,
                     ended: step.ended,
@@ -56,7 +56,7 @@ impl<D: Dialect + Drop> Venue<D> {
         }
     }
 
-    /// The book was told, and has the note if there is one. The only refusal is want of memory.
+    /// The book was told, and has the note if there is one. The only refusal is out of memory.
     pub fn confirm(&mut self, note: Option<Note>) -> Result<(), AllocError>
         ensures { OnOk result (self.new ≡ confirmed self.old note) }
     {
@@ -71,7 +71,7 @@ impl<D: Dialect + Drop> Venue<D> {
     }
 }
 
-/// A session receives the next frame of a stream. The only refusal is want of memory, S04.
+/// A session receives the next frame of a stream. The only refusal is out of memory, S04.
 fn hear_next<D: Dialect>(
     dialect: &D,
     session: &mut Session,

@@ -16,7 +16,7 @@ use std::alloc::AllocError;
 
 impl<D: Dialect + Drop> Venue<D> {
     /// The session sends a leg under its ordinal, if it may: its order is written. The only refusal of this call is
-    /// want of memory.
+    /// out of memory.
     pub fn send(&mut self, ordinal: u64, leg: &Leg) -> Result<Sending, AllocError>
         ensures now { OnOk result (self.new ≡ sent self.old (send_leg self.old.session ordinal leg.now)) }
         ensures outcome { IfOk result (λ outcome. outcome ≡ outcome_of (send_leg self.old.session ordinal leg.now)) }

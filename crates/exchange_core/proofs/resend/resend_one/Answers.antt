@@ -2,7 +2,7 @@ use Rattle.std.proofs.Common.{true, All, sym, subst}
 use Rattle.dialect.specs.Writable.{IsWritable}
 use Rattle.dialect.specs.declared.content.Content.TheVariants.{Session}
 use Rattle.fix_tags.specs.declared.session_body.SessionBody.TheVariants.{Reject}
-use Rattle.exchange_core.specs.Own.{closing_fill, execution_report, again}
+use Rattle.exchange_core.specs.SentRecord.{closing_fill, execution_report, again}
 use Rattle.exchange_core.specs.Resending.{resent_one}
 use Rattle.exchange_core.proofs.Writing.{writable_last}
 use Rattle.exchange_core.proofs.resend.resend_one.Goals as goal

@@ -1,6 +1,6 @@
 use Rattle.std.proofs.Common.{◌≡◌, ◌≤◌, ◌+◌, ◌-◌, length, take, vec_len}
 use Rattle.std.specs.Prelude.{vec_capacity}
-use Rattle.session_core.specs.Draft.{with_fences}
+use Rattle.session_core.specs.Decision.{with_fences}
 use Rattle.session_core.proofs.commit.keep.Given as goal
 
 abbrev pub invariant-loop-line : goal.invariant-loop-line

@@ -1,5 +1,5 @@
 use Rattle.std.proofs.Common.{◌≡◌, take}
-use Rattle.session_core.specs.Draft.{logged}
+use Rattle.session_core.specs.Decision.{logged}
 use Rattle.session_core.proofs.commit.spend.Given as goal
 
 abbrev pub invariant-loop-line : goal.invariant-loop-line

@@ -1,5 +1,5 @@
 use Rattle.std.proofs.Common.{arith}
-use Rattle.session_core.specs.Draft.{message_in}
+use Rattle.session_core.specs.Decision.{message_in}
 use Rattle.session_core.proofs.Framing.{writable-at, framed-more}
 use Rattle.session_core.proofs.write.frames.Goals as goal
 

@@ -1,5 +1,5 @@
 use Rattle.std.proofs.Common.{map, take}
-use Rattle.session_core.specs.Draft.{message_in}
+use Rattle.session_core.specs.Decision.{message_in}
 use Rattle.dialect.specs.Framed.{AreFramed}
 use Rattle.dialect.specs.Outgoing.{alone}
 use Rattle.session_core.proofs.write.frames.Given as goal

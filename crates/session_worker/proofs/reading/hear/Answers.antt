@@ -2,7 +2,7 @@ use Rattle.std.proofs.Common.{refl, sym, ap, ◌∙◌}
 use Rattle.std.specs.Prelude.{option_map}
 use Rattle.fix_text.specs.FrameFields.{fields_in}
 use Rattle.dialect.specs.Wording.{Wording}
-use Rattle.dialect.specs.Message.{seen}
+use Rattle.dialect.specs.Message.{decoded}
 use Rattle.session_core.specs.declared.session_call.SessionCall.TheVariants as call
 use Rattle.session_core.specs.Calling.{answers}
 use Rattle.session_core.specs.Receiving.{receive}
@@ -18,7 +18,7 @@ returns-in-Ok-receive-clause-heard g c =
       envelope = c.in-Ok.envelope;
       next = sym c.in-Ok-Some.ensures.fields ∙ ap (option_map fields_in) c.in-Ok-Some.field-0-is;
       says = c.in-Ok.ensures.read;
-      gave = gave_step w s c.receive.new.self (call.Receive c.in-Ok.envelope) (answers (receive s (seen w.decoding c.in-Ok.envelope))) c.args.stamp.now
+      gave = gave_step w s c.receive.new.self (call.Receive c.in-Ok.envelope) (answers (receive s (decoded w.decoding c.in-Ok.envelope))) c.args.stamp.now
           c.in-Ok-receive.step tt refl c.in-Ok-receive.ensures;
     }
 

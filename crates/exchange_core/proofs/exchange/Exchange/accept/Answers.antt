@@ -2,12 +2,12 @@ use Rattle.std.proofs.Common.{◌≡◌, suc, ◌+◌, List, ◌∷◌, ◌++◌
 use Rattle.dialect.specs.declared.outgoing.Outgoing.{Outgoing}
 use Rattle.dialect.specs.declared.report.Report.{Report}
 use Rattle.dialect.specs.declared.report.ReportKind.TheVariants.{New}
-use Rattle.exchange_core.specs.declared.own.Own.TheVariants.{Reported}
+use Rattle.exchange_core.specs.declared.sent_record.SentRecord.TheVariants.{Reported}
 use Rattle.exchange_core.specs.Exchange.{ExchangeParts, next_report, next_execution_report, order_taken}
 use Rattle.exchange_core.specs.Frames.{Writes}
 use Rattle.exchange_core.specs.Kept.{exchange_seen, reports_of}
 use Rattle.exchange_core.specs.Order.{OrderParts, new_order, view_of}
-use Rattle.exchange_core.specs.Own.{next_exec, exec_id, next_own_number}
+use Rattle.exchange_core.specs.SentRecord.{next_exec, exec_id, next_own_number}
 use Rattle.exchange_core.specs.Sound.{IsSound}
 use Rattle.exchange_core.proofs.Accepting.{accepted_exec, accepted_out, seen_accepted, legs_more}
 use Rattle.exchange_core.proofs.Reporting.{reports_more}

@@ -3,4 +3,4 @@ use Rattle.exchange_core.proofs.exchange.Exchange.cancel_rest.Goals as goal
 
 pub report-requires-clause-fit : goal.report-requires-clause-fit
 report-requires-clause-fit g c =
-    cancel_fit c.args.self.now c.args.place c.in_ok-plan.plan c.in_ok-plan.ensures.sound c.in_ok-plan.ensures.answer
+    cancel_fit c.args.self.now c.args.place c.in_ok-decision.decision c.in_ok-decision.ensures.sound c.in_ok-decision.ensures.answer

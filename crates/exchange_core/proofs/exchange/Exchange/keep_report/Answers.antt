@@ -2,8 +2,8 @@ use Rattle.std.proofs.Common.{◌≡◌, ◌-◌, ◌∷◌, ◌++◌, [], map, 
 use Rattle.std.specs.Prelude.{slice_set}
 use Rattle.leg.specs.Numbered.{numbered}
 use Rattle.exchange_core.specs.Kept.{exchange_seen, reports_of}
-use Rattle.exchange_core.specs.declared.own.Own.TheVariants.{Reported}
-use Rattle.exchange_core.specs.Plan.{stepped, IsPlaced, after_step}
+use Rattle.exchange_core.specs.declared.sent_record.SentRecord.TheVariants.{Reported}
+use Rattle.exchange_core.specs.OrderDecision.{stepped, IsPlaced, after_step}
 use Rattle.exchange_core.specs.Sound.{IsSound}
 use Rattle.exchange_core.proofs.Reporting.{within_by, read_at, legs_stepped, reports_more, seen_stepped}
 use Rattle.exchange_core.proofs.exchange.Exchange.keep_report.Goals as goal

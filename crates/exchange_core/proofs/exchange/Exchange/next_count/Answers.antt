@@ -1,5 +1,5 @@
 use Rattle.std.proofs.Common.{length, ap, arith}
-use Rattle.exchange_core.specs.Own.{report_count}
+use Rattle.exchange_core.specs.SentRecord.{report_count}
 use Rattle.exchange_core.proofs.Kept.{reports_counted}
 use Rattle.exchange_core.proofs.exchange.Exchange.next_count.Goals as goal
 

@@ -1,10 +1,10 @@
 use Rattle.std.proofs.Common.{◌≡◌, ◌-◌, true, List, length, take, drop, All, None, sym, ap, ◌∙◌, subst, arith}
 use Rattle.fix_tags.specs.Range.{range_end, is_range}
 use Rattle.dialect.specs.Writable.{IsWritable}
-use Rattle.exchange_core.specs.declared.own.Own.{Own}
+use Rattle.exchange_core.specs.declared.sent_record.SentRecord.{SentRecord}
 use Rattle.exchange_core.specs.Exchange.{ExchangeParts}
 use Rattle.exchange_core.specs.Kept.{exchange_seen}
-use Rattle.exchange_core.specs.Own.{resent, resent_answer}
+use Rattle.exchange_core.specs.SentRecord.{resent, resent_answer}
 use Rattle.exchange_core.specs.Turn.{asked_answer}
 use Rattle.exchange_core.proofs.Accepting.{range_writable}
 use Rattle.exchange_core.proofs.exchange.Exchange.send_again.Goals as goal
@@ -22,7 +22,7 @@ resend-requires-clause-writable g c =
     let all : All IsWritable (resent_answer x.config x.own begin last) =
     subst (λ (s : ExchangeParts). All IsWritable (resent_answer s.config s.own begin last)) (sym c.self.view_is)
     (subst (λ asked. All IsWritable (asked_answer c.args.self.now asked)) c.in-Some.is c.requires) in
-    subst (λ (own : List Own). All IsWritable (resent x.config None begin
+    subst (λ (own : List SentRecord). All IsWritable (resent x.config None begin
     (take (length (take c.last_asked-end.result own) - (begin - 1))
     (drop (begin - 1) (take c.last_asked-end.result own)))))
     (sym c.as_slice.ensures.value)

@@ -1,11 +1,11 @@
-use Rattle.exchange_core.proofs.Taking.{asked_writable, deed_writable, deed_sound, take_allowed, taken_gives}
+use Rattle.exchange_core.proofs.Taking.{asked_writable, action_writable, action_sound, take_allowed, taken_gives}
 use Rattle.exchange_core.proofs.Read.{is_read}
 use Rattle.exchange_core.proofs.exchange.Exchange.take.Goals as goal
 
 pub send_again-requires : goal.send_again-requires
 send_again-requires g c =
-    asked_writable c.args.self.now c.args.connection c.see-message.result c.decide-decision.result
-    c.decide-decision.ensures.answer c.decide-decision.ensures.sound (is_read c.see-message.result c.see-message.ensures.in_range)
+    asked_writable c.args.self.now c.args.connection c.decode-message.result c.decide-decision.result
+    c.decide-decision.ensures.answer c.decide-decision.ensures.sound (is_read c.decode-message.result c.decode-message.ensures.in_range)
 
 pub returns-in_err-send_again-clause-allowed : goal.returns-in_err-send_again-clause-allowed
 returns-in_err-send_again-clause-allowed g c =
@@ -13,13 +13,13 @@ returns-in_err-send_again-clause-allowed g c =
 
 pub carry_out-requires-clause-writable : goal.carry_out-requires-clause-writable
 carry_out-requires-clause-writable g c =
-    deed_writable c.args.self.now c.args.connection c.see-message.result c.decide-decision.result
-    c.decide-decision.ensures.answer c.decide-decision.ensures.sound (is_read c.see-message.result c.see-message.ensures.in_range)
+    action_writable c.args.self.now c.args.connection c.decode-message.result c.decide-decision.result
+    c.decide-decision.ensures.answer c.decide-decision.ensures.sound (is_read c.decode-message.result c.decode-message.ensures.in_range)
 
 pub carry_out-requires-clause-sound : goal.carry_out-requires-clause-sound
 carry_out-requires-clause-sound g c =
-    deed_sound c.args.self.now c.args.connection c.see-message.result c.decide-decision.result
-    c.decide-decision.ensures.answer c.decide-decision.ensures.sound (is_read c.see-message.result c.see-message.ensures.in_range)
+    action_sound c.args.self.now c.args.connection c.decode-message.result c.decide-decision.result
+    c.decide-decision.ensures.answer c.decide-decision.ensures.sound (is_read c.decode-message.result c.decode-message.ensures.in_range)
 
 pub returns-in_err-carry_out-clause-allowed : goal.returns-in_err-carry_out-clause-allowed
 returns-in_err-carry_out-clause-allowed g c =
@@ -28,9 +28,9 @@ returns-in_err-carry_out-clause-allowed g c =
 pub returns-clause-gives : goal.returns-clause-gives
 returns-clause-gives g c =
     taken_gives (g.D.Dialect.wording c.args.dialect.now).encoding
-    c.args.stamp.now c.args.self.now c.args.connection c.see-message.result _ c.decide-decision.result
+    c.args.stamp.now c.args.self.now c.args.connection c.decode-message.result _ c.decide-decision.result
     c.new-frames.result.items c.send_again.new.frames.items c.carry_out.new.frames c.carry_out.new.self
-    c.see-message.ensures.value c.decide-decision.ensures.answer c.new-frames.ensures.items c.in_ok-send_again.ensures
+    c.decode-message.ensures.value c.decide-decision.ensures.answer c.new-frames.ensures.items c.in_ok-send_again.ensures
     c.in_ok-carry_out.ensures.written c.in_ok-carry_out.ensures.ok
 
 pub returns-clause-allowed : goal.returns-clause-allowed

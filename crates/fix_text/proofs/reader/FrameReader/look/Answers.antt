@@ -8,7 +8,7 @@ use Rattle.fix_text.specs.Tagged.{Tagged}
 use Rattle.fix_text.specs.FrameFields.{fields_in}
 use Rattle.fix_text.specs.Reading.{NextFrame, Stream, next_read}
 use Rattle.fix_text.specs.Passing.{IsBody, left_of, found_in}
-use Rattle.fix_text.specs.declared.passed.Body.{Body}
+use Rattle.fix_text.specs.declared.cursor.Body.{Body}
 use Rattle.fix_text.proofs.Waits.{waits_behind, read_waits}
 use Rattle.fix_text.proofs.Lent.{more_than_free}
 use Rattle.fix_text.proofs.reader.FrameReader.look.Goals as goal
@@ -52,7 +52,7 @@ returns-in_err-found c =
     let full = rw c.as_slice-bytes.ensures.value at c.in_err-found.ensures.full in
     let more = subst (λ (s : Stream). AreMore (vec_capacity inside.kept.places) (next_read s).frame) c.self.view_is full in
     let always : 0 < length stream.rest → 64 ≤ vec_capacity inside.kept.places =
-    λ some. c.self.invariant.2 (omega (arith, some, ap (λ (s : Stream). length s.rest) c.self.view_is, length-drop inside.passed.end inside.kept.buffer.items)) in (
+    λ some. c.self.invariant.2 (omega (arith, some, ap (λ (s : Stream). length s.rest) c.self.view_is, length-drop inside.cursor.end inside.kept.buffer.items)) in (
       (refl, (λ _. tt), search rules),
       record {
         lender = tt;
@@ -67,7 +67,7 @@ returns-in-Some c =
     let stream = c.args.self.now in
     let buffer = c.let_go-found.new.buffer.items in
     let places = c.pass.new.places.items in
-    let passed = c.let_go-found.result.passed in
+    let passed = c.let_go-found.result.cursor in
     let frame : Option (List Tagged) = Some (fields_in c.frame.result) in
     let is : record { frame = frame; stream = left_of buffer passed } ≡ next_read stream =
     ap (λ (fields : List Tagged). let next : NextFrame = record { frame = Some fields; stream = left_of buffer passed } in next) c.frame.ensures
@@ -89,7 +89,7 @@ returns-in-None c =
     let stream = c.args.self.now in
     let buffer = c.let_go-found.new.buffer.items in
     let places = c.pass.new.places.items in
-    let passed = c.let_go-found.result.passed in
+    let passed = c.let_go-found.result.cursor in
     let frame : Option (List Tagged) = None in
     let is : record { frame = frame; stream = left_of buffer passed } ≡ next_read stream =
     ap (λ (body : Option Body). found_in buffer places body passed) (sym c.in-None.is)

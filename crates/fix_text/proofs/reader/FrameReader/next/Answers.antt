@@ -11,11 +11,11 @@ pub returns-then-len-self : goal.returns-then-len-self
 returns-then-len-self c =
     let stream = c.args.self.now in
     let inside = c.self.inside in
-    let left = left_of inside.kept.buffer.items inside.passed in
-    let few : length left.rest < inside.passed.waits_for = omega (arith, c.if-len-self.true, c.len.ensures, length-drop inside.passed.end inside.kept.buffer.items) in
+    let left = left_of inside.kept.buffer.items inside.cursor in
+    let few : length left.rest < inside.cursor.waits_for = omega (arith, c.if-len-self.true, c.len.ensures, length-drop inside.cursor.end inside.kept.buffer.items) in
     let frame : Option (List Tagged) = None in
     let is : record { frame = frame; stream = stream } ≡ next_read stream =
-    subst (λ (s : Stream). record { frame = frame; stream = s } ≡ next_read s) c.self.view_is (nothing_found inside.passed.waits_for left c.self.invariant.3 few) in (
+    subst (λ (s : Stream). record { frame = frame; stream = s } ≡ next_read s) c.self.view_is (nothing_found inside.cursor.waits_for left c.self.invariant.3 few) in (
       (refl, (λ _. tt), ap (λ (next : NextFrame). next.stream) is),
       record {
         lender = tt;

@@ -1,4 +1,4 @@
-use Rattle.session_core.specs.Kept.{seen}
+use Rattle.session_core.specs.Kept.{viewed}
 use Rattle.session_core.proofs.KeptOn.{kept-committed}
 use Rattle.session_core.proofs.session.Session.commit.Goals as goal
 
@@ -13,6 +13,6 @@ invariant_of-self-2 c =
       c.reserve.ensures.items,
       c.as_slice-lines.ensures.value,
     )
-    (kept-committed s.log.max_number (seen s.config s.log.entries s.fences.items s.connection s.standing)
-    c.args.draft.now
+    (kept-committed s.log.max_number (viewed s.config s.log.entries s.fences.items s.connection s.standing)
+    c.args.decision.now
     c.self.invariant (rw (← c.self.view_is) at c.requires))

@@ -17,22 +17,22 @@ pub returns-in-Receive : goal.returns-in-Receive
 returns-in-Receive g c =
     rw c.in-Receive.is
     (receive-adds _ c.args.stamp.now c.args.self.now c.receive.new.self _ c.receive.result c.given.result
-    c.receive.ensures c.given.ensures)
+    c.receive.ensures.gives c.given.ensures)
 
 pub returns-in-Quiet : goal.returns-in-Quiet
 returns-in-Quiet g c =
     rw c.in-Quiet.is
     (quiet-adds _ c.args.stamp.now c.args.self.now c.quiet.new.self c.quiet.result c.given-in-Quiet.result
-    c.quiet.ensures c.given-in-Quiet.ensures)
+    c.quiet.ensures.gives c.given-in-Quiet.ensures)
 
 pub returns-in-Silent : goal.returns-in-Silent
 returns-in-Silent g c =
     rw c.in-Silent.is
     (silent-adds _ c.args.stamp.now c.args.self.now c.silent.new.self c.silent.result c.given-in-Silent.result
-    c.silent.ensures c.given-in-Silent.ensures)
+    c.silent.ensures.gives c.given-in-Silent.ensures)
 
 pub returns-in-Close : goal.returns-in-Close
 returns-in-Close g c =
     rw c.in-Close.is
     (close-adds _ c.args.stamp.now c.args.self.now c.close.new.self c.close.result c.given-in-Close.result
-    c.close.ensures c.given-in-Close.ensures)
+    c.close.ensures.gives c.given-in-Close.ensures)

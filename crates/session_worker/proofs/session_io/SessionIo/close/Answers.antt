@@ -4,7 +4,7 @@ use Rattle.dialect.specs.Wording.{Wording}
 use Rattle.session_core.specs.declared.session_call.SessionCall.TheVariants as call
 use Rattle.session_core.specs.declared.session_fault.SessionFault.{SessionFault}
 use Rattle.session_core.specs.Calling.{close}
-use Rattle.session_core.specs.Given.{IsStep}
+use Rattle.session_core.specs.CallResult.{IsStep}
 use Rattle.session_worker.specs.Events.{IsIdle}
 use Rattle.session_worker.specs.Linking.{SessionIoParts, io_of, Moves}
 use Rattle.session_worker.proofs.Spoken.{stays_here, writes_breaks}

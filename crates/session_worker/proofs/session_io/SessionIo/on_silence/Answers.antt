@@ -2,7 +2,7 @@ use Rattle.std.proofs.Common.{refl, subst}
 use Rattle.dialect.specs.Wording.{Wording}
 use Rattle.session_core.specs.declared.session_call.SessionCall.TheVariants as call
 use Rattle.session_core.specs.Calling.{silent}
-use Rattle.session_core.specs.Given.{IsStep}
+use Rattle.session_core.specs.CallResult.{IsStep}
 use Rattle.session_worker.specs.Linking.{SessionIoParts, io_of, Moves, Asks}
 use Rattle.session_worker.proofs.Spoken.{stays_here}
 use Rattle.session_worker.proofs.Connected.{silent_on}

@@ -2,7 +2,7 @@ use Rattle.std.proofs.Common.{◌≡◌, Some, None, rules, refl, subst}
 use Rattle.dialect.specs.Wording.{Decoding, Encoding}
 use Rattle.dialect.proofs.FrameBack.{agrees_of}
 use Rattle.session_core.specs.Calling.{close}
-use Rattle.session_core.specs.Given.{IsStep}
+use Rattle.session_core.specs.CallResult.{IsStep}
 use Rattle.session_core.specs.declared.session_fault.SessionFault.{SessionFault}
 use Rattle.session_core.proofs.Promised.{close_sound, close_writable}
 use Rattle.schedule.specs.World.{VenueParts}

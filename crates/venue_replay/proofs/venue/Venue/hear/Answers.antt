@@ -5,14 +5,14 @@ use Rattle.leg.specs.Numbered.{numbered}
 use Rattle.dialect.specs.Wording.{Decoding, Encoding}
 use Rattle.dialect.proofs.FrameBack.{agrees_of}
 use Rattle.session_core.specs.Calling.{answers}
-use Rattle.session_core.specs.Given.{Gives, IsStep}
+use Rattle.session_core.specs.CallResult.{Gives, IsStep}
 use Rattle.session_core.specs.Receiving.{receive}
 use Rattle.session_core.specs.Session.{is_connected}
 use Rattle.schedule.specs.World.{VenueParts}
-use Rattle.venue_replay.specs.declared.news.News.{News}
+use Rattle.venue_replay.specs.declared.inbound.Inbound.{Inbound}
 use Rattle.venue_replay.specs.Network.{moment, stream_of, message_in, said_by, all_said}
 use Rattle.venue_replay.specs.Delivering.{IsFrameOfMessage}
-use Rattle.venue_replay.specs.Hearing.{turn_on, heard, news_of}
+use Rattle.venue_replay.specs.Hearing.{turn_on, heard, inbound_of}
 use Rattle.venue_replay.proofs.ExchangeTakes.{written_at, is_frame}
 use Rattle.venue_replay.proofs.SessionHears.{no_frame, not_turned, turn_is, off, on, elsewhere, heard_kept, heard_said}
 use Rattle.venue_replay.proofs.venue.Venue.hear.Goals as goal
@@ -31,8 +31,8 @@ returns-in_default-clause-told g c =
     } in
     let absent : numbered c.args.number v.from_exchange.items ≡ None =
     sym (c.in_default.ensures ∙ ap (numbered c.args.number) c.deref.ensures.value) in
-    subst (λ (venue : VenueParts). None ≡ option_map news_of (turn_on venue (numbered c.args.number venue.from_exchange))) c.self.view_is
-    (sym (ap (option_map news_of) (no_frame r before v.from_exchange.items c.args.number refl absent)))
+    subst (λ (venue : VenueParts). None ≡ option_map inbound_of (turn_on venue (numbered c.args.number venue.from_exchange))) c.self.view_is
+    (sym (ap (option_map inbound_of) (no_frame r before v.from_exchange.items c.args.number refl absent)))
 
 pub returns-then-not-is_connected-clause-now : goal.returns-then-not-is_connected-clause-now
 returns-then-not-is_connected-clause-now g c =
@@ -68,8 +68,8 @@ returns-then-not-is_connected-clause-told g c =
     let frame = c.in-Some.frame.now in
     let there : numbered c.args.number v.from_exchange.items ≡ Some frame =
     sym (c.in-Some.ensures ∙ ap (numbered c.args.number) c.deref.ensures.value) in
-    subst (λ (venue : VenueParts). None ≡ option_map news_of (turn_on venue (numbered c.args.number venue.from_exchange))) c.self.view_is
-    (sym (ap (option_map news_of) (not_turned r before v.from_exchange.items c.args.number frame refl there
+    subst (λ (venue : VenueParts). None ≡ option_map inbound_of (turn_on venue (numbered c.args.number venue.from_exchange))) c.self.view_is
+    (sym (ap (option_map inbound_of) (not_turned r before v.from_exchange.items c.args.number frame refl there
     (off (is_connected v.session.phase) _ (sym (c.is_connected.ensures ∙ ap is_connected c.phase.ensures) ∙ c.if-not-is_connected.true)))))
 
 pub returns-then-frame-connection-clause-now : goal.returns-then-frame-connection-clause-now
@@ -106,8 +106,8 @@ returns-then-frame-connection-clause-told g c =
     let frame = c.in-Some.frame.now in
     let there : numbered c.args.number v.from_exchange.items ≡ Some frame =
     sym (c.in-Some.ensures ∙ ap (numbered c.args.number) c.deref.ensures.value) in
-    subst (λ (venue : VenueParts). None ≡ option_map news_of (turn_on venue (numbered c.args.number venue.from_exchange))) c.self.view_is
-    (sym (ap (option_map news_of) (not_turned r before v.from_exchange.items c.args.number frame refl there
+    subst (λ (venue : VenueParts). None ≡ option_map inbound_of (turn_on venue (numbered c.args.number venue.from_exchange))) c.self.view_is
+    (sym (ap (option_map inbound_of) (not_turned r before v.from_exchange.items c.args.number frame refl there
     (elsewhere (is_connected v.session.phase) frame.connection v.session.connection (λ same. c.if-frame-connection.true (same ∙ sym c.connection.ensures))))))
 
 pub hear_next-requires : goal.hear_next-requires
@@ -210,8 +210,8 @@ returns-in-Ok-clause-told g c =
     subst (λ (s : Stream). Gives (IsStep w moment) v.session (answers (receive v.session (message_in r (next_read s).frame))) (Ok c.in-Ok.step) c.hear_next.new.session) stream c.in-Ok.ensures in
     let current = on (is_connected v.session.phase) frame.connection v.session.connection
     (sym (c.is_connected.ensures ∙ ap is_connected c.phase.ensures) ∙ c.if-not-is_connected.false) (c.if-frame-connection.false ∙ c.connection.ensures) in
-    let told : Option News = Some (record { note = c.in-Ok.step.note; withdrawn = c.in-Ok.step.withdrawn; ended = c.in-Ok.step.ended }) in
-    let is : told ≡ Some (news_of (receive v.session (said_by r frame.bytes.items))) =
+    let told : Option Inbound = Some (record { note = c.in-Ok.step.note; withdrawn = c.in-Ok.step.withdrawn; ended = c.in-Ok.step.ended }) in
+    let is : told ≡ Some (inbound_of (receive v.session (said_by r frame.bytes.items))) =
     λ k. Some (record { note = gives.0.note k; withdrawn = gives.0.withdrawn k; ended = gives.0.ended k }) in
-    subst (λ (venue : VenueParts). told ≡ option_map news_of (turn_on venue (numbered c.args.number venue.from_exchange))) c.self.view_is
-    (is ∙ sym (ap (option_map news_of) (turn_is r before v.from_exchange.items c.args.number frame refl there current)))
+    subst (λ (venue : VenueParts). told ≡ option_map inbound_of (turn_on venue (numbered c.args.number venue.from_exchange))) c.self.view_is
+    (is ∙ sym (ap (option_map inbound_of) (turn_is r before v.from_exchange.items c.args.number frame refl there current)))

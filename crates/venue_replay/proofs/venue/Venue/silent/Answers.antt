@@ -3,7 +3,7 @@ use Rattle.dialect.specs.Wording.{Decoding, Encoding}
 use Rattle.dialect.proofs.FrameBack.{agrees_of}
 use Rattle.session_core.specs.declared.session_fault.SessionFault.{SessionFault}
 use Rattle.session_core.specs.Calling.{silent}
-use Rattle.session_core.specs.Given.{IsStep}
+use Rattle.session_core.specs.CallResult.{IsStep}
 use Rattle.session_core.proofs.Promised.{silent_sound, silent_writable}
 use Rattle.schedule.specs.World.{VenueParts}
 use Rattle.venue_replay.specs.Network.{all_said}

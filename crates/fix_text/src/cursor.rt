@@ -6,7 +6,7 @@ ghost use Rattle.fix_text.specs.Reading.{next_read};
 ghost use Rattle.fix_text.specs.Waiting.{waits_after};
 
 use crate::fields::place_valid_fields;
-use crate::parse::{Stop, frame_at, least_length};
+use crate::parse::{NoFrame, frame_at, least_length};
 use crate::place::Place;
 use crate::reader_fault::ReaderFault;
 use memchr::memchr;
@@ -17,7 +17,7 @@ const LEAST_MOVE: usize = 8_192;
 /// What was passed: the place behind it, and the counts; and how many bytes must lie behind that place before another
 /// look at them can find more.
 #[derive(Clone, Copy)]
-pub struct Passed {
+pub struct Cursor {
     pub end: usize,
     pub skipped: u64,
     pub garbled: u64,
@@ -33,19 +33,19 @@ pub struct Body {
 
 /// The body of the next valid frame, if it is there, and what is passed with it.
 #[derive(Clone, Copy)]
-pub struct Found {
+pub struct Scan {
     pub body: Option<Body>,
-    pub passed: Passed,
+    pub cursor: Cursor,
 }
 
-impl Passed {
+impl Cursor {
     ghost use Rattle.fix_text.specs.Passing.{IsBody, LiesWithin, found_in, left_of};
 
     /// Nothing yet.
-    pub const fn new() -> Passed
+    pub const fn new() -> Cursor
         ensures { result ≡ record { end = 0; skipped = 0; garbled = 0; waits_for = 0 } }
     {
-        Passed {
+        Cursor {
             end: 0,
             skipped: 0,
             garbled: 0,
@@ -54,19 +54,19 @@ impl Passed {
     }
 
     /// Passes on to the end of the next valid frame, with the places of its fields, or to where more bytes are needed.
-    pub fn pass(self, bytes: &[u8], places: &mut Vec<Place>) -> Result<Found, ReaderFault>
+    pub fn pass(self, bytes: &[u8], places: &mut Vec<Place>) -> Result<Scan, ReaderFault>
         requires { self.end ≤ length bytes.now }
-        ensures read { IfOk result (λ found. found_in bytes.now places.new.items found.body found.passed
+        ensures read { IfOk result (λ found. found_in bytes.now places.new.items found.body found.cursor
             ≡ next_read (left_of bytes.now self)) }
         ensures waits { IfOk result (λ found. let next = next_read (left_of bytes.now self) in
-            found.passed.waits_for ≡ waits_after next.frame next.stream.rest) }
+            found.cursor.waits_for ≡ waits_after next.frame next.stream.rest) }
         ensures within { IfOk result (λ found. IfSome found.body (λ body. IsBody bytes.now body places.new.items)) }
         ensures lies { IfOk result (λ found. LiesWithin bytes.now found) }
         ensures refusal { IsOkUnless result ReaderFault.OutOfMemory }
         ensures full { OnErr result (AreMore (vec_capacity places.old) (next_read (left_of bytes.now self)).frame) }
         ensures room { vec_capacity places.old ≤ vec_capacity places.new }
     {
-        let Passed {
+        let Cursor {
             end: mut at,
             mut skipped,
             mut garbled,
@@ -74,16 +74,16 @@ impl Passed {
         } = self;
         loop {
             match frame_at(&bytes[at..]) {
-                Err(Stop::Short) => return Ok(Found {
+                Err(NoFrame::Short) => return Ok(Scan {
                     body: None,
-                    passed: Passed {
+                    cursor: Cursor {
                         end: at,
                         skipped,
                         garbled,
                         waits_for: least_length(&bytes[at..]),
                     },
                 }),
-                Err(Stop::Differs) => {
+                Err(NoFrame::Differs) => {
                     let count = junk_length(&bytes[at..]);
                     at += count;
                     skipped = skipped.saturating_add(count as u64);
@@ -96,9 +96,9 @@ impl Passed {
                             start: before - frame.body().len(),
                             end: before,
                         };
-                        return Ok(Found {
+                        return Ok(Scan {
                             body: Some(body),
-                            passed: Passed {
+                            cursor: Cursor {
                                 end,
                                 skipped,
                                 garbled,
@@ -114,27 +114,27 @@ impl Passed {
     }
 }
 
-impl Found {
+impl Scan {
     ghost use Rattle.fix_text.specs.Passing.{IsBody, LiesWithin, body_after, found_in, most_kept, useful_from};
 
     /// Where that begins which is still of use.
     fn useful_from(&self) -> usize
-        ensures { result ≡ useful_from self.now.body self.now.passed.end }
+        ensures { result ≡ useful_from self.now.body self.now.cursor.end }
     {
         match self.body {
             Some(body) => body.start,
-            None => self.passed.end,
+            None => self.cursor.end,
         }
     }
 
     /// The same in bytes that begin so many later.
-    fn after(self, count: usize) -> Found
-        requires useful { count ≤ useful_from self.body self.passed.end }
+    fn after(self, count: usize) -> Scan
+        requires useful { count ≤ useful_from self.body self.cursor.end }
         requires ordered { IfSome self.body (λ body. body.start ≤ body.end) }
-        requires passed { IfSome self.body (λ body. body.end ≤ self.passed.end) }
+        requires passed { IfSome self.body (λ body. body.end ≤ self.cursor.end) }
         ensures { result ≡ record {
           body = body_after count self.body;
-          passed = record self.passed { end = self.passed.end - count };
+          cursor = record self.cursor { end = self.cursor.end - count };
         } }
     {
         let body = match self.body {
@@ -144,25 +144,25 @@ impl Found {
             }),
             None => None,
         };
-        let end = self.passed.end - count;
-        Found {
+        let end = self.cursor.end - count;
+        Scan {
             body,
-            passed: Passed { end, ..self.passed },
+            cursor: Cursor { end, ..self.cursor },
         }
     }
 
     /// Lets go of the bytes that are of no more use, where they are many, and no fewer than those behind them: so no
     /// more bytes move than are let go.
-    pub fn let_go(self, buffer: &mut Vec<u8>) -> Found
+    pub fn let_go(self, buffer: &mut Vec<u8>) -> Scan
         requires { LiesWithin buffer.old.items self }
         ensures same { (places : List Place) →
-            found_in buffer.new.items places result.body result.passed
-            ≡ found_in buffer.old.items places self.body self.passed }
+            found_in buffer.new.items places result.body result.cursor
+            ≡ found_in buffer.old.items places self.body self.cursor }
         ensures body { (places : List Place) → IfSome self.body (λ body. IsBody buffer.old.items body places)
             → IfSome result.body (λ body. IsBody buffer.new.items body places) }
-        ensures waits { result.passed.waits_for ≡ self.passed.waits_for }
-        ensures end { result.passed.end ≤ length buffer.new.items }
-        ensures few { length buffer.new.items ≤ most_kept (length buffer.new.items - result.passed.end) }
+        ensures waits { result.cursor.waits_for ≡ self.cursor.waits_for }
+        ensures end { result.cursor.end ≤ length buffer.new.items }
+        ensures few { length buffer.new.items ≤ most_kept (length buffer.new.items - result.cursor.end) }
         ensures no_more { length buffer.new.items ≤ length buffer.old.items }
     {
         let count = self.useful_from();

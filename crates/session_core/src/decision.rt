@@ -8,13 +8,13 @@ ghost use Rattle.fix_tags.specs.declared.session_body.SessionBody.TheVariants.{L
 ghost use Rattle.session_core.specs.declared.line.Line.{Line as ALine};
 ghost use Rattle.session_core.specs.Session.{SessionParts};
 ghost use Rattle.session_core.specs.Receiving.{counts_if, asks_if, asks_missing};
-ghost use Rattle.session_core.specs.Draft.{drafted};
+ghost use Rattle.session_core.specs.Decision.{decided};
 
 use crate::ended::Ended;
 use crate::line::{Line, Says};
 use crate::phase::Phase;
 use crate::session::Session;
-use crate::standing::Standing;
+use crate::session_state::SessionState;
 use arrayvec::ArrayVec;
 use dialect::Note;
 use fix_tags::{MAX_MESSAGE_NUMBER, SessionBody};
@@ -35,17 +35,17 @@ pub(crate) enum Settling {
 
 /// What a call is to do: the messages that it writes, what it hands on, and where the session stands after it.
 #[derive(Drop)]
-pub(crate) struct Draft<'a> {
+pub(crate) struct Decision<'a> {
     pub lines: ArrayVec<Line<'a>, MAX_LINES>,
     pub note: Option<Note>,
     pub ended: Option<Ended>,
     pub settling: Settling,
-    pub standing: Standing,
+    pub standing: SessionState,
 }
 
-impl<'a> Draft<'a> {
+impl<'a> Decision<'a> {
     /// Nothing is written or handed on yet.
-    pub fn new(standing: Standing, settling: Settling) -> Draft<'a>
+    pub fn new(standing: SessionState, settling: Settling) -> Decision<'a>
         ensures { result ≡ record {
           lines = record { items = [] };
           note = None;
@@ -54,7 +54,7 @@ impl<'a> Draft<'a> {
           standing = standing;
         } }
     {
-        Draft {
+        Decision {
             lines: ArrayVec::new(),
             note: None,
             ended: None,
@@ -65,7 +65,7 @@ impl<'a> Draft<'a> {
 
     /// The number of the next message.
     fn next_number(&self, before: &Session) -> u64
-        ensures value { result ≡ next_out (drafted before.now self.now).session }
+        ensures value { result ≡ next_out (decided before.now self.now).session }
         ensures small { result ≤ 1000000003 }
     {
         before.number_after(spent_by(self.lines.as_slice()))
@@ -73,7 +73,7 @@ impl<'a> Draft<'a> {
 
     /// Whether a number is left for a message.
     pub fn may_write(&self, before: &Session) -> bool
-        ensures { result ≡ may_write (drafted before.now self.now).session }
+        ensures { result ≡ may_write (decided before.now self.now).session }
     {
         self.next_number(before) < before.max_number()
     }
@@ -81,7 +81,7 @@ impl<'a> Draft<'a> {
     /// A message under the next number.
     pub fn put(&mut self, before: &Session, says: SessionBody<'a>)
         requires { length self.old.lines.items < MAX_LINES }
-        ensures turn { drafted before.now self.new ≡ puts (content.Session says.entry) (drafted before.now self.old) }
+        ensures turn { decided before.now self.new ≡ puts (content.Session says.entry) (decided before.now self.old) }
         ensures room { length self.new.lines.items ≤ length self.old.lines.items + 1 }
     {
         let number = self.next_number(before);
@@ -95,7 +95,7 @@ impl<'a> Draft<'a> {
     /// A message under the next number, where one is left.
     pub fn write(&mut self, before: &Session, says: SessionBody<'a>)
         requires { length self.old.lines.items < MAX_LINES }
-        ensures turn { drafted before.now self.new ≡ writes (content.Session says.entry) (drafted before.now self.old) }
+        ensures turn { decided before.now self.new ≡ writes (content.Session says.entry) (decided before.now self.old) }
         ensures room { length self.new.lines.items ≤ length self.old.lines.items + 1 }
     {
         if self.may_write(before) {
@@ -106,7 +106,7 @@ impl<'a> Draft<'a> {
     /// A fence under the next number.
     pub fn put_fence(&mut self, before: &Session)
         requires { length self.old.lines.items < MAX_LINES }
-        ensures turn { drafted before.now self.new ≡ puts_fence (drafted before.now self.old) }
+        ensures turn { decided before.now self.new ≡ puts_fence (decided before.now self.old) }
         ensures room { length self.new.lines.items ≤ length self.old.lines.items + 1 }
     {
         let number = self.next_number(before);
@@ -120,7 +120,7 @@ impl<'a> Draft<'a> {
     /// A fence, where a number is left for it.
     pub fn write_fence(&mut self, before: &Session)
         requires { length self.old.lines.items < MAX_LINES }
-        ensures turn { drafted before.now self.new ≡ writes_fence (drafted before.now self.old) }
+        ensures turn { decided before.now self.new ≡ writes_fence (decided before.now self.old) }
         ensures room { length self.new.lines.items ≤ length self.old.lines.items + 1 }
     {
         if self.may_write(before) {
@@ -131,7 +131,7 @@ impl<'a> Draft<'a> {
     /// What is missing is asked for, where a number is left for it.
     pub fn ask(&mut self, before: &Session)
         requires { length self.old.lines.items < MAX_LINES }
-        ensures turn { drafted before.now self.new ≡ asks (drafted before.now self.old) }
+        ensures turn { decided before.now self.new ≡ asks (decided before.now self.old) }
         ensures room { length self.new.lines.items ≤ length self.old.lines.items + 1 }
     {
         if self.may_write(before) {
@@ -144,7 +144,7 @@ impl<'a> Draft<'a> {
     /// What is missing is asked for, where that is wanted and a number is left for it.
     pub fn ask_if(&mut self, before: &Session, wanted: bool)
         requires { length self.old.lines.items < MAX_LINES }
-        ensures turn { drafted before.now self.new ≡ asks_if wanted (drafted before.now self.old) }
+        ensures turn { decided before.now self.new ≡ asks_if wanted (decided before.now self.old) }
         ensures room { length self.new.lines.items ≤ length self.old.lines.items + 1 }
     {
         if wanted {
@@ -156,7 +156,7 @@ impl<'a> Draft<'a> {
     /// written any more.
     pub fn ask_missing(&mut self, before: &Session)
         requires { length self.old.lines.items < MAX_LINES }
-        ensures { drafted before.now self.new ≡ asks_missing (drafted before.now self.old) }
+        ensures { decided before.now self.new ≡ asks_missing (decided before.now self.old) }
     {
         if self.ended.is_some() {
             return;
@@ -170,7 +170,7 @@ impl<'a> Draft<'a> {
     /// A gap fill, under the first number that it stands for.
     pub fn fill(&mut self, fill: GapFill)
         requires { length self.old.lines.items < MAX_LINES }
-        ensures turn { (s : SessionParts) → drafted s self.new ≡ fills fill (drafted s self.old) }
+        ensures turn { (s : SessionParts) → decided s self.new ≡ fills fill (decided s self.old) }
         ensures standing { self.new.standing ≡ self.old.standing }
         ensures room { length self.new.lines.items ≤ length self.old.lines.items + 1 }
     {
@@ -186,7 +186,7 @@ impl<'a> Draft<'a> {
     /// The message received is counted.
     pub fn count(&mut self)
         requires { self.old.standing.expected ≤ MAX_MESSAGE_NUMBER }
-        ensures turn { (s : SessionParts) → drafted s self.new ≡ counts (drafted s self.old) }
+        ensures turn { (s : SessionParts) → decided s self.new ≡ counts (decided s self.old) }
         ensures lines { self.new.lines ≡ self.old.lines }
     {
         self.standing.expected.advance();
@@ -195,7 +195,7 @@ impl<'a> Draft<'a> {
     /// The message received is counted, where it is due and the connection goes on.
     pub fn count_if(&mut self, due: bool)
         requires { due ≡ true → self.old.standing.expected ≤ MAX_MESSAGE_NUMBER }
-        ensures turn { (s : SessionParts) → drafted s self.new ≡ counts_if due (drafted s self.old) }
+        ensures turn { (s : SessionParts) → decided s self.new ≡ counts_if due (decided s self.old) }
         ensures lines { self.new.lines ≡ self.old.lines }
     {
         if due && self.ended.is_none() {
@@ -221,7 +221,7 @@ impl<'a> Draft<'a> {
 
     /// The connection ends.
     pub fn end(&mut self, why: Ended)
-        ensures turn { (s : SessionParts) → drafted s self.new ≡ ends_turn why (drafted s self.old) }
+        ensures turn { (s : SessionParts) → decided s self.new ≡ ends_turn why (decided s self.old) }
         ensures expected { self.new.standing.expected ≡ self.old.standing.expected }
         ensures lines { self.new.lines ≡ self.old.lines }
     {
@@ -232,8 +232,8 @@ impl<'a> Draft<'a> {
     /// The Logout is written, and from then on nothing but gap fills.
     pub fn log_out(&mut self, before: &Session)
         requires { length self.old.lines.items < MAX_LINES }
-        ensures turn { let turn = writes (content.Session Logout) (drafted before.now self.old) in
-            drafted before.now self.new ≡ with_session (record turn.session { phase = Phase.LoggedOut }) turn }
+        ensures turn { let turn = writes (content.Session Logout) (decided before.now self.old) in
+            decided before.now self.new ≡ with_session (record turn.session { phase = Phase.LoggedOut }) turn }
         ensures room { length self.new.lines.items ≤ length self.old.lines.items + 1 }
     {
         self.write(before, SessionBody::Logout);

@@ -11,26 +11,26 @@ use Rattle.fix_tags.specs.declared.session_body.SessionBody.TheVariants.{Reject,
 use Rattle.dialect.specs.OrderView.{OrderViewParts}
 use Rattle.dialect.specs.declared.outgoing.Outgoing.{Outgoing}
 use Rattle.dialect.specs.Outgoing.{alone}
-use Rattle.exchange_core.specs.declared.own.Own.{Own}
-use Rattle.exchange_core.specs.declared.own.Own.TheVariants.{Admin, Reported, Refused}
+use Rattle.exchange_core.specs.declared.sent_record.SentRecord.{SentRecord}
+use Rattle.exchange_core.specs.declared.sent_record.SentRecord.TheVariants.{Admin, Reported, Refused}
 
--- Own numbers begin at 1, and what they were used for is listed in their order.
+-- SentRecord numbers begin at 1, and what they were used for is listed in their order.
 
 -- the next number, and whether so many are left below the one that no message may have
-abbrev pub next_own_number : List Own → ℕ
+abbrev pub next_own_number : List SentRecord → ℕ
 next_own_number own = suc (length own)
 
-abbrev pub has_numbers : ℕ → ConfigParts → List Own → Bool
+abbrev pub has_numbers : ℕ → ConfigParts → List SentRecord → Bool
 has_numbers count config own = nat_le (next_own_number own + count) config.max_number
 
 -- how many reports there are
-abbrev pub report_count : List Own → ℕ
+abbrev pub report_count : List SentRecord → ℕ
 report_count [] = 0
 report_count (Reported report view ∷ own) = suc (report_count own)
 report_count (entry ∷ own) = report_count own
 
 -- the count of the next report, this one included, and an ExecID (17): `E` and a count
-abbrev pub next_exec : List Own → ℕ
+abbrev pub next_exec : List SentRecord → ℕ
 next_exec own = suc (report_count own)
 
 abbrev pub exec_id : ℕ → List ℕ
@@ -57,7 +57,7 @@ run_from (Some first) number = first
 
 -- the messages of these numbers, of which the first has this number, where a run may be open: each report and refusal
 -- again, and each run of the rest by one gap fill
-abbrev pub resent : ConfigParts → Option ℕ → ℕ → List Own → List Outgoing
+abbrev pub resent : ConfigParts → Option ℕ → ℕ → List SentRecord → List Outgoing
 resent config run number [] = closing_fill config run number
 resent config run number (Admin ∷ own) = resent config (Some (run_from run number)) (suc number) own
 resent config run number (Reported report view ∷ own) =
@@ -68,7 +68,7 @@ resent config run number (Refused refused ∷ own) =
     ∷ resent config None (suc number) own
 
 -- what the request for a range is answered with
-abbrev pub resent_answer : ConfigParts → List Own → ℕ → ℕ → List Outgoing
+abbrev pub resent_answer : ConfigParts → List SentRecord → ℕ → ℕ → List Outgoing
 resent_answer config own begin last =
     if is_range (length own) begin last
     then resent config None begin (drop (begin - 1) (take (range_end (length own) last) own))

@@ -8,7 +8,7 @@ use resend::InSeq;
 
 /// Where a session stands, beside the numbers that it sent, the fences that it keeps and its connections.
 #[derive(Clone, Copy)]
-pub(crate) struct Standing {
+pub(crate) struct SessionState {
     pub phase: Phase,
     /// The settled number: no leg under it or below it is in doubt.
     pub settled: u64,
@@ -27,7 +27,7 @@ pub(crate) struct Standing {
     pub close_asked: bool,
 }
 
-impl Standing {
+impl SessionState {
     ghost use Rattle.session_core.specs.Session.{SessionParts, is_connected};
     ghost use Rattle.session_core.specs.Kept.{standing_at};
     ghost use Rattle.session_core.specs.Receiving.{is_too_high, was_requested};

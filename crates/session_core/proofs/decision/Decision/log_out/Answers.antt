@@ -1,7 +1,7 @@
 use Rattle.std.proofs.Common.{ap}
 use Rattle.session_core.specs.declared.phase.Phase.TheVariants.{LoggedOut}
 use Rattle.session_core.specs.Turn.{Turn, with_session}
-use Rattle.session_core.proofs.draft.Draft.log_out.Goals as goal
+use Rattle.session_core.proofs.decision.Decision.log_out.Goals as goal
 
 pub returns-clause-turn : goal.returns-clause-turn
 returns-clause-turn c =

@@ -1,5 +1,5 @@
 -- What a call of a session hands its caller: the frames that it wrote, and what it says beside them.
-use Rattle.std.specs.Prelude.{◌≡◌, map, Result, Ok, Err}
+use Rattle.std.specs.Prelude.{◌≡◌, ◌+◌, ◌<◌, length, map, Result, Ok, Err}
 use Rattle.fix_tags.specs.Stamp.{StampParts}
 use Rattle.dialect.specs.Framed.{AreFramed}
 use Rattle.dialect.specs.Wording.{Encoding}
@@ -18,7 +18,11 @@ pub record IsStep (w : Encoding) (stamp : StampParts) (said : StepParts) (step :
   pub withdrawn : step.withdrawn ≡ said.withdrawn
   pub ended : step.ended ≡ said.ended
 
--- the definition's answer and the state after it; or want of memory, where it would have been Ok, and nothing changed
+-- what is said takes memory: a frame is written, or legs are withdrawn
+abbrev pub TakesMemory : StepParts → Type 0
+TakesMemory said = 0 < length said.written + length said.withdrawn
+
+-- the definition's answer and the state after it; or out of memory, where it would have been Ok, and nothing changed
 abbrev pub Gives : {X Y : Type 0} → (X → Y → Type 0) → SessionParts → SessionAnswer X → Result Y SessionFault
     → SessionParts → Type 0
 Gives Is before (Err fault, after) result now = (result ≡ Err fault) × (now ≡ after)

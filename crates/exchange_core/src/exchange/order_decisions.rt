@@ -4,9 +4,9 @@ ghost use Rattle.std.specs.Prelude.{◌≡◌, ◌≤◌, IfOk};
 ghost use Rattle.std.specs.Option.{option_map};
 ghost use Rattle.leg.specs.Numbered.{numbered};
 ghost use Rattle.dialect.specs.FreeText.{IsFreeText};
-ghost use Rattle.exchange_core.specs.Own.{has_numbers, next_exec};
+ghost use Rattle.exchange_core.specs.SentRecord.{has_numbers, next_exec};
 ghost use Rattle.exchange_core.specs.Acts.{trade_answer, end_answer, bust_answer};
-ghost use Rattle.exchange_core.specs.Plan.{planned, IsFor};
+ghost use Rattle.exchange_core.specs.OrderDecision.{order_decided, IsFor};
 ghost use Rattle.exchange_core.specs.Sound.{IsSound};
 
 use super::Exchange;
@@ -14,7 +14,7 @@ use crate::ExchangeFault;
 use crate::ending::Ending;
 use crate::numbered_id::id_of_report;
 use crate::order::Order;
-use crate::plan::{OrderStep, Plan};
+use crate::order_decision::{OrderStep, OrderDecision};
 use crate::trade::Trade;
 use dialect::{Fill, LastPx, ReportKind};
 
@@ -47,15 +47,15 @@ impl Exchange {
         self.reports.len() as u64 + 1
     }
 
-    /// The plan of a trade of so many open shares at a price.
-    pub(super) fn plan_of_trade(
+    /// The decision of a trade of so many open shares at a price.
+    pub(super) fn decide_trade(
         &self,
         place: usize,
         shares: u64,
         px: LastPx,
-    ) -> Result<Plan, ExchangeFault>
-        ensures answer { trade_answer self.now place shares px ≡ planned self.now place result }
-        ensures there { IfOk result (λ plan. IsFor self.now place plan.step) }
+    ) -> Result<OrderDecision, ExchangeFault>
+        ensures answer { trade_answer self.now place shares px ≡ order_decided self.now place result }
+        ensures there { IfOk result (λ decision. IsFor self.now place decision.step) }
         ensures sound { IsSound self.now }
         ensures price { IfOk result (λ _. IsFreeText 20 px) }
     {
@@ -80,22 +80,22 @@ impl Exchange {
             is_busted: false,
         };
         let fill = Fill::new(shares, px).unwrap();
-        Ok(Plan {
+        Ok(OrderDecision {
             split,
             step: OrderStep::Traded(trade),
             kind: ReportKind::Trade(fill),
         })
     }
 
-    /// The plan of an order's end, which is reported as this kind.
-    pub(super) fn plan_of_end(
+    /// The decision of an order's end, which is reported as this kind.
+    pub(super) fn decide_end(
         &self,
         place: usize,
         ending: Ending,
         kind: ReportKind,
-    ) -> Result<Plan, ExchangeFault>
-        ensures answer { end_answer self.now place ending kind ≡ planned self.now place result }
-        ensures there { IfOk result (λ plan. IsFor self.now place plan.step) }
+    ) -> Result<OrderDecision, ExchangeFault>
+        ensures answer { end_answer self.now place ending kind ≡ order_decided self.now place result }
+        ensures there { IfOk result (λ decision. IsFor self.now place decision.step) }
         ensures sound { IsSound self.now }
     {
         let Some(order) = self.order_at(place) else {
@@ -109,17 +109,17 @@ impl Exchange {
             return Err(ExchangeFault::NumbersSpent);
         }
         split.cancel_rest();
-        Ok(Plan {
+        Ok(OrderDecision {
             split,
             step: OrderStep::Ended(ending),
             kind,
         })
     }
 
-    /// The plan of the bust of a trade, by its place among the order's trades, counted from 1.
-    pub(super) fn plan_of_bust(&self, place: usize, which: usize) -> Result<Plan, ExchangeFault>
-        ensures answer { bust_answer self.now place which ≡ planned self.now place result }
-        ensures there { IfOk result (λ plan. IsFor self.now place plan.step) }
+    /// The decision of the bust of a trade, by its place among the order's trades, counted from 1.
+    pub(super) fn decide_bust(&self, place: usize, which: usize) -> Result<OrderDecision, ExchangeFault>
+        ensures answer { bust_answer self.now place which ≡ order_decided self.now place result }
+        ensures there { IfOk result (λ decision. IsFor self.now place decision.step) }
         ensures sound { IsSound self.now }
     {
         let Some(order) = self.order_at(place) else {
@@ -144,7 +144,7 @@ impl Exchange {
             is_busted: true,
             ..trade
         };
-        Ok(Plan {
+        Ok(OrderDecision {
             split,
             step: OrderStep::Busted {
                 place: which,

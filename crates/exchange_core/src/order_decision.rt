@@ -18,7 +18,7 @@ pub enum OrderStep {
 
 /// How an order is to change: its shares afterwards, the step, and what is reported of it.
 #[derive(Debug, Drop)]
-pub struct Plan {
+pub struct OrderDecision {
     pub split: Split,
     pub step: OrderStep,
     pub kind: ReportKind,

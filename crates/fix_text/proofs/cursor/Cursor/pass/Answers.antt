@@ -6,7 +6,7 @@ use Rattle.fix_text.specs.Waiting.{least_length, waits_after}
 use Rattle.fix_text.specs.Placing.{fields_at, AreMore, AreWithin, ArePlaced}
 use Rattle.fix_text.proofs.Places.{lies_at, lies_length, body_found, rest_found}
 use Rattle.fix_text.proofs.Turns.{waits, skips_all, some_left, gives, garbles, on_err, more_some, more_than_fewer}
-use Rattle.fix_text.proofs.passed.Passed.pass.Goals as goal
+use Rattle.fix_text.proofs.cursor.Cursor.pass.Goals as goal
 
 pub returns-in-Err-Short-clause-read : goal.returns-in-Err-Short-clause-read
 returns-in-Err-Short-clause-read c =

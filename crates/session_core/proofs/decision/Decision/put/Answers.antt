@@ -1,5 +1,5 @@
-use Rattle.session_core.proofs.Drafted.{put-turn}
-use Rattle.session_core.proofs.draft.Draft.put.Goals as goal
+use Rattle.session_core.proofs.DecidedTurn.{put-turn}
+use Rattle.session_core.proofs.decision.Decision.put.Goals as goal
 
 pub returns-clause-turn : goal.returns-clause-turn
 returns-clause-turn c =

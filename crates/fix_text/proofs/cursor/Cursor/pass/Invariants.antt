@@ -2,7 +2,7 @@ use Rattle.std.proofs.Common.{◌≡◌, ◌≤◌, ◌-◌, length, drop}
 use Rattle.std.specs.Vec.{vec_capacity}
 use Rattle.fix_text.specs.Reading.{next_read}
 use Rattle.fix_text.specs.Passing.{left_of}
-use Rattle.fix_text.proofs.passed.Passed.pass.Given as goal
+use Rattle.fix_text.proofs.cursor.Cursor.pass.Given as goal
 
 abbrev pub invariant-loop-count : goal.invariant-loop-count
 invariant-loop-count l = record {

@@ -11,7 +11,7 @@ use sweep_release::{GateFault, Receipt, ReleaseFault};
 
 /// What an event tells, besides the world after it.
 #[derive(Clone, Copy, Debug)]
-pub struct Told {
+pub struct EventOutcome {
     /// The number of the sweep, if the event placed one.
     pub placed: Option<u64>,
     /// Why a call was refused, if one was.
@@ -22,9 +22,9 @@ pub struct Told {
     pub ended: Option<Ended>,
 }
 
-impl Told {
+impl EventOutcome {
     /// Nothing was told.
-    pub(crate) const NOTHING: Told = Told {
+    pub(crate) const NOTHING: EventOutcome = EventOutcome {
         placed: None,
         refused: None,
         answer: None,
@@ -32,70 +32,70 @@ impl Told {
     };
 
     /// A sweep was placed, or refused.
-    pub(crate) fn by_release(placed: Result<Receipt, ReleaseFault>) -> Told
+    pub(crate) fn by_release(placed: Result<Receipt, ReleaseFault>) -> EventOutcome
         ensures { result ≡ by_release placed }
     {
         match placed {
-            Ok(receipt) => Told {
+            Ok(receipt) => EventOutcome {
                 placed: Some(receipt.number),
-                ..Told::NOTHING
+                ..EventOutcome::NOTHING
             },
-            Err(fault) => Told {
+            Err(fault) => EventOutcome {
                 refused: Some(Refusal::Release(fault)),
-                ..Told::NOTHING
+                ..EventOutcome::NOTHING
             },
         }
     }
 
     /// A gate was put up, or its call refused.
-    pub(crate) fn by_gate(put: Result<(), GateFault>) -> Told
+    pub(crate) fn by_gate(put: Result<(), GateFault>) -> EventOutcome
         ensures { result ≡ by_gate put }
     {
         match put {
-            Ok(()) => Told::NOTHING,
-            Err(fault) => Told {
+            Ok(()) => EventOutcome::NOTHING,
+            Err(fault) => EventOutcome {
                 refused: Some(Refusal::Gate(fault)),
-                ..Told::NOTHING
+                ..EventOutcome::NOTHING
             },
         }
     }
 
     /// A call of a session was refused, or not.
-    pub(crate) fn by_session(refused: Option<SessionFault>) -> Told
+    pub(crate) fn by_session(refused: Option<SessionFault>) -> EventOutcome
         ensures { result ≡ by_session refused }
     {
         match refused {
-            Some(fault) => Told {
+            Some(fault) => EventOutcome {
                 refused: Some(Refusal::Session(fault)),
-                ..Told::NOTHING
+                ..EventOutcome::NOTHING
             },
-            None => Told::NOTHING,
+            None => EventOutcome::NOTHING,
         }
     }
 
     /// An act of an exchange was refused, or not.
-    pub(crate) fn by_exchange(refused: Option<ExchangeFault>) -> Told
+    pub(crate) fn by_exchange(refused: Option<ExchangeFault>) -> EventOutcome
         ensures { result ≡ by_exchange refused }
     {
         match refused {
-            Some(fault) => Told {
+            Some(fault) => EventOutcome {
                 refused: Some(Refusal::Exchange(fault)),
-                ..Told::NOTHING
+                ..EventOutcome::NOTHING
             },
-            None => Told::NOTHING,
+            None => EventOutcome::NOTHING,
         }
     }
 
     /// A session that heard nothing ended its connection or didn't, or its call was refused.
-    pub(crate) fn by_silence(ended: Result<Option<Ended>, SessionFault>) -> Told
+    pub(crate) fn by_silence(ended: Result<Option<Ended>, SessionFault>) -> EventOutcome
         ensures { result ≡ by_silence ended }
     {
         match ended {
-            Ok(ended) => Told {
+            Ok(ended) => EventOutcome {
                 ended,
-                ..Told::NOTHING
+                ..EventOutcome::NOTHING
             },
-            Err(fault) => Told::by_session(Some(fault)),
+            Err(fault) => EventOutcome::by_session(Some(fault)),
         }
     }
 }

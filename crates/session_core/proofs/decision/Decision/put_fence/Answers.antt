@@ -1,5 +1,5 @@
-use Rattle.session_core.proofs.Drafted.{fence-turn}
-use Rattle.session_core.proofs.draft.Draft.put_fence.Goals as goal
+use Rattle.session_core.proofs.DecidedTurn.{fence-turn}
+use Rattle.session_core.proofs.decision.Decision.put_fence.Goals as goal
 
 pub returns-clause-turn : goal.returns-clause-turn
 returns-clause-turn c =

@@ -1,5 +1,5 @@
-use Rattle.session_core.proofs.Drafted.{fill-turn}
-use Rattle.session_core.proofs.draft.Draft.fill.Goals as goal
+use Rattle.session_core.proofs.DecidedTurn.{fill-turn}
+use Rattle.session_core.proofs.decision.Decision.fill.Goals as goal
 
 pub returns-clause-turn : goal.returns-clause-turn
 returns-clause-turn c =

@@ -13,14 +13,14 @@ use Rattle.session_core.specs.declared.line.Line.{Line}
 use Rattle.session_core.specs.declared.line.Says.{Says}
 use Rattle.session_core.specs.declared.line.Says.TheVariants.{Fence, Body}
 use Rattle.session_core.specs.declared.session_fault.SessionFault.{SessionFault}
-use Rattle.session_core.specs.declared.draft.Draft.{Draft}
-use Rattle.session_core.specs.declared.draft.Settling.{Settling}
-use Rattle.session_core.specs.declared.draft.Settling.TheVariants.{Nothing, Passed, At}
+use Rattle.session_core.specs.declared.decision.Decision.{Decision}
+use Rattle.session_core.specs.declared.decision.Settling.{Settling}
+use Rattle.session_core.specs.declared.decision.Settling.TheVariants.{Nothing, Passed, At}
 use Rattle.session_core.specs.Session.{SessionParts}
 use Rattle.session_core.specs.Turn.{StepParts, Turn, fence_id}
 use Rattle.session_core.specs.Calling.{SessionAnswer}
 use Rattle.session_core.specs.Receiving.{above}
-use Rattle.session_core.specs.Kept.{seen}
+use Rattle.session_core.specs.Kept.{viewed}
 
 -- what a message says that is to be written under a number
 abbrev pub content_in : ℕ → Says → Content
@@ -62,21 +62,21 @@ withdrawn_by (Passed fence) log = []
 withdrawn_by (At number) log = doubt_from number log
 
 -- the turn that was decided on in a session
-abbrev pub drafted : SessionParts → Draft → Turn
-drafted s draft = record {
+abbrev pub decided : SessionParts → Decision → Turn
+decided s decision = record {
   step = record {
-    written = map (message_in s.config) draft.lines.items;
-    note = draft.note;
-    withdrawn = withdrawn_by draft.settling s.log;
-    ended = draft.ended;
+    written = map (message_in s.config) decision.lines.items;
+    note = decision.note;
+    withdrawn = withdrawn_by decision.settling s.log;
+    ended = decision.ended;
   };
   session =
-      seen s.config (logged (settled_log draft.settling s.log) draft.lines.items)
-      (with_fences (fences_left draft.settling s.current.fences) draft.lines.items) s.connection draft.standing;
+      viewed s.config (logged (settled_log decision.settling s.log) decision.lines.items)
+      (with_fences (fences_left decision.settling s.current.fences) decision.lines.items) s.connection decision.standing;
 }
 
 -- what was decided on is the answer of the definition, or its refusal
-abbrev pub Decides : SessionParts → SessionAnswer StepParts → Result Draft SessionFault → Type 0
-Decides s (Err fault, after) decided = (decided ≡ Err fault) × (after ≡ s)
-Decides s (Ok step, after) (Ok draft) = drafted s draft ≡ record { step = step; session = after }
+abbrev pub Decides : SessionParts → SessionAnswer StepParts → Result Decision SessionFault → Type 0
+Decides s (Err fault, after) made = (made ≡ Err fault) × (after ≡ s)
+Decides s (Ok step, after) (Ok decision) = decided s decision ≡ record { step = step; session = after }
 Decides s (Ok step, after) (Err fault) = ⊥

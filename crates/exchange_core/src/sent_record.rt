@@ -4,7 +4,7 @@ use dialect::{OrderView, Report};
 
 /// What an own number of an exchange was used for.
 #[derive(Debug, Drop)]
-pub enum Own {
+pub enum SentRecord {
     /// A message of the session.
     Admin,
     /// A report, and the order as it was then.

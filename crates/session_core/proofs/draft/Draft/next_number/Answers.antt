@@ -1,7 +1,0 @@
-use Rattle.session_core.proofs.Drafted.{next-drafted}
-use Rattle.session_core.proofs.draft.Draft.next_number.Goals as goal
-
-pub returns-clause-value : goal.returns-clause-value
-returns-clause-value c =
-    let same = next-drafted c.args.before.now c.args.self.now in
-    rw (same, ← c.as_slice.ensures.value, ← c.spent_by.ensures) c.number_after.ensures.value
