@@ -12,7 +12,7 @@ use crate::refusal_text::RefusalText;
 use crate::say::say;
 use crate::settled::Settled;
 use dialect::Dialect;
-use replay::{Refusal, EventOutcome, World};
+use replay::{EventOutcome, Refusal, World};
 use std::alloc::{AllocError, Global};
 
 /// What an event did, in words. It compares the world before the event with that after it; `told` is what the event

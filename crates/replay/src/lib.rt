@@ -17,13 +17,13 @@
 //! - Not said: that memory is wanted only where a growth was refused. A world whose run wanted memory is gone.
 #![tactic(auto)]
 
+mod event_outcome;
 mod refusal;
 mod running;
 mod telling;
-mod event_outcome;
 mod world;
 
+pub use event_outcome::EventOutcome;
 pub use refusal::Refusal;
 pub use running::run;
-pub use event_outcome::EventOutcome;
 pub use world::{World, venue_of};

@@ -254,7 +254,13 @@ impl Session {
     }
 
     /// A message under the number that is expected, which is due, or ahead of it.
-    fn row<'a>(&self, at: SessionState, due: bool, number: u64, content: Content<'a>) -> Decision<'a>
+    fn row<'a>(
+        &self,
+        at: SessionState,
+        due: bool,
+        number: u64,
+        content: Content<'a>,
+    ) -> Decision<'a>
         requires logon { at.logon_number ≤ 999999999 }
         requires low { due ≡ true → at.expected ≤ MAX_MESSAGE_NUMBER }
         requires due { due ≡ true → number ≡ at.expected }

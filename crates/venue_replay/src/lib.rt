@@ -4,10 +4,10 @@
 
 mod ends;
 mod frame;
+mod inbound;
 mod keep;
 mod moment;
 mod network;
-mod inbound;
 mod sending;
 mod venue;
 

@@ -15,8 +15,8 @@ use super::Exchange;
 use crate::ExchangeFault;
 use crate::ending::Ending;
 use crate::numbered_id::{id_of_order, id_of_report, id_of_test};
+use crate::order_decision::{OrderDecision, OrderStep};
 use crate::sent_record::SentRecord;
-use crate::order_decision::{OrderStep, OrderDecision};
 use crate::to_peer::{report_to_peer, to_peer};
 use dialect::{Content, Dialect, LastPx, OrderView, Plain, Report, ReportKind, write_message};
 use fix_tags::{SessionBody, Stamp, TextRef};
@@ -196,7 +196,8 @@ impl Exchange {
         self.reports.reserve(1)?;
         self.orders[place - 1].step(split, step)?;
         self.reports.push_reserved(report.clone().unwrap());
-        self.own.push_reserved(SentRecord::Reported { report, view });
+        self.own
+            .push_reserved(SentRecord::Reported { report, view });
         Ok(())
     }
 }

@@ -11,7 +11,7 @@ ghost use Rattle.exchange_core.specs.Turn.{turn_answer, action_answer, asked_ans
 
 use super::Exchange;
 use crate::live_connection::LiveConnection;
-use crate::turn::{Asked, Decision, Action, Says, Turn};
+use crate::turn::{Action, Asked, Decision, Says, Turn};
 use dialect::{Content, Message};
 use fix_tags::SessionBody;
 

@@ -14,7 +14,7 @@ use crate::ExchangeFault;
 use crate::ending::Ending;
 use crate::numbered_id::id_of_report;
 use crate::order::Order;
-use crate::order_decision::{OrderStep, OrderDecision};
+use crate::order_decision::{OrderDecision, OrderStep};
 use crate::trade::Trade;
 use dialect::{Fill, LastPx, ReportKind};
 
@@ -117,7 +117,11 @@ impl Exchange {
     }
 
     /// The decision of the bust of a trade, by its place among the order's trades, counted from 1.
-    pub(super) fn decide_bust(&self, place: usize, which: usize) -> Result<OrderDecision, ExchangeFault>
+    pub(super) fn decide_bust(
+        &self,
+        place: usize,
+        which: usize,
+    ) -> Result<OrderDecision, ExchangeFault>
         ensures answer { bust_answer self.now place which ≡ order_decided self.now place result }
         ensures there { IfOk result (λ decision. IsFor self.now place decision.step) }
         ensures sound { IsSound self.now }

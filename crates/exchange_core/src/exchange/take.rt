@@ -15,10 +15,10 @@ use super::Exchange;
 use crate::ExchangeFault;
 use crate::numbered_id::id_of_report;
 use crate::order::Order;
-use crate::sent_record::SentRecord;
 use crate::resend::resend;
+use crate::sent_record::SentRecord;
 use crate::to_peer::{report_to_peer, to_peer};
-use crate::turn::{Asked, Action, Says, Turn, Used};
+use crate::turn::{Action, Asked, Says, Turn, Used};
 use crate::write::write;
 use dialect::{Content, Dialect, Report, ReportKind, decode};
 use fix_tags::{EnvelopeRef, SessionBody, Stamp};
@@ -143,7 +143,8 @@ impl Exchange {
         self.accepted.push_reserved(order.leg());
         self.orders.push_reserved(order);
         self.reports.push_reserved(report.clone().unwrap());
-        self.own.push_reserved(SentRecord::Reported { report, view });
+        self.own
+            .push_reserved(SentRecord::Reported { report, view });
         Ok(())
     }
 

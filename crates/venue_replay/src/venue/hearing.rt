@@ -12,10 +12,10 @@ ghost use Rattle.venue_replay.specs.Hearing.{turn_on, heard, inbound_of, confirm
 ghost use Rattle.venue_replay.specs.Network.{moment, message_in};
 
 use super::Venue;
+use crate::inbound::Inbound;
 use crate::keep::keep;
 use crate::moment::stamp;
 use crate::network::{frame_at, next_message, stream_of};
-use crate::inbound::Inbound;
 use dialect::{Dialect, Note};
 use fix_text::FrameReader;
 use schedule::FrameNumber;
