@@ -41,7 +41,7 @@ impl PartSums {
         }
     }
 
-    /// What became of the shares of all sweeps until now. It may wait for the book's lock. The only refusal is want of
+    /// What became of the shares of all sweeps until now. It may wait for the book's lock. The only refusal is out of
     /// memory, after which it goes on where it was.
     pub fn now<M: Ledger>(
         &mut self,

@@ -1,5 +1,5 @@
 -- A resend request, answered number by number.
-use Rattle.std.proofs.Common.{◌≡◌, ℕ, suc, ◌+◌, ◌≤◌, ◌<◌, All, true, List, [], ◌∷◌, ◌++◌, length, drop, get_or, Option, None, Result, Ok, Err, OnOk, refl, sym, ap, ◌∙◌, subst, arith, append_assoc}
+use Rattle.std.proofs.Common.{◌≡◌, ℕ, suc, ◌+◌, ◌≤◌, ◌<◌, All, true, List, [], ◌∷◌, ◌++◌, length, drop, get_or, Option, None, Result, Ok, Err, OnOk, OnErr, refl, sym, ap, ◌∙◌, subst, arith, append_assoc, length-append}
 use Rattle.std.proofs.lemmas.List.{drop_more, drop_all}
 use Rattle.std.specs.Global.{Vec}
 use Rattle.fix_tags.specs.Config.{ConfigParts}
@@ -82,3 +82,22 @@ all_resent w stamp config begin own index run number old new newest so_far past 
 pub closed_all : {X E : Type 0} (w : Encoding) (stamp : StampParts) (config : ConfigParts) (begin : ℕ) (own : List SentRecord) (index : ℕ) (run : Option ℕ) (number : ℕ) (old new : List (Vec ℕ)) (newest : List (Vec ℕ)) (result : Result X E) → IsResent w stamp config begin own index run number old new → length own ≤ index → OnOk result (Writes w stamp (closing_fill config run number) new newest) → OnOk result (Writes w stamp (resent config None begin own) old newest)
 closed_all w stamp config begin own index run number old new newest (Ok x) so_far past wrote = all_resent w stamp config begin own index run number old new newest so_far past wrote
 closed_all w stamp config begin own index run number old new newest (Err e) so_far past wrote = tt
+
+-- where a number wants a frame, something is sent again
+pub one_some : {X E : Type 0} (w : Encoding) (stamp : StampParts) (config : ConfigParts) (begin : ℕ) (own : List SentRecord) (index : ℕ) (run : Option ℕ) (number : ℕ) (old new : List (Vec ℕ)) (entry : SentRecord) (result : Result X E) → IsResent w stamp config begin own index run number old new → index < length own → entry ≡ get_or own index entry → 0 < length (resent_one config run number entry) → OnErr result (0 < length (resent config None begin own))
+one_some w stamp config begin own index run number old new entry (Ok x) so_far below is some = tt
+one_some w stamp config begin own index run number old new entry (Err e) so_far below is some =
+    let more = resent config (run_after run number entry) (suc number) (drop (index + 1) own) in
+    let one : resent config run number (drop index own) ≡ resent_one config run number entry ++ more =
+    ap (λ l. resent config run number l) (left own index entry below is) ∙ one_and_rest config run number entry (drop (index + 1) own) in
+    let all : so_far.done ++ (resent_one config run number entry ++ more) ≡ resent config None begin own =
+    ap (λ l. so_far.done ++ l) (sym one) ∙ so_far.rest in
+    subst (λ l. 0 < length l) all
+    (omega (arith, some, length-append so_far.done (resent_one config run number entry ++ more), length-append (resent_one config run number entry) more))
+
+pub closing_some : {X E : Type 0} (w : Encoding) (stamp : StampParts) (config : ConfigParts) (begin : ℕ) (own : List SentRecord) (index : ℕ) (run : Option ℕ) (number : ℕ) (old new : List (Vec ℕ)) (result : Result X E) → IsResent w stamp config begin own index run number old new → length own ≤ index → OnErr result (0 < length (closing_fill config run number)) → OnErr result (0 < length (resent config None begin own))
+closing_some w stamp config begin own index run number old new (Ok x) so_far past some = tt
+closing_some w stamp config begin own index run number old new (Err e) so_far past some =
+    let all : so_far.done ++ closing_fill config run number ≡ resent config None begin own =
+    ap (λ l. so_far.done ++ resent config run number l) (sym (drop_all index own past)) ∙ so_far.rest in
+    subst (λ l. 0 < length l) all (omega (arith, some, length-append so_far.done (closing_fill config run number)))

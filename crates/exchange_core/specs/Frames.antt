@@ -1,5 +1,5 @@
 -- What a call gives: frames, each of one message.
-use Rattle.std.specs.Prelude.{◌≡◌, ℕ, List, ◌++◌, map, Option, option_to_list, Result, Ok, Err}
+use Rattle.std.specs.Prelude.{◌≡◌, ◌<◌, ℕ, length, List, ◌++◌, map, Option, option_to_list, Result, Ok, Err}
 use Rattle.std.specs.Global.{Vec}
 use Rattle.fix_tags.specs.Stamp.{StampParts}
 use Rattle.dialect.specs.Framed.{AreFramed}
@@ -30,6 +30,11 @@ ActGives w stamp before (Err fault, after) answer now = (answer ≡ Err fault) �
 ActGives w stamp before (Ok written, after) (Ok frame) now =
     AreFramed w stamp written (bytes_of (option_to_list frame)) × (now ≡ after)
 ActGives w stamp before (Ok written, after) (Err fault) now = (fault ≡ OutOfMemory) × (now ≡ before)
+
+-- an act uses a number of the exchange's own
+abbrev pub UsesNumber : ExchangeParts → ActAnswer → Type 0
+UsesNumber before (Ok written, after) = length before.own < length after.own
+UsesNumber before (Err fault, after) = ⊥
 
 -- the frames of these messages were put behind the others
 pub record Writes (w : Encoding) (stamp : StampParts) (written : List Outgoing) (old new : List (Vec ℕ)) : Type 0 where

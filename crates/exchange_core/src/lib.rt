@@ -40,4 +40,4 @@ pub use ending::Ending;
 pub use exchange::Exchange;
 pub use exchange_fault::ExchangeFault;
 pub use live_connection::LiveConnection;
-pub use own::SentRecord;
+pub use sent_record::SentRecord;

@@ -1,6 +1,6 @@
 //! What own numbers were used for is sent again.
 
-ghost use Rattle.std.specs.Prelude.{◌≡◌, ◌+◌, ◌≤◌, None, OnOk, IfOk, All, length};
+ghost use Rattle.std.specs.Prelude.{◌≡◌, ◌+◌, ◌<◌, ◌≤◌, None, OnOk, OnErr, IfOk, All, length};
 ghost use Rattle.dialect.specs.Writable.{IsWritable};
 ghost use Rattle.exchange_core.specs.Frames.{Writes};
 ghost use Rattle.exchange_core.specs.SentRecord.{closing_fill, resent};
@@ -26,8 +26,9 @@ pub(crate) fn resend<D: Dialect>(
 ) -> Result<(), AllocError>
     requires writable { All IsWritable (resent config.now None begin own.now) }
     requires small { begin + length own.now ≤ 1000000000 }
-    ensures { OnOk result (Writes (D.wording dialect.now).encoding
+    ensures written { OnOk result (Writes (D.wording dialect.now).encoding
         stamp.now (resent config.now None begin own.now) frames.old.items frames.new.items) }
+    ensures some { OnErr result (0 < length (resent config.now None begin own.now)) }
 {
     let mut run = None;
     let mut number = begin;
@@ -55,6 +56,7 @@ fn resend_one<D: Dialect>(
         (D.wording dialect.now).encoding stamp.now
         (resent_one config.now run number entry.now) frames.old.items frames.new.items) }
     ensures run { IfOk result (λ after. after ≡ run_after run number entry.now) }
+    ensures some { OnErr result (0 < length (resent_one config.now run number entry.now)) }
 {
     match entry {
         SentRecord::Admin => match run {
@@ -89,8 +91,9 @@ fn close_run<D: Dialect>(
     frames: &mut Vec<Vec<u8>>,
 ) -> Result<(), AllocError>
     requires { All IsWritable (closing_fill config.now run number) }
-    ensures { OnOk result (Writes (D.wording dialect.now).encoding
+    ensures written { OnOk result (Writes (D.wording dialect.now).encoding
         stamp.now (closing_fill config.now run number) frames.old.items frames.new.items) }
+    ensures some { OnErr result (0 < length (closing_fill config.now run number)) }
 {
     match run {
         None => Ok(()),

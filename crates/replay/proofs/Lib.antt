@@ -3,5 +3,6 @@ pub mod TakesHappen
 pub mod DispatcherHappens
 pub mod Nowhere
 pub mod Theorem
+mod AtVenue
 mod Tells
 mod Placed

@@ -1,12 +1,12 @@
 //! What an exchange does by itself.
 
-ghost use Rattle.std.specs.Prelude.{◌≡◌, [], ◌∷◌, false, IfOk, OnErr, OnOk, All, option_to_list};
+ghost use Rattle.std.specs.Prelude.{◌≡◌, Err, [], ◌∷◌, false, IfOk, OnErr, OnOk, All, option_to_list};
 ghost use Rattle.dialect.specs.Framed.{AreFramed};
 ghost use Rattle.dialect.specs.Writable.{IsWritable};
 ghost use Rattle.exchange_core.specs.declared.sent_record.SentRecord.TheVariants.{Reported};
 ghost use Rattle.exchange_core.specs.SentRecord.{next_own_number, execution_report};
 ghost use Rattle.exchange_core.specs.Acts.{while_live, answered, trade, cancel_rest, reject, bust, test};
-ghost use Rattle.exchange_core.specs.Frames.{ActGives, bytes_of, no_dialect};
+ghost use Rattle.exchange_core.specs.Frames.{ActGives, UsesNumber, bytes_of, no_dialect};
 ghost use Rattle.exchange_core.specs.Keeping.{IsAct};
 ghost use Rattle.exchange_core.specs.OrderDecision.{order_answer, IsFor, IsFit, after_step};
 ghost use Rattle.exchange_core.specs.Sound.{IsSound};
@@ -38,6 +38,7 @@ impl Exchange {
     ) -> Result<Option<Vec<u8>>, ExchangeFault>
         ensures gives { ActGives (D.wording dialect.now).encoding stamp.now
             self.old (trade self.old place shares px) result self.new }
+        ensures memory { result ≡ Err ExchangeFault.OutOfMemory → UsesNumber self.old (trade self.old place shares px) }
         ensures allowed { IsAct self.old (trade self.old place shares px) }
     {
         let decision = self.decide_trade(place, shares, px)?;
@@ -55,6 +56,7 @@ impl Exchange {
     ) -> Result<Option<Vec<u8>>, ExchangeFault>
         ensures gives { ActGives (D.wording dialect.now).encoding stamp.now
             self.old (cancel_rest self.old place) result self.new }
+        ensures memory { result ≡ Err ExchangeFault.OutOfMemory → UsesNumber self.old (cancel_rest self.old place) }
         ensures allowed { IsAct self.old (cancel_rest self.old place) }
     {
         let decision = self.decide_end(place, Ending::ByCancel, ReportKind::Canceled)?;
@@ -72,6 +74,7 @@ impl Exchange {
     ) -> Result<Option<Vec<u8>>, ExchangeFault>
         ensures gives { ActGives (D.wording dialect.now).encoding stamp.now
             self.old (reject self.old place) result self.new }
+        ensures memory { result ≡ Err ExchangeFault.OutOfMemory → UsesNumber self.old (reject self.old place) }
         ensures allowed { IsAct self.old (reject self.old place) }
     {
         let decision = self.decide_end(place, Ending::ByReject, ReportKind::Rejected)?;
@@ -91,6 +94,7 @@ impl Exchange {
     ) -> Result<Option<Vec<u8>>, ExchangeFault>
         ensures gives { ActGives (D.wording dialect.now).encoding stamp.now
             self.old (bust self.old place which) result self.new }
+        ensures memory { result ≡ Err ExchangeFault.OutOfMemory → UsesNumber self.old (bust self.old place which) }
         ensures allowed { IsAct self.old (bust self.old place which) }
     {
         let decision = self.decide_bust(place, which)?;
@@ -101,6 +105,7 @@ impl Exchange {
     #[tactic(auto, using(crate::proofs::Testing::test_allowed))]
     pub fn test(&mut self, alloc: Global, stamp: &Stamp) -> Result<Option<Vec<u8>>, ExchangeFault>
         ensures gives { ActGives no_dialect stamp.now self.old (test self.old) result self.new }
+        ensures memory { result ≡ Err ExchangeFault.OutOfMemory → UsesNumber self.old (test self.old) }
         ensures allowed { IsAct self.old (test self.old) }
     {
         match self.live {
@@ -134,8 +139,10 @@ impl Exchange {
     ) -> Result<Option<Vec<u8>>, ExchangeFault>
         requires there { IsFor self.old place decision.step }
         requires fit { IfOk (order_answer self.old place decision) IsFit }
-        ensures { ActGives (D.wording dialect.now).encoding stamp.now
+        ensures gives { ActGives (D.wording dialect.now).encoding stamp.now
             self.old (answered self.old (order_answer self.old place decision)) result self.new }
+        ensures memory { result ≡ Err ExchangeFault.OutOfMemory
+            → UsesNumber self.old (answered self.old (order_answer self.old place decision)) }
     {
         let OrderDecision { split, step, kind } = decision;
         let leg = self.orders[place - 1].leg();

@@ -1,6 +1,6 @@
 //! What an exchange does with the messages it gets.
 
-ghost use Rattle.std.specs.Prelude.{◌≡◌, List, OnOk, OnErr, All};
+ghost use Rattle.std.specs.Prelude.{◌≡◌, ◌<◌, List, OnOk, OnErr, All, length};
 ghost use Rattle.fix_tags.specs.Range.{range_end, is_range};
 ghost use Rattle.dialect.specs.Message.{decoded};
 ghost use Rattle.dialect.specs.Writable.{IsWritable};
@@ -26,8 +26,8 @@ use leg::Leg;
 use std::alloc::{AllocError, Global};
 
 impl Exchange {
-    /// A message comes in a connection. It gives the frames of what is written, in order. The only refusal is want of
-    /// memory, X04: the message is then to be handed in again.
+    /// A message comes in a connection. It gives the frames of what is written, in order. The only refusal is out of
+    /// memory, X04, and only where something is written: the message is then to be handed in again.
     #[tactic(auto, using(crate::proofs::Taking::take_allowed))]
     pub fn take<D: Dialect>(
         &mut self,
@@ -39,6 +39,8 @@ impl Exchange {
     ) -> Result<Vec<Vec<u8>>, ExchangeFault>
         ensures gives { TakeGives (D.wording dialect.now).encoding stamp.now self.old
             (take self.old connection (decoded (D.wording dialect.now).decoding envelope.now)) result self.new }
+        ensures memory { OnErr result
+            (0 < length (take self.old connection (decoded (D.wording dialect.now).decoding envelope.now)).0) }
         ensures allowed { IsAnswer self.old connection (decoded (D.wording dialect.now).decoding envelope.now)
             (take self.old connection (decoded (D.wording dialect.now).decoding envelope.now)) }
     {
@@ -61,8 +63,9 @@ impl Exchange {
         frames: &mut Vec<Vec<u8>>,
     ) -> Result<(), AllocError>
         requires { All IsWritable (asked_answer self.now asked) }
-        ensures { OnOk result (Writes (D.wording dialect.now).encoding stamp.now (asked_answer self.now asked)
+        ensures written { OnOk result (Writes (D.wording dialect.now).encoding stamp.now (asked_answer self.now asked)
             frames.old.items frames.new.items) }
+        ensures some { OnErr result (0 < length (asked_answer self.now asked)) }
     {
         let Some(asked) = asked else {
             return Ok(());
@@ -101,6 +104,7 @@ impl Exchange {
             (action_answer self.old action.entry).0 frames.old.items frames.new.items) }
         ensures ok { OnOk result (self.new ≡ (action_answer self.old action.entry).1) }
         ensures err { OnErr result (self.new ≡ self.old) }
+        ensures some { OnErr result (0 < length (action_answer self.old action.entry).0) }
     {
         match action {
             Action::Nothing => Ok(()),
@@ -163,6 +167,7 @@ impl Exchange {
             (turn_answer self.old turn.entry).0 frames.old.items frames.new.items) }
         ensures ok { OnOk result (self.new ≡ (turn_answer self.old turn.entry).1) }
         ensures err { OnErr result (self.new ≡ self.old) }
+        ensures some { OnErr result (0 < length (turn_answer self.old turn.entry).0) }
     {
         let Turn {
             expected,
@@ -193,8 +198,9 @@ impl Exchange {
         frames: &mut Vec<Vec<u8>>,
     ) -> Result<(), AllocError>
         requires { All IsWritable (turn_written self.now expected says) }
-        ensures { OnOk result (Writes (D.wording dialect.now).encoding stamp.now
+        ensures written { OnOk result (Writes (D.wording dialect.now).encoding stamp.now
             (turn_written self.now expected says.entry) frames.old.items frames.new.items) }
+        ensures some { OnErr result (0 < length (turn_written self.now expected says.entry)) }
     {
         let number = self.own.len() as u64 + 1;
         match says {
@@ -239,16 +245,17 @@ fn use_of(content: &Content<'_>) -> SentRecord
     }
 }
 
-/// Uses the next own numbers. Out of memory leaves them as they were.
+/// Uses the next own numbers. Out of memory, which is answered only where there are some, leaves them as they were.
 fn use_numbers(own: &mut Vec<SentRecord>, used: Used) -> Result<(), AllocError>
     ensures ok { OnOk result (own.new.items ≡ used_own own.old.items used) }
     ensures err { OnErr result (own.new.items ≡ own.old.items) }
+    ensures some { OnErr result (length own.old.items < length (used_own own.old.items used)) }
 {
-    own.reserve(2)?;
     match used {
         Used::Nothing => {}
-        Used::One(entry) => own.push_reserved(entry),
+        Used::One(entry) => own.push(entry)?,
         Used::Two => {
+            own.reserve(2)?;
             own.push_reserved(SentRecord::Admin);
             own.push_reserved(SentRecord::Admin);
         }

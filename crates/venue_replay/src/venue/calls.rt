@@ -14,7 +14,7 @@ use session_core::{Ended, SessionFault};
 use std::alloc::AllocError;
 
 impl<D: Dialect + Drop> Venue<D> {
-    /// The session connects, if it may: its Logon is written. It gives the session's refusal, if it refuses; want of
+    /// The session connects, if it may: its Logon is written. It gives the session's refusal, if it refuses; out of
     /// memory is this call's own.
     pub fn connect(&mut self) -> Result<Option<SessionFault>, AllocError>
         ensures now { OnOk result (self.new ≡ sent self.old (connect self.old.session)) }
@@ -48,7 +48,7 @@ impl<D: Dialect + Drop> Venue<D> {
         }
     }
 
-    /// Nothing was heard for a while. It gives why the connection ended, if it did, or the session's refusal; want of
+    /// Nothing was heard for a while. It gives why the connection ended, if it did, or the session's refusal; out of
     /// memory is this call's own.
     pub fn silent(&mut self) -> Result<Result<Option<Ended>, SessionFault>, AllocError>
         ensures now { OnOk result (self.new ≡ called self.old (silent self.old.session)) }

@@ -19,7 +19,7 @@ returns-in-Ok-receive-clause-heard g c =
       next = sym c.in-Ok-Some.ensures.fields ∙ ap (option_map fields_in) c.in-Ok-Some.field-0-is;
       says = c.in-Ok.ensures.read;
       gave = gave_step w s c.receive.new.self (call.Receive c.in-Ok.envelope) (answers (receive s (decoded w.decoding c.in-Ok.envelope))) c.args.stamp.now
-          c.in-Ok-receive.step tt refl c.in-Ok-receive.ensures;
+          c.in-Ok-receive.step tt refl c.in-Ok-receive.ensures.gives;
     }
 
 pub returns-in-Ok-None-clause-heard : goal.returns-in-Ok-None-clause-heard

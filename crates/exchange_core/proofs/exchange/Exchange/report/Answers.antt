@@ -47,8 +47,8 @@ unwrap-view-requires g c =
     let some = view_there c.leg-leg.result c.id_of_order-order_id.result c.filled.result c.still_open.result c.new.result c.new.ensures fits in
     there_is c.new.result _ some
 
-pub returns : goal.returns
-returns g c =
+pub returns-clause-gives : goal.returns-clause-gives
+returns-clause-gives g c =
     let x = c.args.self.now in
     let decision = c.args.decision in
     let order = c.requires.there.order in

@@ -2,8 +2,8 @@ use Rattle.std.proofs.Common.{◌≡◌, ◌+◌, suc, length, ap, arith}
 use Rattle.exchange_core.proofs.Turning.{says_two}
 use Rattle.exchange_core.proofs.exchange.Exchange.say.Goals as goal
 
-pub returns-in_ok-write-in-OneAndRequest : goal.returns-in_ok-write-in-OneAndRequest
-returns-in_ok-write-in-OneAndRequest g c =
+pub returns-in_ok-write-in-OneAndRequest-clause-written : goal.returns-in_ok-write-in-OneAndRequest-clause-written
+returns-in_ok-write-in-OneAndRequest-clause-written g c =
     let x = c.self.inside in
     let number : c.len.result + 1 ≡ suc (length c.args.self.now.own) =
     omega (arith, c.len.ensures, x.own.ok.0, ap (λ s. length s.own) c.self.view_is) in

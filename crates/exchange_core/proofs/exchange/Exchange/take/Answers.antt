@@ -30,7 +30,7 @@ returns-clause-gives g c =
     taken_gives (g.D.Dialect.wording c.args.dialect.now).encoding
     c.args.stamp.now c.args.self.now c.args.connection c.decode-message.result _ c.decide-decision.result
     c.new-frames.result.items c.send_again.new.frames.items c.carry_out.new.frames c.carry_out.new.self
-    c.decode-message.ensures.value c.decide-decision.ensures.answer c.new-frames.ensures.items c.in_ok-send_again.ensures
+    c.decode-message.ensures.value c.decide-decision.ensures.answer c.new-frames.ensures.items c.in_ok-send_again.ensures.written
     c.in_ok-carry_out.ensures.written c.in_ok-carry_out.ensures.ok
 
 pub returns-clause-allowed : goal.returns-clause-allowed

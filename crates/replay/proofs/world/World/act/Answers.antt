@@ -1,37 +1,27 @@
-use Rattle.std.proofs.Common.{◌≡◌, ◌<◌, length, sym, ap, subst, ◌∙◌}
+use Rattle.std.proofs.Common.{ap, ◌∙◌}
 use Rattle.schedule.specs.declared.event.Event.TheVariants as event
-use Rattle.schedule.specs.World.{World, VenueParts}
-use Rattle.schedule.specs.Happening.{with_venue, happens, act_of}
-use Rattle.replay.specs.Telling.{by_exchange, told}
+use Rattle.schedule.specs.Happening.{act_of}
+use Rattle.replay.specs.Telling.{by_exchange}
 use Rattle.venue_replay.specs.Ending.{refusal_of}
-use Rattle.venue_replay.proofs.WorldAfter.{is_there}
+use Rattle.replay.proofs.AtVenue.{setting, happened, told_so}
 use Rattle.replay.proofs.EventsHappen.{act_happens}
 use Rattle.replay.proofs.Tells.{told_here}
 use Rattle.replay.proofs.world.World.act.Goals as goal
 
 pub returns-clause-world : goal.returns-clause-world
 returns-clause-world g c =
-    let w : World = record { desk = c.self.inside.desk.desk; book = c.self.inside.book; venues = c.self.inside.venues.items } in
-    let v = c.args.venue in
-    let before : VenueParts = c.index_mut.result.now in
-    let a = c.args.act.now in
-    let now : VenueParts = c.act.new.self in
-    let low : v < length w.venues = subst (λ (world : World). v < length world.venues) (sym c.self.view_is) c.requires in
-    let same = c.from.ensures ∙ c.number.ensures.value in
-    let there = is_there w.venues c.from.result v before same low c.index_mut.ensures.value in
-    subst (λ (world : World). with_venue w c.from.result now ≡ happens world (event.Act v a)) c.self.view_is
-    ((λ k. with_venue w (same k) now) ∙ act_happens w v before now a there c.in_ok-refused.ensures.now)
+    let s =
+    setting _ c.args.self.now c.from.result _ c.args.venue c.index_mut.result.now c.self.view_is c.from.ensures
+    c.number.ensures.value c.requires c.index_mut.ensures.value in
+    happened _ c.args.self.now _ _ _ _ c.act.new.self (event.Act c.args.venue c.args.act.now) s
+    (act_happens _ _ _ _ c.args.act.now s.there c.in_ok-refused.ensures.now)
 
 pub returns-clause-told : goal.returns-clause-told
 returns-clause-told g c =
-    let w : World = record { desk = c.self.inside.desk.desk; book = c.self.inside.book; venues = c.self.inside.venues.items } in
-    let v = c.args.venue in
-    let before : VenueParts = c.index_mut.result.now in
-    let a = c.args.act.now in
-    let low : v < length w.venues = subst (λ (world : World). v < length world.venues) (sym c.self.view_is) c.requires in
-    let same = c.from.ensures ∙ c.number.ensures.value in
-    let there = is_there w.venues c.from.result v before same low c.index_mut.ensures.value in
-    subst (λ (world : World). c.by_exchange.result ≡ told world (event.Act v a)) c.self.view_is
+    let s =
+    setting _ c.args.self.now c.from.result _ c.args.venue c.index_mut.result.now c.self.view_is c.from.ensures
+    c.number.ensures.value c.requires c.index_mut.ensures.value in
+    told_so _ c.args.self.now _ _ _ (event.Act c.args.venue c.args.act.now) c.by_exchange.result s
     (c.by_exchange.ensures
     ∙ (ap by_exchange c.in_ok-refused.ensures.refused
-    ∙ told_here w v before (λ venue. by_exchange (refusal_of (act_of a venue.exchange))) there))
+    ∙ told_here _ _ _ (λ venue. by_exchange (refusal_of (act_of c.args.act.now venue.exchange))) s.there))

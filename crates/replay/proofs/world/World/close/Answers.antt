@@ -1,62 +1,49 @@
-use Rattle.std.proofs.Common.{◌≡◌, ◌<◌, length, sym, ap, subst, ◌∙◌, Some, None}
+use Rattle.std.proofs.Common.{sym, ap, ◌∙◌, None}
 use Rattle.session_core.specs.Calling.{close}
 use Rattle.schedule.specs.declared.event.Event.TheVariants as event
-use Rattle.schedule.specs.World.{World, VenueParts}
-use Rattle.schedule.specs.Happening.{with_venue, happens}
-use Rattle.replay.specs.Telling.{by_session, told}
+use Rattle.schedule.specs.World.{World}
+use Rattle.schedule.specs.Happening.{with_venue}
+use Rattle.replay.specs.Telling.{by_session}
 use Rattle.venue_replay.specs.Ending.{refusal_of}
-use Rattle.venue_replay.proofs.WorldAfter.{is_there}
+use Rattle.replay.proofs.AtVenue.{setting, happened, told_so}
 use Rattle.replay.proofs.EventsHappen.{close_refused, close_happens}
 use Rattle.replay.proofs.Tells.{told_here}
 use Rattle.replay.proofs.world.World.close.Goals as goal
 
 pub returns-in-Some-clause-world : goal.returns-in-Some-clause-world
 returns-in-Some-clause-world g c =
-    let w : World = record { desk = c.self.inside.desk.desk; book = c.self.inside.book; venues = c.self.inside.venues.items } in
-    let v = c.args.venue in
-    let before : VenueParts = c.index_mut.result.now in
-    let now : VenueParts = c.close.new.self in
-    let low : v < length w.venues = subst (λ (world : World). v < length world.venues) (sym c.self.view_is) c.requires in
-    let same = c.from.ensures ∙ c.number.ensures.value in
-    let there = is_there w.venues c.from.result v before same low c.index_mut.ensures.value in
-    subst (λ (world : World). with_venue w c.from.result now ≡ happens world (event.Close v)) c.self.view_is
-    ((λ k. with_venue w (same k) now)
-    ∙ close_refused w v before now c.in-Some.fault there (sym c.in-Some.is ∙ c.in_ok-refused.ensures.refused) c.in_ok-refused.ensures.now)
+    let s =
+    setting _ c.args.self.now c.from.result _ c.args.venue c.index_mut.result.now c.self.view_is c.from.ensures
+    c.number.ensures.value c.requires c.index_mut.ensures.value in
+    happened _ c.args.self.now _ _ _ _ c.close.new.self (event.Close c.args.venue) s
+    (close_refused _ _ _ _ c.in-Some.fault s.there (sym c.in-Some.is ∙ c.in_ok-refused.ensures.refused)
+    c.in_ok-refused.ensures.now)
 
 pub returns-in-Some-clause-told : goal.returns-in-Some-clause-told
 returns-in-Some-clause-told g c =
-    let w : World = record { desk = c.self.inside.desk.desk; book = c.self.inside.book; venues = c.self.inside.venues.items } in
-    let v = c.args.venue in
-    let before : VenueParts = c.index_mut.result.now in
-    let low : v < length w.venues = subst (λ (world : World). v < length world.venues) (sym c.self.view_is) c.requires in
-    let same = c.from.ensures ∙ c.number.ensures.value in
-    let there = is_there w.venues c.from.result v before same low c.index_mut.ensures.value in
-    subst (λ (world : World). c.by_session.result ≡ told world (event.Close v)) c.self.view_is
+    let s =
+    setting _ c.args.self.now c.from.result _ c.args.venue c.index_mut.result.now c.self.view_is c.from.ensures
+    c.number.ensures.value c.requires c.index_mut.ensures.value in
+    told_so _ c.args.self.now _ _ _ (event.Close c.args.venue) c.by_session.result s
     (c.by_session.ensures
     ∙ (ap by_session (sym c.in-Some.is ∙ c.in_ok-refused.ensures.refused)
-    ∙ told_here w v before (λ venue. by_session (refusal_of (close venue.session))) there))
+    ∙ told_here _ _ _ (λ venue. by_session (refusal_of (close venue.session))) s.there))
 
 pub returns-in-None-clause-world : goal.returns-in-None-clause-world
 returns-in-None-clause-world g c =
-    let w : World = record { desk = c.self.inside.desk.desk; book = c.self.inside.book; venues = c.self.inside.venues.items } in
-    let v = c.args.venue in
-    let before : VenueParts = c.index_mut.result.now in
-    let now : VenueParts = c.close.new.self in
-    let low : v < length w.venues = subst (λ (world : World). v < length world.venues) (sym c.self.view_is) c.requires in
-    let same = c.from.ensures ∙ c.number.ensures.value in
-    let there = is_there w.venues c.from.result v before same low c.index_mut.ensures.value in
-    subst (λ (world : World). with_venue (record w { desk = c.shut.new.self.desk }) c.from.result now ≡ happens world (event.Close v)) c.self.view_is
-    ((λ k. with_venue (record w { desk = c.shut.ensures.desk k }) (same k) now)
-    ∙ close_happens w v before now there (sym c.in-None.is ∙ c.in_ok-refused.ensures.refused) c.in_ok-refused.ensures.now)
+    let s =
+    setting _ c.args.self.now c.from.result _ c.args.venue c.index_mut.result.now c.self.view_is c.from.ensures
+    c.number.ensures.value c.requires c.index_mut.ensures.value in
+    let left : World = record { desk = c.shut.new.self.desk; book = c.self.inside.book; venues = c.self.inside.venues.items } in
+    happened _ c.args.self.now left _ _ _ c.close.new.self (event.Close c.args.venue) s
+    (ap (λ desk. with_venue (record left { desk = desk }) c.args.venue c.close.new.self) c.shut.ensures.desk
+    ∙ close_happens _ _ _ _ s.there (sym c.in-None.is ∙ c.in_ok-refused.ensures.refused) c.in_ok-refused.ensures.now)
 
 pub returns-in-None-clause-told : goal.returns-in-None-clause-told
 returns-in-None-clause-told g c =
-    let w : World = record { desk = c.self.inside.desk.desk; book = c.self.inside.book; venues = c.self.inside.venues.items } in
-    let v = c.args.venue in
-    let before : VenueParts = c.index_mut.result.now in
-    let low : v < length w.venues = subst (λ (world : World). v < length world.venues) (sym c.self.view_is) c.requires in
-    let same = c.from.ensures ∙ c.number.ensures.value in
-    let there = is_there w.venues c.from.result v before same low c.index_mut.ensures.value in
-    subst (λ (world : World). by_session None ≡ told world (event.Close v)) c.self.view_is
+    let s =
+    setting _ c.args.self.now c.from.result _ c.args.venue c.index_mut.result.now c.self.view_is c.from.ensures
+    c.number.ensures.value c.requires c.index_mut.ensures.value in
+    told_so _ c.args.self.now _ _ _ (event.Close c.args.venue) (by_session None) s
     (ap by_session (sym c.in-None.is ∙ c.in_ok-refused.ensures.refused)
-    ∙ told_here w v before (λ venue. by_session (refusal_of (close venue.session))) there)
+    ∙ told_here _ _ _ (λ venue. by_session (refusal_of (close venue.session))) s.there)

@@ -21,7 +21,7 @@ returns-in-Ok-clause-moves g c =
     subst (λ (x : SessionIoParts). Moves w x now) c.self.view_is
     (moves_written w old between now c.in-Ok.step
     (asks_step w old.session c.close.new.self call.Close (close old.session) c.now-stamp.result c.in-Ok.step old.wire old.stream tt refl
-    (λ said. tt) (λ said. refl) (close_on old.session) c.in-Ok.ensures)
+    (λ said. tt) (λ said. refl) (close_on old.session) c.in-Ok.ensures.gives)
     c.write_all.ensures.wire c.write_all.ensures.stream)
 
 pub returns-in-Ok-clause-idle : goal.returns-in-Ok-clause-idle
@@ -31,7 +31,7 @@ returns-in-Ok-clause-idle g c =
     let now : SessionIoParts = c.write_all.new.self in
     let between : SessionIoParts = io_of c.close.new.self old.wire old.stream in
     idle_may_break between.session now.session
-    (idle_closed (IsStep w.encoding c.now-stamp.result) old.session between.session c.in-Ok.step c.in-Ok.ensures)
+    (idle_closed (IsStep w.encoding c.now-stamp.result) old.session between.session c.in-Ok.step c.in-Ok.ensures.gives)
     (writes_breaks (concat c.in-Ok.step.out) between now c.write_all.ensures.wire)
 
 pub returns-in-Err-OutOfMemory-clause-moves : goal.returns-in-Err-OutOfMemory-clause-moves
@@ -43,7 +43,7 @@ returns-in-Err-OutOfMemory-clause-moves g c =
     subst (λ (x : SessionIoParts). Moves w x now) c.self.view_is
     (moves_on w old between now
     (moves_refused (IsStep w.encoding c.now-stamp.result) w old between call.Close (close old.session) _ tt refl
-    (λ said. tt) (λ said. refl) (close_on old.session) c.in-Err-OutOfMemory.ensures (stays_here old.wire) refl)
+    (λ said. tt) (λ said. refl) (close_on old.session) c.in-Err-OutOfMemory.ensures.gives (stays_here old.wire) refl)
     (moves_broken w between now c.break_off.ensures.session c.break_off.ensures.wire))
 
 pub returns-in-Err-OutOfMemory-clause-idle : goal.returns-in-Err-OutOfMemory-clause-idle
@@ -56,10 +56,10 @@ returns-in-Err-clause-moves g c =
     let now : SessionIoParts = io_of c.close.new.self old.wire old.stream in
     subst (λ (x : SessionIoParts). Moves w x now) c.self.view_is
     (moves_refused (IsStep w.encoding c.now-stamp.result) w old now call.Close (close old.session) c.in-Err.field-0 tt refl
-    (λ said. tt) (λ said. refl) (close_on old.session) c.in-Err.ensures (stays_here old.wire) refl)
+    (λ said. tt) (λ said. refl) (close_on old.session) c.in-Err.ensures.gives (stays_here old.wire) refl)
 
 pub returns-in-Err-clause-idle : goal.returns-in-Err-clause-idle
 returns-in-Err-clause-idle g c =
     let w : Wording = g.D.Dialect.wording c.args.dialect.now in
     let other : c.in-Err.field-0 ≡ SessionFault.OutOfMemory → ⊥ = search rules in
-    idle_refused (IsStep w.encoding c.now-stamp.result) c.self.inside.session c.close.new.self c.in-Err.field-0 other c.in-Err.ensures
+    idle_refused (IsStep w.encoding c.now-stamp.result) c.self.inside.session c.close.new.self c.in-Err.field-0 other c.in-Err.ensures.gives

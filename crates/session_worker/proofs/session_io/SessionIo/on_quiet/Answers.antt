@@ -19,7 +19,7 @@ returns-in-Ok g c =
     let now : SessionIoParts = io_of c.quiet.new.self old.wire old.stream in
     subst (λ (x : SessionIoParts). Asks w x c.in-Ok.step now) c.self.view_is
     (asks_step w old.session c.quiet.new.self call.Quiet (quiet old.session) c.now-stamp.result c.in-Ok.step old.wire old.stream tt refl
-    (λ said. tt) (λ said. refl) (quiet_on old.session) c.in-Ok.ensures)
+    (λ said. tt) (λ said. refl) (quiet_on old.session) c.in-Ok.ensures.gives)
 
 pub returns-in-Err-OutOfMemory : goal.returns-in-Err-OutOfMemory
 returns-in-Err-OutOfMemory g c =
@@ -30,7 +30,7 @@ returns-in-Err-OutOfMemory g c =
     subst (λ (x : SessionIoParts). Moves w x now) c.self.view_is
     (moves_on w old between now
     (moves_refused (IsStep w.encoding c.now-stamp.result) w old between call.Quiet (quiet old.session) _ tt refl
-    (λ said. tt) (λ said. refl) (quiet_on old.session) c.in-Err-OutOfMemory.ensures (stays_here old.wire) refl)
+    (λ said. tt) (λ said. refl) (quiet_on old.session) c.in-Err-OutOfMemory.ensures.gives (stays_here old.wire) refl)
     (moves_broken w between now c.break_off.ensures.session c.break_off.ensures.wire))
 
 pub returns-in-Err : goal.returns-in-Err
@@ -40,4 +40,4 @@ returns-in-Err g c =
     let now : SessionIoParts = io_of c.quiet.new.self old.wire old.stream in
     subst (λ (x : SessionIoParts). Moves w x now) c.self.view_is
     (moves_refused (IsStep w.encoding c.now-stamp.result) w old now call.Quiet (quiet old.session) c.in-Err.field-0 tt refl
-    (λ said. tt) (λ said. refl) (quiet_on old.session) c.in-Err.ensures (stays_here old.wire) refl)
+    (λ said. tt) (λ said. refl) (quiet_on old.session) c.in-Err.ensures.gives (stays_here old.wire) refl)

@@ -20,7 +20,7 @@ invariant_of-self g c =
     let s = v.session in
     step_kept w s c.close.new.self v.exchange v.to_exchange.items c.keep.new.kept.items v.from_exchange.items
     c.stamp.result c.connection-connection.result (close s) c.in-Ok.step c.into_vec.result.items c.keep.result c.self.invariant c.stamp.ensures
-    c.in-Ok.ensures (close_sound s c.self.invariant.session) (close_writable s c.self.invariant.session) c.into_vec.ensures
+    c.in-Ok.ensures.gives (close_sound s c.self.invariant.session) (close_writable s c.self.invariant.session) c.into_vec.ensures
     c.connection-connection.ensures c.keep.ensures.ok c.keep.ensures.err
 
 pub invariant_of-self-in-Ok : goal.invariant_of-self-in-Ok
@@ -30,7 +30,7 @@ invariant_of-self-in-Ok g c =
     let s = v.session in
     step_kept w s c.close.new.self v.exchange v.to_exchange.items c.keep.new.kept.items v.from_exchange.items
     c.stamp.result c.connection-connection.result (close s) c.in-Ok.step c.into_vec.result.items c.keep.result c.self.invariant c.stamp.ensures
-    c.in-Ok.ensures (close_sound s c.self.invariant.session) (close_writable s c.self.invariant.session) c.into_vec.ensures
+    c.in-Ok.ensures.gives (close_sound s c.self.invariant.session) (close_writable s c.self.invariant.session) c.into_vec.ensures
     c.connection-connection.ensures c.keep.ensures.ok c.keep.ensures.err
 
 pub invariant_of-self-in-Err : goal.invariant_of-self-in-Err
@@ -38,7 +38,7 @@ invariant_of-self-in-Err g c =
     let v = c.self.inside in
     let w : Encoding = (g.D.Dialect.wording v.dialect).encoding in
     let s = v.session in
-    let sound = given_sound (IsStep w c.stamp.result) s c.close.new.self (close s) c.close.result c.close.ensures c.self.invariant.session (close_sound s c.self.invariant.session) in
+    let sound = given_sound (IsStep w c.stamp.result) s c.close.new.self (close s) c.close.result c.close.ensures.gives c.self.invariant.session (close_sound s c.self.invariant.session) in
     still_kept w s c.close.new.self v.exchange v.to_exchange.items v.to_exchange.items v.from_exchange.items c.self.invariant sound refl
 
 pub returns-in_ok-keep-in-Ok-clause-now : goal.returns-in_ok-keep-in-Ok-clause-now
@@ -58,7 +58,7 @@ returns-in_ok-keep-in-Ok-clause-now g c =
     let now : VenueParts = record before { session = c.close.new.self; to_exchange = all_said r c.keep.new.kept.items } in
     subst (λ (venue : VenueParts). now ≡ called venue (close venue.session)) c.self.view_is
     (step_said w r agrees before v.to_exchange.items c.keep.new.kept.items c.stamp.result c.connection-connection.result
-    (close v.session) c.in-Ok.step c.into_vec.result.items c.close.new.self refl c.stamp.ensures c.in-Ok.ensures
+    (close v.session) c.in-Ok.step c.into_vec.result.items c.close.new.self refl c.stamp.ensures c.in-Ok.ensures.gives
     (close_writable v.session c.self.invariant.session) c.into_vec.ensures c.connection-connection.ensures c.in_ok-keep-in-Ok.ensures.ok)
 
 pub returns-in_ok-keep-in-Ok-clause-refused : goal.returns-in_ok-keep-in-Ok-clause-refused
@@ -66,7 +66,7 @@ returns-in_ok-keep-in-Ok-clause-refused g c =
     let v = c.self.inside in
     let w : Encoding = (g.D.Dialect.wording v.dialect).encoding in
     subst (λ (venue : VenueParts). None ≡ refusal_of (close venue.session)) c.self.view_is
-    (not_refused (IsStep w c.stamp.result) v.session c.close.new.self (close v.session) c.in-Ok.step c.in-Ok.ensures)
+    (not_refused (IsStep w c.stamp.result) v.session c.close.new.self (close v.session) c.in-Ok.step c.in-Ok.ensures.gives)
 
 pub returns-in-Err-clause-refused : goal.returns-in-Err-clause-refused
 returns-in-Err-clause-refused g c =
@@ -74,4 +74,4 @@ returns-in-Err-clause-refused g c =
     let w : Encoding = (g.D.Dialect.wording v.dialect).encoding in
     let other : c.in-Err.fault ≡ SessionFault.OutOfMemory → ⊥ = search rules in
     subst (λ (venue : VenueParts). Some c.in-Err.fault ≡ refusal_of (close venue.session)) c.self.view_is
-    (refused_so (IsStep w c.stamp.result) v.session c.close.new.self (close v.session) c.in-Err.fault other c.in-Err.ensures)
+    (refused_so (IsStep w c.stamp.result) v.session c.close.new.self (close v.session) c.in-Err.fault other c.in-Err.ensures.gives)

@@ -20,7 +20,7 @@ invariant_of-self g c =
     let s = v.session in
     step_kept w s c.silent.new.self v.exchange v.to_exchange.items c.keep.new.kept.items v.from_exchange.items
     c.stamp.result c.connection-connection.result (silent s) c.in-Ok.step c.into_vec.result.items c.keep.result c.self.invariant c.stamp.ensures
-    c.in-Ok.ensures (silent_sound s c.self.invariant.session) (silent_writable s c.self.invariant.session) c.into_vec.ensures
+    c.in-Ok.ensures.gives (silent_sound s c.self.invariant.session) (silent_writable s c.self.invariant.session) c.into_vec.ensures
     c.connection-connection.ensures c.keep.ensures.ok c.keep.ensures.err
 
 pub invariant_of-self-in-Ok : goal.invariant_of-self-in-Ok
@@ -30,7 +30,7 @@ invariant_of-self-in-Ok g c =
     let s = v.session in
     step_kept w s c.silent.new.self v.exchange v.to_exchange.items c.keep.new.kept.items v.from_exchange.items
     c.stamp.result c.connection-connection.result (silent s) c.in-Ok.step c.into_vec.result.items c.keep.result c.self.invariant c.stamp.ensures
-    c.in-Ok.ensures (silent_sound s c.self.invariant.session) (silent_writable s c.self.invariant.session) c.into_vec.ensures
+    c.in-Ok.ensures.gives (silent_sound s c.self.invariant.session) (silent_writable s c.self.invariant.session) c.into_vec.ensures
     c.connection-connection.ensures c.keep.ensures.ok c.keep.ensures.err
 
 pub invariant_of-self-in-Err-OutOfMemory : goal.invariant_of-self-in-Err-OutOfMemory
@@ -38,7 +38,7 @@ invariant_of-self-in-Err-OutOfMemory g c =
     let v = c.self.inside in
     let w : Encoding = (g.D.Dialect.wording v.dialect).encoding in
     let s = v.session in
-    let sound = given_sound (IsStep w c.stamp.result) s c.silent.new.self (silent s) c.silent.result c.silent.ensures c.self.invariant.session (silent_sound s c.self.invariant.session) in
+    let sound = given_sound (IsStep w c.stamp.result) s c.silent.new.self (silent s) c.silent.result c.silent.ensures.gives c.self.invariant.session (silent_sound s c.self.invariant.session) in
     still_kept w s c.silent.new.self v.exchange v.to_exchange.items v.to_exchange.items v.from_exchange.items c.self.invariant sound refl
 
 pub invariant_of-self-in-Err : goal.invariant_of-self-in-Err
@@ -46,7 +46,7 @@ invariant_of-self-in-Err g c =
     let v = c.self.inside in
     let w : Encoding = (g.D.Dialect.wording v.dialect).encoding in
     let s = v.session in
-    let sound = given_sound (IsStep w c.stamp.result) s c.silent.new.self (silent s) c.silent.result c.silent.ensures c.self.invariant.session (silent_sound s c.self.invariant.session) in
+    let sound = given_sound (IsStep w c.stamp.result) s c.silent.new.self (silent s) c.silent.result c.silent.ensures.gives c.self.invariant.session (silent_sound s c.self.invariant.session) in
     still_kept w s c.silent.new.self v.exchange v.to_exchange.items v.to_exchange.items v.from_exchange.items c.self.invariant sound refl
 
 pub returns-in_ok-keep-in-Ok-clause-now : goal.returns-in_ok-keep-in-Ok-clause-now
@@ -66,7 +66,7 @@ returns-in_ok-keep-in-Ok-clause-now g c =
     let now : VenueParts = record before { session = c.silent.new.self; to_exchange = all_said r c.keep.new.kept.items } in
     subst (λ (venue : VenueParts). now ≡ called venue (silent venue.session)) c.self.view_is
     (step_said w r agrees before v.to_exchange.items c.keep.new.kept.items c.stamp.result c.connection-connection.result
-    (silent v.session) c.in-Ok.step c.into_vec.result.items c.silent.new.self refl c.stamp.ensures c.in-Ok.ensures
+    (silent v.session) c.in-Ok.step c.into_vec.result.items c.silent.new.self refl c.stamp.ensures c.in-Ok.ensures.gives
     (silent_writable v.session c.self.invariant.session) c.into_vec.ensures c.connection-connection.ensures c.in_ok-keep-in-Ok.ensures.ok)
 
 pub returns-in_ok-keep-in-Ok-clause-ended : goal.returns-in_ok-keep-in-Ok-clause-ended
@@ -74,7 +74,7 @@ returns-in_ok-keep-in-Ok-clause-ended g c =
     let v = c.self.inside in
     let w : Encoding = (g.D.Dialect.wording v.dialect).encoding in
     subst (λ (venue : VenueParts). Ok c.in-Ok.step.ended ≡ ending_of (silent venue.session)) c.self.view_is
-    (said_ending w c.stamp.result v.session c.silent.new.self (silent v.session) c.in-Ok.step c.in-Ok.ensures)
+    (said_ending w c.stamp.result v.session c.silent.new.self (silent v.session) c.in-Ok.step c.in-Ok.ensures.gives)
 
 pub returns-in-Err-clause-now : goal.returns-in-Err-clause-now
 returns-in-Err-clause-now g c =
@@ -91,7 +91,7 @@ returns-in-Err-clause-now g c =
     let other : c.in-Err.fault ≡ SessionFault.OutOfMemory → ⊥ = search rules in
     let now : VenueParts = record before { session = c.silent.new.self } in
     subst (λ (venue : VenueParts). now ≡ called venue (silent venue.session)) c.self.view_is
-    (called_refused w c.stamp.result before (silent v.session) c.in-Err.fault c.silent.new.self other c.in-Err.ensures)
+    (called_refused w c.stamp.result before (silent v.session) c.in-Err.fault c.silent.new.self other c.in-Err.ensures.gives)
 
 pub returns-in-Err-clause-ended : goal.returns-in-Err-clause-ended
 returns-in-Err-clause-ended g c =
@@ -99,4 +99,4 @@ returns-in-Err-clause-ended g c =
     let w : Encoding = (g.D.Dialect.wording v.dialect).encoding in
     let other : c.in-Err.fault ≡ SessionFault.OutOfMemory → ⊥ = search rules in
     subst (λ (venue : VenueParts). Err c.in-Err.fault ≡ ending_of (silent venue.session)) c.self.view_is
-    (no_ending w c.stamp.result v.session c.silent.new.self (silent v.session) c.in-Err.fault other c.in-Err.ensures)
+    (no_ending w c.stamp.result v.session c.silent.new.self (silent v.session) c.in-Err.fault other c.in-Err.ensures.gives)
