@@ -71,6 +71,11 @@ impl VenueView {
         self.board.taken()
     }
 
+    /// How many of them are settled: the exchange took them, or they were withdrawn.
+    pub fn settled_legs(&self) -> u64 {
+        self.board.taken().saturating_sub(self.board.doubts())
+    }
+
     /// Up to which of them none is in doubt.
     pub fn settled(&self) -> u64 {
         self.board.settled()

@@ -37,6 +37,7 @@ abbrev pub legs_samples : VenueRow → List ℕ
 legs_samples row =
     venue_sample (codes "dispatch_legs") row.status.venue (codes ",state=\"queued\"") row.status.unsent
     ++ venue_sample (codes "dispatch_legs") row.status.venue (codes ",state=\"doubt\"") row.status.doubt
+    ++ venue_sample (codes "dispatch_legs") row.status.venue (codes ",state=\"settled\"") row.settled
 
 -- the samples of what went both ways
 abbrev pub ways_samples : List ℕ → List ℕ → ℕ → ℕ → List ℕ

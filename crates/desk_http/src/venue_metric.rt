@@ -71,7 +71,8 @@ fn write_legs(text: &mut String, venue: &VenueRow) -> Result<(), AllocError>
     let metric = "dispatch_legs";
     let name = &venue.status.venue;
     write_sample(text, metric, name, ",state=\"queued\"", venue.status.unsent)?;
-    write_sample(text, metric, name, ",state=\"doubt\"", venue.status.doubt)
+    write_sample(text, metric, name, ",state=\"doubt\"", venue.status.doubt)?;
+    write_sample(text, metric, name, ",state=\"settled\"", venue.settled)
 }
 
 /// Appends the samples of what went both ways.

@@ -82,6 +82,7 @@ heard_json (Some ms) = decimal ms ++ codes "}"
 unfoldable pub counts_json : VenueRow → List ℕ
 counts_json venue =
     codes ",\"unsent\":" ++ decimal venue.status.unsent ++ codes ",\"doubt\":" ++ decimal venue.status.doubt
+    ++ codes ",\"settled\":" ++ decimal venue.settled
     ++ codes ",\"lost\":" ++ decimal venue.status.lost ++ codes ",\"connections\":" ++ decimal venue.connections
     ++ codes ",\"refused_dials\":" ++ decimal venue.refused_dials ++ codes ",\"sent\":" ++ decimal venue.messages_sent
     ++ codes ",\"received\":" ++ decimal venue.messages_received

@@ -8,6 +8,8 @@ use leg::{LegId, LegState, Terms, Totals};
 #[derive(Debug, PartialEq, Eq, Drop)]
 pub struct VenueRow {
     pub status: VenueStatus,
+    /// How many of its legs are settled: the exchange took them, or they were withdrawn.
+    pub settled: u64,
     /// How many connections it had in this day.
     pub connections: u64,
     /// How many dials failed.

@@ -148,6 +148,7 @@ fn write_counts(text: &mut String, venue: &VenueRow) -> Result<(), AllocError>
 {
     let unsent = venue.status.unsent;
     let doubt = venue.status.doubt;
+    let settled = venue.settled;
     let lost = venue.status.lost;
     let connections = venue.connections;
     let refused_dials = venue.refused_dials;
@@ -157,7 +158,7 @@ fn write_counts(text: &mut String, venue: &VenueRow) -> Result<(), AllocError>
     let bytes_received = venue.bytes_received;
     write!(
         text,
-        ",\"unsent\":{unsent},\"doubt\":{doubt},\"lost\":{lost}"
+        ",\"unsent\":{unsent},\"doubt\":{doubt},\"settled\":{settled},\"lost\":{lost}"
     )?;
     write!(
         text,

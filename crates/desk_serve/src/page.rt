@@ -6,6 +6,7 @@ use desk_http::Door;
 use exec_collector::Collector;
 use leg::Totals;
 use std::alloc::{AllocError, Global};
+use std::fmt::Display;
 use std::net::SocketAddr;
 use std::sync::atomic::{AtomicU64, Ordering};
 use std::sync::ledger::Ledger;
@@ -22,13 +23,23 @@ pub(crate) struct Page {
     sums: Mutex<PartSums>,
 }
 
+/// HTTP's own port, which a browser leaves out of `Host`.
+const HTTP_PORT: u16 = 80;
+
+/// A host and a port, as a browser's `Host` has them.
+fn host_of<H: Display>(alloc: Global, host: &H, port: u16) -> Result<String, AllocError> {
+    if port == HTTP_PORT {
+        return format!(in alloc; "{host}");
+    }
+    format!(in alloc; "{host}:{port}")
+}
+
 /// What else the address is called: `localhost` where it is the loopback address.
 fn other_name(alloc: Global, at: &SocketAddr) -> Result<Option<String>, AllocError> {
     if !at.ip().is_loopback() {
         return Ok(None);
     }
-    let port = at.port();
-    Ok(Some(format!(in alloc; "localhost:{port}")?))
+    Ok(Some(host_of(alloc, &"localhost", at.port())?))
 }
 
 /// What has to be told where a call changes the day: nothing without a token.
@@ -49,7 +60,7 @@ impl Page {
     ) -> Result<Page, AllocError> {
         Ok(Page {
             door: Door {
-                host: format!(in alloc; "{address}")?,
+                host: host_of(alloc, &address.host, at.port())?,
                 other_name: other_name(alloc, at)?,
                 authorization: authorization(alloc, token)?,
             },

@@ -45,6 +45,7 @@ pub(crate) fn venue_row<L: Run, M: Ledger, W: Write + Drop>(
     let traffic = view.traffic();
     Ok(Some(VenueRow {
         status,
+        settled: view.settled_legs(),
         connections: traffic.connections(),
         refused_dials: traffic.refused_dials(),
         messages_sent: traffic.messages_sent(),

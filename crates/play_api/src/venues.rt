@@ -112,6 +112,7 @@ impl Venues {
                 lost: 0,
                 state: state_of(if is_amiss { self.word.as_str() } else { "up" }),
             },
+            settled: 2,
             connections: 1,
             refused_dials: 0,
             messages_sent: 3,
