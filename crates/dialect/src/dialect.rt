@@ -59,8 +59,9 @@ pub trait Dialect {
         ensures value { result ≡ (wording self.now).decoding.order fields.now }
         ensures in_range { IfOk result IsLeg };
 
-    /// Appends the fields of a report, beside what its exchange knows of the order. V05 leaves the list as it was. Where
-    /// no id of the exchange's is longer than 24 bytes it comes only where the list has no room for sixteen more fields.
+    /// Appends the fields of a report, beside what its exchange knows of the order. V05 leaves the list as it was.
+    /// Where no id of the exchange's is longer than 24 bytes it comes only where the list has no room for sixteen more
+    /// fields.
     fn write_report(
         &self,
         alloc: Global,

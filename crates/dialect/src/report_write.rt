@@ -165,7 +165,8 @@ fn list_report<S: Spelling>(
     ensures ok { OnOk result (fields.new.items
         ≡ fields.old.items ++ report_fields (S.spelling spelling.now) report.now view.now) }
     ensures err { OnErr result (IsGrown fields.old.items fields.new.items) }
-    ensures full { HasShortIds 24 report.now view.now → OnErr result (vec_capacity fields.old < vec_len fields.old + 14) }
+    ensures full { HasShortIds 24 report.now view.now
+        → OnErr result (vec_capacity fields.old < vec_len fields.old + 14) }
 {
     fields.reserve(REPORT_ROOM)?;
     push_report(spelling, alloc, report, view, fields)
@@ -185,7 +186,8 @@ pub(crate) fn write_report<S: Spelling>(
     ensures ok { OnOk result
         (Appends (IsReportOf (S.spelling spelling.now) report.now view.now) fields.old.items fields.new.items) }
     ensures err { OnErr result (fields.new.items ≡ fields.old.items) }
-    ensures full { HasShortIds 24 report.now view.now → OnErr result (vec_capacity fields.old < vec_len fields.old + 14) }
+    ensures full { HasShortIds 24 report.now view.now
+        → OnErr result (vec_capacity fields.old < vec_len fields.old + 14) }
 {
     // That the report and the view are in range is known once they were read.
     report.in_range();

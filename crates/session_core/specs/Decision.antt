@@ -72,7 +72,8 @@ decided s decision = record {
   };
   session =
       viewed s.config (logged (settled_log decision.settling s.log) decision.lines.items)
-      (with_fences (fences_left decision.settling s.current.fences) decision.lines.items) s.connection decision.standing;
+      (with_fences (fences_left decision.settling s.current.fences) decision.lines.items) s.connection
+      decision.standing;
 }
 
 -- what was decided on is the answer of the definition, or its refusal

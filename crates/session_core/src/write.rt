@@ -151,8 +151,8 @@ impl Session {
         }
     }
 
-    /// What was decided is written and put in place. All that takes memory comes first: the frames, the ids of legs that
-    /// are withdrawn, and a place for each fence.
+    /// What was decided is written and put in place. All that takes memory comes first: the frames, the ids of legs
+    /// that are withdrawn, and a place for each fence.
     pub(crate) fn carry_out<D: Dialect>(
         &mut self,
         dialect: &D,

@@ -127,8 +127,8 @@ impl Exchange {
         Ok(Some(frame))
     }
 
-    /// Reports what a decision says of the order at a place, and takes its step. The report is kept whether or not it is
-    /// written.
+    /// Reports what a decision says of the order at a place, and takes its step. The report is kept whether or not it
+    /// is written.
     fn report<D: Dialect>(
         &mut self,
         alloc: Global,
