@@ -9,7 +9,8 @@
 //! - `open_logs` gives a log for each venue and one for the lines, and answers `NameTaken` exactly where a venue is
 //!   called `sweeps`. What is put under a log's lock, that a file is there or isn't, and that the writer's thread
 //!   comes to write are said nowhere: what it writes of a batch is `LogWriter`'s promise.
-//! - What `Traffic` counts, and how long orders wait to be written (`OrderTimes`), is only tested.
+//! - What `Traffic` counts, how long orders wait to be written (`OrderTimes`), and what a venue said as it logged out
+//!   (`LogoutText`), is only tested.
 #![tactic(auto)]
 
 mod counts;
@@ -22,6 +23,7 @@ pub mod laws;
 mod line_log;
 mod log_file;
 mod logged_link;
+mod logout_text;
 mod order_times;
 mod piece;
 mod recorder;
@@ -36,6 +38,7 @@ pub use header::{SWEEPS_HEADER, header_line};
 pub use line_log::LineLog;
 pub use log_file::LogFile;
 pub use logged_link::LoggedLink;
+pub use logout_text::LogoutText;
 pub use order_times::{BOUNDS, OrderTimes, moment};
 pub use recorder::Recorder;
 pub use traffic::Traffic;

@@ -32,45 +32,49 @@ pub struct Recorder<'a, R: Wait + time::Clock, C: Clock + Drop> {
     received: Piece,
 }
 
-/// Notes a message that ended in the log, if one is kept, and begins the next.
-fn end_message<R: Wait>(
-    rt: &R,
-    log: Option<&VenueLog>,
-    stamp: &Stamp,
+/// Where the messages of one way are noted, and when they went over it.
+struct Notes<'a, R: Wait> {
+    rt: &'a R,
+    traffic: &'a Traffic,
+    log: Option<&'a VenueLog>,
+    stamp: Stamp,
     direction: Direction,
-    piece: &mut Piece,
-)
-    ensures { piece.new ≡ new_piece }
-{
-    if let Some(log) = log {
-        log.note(rt, stamp, direction, piece.text());
-    }
-    piece.begin();
 }
 
-/// Reads bytes that went one way, with the message that is under way there, and hands on each message that ends in
-/// them. It says how many these were.
-fn note<R: Wait>(
-    rt: &R,
-    log: Option<&VenueLog>,
-    stamp: &Stamp,
-    direction: Direction,
-    piece: &mut Piece,
-    bytes: &[u8],
-) -> u64
-    ensures { (result, piece.new) ≡ splits piece.old bytes.now }
-{
-    let mut messages: u64 = 0;
-    let mut rest = bytes;
-    while !rest.is_empty() {
-        let taken = piece.take(rest);
-        rest = rest.split_at(taken.count).1;
-        if taken.is_whole {
-            messages = messages.saturating_add(1);
-            end_message(rt, log, stamp, direction, piece);
+impl<'a, R: Wait> Notes<'a, R> {
+    /// Notes a message that ended in the log, if one is kept, and what it says if it is the venue's Logout; and begins
+    /// the next.
+    fn end_message(&self, piece: &mut Piece)
+        ensures { piece.new ≡ new_piece }
+    {
+        if let Some(log) = self.log {
+            log.note(self.rt, &self.stamp, self.direction, piece.text());
         }
+        if self.direction == Direction::Received {
+            if let Some(message) = piece.text() {
+                self.traffic.logout_text().hear(self.rt, message);
+            }
+        }
+        piece.begin();
     }
-    messages
+
+    /// Reads bytes, with the message that is under way, and notes each message that ends in them. It says how many these
+    /// were.
+    fn take(&self, piece: &mut Piece, bytes: &[u8]) -> u64
+        ensures { (result, piece.new) ≡ splits piece.old bytes.now }
+    {
+        let mut messages: u64 = 0;
+        let mut rest = bytes;
+        while !rest.is_empty() {
+            let taken = piece.take(rest);
+            rest = rest.split_at(taken.count).1;
+            if taken.is_whole {
+                messages = messages.saturating_add(1);
+                self.end_message(piece);
+            }
+        }
+        messages
+    }
 }
 
 /// Whether bytes begin with an order: its third field is MsgType (35), and D (FIX 4.4 Volume 2, "Standard Message
@@ -100,6 +104,7 @@ impl<'a, R: Wait + time::Clock, C: Clock + Drop> Recorder<'a, R, C> {
     /// A new connection began. What was under way on the one before is no message.
     pub(crate) fn dialled(&mut self) {
         self.traffic.count_connection();
+        self.traffic.logout_text().begin(self.rt);
         self.sent.begin();
         self.received.begin();
     }
@@ -112,15 +117,14 @@ impl<'a, R: Wait + time::Clock, C: Clock + Drop> Recorder<'a, R, C> {
     /// The link took these bytes.
     pub(crate) fn sent(&mut self, bytes: &[u8]) {
         self.time_order(bytes);
-        let stamp = self.clock.now();
-        let messages = note(
-            self.rt,
-            self.log.as_deref(),
-            &stamp,
-            Direction::Sent,
-            &mut self.sent,
-            bytes,
-        );
+        let notes = Notes {
+            rt: self.rt,
+            traffic: &self.traffic,
+            log: self.log.as_deref(),
+            stamp: self.clock.now(),
+            direction: Direction::Sent,
+        };
+        let messages = notes.take(&mut self.sent, bytes);
         self.traffic.count_sent(bytes.len() as u64, messages);
     }
 
@@ -134,15 +138,14 @@ impl<'a, R: Wait + time::Clock, C: Clock + Drop> Recorder<'a, R, C> {
 
     /// The link gave these bytes.
     pub(crate) fn received(&mut self, bytes: &[u8]) {
-        let stamp = self.clock.now();
-        let messages = note(
-            self.rt,
-            self.log.as_deref(),
-            &stamp,
-            Direction::Received,
-            &mut self.received,
-            bytes,
-        );
+        let notes = Notes {
+            rt: self.rt,
+            traffic: &self.traffic,
+            log: self.log.as_deref(),
+            stamp: self.clock.now(),
+            direction: Direction::Received,
+        };
+        let messages = notes.take(&mut self.received, bytes);
         self.traffic.count_received(bytes.len() as u64, messages);
     }
 }

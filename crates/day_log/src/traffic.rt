@@ -1,10 +1,12 @@
-//! What went over the link of a venue, in numbers.
+//! What went over the link of a venue.
 
+use crate::logout_text::LogoutText;
 use crate::order_times::OrderTimes;
 use std::sync::atomic::{AtomicU64, Ordering};
 
 /// What went over the link of a venue since the day began, in numbers that one thread counts and others read. Each of
-/// them may be read while the next is counted, so they need not be of one moment.
+/// them may be read while the next is counted, so they need not be of one moment. And what the venue said as it logged
+/// out.
 #[derive(Drop)]
 pub struct Traffic {
     messages_sent: AtomicU64,
@@ -14,6 +16,7 @@ pub struct Traffic {
     connections: AtomicU64,
     refused_dials: AtomicU64,
     order_times: OrderTimes,
+    logout_text: LogoutText,
 }
 
 impl Traffic {
@@ -27,6 +30,7 @@ impl Traffic {
             connections: AtomicU64::new(0),
             refused_dials: AtomicU64::new(0),
             order_times: OrderTimes::new(),
+            logout_text: LogoutText::new(),
         }
     }
 
@@ -63,6 +67,11 @@ impl Traffic {
     /// How long its orders waited to be written.
     pub fn order_times(&self) -> &OrderTimes {
         &self.order_times
+    }
+
+    /// What the venue said as it logged out.
+    pub fn logout_text(&self) -> &LogoutText {
+        &self.logout_text
     }
 
     /// Counts a dial that was answered.

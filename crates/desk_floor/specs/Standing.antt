@@ -3,6 +3,7 @@ use Rattle.std.specs.Prelude.{ℕ, Bool, true, false, ◌||◌, ◌==◌, nat_lt
 use Rattle.leg.specs.Split.{SplitParts}
 use Rattle.leg.specs.declared.leg_state.LegState.{LegState}
 use Rattle.leg.specs.declared.leg_state.LegState.TheVariants.{Queued, Doubt, Taken, Withdrawn}
+use Rattle.session_core.specs.declared.ended.Ended.{Ended}
 use Rattle.session_core.specs.declared.ended.Ended.TheVariants.{PeerLogout}
 use Rattle.link.specs.declared.dial_error.DialError.{DialError}
 use Rattle.link.specs.declared.dial_error.DialError.TheVariants.{Refused, TimedOut, HostUnreachable, NetworkUnreachable, Other}
@@ -11,7 +12,8 @@ use Rattle.venue_board.specs.declared.loss.Loss.TheVariants as loss
 use Rattle.venue_board.specs.declared.progress.Progress.{Progress}
 use Rattle.venue_board.specs.declared.progress.Progress.TheVariants as progress
 use Rattle.desk_news.specs.declared.cause.Cause.{Cause}
-use Rattle.desk_news.specs.declared.cause.Cause.TheVariants.{Ended, Lost}
+use Rattle.desk_news.specs.declared.cause.Cause.TheVariants as of
+use Rattle.desk_news.specs.declared.cause.Cause.TheVariants.{Said, Lost}
 use Rattle.desk_news.specs.declared.venue_state.VenueState.{VenueState}
 use Rattle.desk_news.specs.declared.venue_state.VenueState.TheVariants as state
 use Rattle.desk_words.specs.Printable.{shown}
@@ -35,14 +37,19 @@ standing_of progress.Dialled is_shut error = if is_shut then Closing else Dialle
 standing_of progress.Up is_shut error = if is_shut then Closing else Up
 standing_of progress.Unreachable is_shut error = if is_shut then Closing else Unreachable (error_or_other error)
 
+-- why a session ended its connection, with what the venue said as it logged out, if it did
+abbrev pub ending_of : Ended → Option (List ℕ) → Cause
+ending_of ended (Some text) = Said ended text
+ending_of ended None = of.Ended ended
+
 -- why a connection ended, as a desk is told
-abbrev pub cause_of : Loss → Cause
-cause_of (loss.Ended ended) = Ended ended
-cause_of loss.PeerClosed = Lost (shown 200 (codes "it closed the connection"))
-cause_of loss.ReadFailed = Lost (shown 200 (codes "read failed"))
-cause_of loss.WriteFailed = Lost (shown 200 (codes "write failed"))
-cause_of loss.OutOfMemory = Lost (shown 200 (codes "out of memory"))
-cause_of loss.NumbersSpent = Lost (shown 200 (codes "no number is left for a logon"))
+abbrev pub cause_of : Loss → Option (List ℕ) → Cause
+cause_of (loss.Ended ended) said = ending_of ended said
+cause_of loss.PeerClosed said = Lost (shown 200 (codes "it closed the connection"))
+cause_of loss.ReadFailed said = Lost (shown 200 (codes "read failed"))
+cause_of loss.WriteFailed said = Lost (shown 200 (codes "write failed"))
+cause_of loss.OutOfMemory said = Lost (shown 200 (codes "out of memory"))
+cause_of loss.NumbersSpent said = Lost (shown 200 (codes "no number is left for a logon"))
 
 -- why a dial failed, as a desk is told
 abbrev pub dial_text : DialError → List ℕ
@@ -52,14 +59,15 @@ dial_text HostUnreachable = shown 200 (codes "host unreachable")
 dial_text NetworkUnreachable = shown 200 (codes "network unreachable")
 dial_text Other = shown 200 (codes "dial failed")
 
--- what a desk is told of it, where the pause before the next dial lasts so many seconds
-abbrev pub state_of : Standing → ℕ → VenueState
-state_of Dialled seconds = state.Dialled
-state_of Up seconds = state.Up
-state_of (Down why) seconds = state.Down (cause_of why)
-state_of (Unreachable error) seconds = state.Unreachable (dial_text error) seconds
-state_of (Closed why) seconds = state.Closed (cause_of why)
-state_of Closing seconds = state.Closed (Lost (shown 200 (codes "the day is closing")))
+-- what a desk is told of it, where the pause before the next dial lasts so many seconds, and the venue said this as it
+-- logged out, if it did
+abbrev pub state_of : Standing → ℕ → Option (List ℕ) → VenueState
+state_of Dialled seconds said = state.Dialled
+state_of Up seconds said = state.Up
+state_of (Down why) seconds said = state.Down (cause_of why said)
+state_of (Unreachable error) seconds said = state.Unreachable (dial_text error) seconds
+state_of (Closed why) seconds said = state.Closed (cause_of why said)
+state_of Closing seconds said = state.Closed (Lost (shown 200 (codes "the day is closing")))
 
 -- how far a leg has come: the book has these parts of it, it is this one of its venue's legs, so many of which were
 -- taken, and none up to the settled one is in doubt

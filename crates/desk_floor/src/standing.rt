@@ -3,7 +3,7 @@
 ghost use Rattle.std.specs.Prelude.{◌≡◌};
 ghost use Rattle.desk_news.specs.declared.cause.Cause.TheVariants.{Lost};
 ghost use Rattle.desk_words.specs.Printable.{shown};
-ghost use Rattle.desk_floor.specs.Standing.{cause_of, dial_text, is_logout, standing_of, state_of};
+ghost use Rattle.desk_floor.specs.Standing.{cause_of, dial_text, ending_of, is_logout, standing_of, state_of};
 
 use desk_news::{Cause, Told, VenueState};
 use desk_words::shown;
@@ -71,12 +71,22 @@ fn lost(words: &[u8]) -> Cause
     Cause::Lost(told(words))
 }
 
+/// Why a session ended its connection, with what the venue said as it logged out, if it did.
+fn ending_of(ended: Ended, said: Option<Told>) -> Cause
+    ensures { result ≡ ending_of ended said }
+{
+    match said {
+        Some(text) => Cause::Said { ended, text },
+        None => Cause::Ended(ended),
+    }
+}
+
 /// Why a connection ended, in words or by its ending.
-fn cause_of(loss: Loss) -> Cause
-    ensures { result ≡ cause_of loss }
+fn cause_of(loss: Loss, said: Option<Told>) -> Cause
+    ensures { result ≡ cause_of loss said }
 {
     match loss {
-        Loss::Ended(ended) => Cause::Ended(ended),
+        Loss::Ended(ended) => ending_of(ended, said),
         Loss::PeerClosed => lost(b"it closed the connection"),
         Loss::ReadFailed => lost(b"read failed"),
         Loss::WriteFailed => lost(b"write failed"),
@@ -99,19 +109,20 @@ fn dial_text(error: DialError) -> Told
 }
 
 impl Standing {
-    /// What a desk is told of it, where the pause before the next dial lasts so many seconds.
-    pub fn state(self, seconds: u64) -> VenueState
-        ensures { result ≡ state_of self seconds }
+    /// What a desk is told of it, where the pause before the next dial lasts so many seconds, and the venue said this as
+    /// it logged out, if it did.
+    pub fn state(self, seconds: u64, said: Option<Told>) -> VenueState
+        ensures { result ≡ state_of self seconds said }
     {
         match self {
             Standing::Dialled => VenueState::Dialled,
             Standing::Up => VenueState::Up,
-            Standing::Down(loss) => VenueState::Down(cause_of(loss)),
+            Standing::Down(loss) => VenueState::Down(cause_of(loss, said)),
             Standing::Unreachable(error) => VenueState::Unreachable {
                 why: dial_text(error),
                 seconds,
             },
-            Standing::Closed(loss) => VenueState::Closed(cause_of(loss)),
+            Standing::Closed(loss) => VenueState::Closed(cause_of(loss, said)),
             Standing::Closing => VenueState::Closed(lost(b"the day is closing")),
         }
     }

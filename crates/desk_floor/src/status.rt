@@ -29,7 +29,8 @@ pub fn venue_status<L: Run, M: Ledger, W: Write + Drop>(
 ) -> Option<VenueStatus> {
     let name = floor.names.get(place)?;
     let seen = floor.seen(place)?;
-    let lost = floor.views.get(place)?.lost(rt);
+    let view = floor.views.get(place)?;
+    let lost = view.lost(rt);
     let venue = seen.venue;
     let released = floor
         .lock
@@ -39,6 +40,6 @@ pub fn venue_status<L: Run, M: Ledger, W: Write + Drop>(
         unsent: released.saturating_sub(seen.taken),
         doubt: seen.doubts,
         lost,
-        state: seen.standing.state(seen.seconds),
+        state: seen.standing.state(seen.seconds, view.said(rt)),
     })
 }

@@ -3,6 +3,7 @@
 use crate::standing::{Standing, standing_of};
 use clock::Clock;
 use day_log::{Traffic, VenueLog};
+use desk_news::Told;
 use leg::VenueId;
 use link::LastDial;
 use std::alloc::{AllocError, Global};
@@ -104,6 +105,11 @@ impl VenueView {
             Some(log) => log.counts(rt).lost,
             None => 0,
         }
+    }
+
+    /// What the venue said as it logged out of its last connection, if it did. It may wait for a lock.
+    pub fn said(&self, rt: &impl Wait) -> Option<Told> {
+        self.traffic.logout_text().now(rt)
     }
 
     /// What is seen of the venue of this number now, whose gate is shut or not.

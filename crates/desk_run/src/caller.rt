@@ -1,6 +1,7 @@
 //! The caller of a day: it takes the lines of the input, in order, and answers each.
 
 use crate::input_lines::{InputLines, Next};
+use crate::open_sweeps::OpenSweeps;
 use crate::status::tell_status;
 use clock::UtcClock;
 use day_log::LineLog;
@@ -63,12 +64,13 @@ where
     R: Wait + Clock,
     C: clock::Clock + Drop,
 {
+    let mut open = OpenSweeps::new(alloc);
     for _ in rt.forever() {
         if floor.signals.is_ending() && !lines.has_more() {
             return Ok(());
         }
         match lines.next(Duration::from_millis(LOOK_MILLIS))? {
-            Next::Line => answer_line(rt, alloc, floor, lines, log)?,
+            Next::Line => answer_line(rt, alloc, floor, lines, &mut open, log)?,
             Next::Nothing => {}
             Next::End => return Ok(()),
         }
@@ -82,6 +84,7 @@ fn answer_line<'a, L, M, W, I, R, C>(
     alloc: Global,
     floor: &Floor<L, M, W>,
     lines: &InputLines<I>,
+    open: &mut OpenSweeps,
     log: &mut LineLog<'a, R, C>,
 ) -> Result<(), TalkFault>
 where
@@ -109,7 +112,7 @@ where
         }
         Ok(Command::Status) => {
             log.taken(line);
-            tell_status(rt, floor, log)
+            tell_status(rt, floor, open, log)
         }
         Err(fault) => {
             log.taken(line);

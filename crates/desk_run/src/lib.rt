@@ -29,6 +29,7 @@ mod input_lines;
 mod keeper;
 mod logs;
 mod news;
+mod open_sweeps;
 mod opening;
 mod pages;
 mod running;

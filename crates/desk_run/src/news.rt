@@ -25,13 +25,19 @@ pub struct Told {
     changes: Changes,
 }
 
-/// The news of how a venue stands, where the pause before its next dial lasts so many seconds.
-fn venue_news(name: &VenueName, standing: Standing, seconds: u64) -> News
-    ensures { result ≡ news.Venue name.now (state_of standing seconds) }
+/// The news of how a venue stands, where the pause before its next dial lasts so many seconds, and the venue said this
+/// as it logged out, if it did.
+fn venue_news(
+    name: &VenueName,
+    standing: Standing,
+    seconds: u64,
+    said: Option<desk_news::Told>,
+) -> News
+    ensures { result ≡ news.Venue name.now (state_of standing seconds said) }
 {
     News::Venue {
         venue: name.clone().unwrap(),
-        state: standing.state(seconds),
+        state: standing.state(seconds, said),
     }
 }
 
@@ -98,9 +104,10 @@ impl Told {
                 continue;
             };
             if self.notes_venue(place, seen.standing)? {
+                let said = floor.views.get(place).and_then(|view| view.said(rt));
                 floor
                     .voice
-                    .say(rt, &venue_news(name, seen.standing, seen.seconds))?;
+                    .say(rt, &venue_news(name, seen.standing, seen.seconds, said))?;
             }
         }
         Ok(())

@@ -1,5 +1,6 @@
 //! What `status` is answered.
 
+use crate::open_sweeps::OpenSweeps;
 use clock::Clock;
 use day_log::LineLog;
 use desk_floor::{Floor, TalkFault, sweep_now, venue_status};
@@ -9,10 +10,12 @@ use std::io::Write;
 use std::sync::Wait;
 use std::sync::ledger::Ledger;
 
-/// Answers `status`: a line for each venue, and one for each sweep that isn't whole.
+/// Answers `status`: a line for each venue, and one for each sweep that isn't whole. It looks at what changed since the
+/// last one.
 pub fn tell_status<'a, L: Run, M: Ledger, W: Write + Drop, R: Wait, C: Clock + Drop>(
     rt: &'a R,
     floor: &Floor<L, M, W>,
+    open: &mut OpenSweeps,
     log: &mut LineLog<'a, R, C>,
 ) -> Result<(), TalkFault> {
     for place in 0..floor.names.len() {
@@ -20,11 +23,12 @@ pub fn tell_status<'a, L: Run, M: Ledger, W: Write + Drop, R: Wait, C: Clock + D
             floor.answer(rt, log, &Status::Venue(status))?;
         }
     }
-    for number in 1..u64::MAX {
-        let Some(sweep) = sweep_now(rt, &floor.collector, number) else {
-            return Ok(());
-        };
-        if sweep.totals.still_open > 0 {
+    open.look(rt, &floor.collector)?;
+    for number in open.numbers() {
+        if *number == 0 {
+            continue;
+        }
+        if let Some(sweep) = sweep_now(rt, &floor.collector, *number) {
             floor.answer(rt, log, &Status::Sweep(sweep))?;
         }
     }

@@ -1,5 +1,16 @@
 //! `dispatch live`: a day over loopback runs in threads, and what became of each sweep is printed.
+//!
+//! Promises:
+//! - `live_run` ends with the status of what it did (`ExitsSo`). Its words were refused, or have a bad value that is the
+//!   first one (`plan_of`), and nothing is printed. Or the text of a day is printed (`day_text`), whose sweeps are those
+//!   of a book that replays from its history, and whose shares were all placed but those of sweeps that were given up:
+//!   with status 0 where an exchange answered, else with that of `no exchange answered`. No audit fails.
+//! - What the words match is the command line parser's. What is told on the screen while a day runs, and that the day is
+//!   cut short where its input asks for it, isn't said.
 #![tactic(auto)]
+
+ghost use Rattle.std.specs.Prelude.{◌≡◌, IfErr};
+ghost use Rattle.live_command.specs.Running.{EndsRun, ExitsSo};
 
 mod fault;
 mod option;
@@ -49,6 +60,7 @@ where
     T: Write + IsTerminal + Drop + Send,
     W: Write,
     E: Write,
+    ensures { ExitsSo (W.contents out.old) (W.contents out.new) result }
 {
     finish(live(rt, alloc, words, input, screen, out), err)
 }
@@ -67,6 +79,7 @@ where
     I: AsRawFd,
     T: Write + IsTerminal + Drop + Send,
     W: Write,
+    ensures { EndsRun (W.contents out.old) (W.contents out.new) result }
 {
     let options = read_options(alloc, words)?;
     let plan = plan_of(&options)?;
@@ -86,7 +99,9 @@ fn watched(
     alloc: Global,
     is_heeded: bool,
     input: &impl AsRawFd,
-) -> Result<Option<Readiness>, CommandFault> {
+) -> Result<Option<Readiness>, CommandFault>
+    ensures { IfErr result (λ fault. fault ≡ CommandFault.NoSocket) }
+{
     if !is_heeded {
         return Ok(None);
     }

@@ -1,6 +1,8 @@
 //! The options of `dispatch live`, as text.
-ghost use Rattle.std.specs.Prelude.{◌≡◌, Some, IfOk, IfErr};
+ghost use Rattle.std.specs.Prelude.{◌≡◌, Some, IfOk, IfErr, MatchResult};
+ghost use Rattle.clap.specs.declared.parser.matches.ArgMatches.{ArgMatches};
 ghost use Rattle.live_command.specs.LiveOption.{matched, AreOptions};
+ghost use Rattle.live_command.specs.Running.{IsOfWords};
 
 use crate::fault::CommandFault;
 use crate::option::{LIVE_OPTIONS, LiveOption};
@@ -101,7 +103,9 @@ fn options_of<'a>(matches: &ArgMatches<'a>) -> Result<Options<'a>, CommandFault>
 pub fn read_options<'a, S: AsStr>(
     alloc: Global,
     words: &'a [S],
-) -> Result<Options<'a>, CommandFault> {
+) -> Result<Options<'a>, CommandFault>
+    ensures { MatchResult result (λ options. (matches : ArgMatches) × AreOptions matches options) IsOfWords }
+{
     let command = live_command(alloc)?.bin_name("dispatch live")?;
     let matches = command.try_get_matches_from(words)?;
     options_of(&matches)

@@ -1,7 +1,7 @@
 use Rattle.std.proofs.Common.{◌≡◌, ℕ, min, List, Option, length}
 use Rattle.day_log.specs.Piece.{split_on}
 use Rattle.day_log.proofs.Split.{behind}
-use Rattle.day_log.proofs.recorder.note.Given as goal
+use Rattle.day_log.proofs.recorder.Notes.take.Given as goal
 
 abbrev pub invariant-loop-rest : goal.invariant-loop-rest
 invariant-loop-rest g l =

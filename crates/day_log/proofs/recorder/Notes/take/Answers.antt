@@ -1,7 +1,7 @@
 use Rattle.std.proofs.Common.{◌≡◌, ◌+◌, ◌∷◌, [], ◌++◌, length, length-append, sym, arith}
 use Rattle.day_log.specs.Piece.{split_on}
 use Rattle.day_log.proofs.Split.{split_ends, split_more}
-use Rattle.day_log.proofs.recorder.note.Goals as goal
+use Rattle.day_log.proofs.recorder.Notes.take.Goals as goal
 
 pub loop-rest-preserved-then-taken : goal.loop-rest-preserved-then-taken
 loop-rest-preserved-then-taken g c =
