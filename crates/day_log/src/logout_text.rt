@@ -1,6 +1,7 @@
 //! What a venue said as it logged out.
 
 use desk_words::{Printable, shown};
+use std::sync::atomic::{AtomicBool, Ordering};
 use std::sync::{Mutex, Wait};
 
 /// What ends a field.
@@ -12,9 +13,11 @@ const MSG_TYPE_AT: usize = 2;
 /// The most bytes of a text that are kept.
 const MAX_TEXT: usize = 200;
 
-/// The Text (58) of the last Logout of a connection, as it is shown: no more of it than 200 characters.
+/// The Text (58) of the last message that came, if that is a Logout, as it is shown: no more of it than 200 characters.
 #[derive(Drop)]
 pub struct LogoutText {
+    // Whether there is a text: so a message that is no Logout seldom takes the lock.
+    is_some: AtomicBool,
     text: Mutex<Option<Printable<MAX_TEXT>>>,
 }
 
@@ -31,32 +34,35 @@ fn text_of(message: &[u8]) -> Option<&[u8]> {
     field.get(3..)
 }
 
+/// What a message says, as it is shown, if it is a Logout with a text.
+fn said_by(message: &[u8]) -> Option<Printable<MAX_TEXT>> {
+    if !is_logout(message) {
+        return None;
+    }
+    let text = text_of(message)?;
+    Some(shown(text))
+}
+
 impl LogoutText {
-    /// No Logout came.
+    /// No message came.
     pub fn new() -> LogoutText {
         LogoutText {
+            is_some: AtomicBool::new(false),
             text: Mutex::new(None),
         }
     }
 
-    /// A connection began, on which no Logout came yet.
-    pub(crate) fn begin(&self, rt: &impl Wait) {
-        *self.text.lock(rt) = None;
-    }
-
-    /// A message came: if it is a Logout, what it says is kept.
+    /// A message came.
     pub(crate) fn hear(&self, rt: &impl Wait, message: &[u8]) {
-        if !is_logout(message) {
+        let text = said_by(message);
+        if text.is_none() && !self.is_some.load(Ordering::SeqCst) {
             return;
         }
-        let text = match text_of(message) {
-            Some(text) => Some(shown(text)),
-            None => None,
-        };
+        self.is_some.store(text.is_some(), Ordering::SeqCst);
         *self.text.lock(rt) = text;
     }
 
-    /// What the last Logout of the connection said, if one came with a text. It may wait for a lock.
+    /// What the last message said, if it is a Logout with a text. It may wait for a lock.
     pub fn now(&self, rt: &impl Wait) -> Option<Printable<MAX_TEXT>> {
         match &*self.text.lock(rt) {
             Some(text) => Some(text.clone().unwrap()),

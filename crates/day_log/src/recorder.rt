@@ -42,8 +42,8 @@ struct Notes<'a, R: Wait> {
 }
 
 impl<'a, R: Wait> Notes<'a, R> {
-    /// Notes a message that ended in the log, if one is kept, and what it says if it is the venue's Logout; and begins
-    /// the next.
+    /// Notes a message that ended in the log, if one is kept, and what the venue said if it is its Logout; and begins the
+    /// next.
     fn end_message(&self, piece: &mut Piece)
         ensures { piece.new ≡ new_piece }
     {
@@ -104,7 +104,6 @@ impl<'a, R: Wait + time::Clock, C: Clock + Drop> Recorder<'a, R, C> {
     /// A new connection began. What was under way on the one before is no message.
     pub(crate) fn dialled(&mut self) {
         self.traffic.count_connection();
-        self.traffic.logout_text().begin(self.rt);
         self.sent.begin();
         self.received.begin();
     }

@@ -4,7 +4,7 @@ use Rattle.leg.specs.Split.{SplitParts}
 use Rattle.leg.specs.declared.leg_state.LegState.{LegState}
 use Rattle.leg.specs.declared.leg_state.LegState.TheVariants.{Queued, Doubt, Taken, Withdrawn}
 use Rattle.session_core.specs.declared.ended.Ended.{Ended}
-use Rattle.session_core.specs.declared.ended.Ended.TheVariants.{PeerLogout}
+use Rattle.session_core.specs.declared.ended.Ended.TheVariants.{PeerLogout, FirstNotLogon}
 use Rattle.link.specs.declared.dial_error.DialError.{DialError}
 use Rattle.link.specs.declared.dial_error.DialError.TheVariants.{Refused, TimedOut, HostUnreachable, NetworkUnreachable, Other}
 use Rattle.venue_board.specs.declared.loss.Loss.{Loss}
@@ -37,9 +37,15 @@ standing_of progress.Dialled is_shut error = if is_shut then Closing else Dialle
 standing_of progress.Up is_shut error = if is_shut then Closing else Up
 standing_of progress.Unreachable is_shut error = if is_shut then Closing else Unreachable (error_or_other error)
 
+-- whether a connection may have ended with the venue's Logout: as it logged out, or in the place of its Logon
+abbrev pub ends_by_logout : Ended → Bool
+ends_by_logout PeerLogout = true
+ends_by_logout FirstNotLogon = true
+ends_by_logout other = false
+
 -- why a session ended its connection, with what the venue said as it logged out, if it did
 abbrev pub ending_of : Ended → Option (List ℕ) → Cause
-ending_of ended (Some text) = Said ended text
+ending_of ended (Some text) = if ends_by_logout ended then Said ended text else of.Ended ended
 ending_of ended None = of.Ended ended
 
 -- why a connection ended, as a desk is told

@@ -3,7 +3,7 @@
 ghost use Rattle.std.specs.Prelude.{◌≡◌};
 ghost use Rattle.desk_news.specs.declared.cause.Cause.TheVariants.{Lost};
 ghost use Rattle.desk_words.specs.Printable.{shown};
-ghost use Rattle.desk_floor.specs.Standing.{cause_of, dial_text, ending_of, is_logout, standing_of, state_of};
+ghost use Rattle.desk_floor.specs.Standing.{cause_of, dial_text, ending_of, ends_by_logout, is_logout, standing_of, state_of};
 
 use desk_news::{Cause, Told, VenueState};
 use desk_words::shown;
@@ -71,13 +71,20 @@ fn lost(words: &[u8]) -> Cause
     Cause::Lost(told(words))
 }
 
+/// Whether a connection may have ended with the venue's Logout: as it logged out, or in the place of its Logon.
+fn ends_by_logout(ended: Ended) -> bool
+    ensures { result ≡ ends_by_logout ended }
+{
+    matches!(ended, Ended::PeerLogout | Ended::FirstNotLogon)
+}
+
 /// Why a session ended its connection, with what the venue said as it logged out, if it did.
 fn ending_of(ended: Ended, said: Option<Told>) -> Cause
     ensures { result ≡ ending_of ended said }
 {
     match said {
-        Some(text) => Cause::Said { ended, text },
-        None => Cause::Ended(ended),
+        Some(text) if ends_by_logout(ended) => Cause::Said { ended, text },
+        _ => Cause::Ended(ended),
     }
 }
 
