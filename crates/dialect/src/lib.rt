@@ -17,9 +17,9 @@
 //!   exactly that message (`writable_messages_are_framed`, `writable_messages_fit`, `frames_read_back`).
 //! - `write_message`, the one writer for both ends of a session, gives exactly such bytes of a message, in any
 //!   dialect and with any stamp: a message in range is refused for lack of memory alone. `append_message` gives them
-//!   behind what a buffer holds, and a refusal leaves that as it was. `see` reads an envelope as exactly the message
-//!   that it is (`seen`), takes no memory, and what it gives is in range (`IsRead`) with nothing asked of its
-//!   caller. `read_order` and `read_report` give legs and reports in range, in every dialect.
+//!   behind what a buffer holds; a refusal, which comes only without room for them, leaves that as it was. `decode`
+//!   reads an envelope as exactly the message that it is (`decoded`), takes no memory, and gives what is in range
+//!   (`IsRead`), asking nothing. `read_order` and `read_report` give legs and reports in range, in every dialect.
 //! - `ExecId`, `OrderId`, `LastPx`, `Fill` and `OrderView` can't be made out of range, and a `Report` is made of
 //!   them.
 #![tactic(auto)]

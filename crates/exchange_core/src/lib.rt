@@ -3,11 +3,11 @@
 //! Promises:
 //! - `Exchange::take` does what its definition says of a message in a connection (`TakeGives` in
 //!   `specs/Frames.antt`): it gives the frames of what is written, in order, each of that very message at the call's
-//!   moment, and the exchange stands as the definition says; or memory was wanted, and nothing changed. It refuses
-//!   nothing else, and asks nothing of its caller.
+//!   moment, and the exchange stands as the definition says; or memory ran out, only where something is written, and
+//!   nothing changed. It refuses nothing else, and asks nothing of its caller.
 //! - `trade`, `cancel_rest`, `reject`, `bust` and `test` are each one equation with the definition (`ActGives`): the
 //!   refusal, in order, or the frame of what is written, if anything is, and the state afterwards. Out of memory is
-//!   answered only where the act would not have been refused, and then nothing changed. What each of the six does is
+//!   answered only where the act would have used a number, and then nothing changed. What each of the six does is
 //!   a step that the rules of `docs/exchange.md` allow (their clauses `allowed`).
 //! - `accepted`, `reports`, `expected`, `closed_at` and `drop_connection` take no memory. The reports on an order
 //!   are well-formed whatever comes and is done (`reports_follow_one_another`): New first with all of the leg open,

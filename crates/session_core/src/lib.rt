@@ -3,8 +3,8 @@
 //! Promises:
 //! - `Session` has every call of `docs/session.md`, and each is one equation with its definition: the refusals in
 //!   their order, the state after, and what is handed back, whose frames are those of the definition's messages at
-//!   the call's moment, in order (`Gives` and `IsStep` in `specs/CallResult.antt`, `AreFramed` of dialect). Want of
-//!   memory, S04, is answered only where the definition's answer is Ok, and then the session is as it was.
+//!   the call's moment, in order (`Gives` and `IsStep` in `specs/CallResult.antt`, `AreFramed` of dialect). Out of
+//!   memory, S04, comes only where the definition's answer is Ok and writes a frame or withdraws legs; nothing changes.
 //! - `confirm`, `malformed`, `broken`, `abandon` and all questions take no memory and are never refused. Every
 //!   session keeps its promises (`IsSound`), and whatever was read is in range, so no call asks anything of its
 //!   caller.
