@@ -33,6 +33,7 @@ pub struct Recorder<'a, R: Wait + time::Clock, C: Clock + Drop> {
 }
 
 /// Where the messages of one way are noted, and when they went over it.
+#[derive(Drop)]
 struct Notes<'a, R: Wait> {
     rt: &'a R,
     traffic: &'a Traffic,

@@ -88,7 +88,7 @@ impl FrameReader {
         self.kept.feed(bytes).map_err(|_| ReaderFault::OutOfMemory)
     }
 
-    /// The next valid frame, lent from what was fed, or `None` where more bytes are needed. The only refusal is out of
+    /// The next valid frame, lent from what was fed, or `None` where more bytes are needed. The only refusal is want of
     /// memory for the places of such a frame's fields, if they are more than 64; it leaves the reader as it was.
     pub fn next(&mut self) -> Result<Option<Frame<'_>>, ReaderFault>
         // The reader's value is then that of `next_read`, or at `Err` the old one.
