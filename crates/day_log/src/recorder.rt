@@ -26,42 +26,45 @@ const MSG_TYPE_AT: usize = 2;
 pub struct Recorder<'a, R: Wait + time::Clock, C: Clock + Drop> {
     rt: &'a R,
     clock: C,
-    traffic: Arc<Traffic, Global>,
-    log: Option<Arc<VenueLog, Global>>,
+    notes: Notes,
     sent: Piece,
     received: Piece,
 }
 
-/// Where the messages of one way are noted, and when they went over it.
+/// Where what goes over a link is noted.
 #[derive(Drop)]
-struct Notes<'a, R: Wait> {
-    rt: &'a R,
-    traffic: &'a Traffic,
-    log: Option<&'a VenueLog>,
-    stamp: Stamp,
-    direction: Direction,
+struct Notes {
+    traffic: Arc<Traffic, Global>,
+    log: Option<Arc<VenueLog, Global>>,
 }
 
-impl<'a, R: Wait> Notes<'a, R> {
-    /// Notes a message that ended in the log, if one is kept, and what the venue said if it is its Logout; and begins the
-    /// next.
-    fn end_message(&self, piece: &mut Piece)
+impl Notes {
+    /// Notes a message that ended in the log, if one is kept, and what the venue said if it is its Logout; and begins
+    /// the next.
+    fn end_message<R: Wait>(&self, rt: &R, stamp: &Stamp, direction: Direction, piece: &mut Piece)
         ensures { piece.new ≡ new_piece }
     {
-        if let Some(log) = self.log {
-            log.note(self.rt, &self.stamp, self.direction, piece.text());
+        if let Some(log) = &self.log {
+            log.note(rt, stamp, direction, piece.text());
         }
-        if self.direction == Direction::Received {
+        if direction == Direction::Received {
             if let Some(message) = piece.text() {
-                self.traffic.logout_text().hear(self.rt, message);
+                self.traffic.logout_text().hear(rt, message);
             }
         }
         piece.begin();
     }
 
-    /// Reads bytes, with the message that is under way, and notes each message that ends in them. It says how many these
-    /// were.
-    fn take(&self, piece: &mut Piece, bytes: &[u8]) -> u64
+    /// Reads bytes that went one way, with the message that is under way there, and notes each message that ends in
+    /// them. It says how many these were.
+    fn take<R: Wait>(
+        &self,
+        rt: &R,
+        stamp: &Stamp,
+        direction: Direction,
+        piece: &mut Piece,
+        bytes: &[u8],
+    ) -> u64
         ensures { (result, piece.new) ≡ splits piece.old bytes.now }
     {
         let mut messages: u64 = 0;
@@ -71,7 +74,7 @@ impl<'a, R: Wait> Notes<'a, R> {
             rest = rest.split_at(taken.count).1;
             if taken.is_whole {
                 messages = messages.saturating_add(1);
-                self.end_message(piece);
+                self.end_message(rt, stamp, direction, piece);
             }
         }
         messages
@@ -95,8 +98,7 @@ impl<'a, R: Wait + time::Clock, C: Clock + Drop> Recorder<'a, R, C> {
         Recorder {
             rt,
             clock,
-            traffic,
-            log,
+            notes: Notes { traffic, log },
             sent: Piece::new(),
             received: Piece::new(),
         }
@@ -104,33 +106,29 @@ impl<'a, R: Wait + time::Clock, C: Clock + Drop> Recorder<'a, R, C> {
 
     /// A new connection began. What was under way on the one before is no message.
     pub(crate) fn dialled(&mut self) {
-        self.traffic.count_connection();
+        self.notes.traffic.count_connection();
         self.sent.begin();
         self.received.begin();
     }
 
     /// No connection could be had.
     pub(crate) fn refused(&mut self) {
-        self.traffic.count_refused_dial();
+        self.notes.traffic.count_refused_dial();
     }
 
     /// The link took these bytes.
     pub(crate) fn sent(&mut self, bytes: &[u8]) {
         self.time_order(bytes);
-        let notes = Notes {
-            rt: self.rt,
-            traffic: &self.traffic,
-            log: self.log.as_deref(),
-            stamp: self.clock.now(),
-            direction: Direction::Sent,
-        };
-        let messages = notes.take(&mut self.sent, bytes);
-        self.traffic.count_sent(bytes.len() as u64, messages);
+        let stamp = self.clock.now();
+        let messages = self
+            .notes
+            .take(self.rt, &stamp, Direction::Sent, &mut self.sent, bytes);
+        self.notes.traffic.count_sent(bytes.len() as u64, messages);
     }
 
     /// Counts how long an order waited whose first bytes these are, if they are.
     fn time_order(&self, bytes: &[u8]) {
-        let times = self.traffic.order_times();
+        let times = self.notes.traffic.order_times();
         if times.is_waiting() && is_order(bytes) {
             times.written(moment(self.rt));
         }
@@ -138,14 +136,16 @@ impl<'a, R: Wait + time::Clock, C: Clock + Drop> Recorder<'a, R, C> {
 
     /// The link gave these bytes.
     pub(crate) fn received(&mut self, bytes: &[u8]) {
-        let notes = Notes {
-            rt: self.rt,
-            traffic: &self.traffic,
-            log: self.log.as_deref(),
-            stamp: self.clock.now(),
-            direction: Direction::Received,
-        };
-        let messages = notes.take(&mut self.received, bytes);
-        self.traffic.count_received(bytes.len() as u64, messages);
+        let stamp = self.clock.now();
+        let messages = self.notes.take(
+            self.rt,
+            &stamp,
+            Direction::Received,
+            &mut self.received,
+            bytes,
+        );
+        self.notes
+            .traffic
+            .count_received(bytes.len() as u64, messages);
     }
 }

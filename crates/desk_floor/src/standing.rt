@@ -116,8 +116,8 @@ fn dial_text(error: DialError) -> Told
 }
 
 impl Standing {
-    /// What a desk is told of it, where the pause before the next dial lasts so many seconds, and the venue said this as
-    /// it logged out, if it did.
+    /// What a desk is told of it, where the pause before the next dial lasts so many seconds, and the venue said this
+    /// as it logged out, if it did.
     pub fn state(self, seconds: u64, said: Option<Told>) -> VenueState
         ensures { result ≡ state_of self seconds said }
     {

@@ -34,8 +34,8 @@ impl OpenSweeps {
         }
     }
 
-    /// Looks at a book: from then on these are the sweeps that have open shares now. It may wait for the book's lock. The
-    /// only refusal is out of memory, after which it goes on where it was.
+    /// Looks at a book: from then on these are the sweeps that have open shares now. It may wait for the book's lock.
+    /// The only refusal is out of memory, after which it goes on where it was.
     pub fn look<M: Ledger>(
         &mut self,
         rt: &impl Wait,
