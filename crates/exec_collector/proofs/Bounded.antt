@@ -1,19 +1,17 @@
 -- In a book that its history leads to, each leg is for one of its venues, and no more than 10^18 shares were opened.
-use Rattle.std.proofs.Common.{◌≡◌, ℕ, zero, suc, ◌+◌, ◌<◌, ◌≤◌, Bool, true, false, List, [], ◌∷◌, ◌++◌, length, Option, Some, None, Ok, Err, inl, inr, refl, ap, sym, ◌∙◌, subst, arith, if◌then◌else◌}
+use Rattle.std.proofs.Common.{◌≡◌, ℕ, zero, suc, ◌+◌, ◌<◌, ◌≤◌, Bool, true, false, List, [], ◌∷◌, ◌++◌, length, Some, None, Ok, Err, inl, inr, refl, ap, sym, ◌∙◌, subst, arith, if◌then◌else◌}
 use Rattle.std.specs.Prelude.{◌==◌, ◌&&◌, slice_get, sum_by, option_and_then, nat_le, nat_lt}
 use Rattle.std.specs.List.{list_all}
 use Rattle.std.proofs.lemmas.Bool.{and_parts, ltb-true, leb-true}
 use Rattle.std.proofs.lemmas.List.Sums.{sum_by_push}
 use Rattle.leg.specs.LegId.{LegIdParts}
 use Rattle.leg.specs.Numbered.{numbered}
-use Rattle.leg.specs.Split.{leg_shares}
 use Rattle.leg.specs.declared.sweep.Routed.{Routed}
-use Rattle.leg.specs.declared.sweep.Sweep.{Sweep}
 use Rattle.share_ledger.specs.declared.book_entry.BookEntry.{BookEntry}
 use Rattle.share_ledger.specs.declared.book_entry.BookEntry.TheVariants.{Opened, Withdrawn, Moved}
 use Rattle.share_ledger.specs.declared.book_fault.BookFault.TheVariants.{NotNext, Unfit}
 use Rattle.share_ledger.specs.Entries.{sweep_shares, opened, order_of}
-use Rattle.share_ledger.specs.Book.{BookParts, BookAnswer, new_book, written, resolved_of, resolved_shares, leg_parts, all_booked_from, venue_resolved, opened_shares, is_fit, next_sweep, open_sweep, again, replay}
+use Rattle.share_ledger.specs.Book.{BookParts, BookAnswer, new_book, written, resolved_of, resolved_shares, leg_parts, all_booked_from, venue_resolved, opened_shares, is_fit, next_sweep, again, replay}
 use Rattle.share_ledger.proofs.OneMore.{opened-append, opened-withdrawn, opened-moved}
 use Rattle.share_ledger.proofs.Outcomes.{withdraw_outcome, apply_outcome}
 use Rattle.share_ledger.proofs.Sound.{IsSound, numbered-nil, sound-new, sound-replay}

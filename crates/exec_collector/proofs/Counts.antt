@@ -1,5 +1,5 @@
 -- What each call makes of a book that its history leads to, and of what it has resolved.
-use Rattle.std.proofs.Common.{◌≡◌, ◌≢◌, ℕ, zero, suc, ◌+◌, ◌-◌, ◌<◌, ◌≤◌, Bool, true, false, List, [], ◌∷◌, ◌++◌, map, Option, Some, None, Result, Ok, Err, IsOk, inl, inr, refl, ap, sym, ◌∙◌, subst, arith, if◌then◌else◌}
+use Rattle.std.proofs.Common.{◌≡◌, ℕ, zero, suc, ◌+◌, ◌-◌, ◌≤◌, Bool, true, false, List, [], ◌∷◌, map, Option, Some, None, Result, Ok, Err, IsOk, inl, inr, refl, ap, sym, ◌∙◌, subst, arith, if◌then◌else◌}
 use Rattle.std.specs.Prelude.{◌==◌, nat_le}
 use Rattle.std.proofs.lemmas.Bool.{eqb-true, leb-true}
 use Rattle.leg.specs.Answering.{Answers}
@@ -14,7 +14,6 @@ use Rattle.dialect.specs.declared.note.Note.{Note}
 use Rattle.dialect.specs.declared.note.Note.TheVariants as note
 use Rattle.share_ledger.specs.declared.applied.Applied.{Applied}
 use Rattle.share_ledger.specs.declared.applied.Applied.TheVariants as applied
-use Rattle.share_ledger.specs.declared.book_entry.BookEntry.{BookEntry}
 use Rattle.share_ledger.specs.declared.book_entry.BookEntry.TheVariants.{Opened, Withdrawn, Moved}
 use Rattle.share_ledger.specs.declared.book_fault.BookFault.{BookFault}
 use Rattle.share_ledger.specs.declared.book_fault.BookFault.TheVariants as fault
@@ -27,7 +26,7 @@ use Rattle.share_ledger.proofs.Outcomes.{open_outcome, others-withdraw, others-a
 use Rattle.share_ledger.proofs.Sound.{let_in}
 use Rattle.share_ledger.proofs.LegSteps.{steps-apply, steps-withdraw}
 use Rattle.share_ledger.proofs.Adding.{leg_adds_up}
-use Rattle.exec_collector.specs.Resolved.{sum_below, resolved, Replays, OnlyOpens, Gains, GainsBy, GainsLeg}
+use Rattle.exec_collector.specs.Resolved.{sum_below, resolved, Replays, OnlyOpens, Gains, GainsBy}
 use Rattle.exec_collector.proofs.Bounded.{bounded_book, sound_book, few_below}
 use Rattle.exec_collector.proofs.Resolving.{this_venue, all_venues, opened_all}
 

@@ -3,3 +3,4 @@ pub mod Weighed
 pub mod Bounded
 pub mod Resolving
 pub mod Counts
+pub mod Walks

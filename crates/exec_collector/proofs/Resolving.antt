@@ -1,14 +1,13 @@
 -- A call that changes the parts of one leg changes what the leg's venue has resolved by as much, and no other venue's.
-use Rattle.std.proofs.Common.{◌≡◌, ◌≢◌, ℕ, zero, suc, ◌+◌, ◌<◌, ◌≤◌, true, false, List, [], ◌∷◌, ◌++◌, length, Option, Some, None, inl, inr, refl, ap, sym, ◌∙◌, subst, arith}
+use Rattle.std.proofs.Common.{◌≡◌, ◌≢◌, ℕ, zero, suc, ◌+◌, ◌<◌, ◌≤◌, false, List, [], ◌∷◌, length, Option, Some, None, inl, inr, refl, ap, sym, ◌∙◌, subst, arith}
 use Rattle.std.specs.Prelude.{◌==◌, slice_get, option_and_then}
 use Rattle.std.proofs.lemmas.Bool.{cases_Bool, eq-eqb, ne_eqb}
 use Rattle.std.proofs.lemmas.Option.{slice_get_past}
 use Rattle.leg.specs.LegId.{LegIdParts}
 use Rattle.leg.specs.Numbered.{numbered}
-use Rattle.leg.specs.Split.{SplitParts, all_open}
+use Rattle.leg.specs.Split.{SplitParts}
 use Rattle.leg.specs.declared.sweep.Routed.{Routed}
 use Rattle.share_ledger.specs.declared.booked_leg.BookedLeg.{BookedLeg}
-use Rattle.share_ledger.specs.declared.book_entry.BookEntry.{BookEntry}
 use Rattle.share_ledger.specs.declared.book_entry.BookEntry.TheVariants.{Opened}
 use Rattle.share_ledger.specs.Entries.{opened, order_of, is_same_leg}
 use Rattle.share_ledger.specs.Book.{BookParts, leg_parts, all_booked_from, resolved_of, venue_resolved, written, open_sweep}

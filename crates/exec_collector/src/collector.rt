@@ -1,6 +1,6 @@
 //! The book behind a lock.
 
-ghost use Rattle.std.specs.Prelude.{◌≡◌, ◌≤◌, replicate, IfOk, IsOkUnless, MatchResult};
+ghost use Rattle.std.specs.Prelude.{◌≡◌, ◌≤◌, ◌++◌, ◌∷◌, [], replicate, IfOk, IsOkUnless, MatchResult, OnOk};
 ghost use Rattle.std.specs.Fn.{FnOnceReturnsAt, FnOnceReturnsAtMut};
 ghost use Rattle.share_ledger.specs.Book.{BookParts, totals};
 ghost use Rattle.exec_collector.specs.Calls.{CallGives};
@@ -39,10 +39,7 @@ impl<M: Ledger> Collector<M> {
         let mut seats = Vec::with_capacity(alloc, usize::from(venues))?;
         let (total, mut whole) = blank.open::<M>();
         for _ in 0..venues {
-            seats.push_reserved(WorkerSeat {
-                shares: 0,
-                share: whole.split_off(1, 0),
-            });
+            seats.push_reserved(WorkerSeat::new(whole.split_off(1, 0)));
         }
         let counted = CountedBook {
             venues,
@@ -55,8 +52,8 @@ impl<M: Ledger> Collector<M> {
         Ok((collector, seats))
     }
 
-    /// Applies a note of a venue; the seat gains the shares that cease to be open. B02, and the note may be applied
-    /// again.
+    /// Applies a note of a venue; the seat gains the shares that cease to be open, and the note as one that was booked.
+    /// No other call books one. B02, and the note may be applied again.
     pub fn apply(
         &self,
         rt: &impl Wait,
@@ -67,6 +64,7 @@ impl<M: Ledger> Collector<M> {
         ensures gains { MatchResult result (λ applied. GainsBy note.now applied seat.old.shares seat.new.shares)
             (λ fault. (fault ≡ BookFault.OutOfMemory) × (seat.new ≡ seat.old)) }
         ensures parts { seat.new.parts ≡ seat.old.parts }
+        ensures booked { OnOk result (seat.new.booked ≡ seat.old.booked ++ note.now ∷ []) }
     {
         self.counted.lock(rt).apply(venue, note, seat)
     }
@@ -81,6 +79,7 @@ impl<M: Ledger> Collector<M> {
         ensures gains { MatchResult result (λ _. GainsLeg id seat.old.shares seat.new.shares)
             (λ fault. (fault ≡ BookFault.AlreadyMoved) × (seat.new ≡ seat.old)) }
         ensures parts { seat.new.parts ≡ seat.old.parts }
+        ensures booked { seat.new.booked ≡ seat.old.booked }
     {
         self.counted.lock(rt).withdraw(id, seat)
     }

@@ -1,6 +1,6 @@
 //! The book, and the count of what its venues have resolved.
 
-ghost use Rattle.std.specs.Prelude.{◌≡◌, ◌+◌, ◌≤◌, MatchResult, OnErr};
+ghost use Rattle.std.specs.Prelude.{◌≡◌, ◌+◌, ◌≤◌, ◌++◌, ◌∷◌, [], MatchResult, OnErr, OnOk};
 ghost use Rattle.std.specs.Fn.{FnOnceReturnsAt, FnOnceReturnsAtMut};
 ghost use Rattle.leg.specs.Answering.{Answers};
 ghost use Rattle.share_ledger.specs.Book.{BookParts, apply, answer_to, withdraw, totals};
@@ -54,8 +54,8 @@ impl<M: Ledger> CountedBook<M> {
         resolved_in(&self.book, self.venues)
     }
 
-    /// Applies a note of a venue; the seat gains the shares that cease to be open. B02, and the note may be applied
-    /// again.
+    /// Applies a note of a venue; the seat gains the shares that cease to be open, and the note as one that was booked.
+    /// B02, and the note may be applied again.
     pub fn apply(
         &mut self,
         venue: VenueId,
@@ -68,11 +68,13 @@ impl<M: Ledger> CountedBook<M> {
         ensures gains { MatchResult result (λ applied. GainsBy note.now applied seat.old.shares seat.new.shares)
             (λ _. seat.new ≡ seat.old) }
         ensures parts { seat.new.parts ≡ seat.old.parts }
+        ensures booked { OnOk result (seat.new.booked ≡ seat.old.booked ++ note.now ∷ []) }
     {
         let before = self.book.venue_resolved(venue);
         let applied = self.book.apply(venue, note)?;
         let gained = self.book.venue_resolved(venue) - before;
         seat.count(&mut self.total, gained);
+        seat.add_note(note);
         Ok(applied)
     }
 
@@ -83,6 +85,7 @@ impl<M: Ledger> CountedBook<M> {
         ensures gains { MatchResult result (λ _. GainsLeg id seat.old.shares seat.new.shares)
             (λ _. seat.new ≡ seat.old) }
         ensures parts { seat.new.parts ≡ seat.old.parts }
+        ensures booked { seat.new.booked ≡ seat.old.booked }
     {
         let before = resolved_in(&self.book, self.venues);
         self.book.withdraw(id)?;

@@ -5,7 +5,9 @@
 //!   venues have resolved, each time the lock is got (its invariant). Its `apply` and `withdraw` answer as the book
 //!   does, and the seat gains exactly what ceased to be open. Those of `Collector` take the lock and promise what
 //!   the seat gains: by a trade that moves its own shares, by a first report or a bust none, by a withdrawal all the
-//!   leg's shares; any other answer gains none, and a refusal leaves the seat unchanged. Of a note that ends a leg
+//!   leg's shares; any other answer gains none, and a refusal leaves the seat unchanged. A seat says which notes were
+//!   booked on it, in order: the clause `booked` of `apply` adds the note that it took, and no other call adds one.
+//!   That the book's history has just these is said of no book under its lock. Of a note that ends a leg
 //!   (cancel, reject, expire, refuse) the clause says only that the seat's amount doesn't fall, and not by how much
 //!   it rises: the exact amount is promised of `CountedBook`, under the lock.
 //! - `totals` is that of a book that replays.
@@ -17,6 +19,7 @@
 //! See `docs/locks.md`.
 #![tactic(auto)]
 
+mod bookings;
 mod collector;
 mod counted_book;
 mod counting;

@@ -8,7 +8,7 @@ use std::marker::Model;
 use std::sync::ledger::{Book as Total, Share};
 
 /// A caller's part of the count: the shares of the sweeps that it released. The seats of a run have 1,024 parts in all.
-/// Contracts see a seat's parts and its shares.
+/// Contracts see a seat's parts and its shares; no note is booked on it.
 #[derive(Drop)]
 pub struct CallerSeat<L: Run> {
     pub(crate) parts: u64,
@@ -17,12 +17,12 @@ pub struct CallerSeat<L: Run> {
 }
 
 impl<L: Run> Model for CallerSeat<L> {
-    ghost use Rattle.std.specs.Prelude.{◌≡◌, ◌<◌, min};
+    ghost use Rattle.std.specs.Prelude.{◌≡◌, ◌<◌, [], min};
     ghost use Rattle.exec_collector.specs.Seats.{Seat};
 
     ghost Value = { Seat };
 
-    ghost view = { λ seat. record { parts = seat.share.parts; shares = seat.share.amount } };
+    ghost view = { λ seat. record { parts = seat.share.parts; shares = seat.share.amount; booked = [] } };
 
     ghost invariant = { λ seat. (L.parts ≡ 1024) × (seat.parts ≡ seat.share.parts) × (0 < seat.parts)
         × (seat.shares ≡ min seat.share.amount 18446744073709551615) };

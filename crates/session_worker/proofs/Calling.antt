@@ -12,8 +12,9 @@ use Rattle.fix_tags.specs.Stamp.{StampParts}
 use Rattle.fix_tags.specs.declared.envelope.Envelope.{Envelope}
 use Rattle.fix_tags.specs.declared.tag_fault.TagFault.{TagFault}
 use Rattle.dialect.specs.declared.message.Message.{Message}
+use Rattle.dialect.specs.declared.note.Note.{Note}
 use Rattle.dialect.specs.Framed.{IsFramed, AreFramed}
-use Rattle.dialect.specs.Wording.{Wording}
+use Rattle.dialect.specs.Wording.{Decoding, Wording}
 use Rattle.dialect.specs.Outgoing.{alone}
 use Rattle.link.specs.Traffic.{Tells, Dials, Takes, Stays}
 use Rattle.session_core.specs.declared.phase.Phase.{Phase}
@@ -32,11 +33,13 @@ use Rattle.session_core.specs.Onward.{OrUnchanged, IsConnection, SendsLeg}
 use Rattle.session_core.proofs.Adding.{chosen}
 use Rattle.session_core.proofs.Called.{connect_keeps, send_leg_keeps}
 use Rattle.session_core.proofs.CallsMade.{after-append}
+use Rattle.session_worker.specs.Booking.{waiting_in, booked_by}
 use Rattle.session_worker.specs.Hearing.{Said, said_with, said_after, Hears, ReaderOn}
 use Rattle.session_worker.specs.Speaking.{Wire, Reads, TakesFirst, Puts, Begins, messages_in, Speak}
 use Rattle.session_worker.specs.Linking.{SessionIoParts, io_of, IsHearing, SpeaksOn, MayBreak, Writes, Moves, Hands, IsPlain, Gave, Asks, Receives}
 use Rattle.session_worker.specs.Events.{leg_in, legs_in, IsIdle}
 use Rattle.session_worker.specs.Events.WorkerEvent.{Calls, Fails}
+use Rattle.session_worker.proofs.Booking.{waiting_after, booked-append, plain_books}
 use Rattle.session_worker.proofs.Spoken.{stays_last, stays_here}
 use Rattle.session_worker.proofs.Hearing.{on_first, on_waits, on_gave, on_stays, on_takes, on_dials}
 use Rattle.session_worker.proofs.Speech.{stays_first, takes_first, speak_read, speak_on, speak_none, speak_made, speak_silent, begins_plain, concat_one, speak_broken}
@@ -64,6 +67,7 @@ moves_same w x y same stays stream = record {
   calls = [];
   session = same;
   no_leg = refl;
+  no_note = λ waiting. refl;
   speaks = speaks_same w x y same stays stream;
 }
 
@@ -91,20 +95,29 @@ moves_on w x y z first next = record {
   session = next.session ∙ (ap (λ s. after_calls w.decoding s next.calls) first.session
       ∙ sym (after-append w.decoding x.session first.calls next.calls));
   no_leg = legs-append first.calls next.calls ∙ (ap (λ l. l ++ legs_in next.calls) first.no_leg ∙ next.no_leg);
+  no_note = λ (waiting : Option Note).
+      let later : Option Note = waiting_after w.decoding x.session waiting first.calls in
+      let none : booked_by w.decoding (after_calls w.decoding x.session first.calls) later next.calls ≡ [] =
+      subst (λ (s : SessionParts). booked_by w.decoding s later next.calls ≡ []) first.session (next.no_note later) in
+      booked-append w.decoding x.session waiting first.calls next.calls
+      ∙ (ap (λ l. l ++ booked_by w.decoding (after_calls w.decoding x.session first.calls) later next.calls)
+      (first.no_note waiting) ∙ none);
   speaks = speaks_then w x y z first.calls next.calls first.session first.speaks next.speaks;
 }
 
 -- ---- one call
 
--- it has no message, and isn't to send a leg
+-- it has no message, isn't to send a leg, and books no note
 moves_call : (w : Wording) (x y : SessionIoParts) (made : SessionCall) → leg_in made ≡ []
+    → ((waiting : Option Note) → booked_by w.decoding x.session waiting (made ∷ []) ≡ [])
     → messages_in (called w.decoding x.session made).0 ≡ [] → ((said : Said) → IsHearing said x → Hears said made x.wire)
     → Begins x.session made x.wire y.wire → y.session ≡ (called w.decoding x.session made).1
     → ((said : Said) → IsHearing said x → IsHearing (said_with said made) y) → Moves w x y
-moves_call w x y made no_leg none hears begins is next = record {
+moves_call w x y made no_leg no_note none hears begins is next = record {
   calls = made ∷ [];
   session = is;
   no_leg = ap (λ l. l ++ []) no_leg;
+  no_note = no_note;
   speaks = λ (said : Said) (hearing : IsHearing said x). (
     speak_silent w x.session said made [] x.wire y.wire y.wire (hears said hearing) begins none
         (speak_none w (called w.decoding x.session made).1 (said_with said made) y.wire y.wire (stays_here y.wire)),
@@ -115,19 +128,19 @@ moves_call w x y made no_leg none hears begins is next = record {
 pub moves_broken : (w : Wording) (x y : SessionIoParts) → y.session ≡ broken x.session
     → Tells x.wire y.wire Stays → Moves w x y
 moves_broken w x y is stays =
-    moves_call w x y call.Broken refl refl (λ said hearing. tt) (inl stays) is
+    moves_call w x y call.Broken refl (λ waiting. refl) refl (λ said hearing. tt) (inl stays) is
     (λ said hearing. hearing_gone said y (gone x.session y.session is))
 
 pub moves_malformed : (w : Wording) (x y : SessionIoParts) → y.session ≡ (malformed x.session).1
     → Tells x.wire y.wire Stays → ((said : Said) → IsHearing said x → Hears said call.Malformed x.wire) → Moves w x y
 moves_malformed w x y is stays hears =
-    moves_call w x y call.Malformed refl refl hears stays is
+    moves_call w x y call.Malformed refl (λ waiting. refl) refl hears stays is
     (λ said hearing. hearing_gone said y (gone_malformed x.session y.session is))
 
 pub moves_abandon : (w : Wording) (x y : SessionIoParts) → y.session ≡ abandon x.session
     → Tells x.wire y.wire Stays → Moves w x y
 moves_abandon w x y is stays =
-    moves_call w x y call.Abandon refl refl (λ said hearing. tt) stays is
+    moves_call w x y call.Abandon refl (λ waiting. refl) refl (λ said hearing. tt) stays is
     (λ said hearing. hearing_gone said y (gone_abandoned x.session y.session is))
 
 -- bytes were read, and then the connection may have been given up
@@ -137,12 +150,14 @@ moves_read w x y (inl same) reads hears = record {
   calls = [];
   session = same;
   no_leg = refl;
+  no_note = λ waiting. refl;
   speaks = λ (said : Said) (hearing : IsHearing said x). (reads, hears said hearing);
 }
 moves_read w x y (inr is) reads hears = record {
   calls = call.Broken ∷ [];
   session = is;
   no_leg = refl;
+  no_note = λ waiting. refl;
   speaks = λ (said : Said) (hearing : IsHearing said x). (
     speak_read w x.session said (call.Broken ∷ []) x.wire y.wire y.wire reads
         (speak_broken w x.session said y.wire y.wire (stays_here y.wire)),
@@ -157,12 +172,16 @@ plain_no_leg call.Connect plain = absurd plain
 plain_no_leg (call.SendLeg ordinal leg) plain = absurd plain
 plain_no_leg call.Broken plain = absurd plain
 plain_no_leg (call.Receive envelope) plain = refl
-plain_no_leg call.Confirm plain = refl
+plain_no_leg call.Confirm plain = absurd plain
 plain_no_leg call.Quiet plain = refl
 plain_no_leg call.Silent plain = refl
 plain_no_leg call.Close plain = refl
 plain_no_leg call.Malformed plain = refl
 plain_no_leg call.Abandon plain = refl
+
+plain_no_note : (read : Decoding) (s : SessionParts) (made : SessionCall) → IsPlain made → (waiting : Option Note)
+    → booked_by read s waiting (made ∷ []) ≡ []
+plain_no_note read s made plain waiting = ap (λ l. l ++ []) (plain_books s waiting made plain)
 
 -- the state after a call is that of its answer
 took_answer : {X Y : Type 0} (Is : X → Y → Type 0) (s now : SessionParts) (answer : SessionAnswer X) (y : Y)
@@ -211,7 +230,8 @@ pub moves_refused : {Y : Type 0} (Is : StepParts → Y → Type 0) (w : Wording)
 moves_refused Is w x y made (Ok said, after) why plain is hears same back gives stays stream =
     moves_same w x y gives.1 stays stream
 moves_refused Is w x y made (Err refused, after) why plain is hears same back gives stays stream =
-    moves_call w x y made (plain_no_leg made plain) (ap (λ (a : Addition). messages_in a.0) is) (λ said hearing. hears said)
+    moves_call w x y made (plain_no_leg made plain) (plain_no_note w.decoding x.session made plain)
+    (ap (λ (a : Addition). messages_in a.0) is) (λ said hearing. hears said)
     (begins_plain x.session made x.wire y.wire plain stays) (gives.1 ∙ sym (ap (λ (a : Addition). a.1) is))
     (λ said hearing. subst (λ (l : Said). IsHearing l y) (sym (same said))
     (hearing_same said x y (λ on. back (subst (λ (t : SessionParts). is_connected t.phase ≡ true) gives.1 on)) stays stream hearing))
@@ -227,15 +247,31 @@ speak_gave w s now made step gave said later a b c hears puts rest =
     (sym (ap (λ (a : Addition). a.0) gave.adds)) gave.is_step.out) puts
     (subst (λ (t : SessionParts). Speak w t (said_with said made) later b c) (sym (ap (λ (a : Addition). a.1) gave.adds)) rest)
 
-pub moves_gave : (w : Wording) (x m y : SessionIoParts) (step : Step) (asks : Asks w x step m)
+-- calls that book these notes, and none of which is to send a leg
+pub record Books (w : Wording) (notes : List Note) (x y : SessionIoParts) : Type 0 where
+  pub calls : List SessionCall
+  pub session : y.session ≡ after_calls w.decoding x.session calls
+  pub no_leg : legs_in calls ≡ []
+  pub booked : (waiting : Option Note) → booked_by w.decoding x.session waiting calls ≡ notes
+  pub speaks : SpeaksOn w x calls y
+
+pub books_gave : (w : Wording) (x m y : SessionIoParts) (step : Step) (asks : Asks w x step m) (notes : List Note)
     (later : List SessionCall) (b : Wire) → y.session ≡ after_calls w.decoding m.session later → legs_in later ≡ []
+    → ((waiting : Option Note)
+    → booked_by w.decoding m.session (waiting_in w.decoding x.session waiting asks.made) later ≡ notes)
     → Puts (concat step.out) later x.wire b
     → ((said : Said) → IsHearing said m → Speak w m.session said later b y.wire × IsHearing (said_after said later) y)
-    → Moves w x y
-moves_gave w x m y step asks later b is no_leg puts rest = record {
+    → Books w notes x y
+books_gave w x m y step asks notes later b is no_leg booked puts rest = record {
   calls = asks.made ∷ later;
   session = is ∙ ap (λ (t : SessionParts). after_calls w.decoding t later) (sym (ap (λ (a : Addition). a.1) asks.gave.adds));
   no_leg = ap (λ l. l ++ legs_in later) (plain_no_leg asks.made asks.gave.plain) ∙ no_leg;
+  booked = λ (waiting : Option Note).
+      let waits : Option Note = waiting_in w.decoding x.session waiting asks.made in
+      ap (λ l. l ++ booked_by w.decoding (called w.decoding x.session asks.made).1 waits later)
+      (plain_books x.session waiting asks.made asks.gave.plain)
+      ∙ (ap (λ (t : SessionParts). booked_by w.decoding t waits later) (ap (λ (a : Addition). a.1) asks.gave.adds)
+      ∙ booked waiting);
   speaks = λ (said : Said) (hearing : IsHearing said x).
       let heard = asks.hears said hearing in
       let done = rest (said_with said asks.made) heard.1 in (
@@ -244,23 +280,32 @@ moves_gave w x m y step asks later b is no_leg puts rest = record {
       );
 }
 
+moves_gave : (w : Wording) (x y : SessionIoParts) → Books w [] x y → Moves w x y
+moves_gave w x y books = record {
+  calls = books.calls;
+  session = books.session;
+  no_leg = books.no_leg;
+  no_note = books.booked;
+  speaks = books.speaks;
+}
+
 pub moves_written : (w : Wording) (x m y : SessionIoParts) (step : Step) → Asks w x step m
     → Writes (concat step.out) m y → y.stream ≡ m.stream → Moves w x y
 moves_written w x m y step asks (inl all) stream =
-    moves_gave w x m y step asks [] y.wire all.0 refl
+    moves_gave w x y (books_gave w x m y step asks [] [] y.wire all.0 refl (λ waiting. refl)
     (inl (stays_first (Takes (concat step.out)) x.wire m.wire y.wire asks.wire all.1))
     (λ said hearing. (
       speak_none w m.session said y.wire y.wire (stays_here y.wire),
       hearing_takes said (concat step.out) m y (λ on. subst (λ (s : SessionParts). is_connected s.phase ≡ true) all.0 on) all.1
           stream hearing,
-    ))
+    )))
 moves_written w x m y step asks (inr part) stream =
-    moves_gave w x m y step asks (call.Broken ∷ []) y.wire part.0 refl
+    moves_gave w x y (books_gave w x m y step asks [] (call.Broken ∷ []) y.wire part.0 refl (λ waiting. refl)
     (inr (tt, stays_first (TakesFirst (concat step.out)) x.wire m.wire y.wire asks.wire (takes_first (concat step.out) m.wire y.wire part.1)))
     (λ said hearing. (
       speak_broken w m.session said y.wire y.wire (stays_here y.wire),
       hearing_gone said y (gone m.session y.session part.0),
-    ))
+    )))
 
 -- ---- what comes of the next message
 
@@ -270,6 +315,7 @@ heard_nothing w x y same stays found is = record {
   calls = [];
   session = same;
   no_leg = refl;
+  no_note = λ waiting. refl;
   speaks = λ (said : Said) (hearing : IsHearing said x). (
     speak_none w x.session said x.wire y.wire stays,
     (λ on. on_stays said x.wire y.wire y.stream
@@ -332,6 +378,7 @@ moves_connected w s now stamp frame a b x z y gives dials (inl all) fresh = reco
   calls = call.Connect ∷ [];
   session = all.0 ∙ (took_answer (λ (m : Message) (bytes : Vec ℕ). IsFramed w.encoding stamp (alone m) bytes.items) s now (connect s) frame gives ∙ sym (after_message (connect s)));
   no_leg = refl;
+  no_note = λ waiting. refl;
   speaks = λ (said : Said) (hearing : IsHearing said (io_of s a x)). (
     speak_message w s now said call.Connect (connect s) stamp frame [] a b y.wire y.wire refl gives tt dials (inl all.1)
         (speak_none w now [] y.wire y.wire (stays_here y.wire)),
@@ -343,6 +390,7 @@ moves_connected w s now stamp frame a b x z y gives dials (inr part) fresh = rec
   calls = call.Connect ∷ call.Broken ∷ [];
   session = part.0 ∙ ap broken (took_answer (λ (m : Message) (bytes : Vec ℕ). IsFramed w.encoding stamp (alone m) bytes.items) s now (connect s) frame gives ∙ sym (after_message (connect s)));
   no_leg = refl;
+  no_note = λ waiting. refl;
   speaks = λ (said : Said) (hearing : IsHearing said (io_of s a x)). (
     speak_message w s now said call.Connect (connect s) stamp frame (call.Broken ∷ []) a b y.wire y.wire refl gives tt dials
         (inr (tt, takes_first frame.items b y.wire part.1)) (speak_broken w now [] y.wire y.wire (stays_here y.wire)),
@@ -364,7 +412,7 @@ moves_not_connected Is w s now why a b x y other gives dials same stays fresh =
           → Moves w (io_of s a x) y
       not_connected (Ok m, after) is gave = absurd (other gave.0)
       not_connected (Err refused, after) is gave =
-          moves_call w (io_of s a x) y call.Connect refl
+          moves_call w (io_of s a x) y call.Connect refl (λ waiting. refl)
           (ap (λ (t : SessionAnswer Message). messages_in (added_message t).0) is) (λ said hearing. tt) to
           (same ∙ (gave.1 ∙ sym (ap (λ (t : SessionAnswer Message). (added_message t).1) is)))
           (λ said hearing. λ on. subst (λ (t : Stream). ReaderOn [] y.wire t) (sym fresh) (on_dials a y.wire to))
@@ -388,13 +436,13 @@ moves_gone Is w s now why a b x y gives dials over stays = gone_from (connect s)
   gone_from : (answer : SessionAnswer Message) → connect s ≡ answer → Gives Is s answer (Err why) now
       → Moves w (io_of s a x) y
   gone_from (Ok m, after) is gave =
-      moves_call w (io_of s a x) y call.Broken refl refl (λ said hearing. tt)
+      moves_call w (io_of s a x) y call.Broken refl (λ waiting. refl) refl (λ said hearing. tt)
       (inr (down_connects s s.phase m after is, stays_last Dials a b y.wire dials stays)) (over ∙ ap broken gave.1)
       (λ said hearing. hearing_gone said y (gone now y.session over))
   gone_from (Err refused, after) is gave =
       let between : SessionIoParts = io_of now b new_stream in
       moves_on w (io_of s a x) between y
-      (moves_call w (io_of s a x) between call.Connect refl
+      (moves_call w (io_of s a x) between call.Connect refl (λ waiting. refl)
       (ap (λ (t : SessionAnswer Message). messages_in (added_message t).0) is) (λ said hearing. tt) dials
       (gave.1 ∙ sym (ap (λ (t : SessionAnswer Message). (added_message t).1) is)) (λ said hearing. λ on. on_dials a b dials))
       (moves_broken w between y over stays)
@@ -433,6 +481,7 @@ hands_sent w leg s now stamp frame a x y gives (inl all) stream =
       calls = [];
       session = is ∙ sym (after_message (send_leg s leg.ordinal leg.leg));
       no_leg = refl;
+      no_note = λ waiting. refl;
       speaks = λ (said : Said) (hearing : IsHearing said (io_of s a x)). (
         speak_message w s now said (call.SendLeg leg.ordinal leg.leg) (send_leg s leg.ordinal leg.leg) stamp frame [] a a y.wire y.wire
             refl gives tt (stays_here a) (inl all.1) (speak_none w now said y.wire y.wire (stays_here y.wire)),
@@ -446,6 +495,7 @@ hands_sent w leg s now stamp frame a x y gives (inr part) stream = record {
   calls = call.Broken ∷ [];
   session = part.0 ∙ ap broken (took_answer (λ (m : Message) (bytes : Vec ℕ). IsFramed w.encoding stamp (alone m) bytes.items) s now (send_leg s leg.ordinal leg.leg) frame gives ∙ sym (after_message (send_leg s leg.ordinal leg.leg)));
   no_leg = refl;
+  no_note = λ waiting. refl;
   speaks = λ (said : Said) (hearing : IsHearing said (io_of s a x)). (
     speak_message w s now said (call.SendLeg leg.ordinal leg.leg) (send_leg s leg.ordinal leg.leg) stamp frame (call.Broken ∷ []) a a
         y.wire y.wire refl gives tt (stays_here a) (inr (tt, takes_first frame.items a y.wire part.1))
@@ -470,6 +520,7 @@ hands_refused Is w leg s now why a x other gives = was_refused (send_leg s leg.o
         calls = [];
         session = gave.1 ∙ sym (ap (λ (t : SessionAnswer Message). (added_message t).1) is);
         no_leg = refl;
+        no_note = λ waiting. refl;
         speaks = λ (said : Said) (hearing : IsHearing said (io_of s a x)). (
           speak_silent w s said (call.SendLeg leg.ordinal leg.leg) [] a a a tt (stays_here a)
               (ap (λ (t : SessionAnswer Message). messages_in (added_message t).0) is)
@@ -490,6 +541,7 @@ hands_failed Is w leg s now why a x y gives e stays = record {
   calls = [];
   session = e ∙ ap broken (refused_send Is s now leg why gives);
   no_leg = refl;
+  no_note = λ waiting. refl;
   speaks = λ (said : Said) (hearing : IsHearing said (io_of s a x)).
       (speak_broken w s said a y.wire stays, hearing_gone said y (gone now y.session e));
 }

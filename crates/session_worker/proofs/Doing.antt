@@ -4,6 +4,7 @@ use Rattle.std.specs.List.{concat}
 use Rattle.std.specs.Prelude.{Option, Some, None, MatchOption}
 use Rattle.std.proofs.lemmas.List.{append-nil}
 use Rattle.leg.specs.declared.placed_leg.PlacedLeg.{PlacedLeg}
+use Rattle.dialect.specs.declared.note.Note.{Note}
 use Rattle.dialect.specs.Wording.{Decoding, Wording}
 use Rattle.link.specs.Traffic.{Tells, Takes, Stays}
 use Rattle.session_core.specs.declared.phase.Phase.{Phase}
@@ -20,15 +21,17 @@ use Rattle.release_lock.specs.Queues.{Took}
 use Rattle.exec_collector.specs.Seats.{Seat}
 use Rattle.session_worker.specs.Ends.{is_over, last_calls}
 use Rattle.session_worker.specs.Taking.{with_taken}
+use Rattle.session_worker.specs.Booking.{waiting_in, booked_in, booked_by}
 use Rattle.session_worker.specs.Hearing.{Said, said_after}
 use Rattle.session_worker.specs.Speaking.{Wire, TakesFirst, Speak}
-use Rattle.session_worker.specs.Linking.{SessionIoParts, SpeaksOn, WorkerStateParts, worker_in, MayConfirm, Moves, Hands, Asks, CarriesOut, Does, Drains}
+use Rattle.session_worker.specs.Linking.{SessionIoParts, SpeaksOn, WorkerStateParts, worker_in, BesideShares, beside_shares, MayBook, Moves, Hands, Asks, CarriesOut, Does, Drains}
 use Rattle.session_worker.specs.Events.{WorkerEvent, calls_in, calls_of, leg_in, legs_in, taken_in, taken_of, IsIdle, IsAllowedCall, IsAllowed, AreAllowed, WorkerParts, Goes}
 use Rattle.session_worker.specs.Events.WorkerEvent.{Calls, Drops, Fails}
+use Rattle.session_worker.proofs.Booking.{waiting_after, booked-append, note_waits, waiting_booked}
 use Rattle.session_worker.proofs.Spoken.{stays_here}
 use Rattle.session_worker.proofs.Speech.{stays_first, stays_same, speak_on, speak_none, speak_silent, speak_broken}
 use Rattle.session_worker.proofs.Connected.{gone, confirm_on, hearing_takes, hearing_gone}
-use Rattle.session_worker.proofs.Calling.{speaks_same, moves_same, moves_gave, speaks_then}
+use Rattle.session_worker.proofs.Calling.{Books, books_gave, speaks_same, moves_same, speaks_then}
 
 -- events and then others
 calls-append : (first more : List WorkerEvent) → calls_of (first ++ more) ≡ calls_of first ++ calls_of more
@@ -60,6 +63,21 @@ speak_events w s said first more a b c one next =
     subst (λ (calls : List SessionCall). Speak w s said calls a c) (sym (calls-append first more))
     (speak_on w s said (calls_of first) (calls_of more) a b c one next)
 
+booked_on : (read : Decoding) (a b c : WorkerParts) (first more : List WorkerEvent) → Goes read a first b
+    → Goes read b more c → (waiting : Option Note)
+    → c.seat.booked ≡ a.seat.booked ++ booked_by read a.session waiting (calls_of (first ++ more))
+booked_on read a b c first more one next waiting =
+    let later : Option Note = waiting_after read a.session waiting (calls_of first) in
+    let now : List Note = booked_by read a.session waiting (calls_of first) in
+    let then : List Note = booked_by read b.session later (calls_of more) in
+    let all : now ++ then ≡ booked_by read a.session waiting (calls_of (first ++ more)) =
+    ap (λ s. now ++ booked_by read s later (calls_of more)) one.session
+    ∙ (sym (booked-append read a.session waiting (calls_of first) (calls_of more))
+    ∙ ap (booked_by read a.session waiting) (sym (calls-append first more))) in
+    next.booked later
+    ∙ (ap (λ l. l ++ then) (one.booked waiting)
+    ∙ (append_assoc a.seat.booked now then ∙ ap (λ l. a.seat.booked ++ l) all))
+
 pub goes_on : (read : Decoding) (a b c : WorkerParts) (first more : List WorkerEvent) → Goes read a first b
     → Goes read b more c → Goes read a (first ++ more) c
 goes_on read a b c first more one next = record {
@@ -73,6 +91,7 @@ goes_on read a b c first more one next = record {
       (subst (λ (s : SessionParts). AreAllowed read s more) one.session next.allowed);
   venue = next.venue ∙ one.venue;
   seat = next.seat ∙ one.seat;
+  booked = booked_on read a b c first more one next;
 }
 
 pub does_on : (w : Wording) (a b c : WorkerStateParts) → Does w a b → Does w b c → Does w a c
@@ -89,15 +108,26 @@ does_on w a b c first next = record {
 abbrev pub state_of : SessionIoParts → Took → Seat → WorkerStateParts
 state_of io took seat = record { io = io; took = took; seat = seat }
 
+-- the seat is as it was but for its shares, so no note was booked
+same_booked : (a b : Seat) (notes : List Note) → beside_shares b ≡ beside_shares a → notes ≡ []
+    → b.booked ≡ a.booked ++ notes
+same_booked a b notes same none =
+    ap (λ (seat : BesideShares). seat.booked) same
+    ∙ (sym (append-nil a.booked) ∙ ap (λ l. a.booked ++ l) (sym none))
+
+same_parts : (a b : Seat) → beside_shares b ≡ beside_shares a → b.parts ≡ a.parts
+same_parts a b same = ap (λ (seat : BesideShares). seat.parts) same
+
 -- nothing
 pub goes_none : (read : Decoding) (a b : WorkerParts) → b.session ≡ a.session → b.took ≡ a.took
-    → b.seat.parts ≡ a.seat.parts → Goes read a [] b
+    → beside_shares b.seat ≡ beside_shares a.seat → Goes read a [] b
 goes_none read a b session took seat = record {
   session = session;
   taken = ap (λ t. t.taken) took ∙ sym (append-nil a.took.taken);
   allowed = tt;
   venue = ap (λ t. t.venue) took;
-  seat = seat;
+  seat = same_parts a.seat b.seat seat;
+  booked = λ waiting. same_booked a.seat b.seat [] seat refl;
 }
 
 -- calls of the session, none of which is to send a leg
@@ -135,29 +165,43 @@ allowed_calls read s (made ∷ calls) e =
     let none = both_empty (leg_in made) (legs_in calls) e in
     (allowed_call s made none.0, allowed_calls read (called read s made).1 calls none.1)
 
-pub goes_calls : (read : Decoding) (a b : WorkerParts) (calls : List SessionCall)
-    → b.session ≡ after_calls read a.session calls → legs_in calls ≡ [] → b.took ≡ a.took → b.seat.parts ≡ a.seat.parts
-    → Goes read a (calling calls) b
-goes_calls read a b calls session no_leg took seat = record {
+-- ones that book these notes
+goes_books : (read : Decoding) (a b : WorkerParts) (notes : List Note) (calls : List SessionCall)
+    → b.session ≡ after_calls read a.session calls → legs_in calls ≡ []
+    → ((waiting : Option Note) → booked_by read a.session waiting calls ≡ notes) → b.took ≡ a.took
+    → b.seat.parts ≡ a.seat.parts → b.seat.booked ≡ a.seat.booked ++ notes → Goes read a (calling calls) b
+goes_books read a b notes calls session no_leg books took parts booked = record {
   session = session ∙ ap (after_calls read a.session) (sym (calling-calls calls));
   taken = ap (λ t. t.taken) took ∙ (sym (append-nil a.took.taken)
       ∙ ap (λ l. a.took.taken ++ l) (sym (calling-taken calls ∙ no_leg)));
   allowed = allowed_calls read a.session calls no_leg;
   venue = ap (λ t. t.venue) took;
-  seat = seat;
+  seat = parts;
+  booked = λ waiting. booked ∙ ap (λ l. a.seat.booked ++ l)
+      (sym (ap (booked_by read a.session waiting) (calling-calls calls) ∙ books waiting));
 }
 
+-- ones that book none
+goes_calls : (read : Decoding) (a b : WorkerParts) (calls : List SessionCall)
+    → b.session ≡ after_calls read a.session calls → legs_in calls ≡ []
+    → ((waiting : Option Note) → booked_by read a.session waiting calls ≡ []) → b.took ≡ a.took
+    → beside_shares b.seat ≡ beside_shares a.seat → Goes read a (calling calls) b
+goes_calls read a b calls session no_leg no_note took seat =
+    goes_books read a b [] calls session no_leg no_note took (same_parts a.seat b.seat seat)
+    (same_booked a.seat b.seat [] seat refl)
+
 pub does_moves : (w : Wording) (a b : WorkerStateParts) → Moves w a.io b.io → b.took ≡ a.took
-    → b.seat.parts ≡ a.seat.parts → Does w a b
+    → beside_shares b.seat ≡ beside_shares a.seat → Does w a b
 does_moves w a b moves took seat = record {
   events = calling moves.calls;
-  goes = goes_calls w.decoding (worker_in a) (worker_in b) moves.calls moves.session moves.no_leg took seat;
+  goes = goes_calls w.decoding (worker_in a) (worker_in b) moves.calls moves.session moves.no_leg moves.no_note took seat;
   speaks = subst (λ (calls : List SessionCall). SpeaksOn w a.io calls b.io)
       (sym (calling-calls moves.calls)) moves.speaks;
 }
 
 pub does_same : (w : Wording) (a b : WorkerStateParts) → b.io.session ≡ a.io.session → b.took ≡ a.took
-    → b.seat.parts ≡ a.seat.parts → Tells a.io.wire b.io.wire Stays → b.io.stream ≡ a.io.stream → Does w a b
+    → beside_shares b.seat ≡ beside_shares a.seat → Tells a.io.wire b.io.wire Stays → b.io.stream ≡ a.io.stream
+    → Does w a b
 does_same w a b session took seat stays stream =
     does_moves w a b (moves_same w a.io b.io session stays stream) took seat
 
@@ -169,37 +213,55 @@ does_stay w a b same = subst (λ (c : WorkerStateParts). Does w a c) (sym same) 
 
 -- ---- what a step wanted
 
--- a call that gave a step, and then what the step wanted
-moves_carried : (w : Wording) (x m y : SessionIoParts) (step : Step) (noted : SessionParts) → Asks w x step m
-    → MayConfirm m.session noted
+-- a call that gave a step, and then its frames
+books_silent : (w : Wording) (x m y : SessionIoParts) (step : Step) (noted : SessionParts) → Asks w x step m
+    → noted ≡ m.session
     → ((y.session ≡ noted) × Tells m.wire y.wire (Takes (concat step.out)))
     ⊎ ((y.session ≡ broken noted) × Tells m.wire y.wire (TakesFirst (concat step.out))) → y.stream ≡ m.stream
-    → Moves w x y
-moves_carried w x m y step noted asks (inl same) (inl all) stream =
-    moves_gave w x m y step asks [] y.wire (all.0 ∙ same) refl
+    → Books w [] x y
+books_silent w x m y step noted asks same (inl all) stream =
+    books_gave w x m y step asks [] [] y.wire (all.0 ∙ same) refl (λ waiting. refl)
     (inl (stays_first (Takes (concat step.out)) x.wire m.wire y.wire asks.wire all.1))
     (λ said hearing. (
       speak_none w m.session said y.wire y.wire (stays_here y.wire),
       hearing_takes said (concat step.out) m y (λ on. subst (λ (s : SessionParts). is_connected s.phase ≡ true) (all.0 ∙ same) on)
           all.1 stream hearing,
     ))
-moves_carried w x m y step noted asks (inr confirmed) (inl all) stream =
-    moves_gave w x m y step asks (call.Confirm ∷ []) y.wire (all.0 ∙ confirmed) refl
+books_silent w x m y step noted asks same (inr part) stream =
+    books_gave w x m y step asks [] (call.Broken ∷ []) y.wire (part.0 ∙ ap broken same) refl (λ waiting. refl)
+    (inr (tt, stays_first (TakesFirst (concat step.out)) x.wire m.wire y.wire asks.wire part.1))
+    (λ said hearing. (
+      speak_broken w m.session said y.wire y.wire (stays_here y.wire),
+      hearing_gone said y (gone noted y.session part.0),
+    ))
+
+-- its note is the one that a Confirm books then
+confirm_books : (w : Wording) (x m : SessionIoParts) (step : Step) (asks : Asks w x step m) (note : Note)
+    → step.note ≡ Some note → (waiting : Option Note)
+    → booked_in m.session (waiting_in w.decoding x.session waiting asks.made) call.Confirm ≡ note ∷ []
+confirm_books w x m step asks note is waiting =
+    waiting_booked w.decoding x.session m.session waiting asks.made note
+    (note_waits w.decoding x.session m.session waiting asks.made asks.gave.said note asks.gave.plain asks.gave.adds
+    (sym asks.gave.is_step.note ∙ is))
+
+-- a call that gave a step with a note, which was confirmed, and then its frames
+books_note : (w : Wording) (x m y : SessionIoParts) (step : Step) (noted : SessionParts) (note : Note)
+    → Asks w x step m → step.note ≡ Some note → noted ≡ confirm m.session
+    → ((y.session ≡ noted) × Tells m.wire y.wire (Takes (concat step.out)))
+    ⊎ ((y.session ≡ broken noted) × Tells m.wire y.wire (TakesFirst (concat step.out))) → y.stream ≡ m.stream
+    → Books w (note ∷ []) x y
+books_note w x m y step noted note asks is confirmed (inl all) stream =
+    books_gave w x m y step asks (note ∷ []) (call.Confirm ∷ []) y.wire (all.0 ∙ confirmed) refl
+    (λ waiting. ap (λ l. l ++ []) (confirm_books w x m step asks note is waiting))
     (inl (stays_first (Takes (concat step.out)) x.wire m.wire y.wire asks.wire all.1))
     (λ said hearing. (
       speak_silent w m.session said call.Confirm [] y.wire y.wire y.wire tt (stays_here y.wire) refl
           (speak_none w (confirm m.session) said y.wire y.wire (stays_here y.wire)),
       hearing_takes said (concat step.out) m y (confirm_on m.session y.session (all.0 ∙ confirmed)) all.1 stream hearing,
     ))
-moves_carried w x m y step noted asks (inl same) (inr part) stream =
-    moves_gave w x m y step asks (call.Broken ∷ []) y.wire (part.0 ∙ ap broken same) refl
-    (inr (tt, stays_first (TakesFirst (concat step.out)) x.wire m.wire y.wire asks.wire part.1))
-    (λ said hearing. (
-      speak_broken w m.session said y.wire y.wire (stays_here y.wire),
-      hearing_gone said y (gone noted y.session part.0),
-    ))
-moves_carried w x m y step noted asks (inr confirmed) (inr part) stream =
-    moves_gave w x m y step asks (call.Confirm ∷ call.Broken ∷ []) y.wire (part.0 ∙ ap broken confirmed) refl
+books_note w x m y step noted note asks is confirmed (inr part) stream =
+    books_gave w x m y step asks (note ∷ []) (call.Confirm ∷ call.Broken ∷ []) y.wire (part.0 ∙ ap broken confirmed) refl
+    (λ waiting. ap (λ l. l ++ []) (confirm_books w x m step asks note is waiting))
     (inr (tt, stays_first (TakesFirst (concat step.out)) x.wire m.wire y.wire asks.wire part.1))
     (λ said hearing. (
       speak_silent w m.session said call.Confirm (call.Broken ∷ []) y.wire y.wire y.wire tt (stays_here y.wire) refl
@@ -207,12 +269,35 @@ moves_carried w x m y step noted asks (inr confirmed) (inr part) stream =
       hearing_gone said y (gone noted y.session part.0),
     ))
 
+does_books : (w : Wording) (a b : WorkerStateParts) (notes : List Note) → Books w notes a.io b.io → b.took ≡ a.took
+    → b.seat.parts ≡ a.seat.parts → b.seat.booked ≡ a.seat.booked ++ notes → Does w a b
+does_books w a b notes books took parts booked = record {
+  events = calling books.calls;
+  goes = goes_books w.decoding (worker_in a) (worker_in b) notes books.calls books.session books.no_leg books.booked took
+      parts booked;
+  speaks = subst (λ (calls : List SessionCall). SpeaksOn w a.io calls b.io)
+      (sym (calling-calls books.calls)) books.speaks;
+}
+
+-- whether its note was booked or not
+does_carried : (w : Wording) (a b d : WorkerStateParts) (step : Step) (carries : CarriesOut step.note (concat step.out) b d)
+    → Asks w a.io step b.io → b.took ≡ a.took → beside_shares b.seat ≡ beside_shares a.seat
+    → MayBook step.note b.io.session b.seat.booked carries.noted d.seat.booked → Does w a d
+does_carried w a b d step carries asks took seat (inl none) =
+    does_books w a d []
+    (books_silent w a.io b.io d.io step carries.noted asks none.0 carries.writes carries.stream)
+    (carries.took ∙ took) (carries.seat ∙ same_parts a.seat b.seat seat)
+    (none.1 ∙ same_booked a.seat b.seat [] seat refl)
+does_carried w a b d step carries asks took seat (inr one) =
+    does_books w a d (one.0 ∷ [])
+    (books_note w a.io b.io d.io step carries.noted one.0 asks one.1 one.2 carries.writes carries.stream)
+    (carries.took ∙ took) (carries.seat ∙ same_parts a.seat b.seat seat)
+    (one.3 ∙ ap (λ (told : BesideShares). told.booked ++ one.0 ∷ []) seat)
+
 pub does_asked : (w : Wording) (a b d : WorkerStateParts) (step : Step) → Asks w a.io step b.io
-    → b.took ≡ a.took → b.seat.parts ≡ a.seat.parts → CarriesOut (concat step.out) b d → Does w a d
-does_asked w a b d step asks took seat carries =
-    does_moves w a d
-    (moves_carried w a.io b.io d.io step carries.noted asks carries.notes carries.writes carries.stream)
-    (carries.took ∙ took) (carries.seat ∙ seat)
+    → b.took ≡ a.took → beside_shares b.seat ≡ beside_shares a.seat → CarriesOut step.note (concat step.out) b d
+    → Does w a d
+does_asked w a b d step asks took seat carries = does_carried w a b d step carries asks took seat carries.notes
 
 -- legs that are dropped
 abbrev pub dropping : List PlacedLeg → List WorkerEvent
@@ -238,7 +323,10 @@ goes_drains read a b drains idle = record {
   taken = drains.taken ∙ ap (λ l. a.took.taken ++ l) (sym (dropping-taken drains.legs));
   allowed = allowed_drops read a.io.session drains.legs idle;
   venue = drains.venue;
-  seat = drains.seat;
+  seat = same_parts a.seat b.seat drains.seat;
+  booked = λ waiting.
+      same_booked a.seat b.seat (booked_by read a.io.session waiting (calls_of (dropping drains.legs))) drains.seat
+      (ap (booked_by read a.io.session waiting) (dropping-calls drains.legs));
 }
 
 pub does_drains : (w : Wording) (a b : WorkerStateParts) → Drains a b → IsIdle a.io.session → Does w a b
@@ -252,7 +340,8 @@ does_drains w a b drains idle = record {
       (ap (λ (x : SessionIoParts). x.stream) drains.io));
 }
 
-pub drains_none : (a b : WorkerStateParts) → b.io ≡ a.io → b.took ≡ a.took → b.seat.parts ≡ a.seat.parts → Drains a b
+pub drains_none : (a b : WorkerStateParts) → b.io ≡ a.io → b.took ≡ a.took
+    → beside_shares b.seat ≡ beside_shares a.seat → Drains a b
 drains_none a b io took seat = record {
   legs = [];
   io = io;
@@ -262,7 +351,7 @@ drains_none a b io took seat = record {
 }
 
 pub drains_one : (a b : WorkerStateParts) (leg : PlacedLeg) → b.io ≡ a.io → b.took ≡ with_taken a.took leg
-    → b.seat.parts ≡ a.seat.parts → Drains a b
+    → beside_shares b.seat ≡ beside_shares a.seat → Drains a b
 drains_one a b leg io took seat = record {
   legs = leg ∷ [];
   io = io;
@@ -283,7 +372,7 @@ drains_on a b c first next = record {
 -- the next leg, if there was one
 pub drains_next : (a b : WorkerStateParts) (next : Option PlacedLeg)
     → MatchOption next (b.took ≡ a.took) (λ leg. b.took ≡ with_taken a.took leg) → b.io ≡ a.io
-    → b.seat.parts ≡ a.seat.parts → Drains a b
+    → beside_shares b.seat ≡ beside_shares a.seat → Drains a b
 drains_next a b None took io seat = drains_none a b io took seat
 drains_next a b (Some leg) took io seat = drains_one a b leg io took seat
 
@@ -298,38 +387,39 @@ handed read s leg event (inr e) up =
 
 pub does_hands : (w : Wording) (a b : WorkerStateParts) (leg : PlacedLeg)
     → Hands w leg a.io b.io → a.io.session.phase ≡ Up → b.took ≡ with_taken a.took leg
-    → b.seat.parts ≡ a.seat.parts → Does w a b
+    → beside_shares b.seat ≡ beside_shares a.seat → Does w a b
 does_hands w a b leg hands up took seat =
     let one = handed w.decoding a.io.session leg hands.event hands.of_leg up in
-    let middle : WorkerParts = record {
-      session = after_calls w.decoding a.io.session (calls_in hands.event);
-      took = b.took;
-      seat = a.seat;
-      wire = b.io.wire;
-    } in
-    let first : Goes w.decoding (worker_in a) (hands.event ∷ []) middle = record {
-      session = ap (after_calls w.decoding a.io.session) (sym (append-nil (calls_in hands.event)));
-      taken = ap (λ t. t.taken) took ∙ ap (λ l. a.took.taken ++ l) (sym (append-nil (taken_in hands.event) ∙ one.0));
-      allowed = (one.1, tt);
-      venue = ap (λ t. t.venue) took;
-      seat = refl;
-    } in
-    let later : b.io.session ≡ after_calls w.decoding middle.session hands.calls =
-    hands.session ∙ after-append w.decoding a.io.session (calls_in hands.event) hands.calls in
+    let all : calls_in hands.event ++ hands.calls ≡ calls_of (hands.event ∷ calling hands.calls) =
+    ap (λ l. calls_in hands.event ++ l) (sym (calling-calls hands.calls)) in
+    let legs : leg ∷ [] ≡ taken_of (hands.event ∷ calling hands.calls) =
+    sym (ap (λ l. l ++ taken_of (calling hands.calls)) one.0
+    ∙ ap (λ l. leg ∷ l) (calling-taken hands.calls ∙ hands.no_leg)) in
     record {
       events = hands.event ∷ calling hands.calls;
-      goes = goes_on w.decoding (worker_in a) middle (worker_in b) (hands.event ∷ []) (calling hands.calls) first
-          (goes_calls w.decoding middle (worker_in b) hands.calls later hands.no_leg refl seat);
-      speaks = subst (λ (calls : List SessionCall). SpeaksOn w a.io (calls_in hands.event ++ calls) b.io)
-          (sym (calling-calls hands.calls)) hands.speaks;
+      goes = record {
+        session = hands.session ∙ ap (after_calls w.decoding a.io.session) all;
+        taken = ap (λ t. t.taken) took ∙ ap (λ l. a.took.taken ++ l) legs;
+        allowed = (
+          one.1,
+          allowed_calls w.decoding (after_calls w.decoding a.io.session (calls_in hands.event)) hands.calls hands.no_leg,
+        );
+        venue = ap (λ t. t.venue) took;
+        seat = same_parts a.seat b.seat seat;
+        booked = λ waiting.
+            same_booked a.seat b.seat
+            (booked_by w.decoding a.io.session waiting (calls_of (hands.event ∷ calling hands.calls))) seat
+            (ap (booked_by w.decoding a.io.session waiting) (sym all) ∙ hands.no_note waiting);
+      };
+      speaks = subst (λ (calls : List SessionCall). SpeaksOn w a.io calls b.io) all hands.speaks;
     }
 
 -- a leg that was taken, if one was, and what the session did with it
 pub does_sent : (w : Wording) (a b d : WorkerStateParts) (next : Option PlacedLeg) → a.io.session.phase ≡ Up
-    → MatchOption next (b.took ≡ a.took) (λ leg. b.took ≡ with_taken a.took leg) → b.seat.parts ≡ a.seat.parts
+    → MatchOption next (b.took ≡ a.took) (λ leg. b.took ≡ with_taken a.took leg) → beside_shares b.seat ≡ beside_shares a.seat
     → b.io ≡ a.io
     → MatchOption next (d.io ≡ b.io) (λ leg. Hands w leg b.io d.io) → d.took ≡ b.took
-    → d.seat.parts ≡ b.seat.parts → Does w a d
+    → beside_shares d.seat ≡ beside_shares b.seat → Does w a d
 does_sent w a b d None up took parts io sent same seat =
     let all : d.io ≡ a.io = sent ∙ io in
     does_same w a d (ap (λ (x : SessionIoParts). x.session) all) (same ∙ took) (seat ∙ parts)
@@ -367,18 +457,18 @@ one_call Closing e = refl
 one_call LoggedOut e = refl
 
 pub finish_closed : (read : Decoding) (a b : WorkerParts) → b.session ≡ a.session → b.took ≡ a.took
-    → b.seat.parts ≡ a.seat.parts → is_over a.session.phase ≡ true
+    → beside_shares b.seat ≡ beside_shares a.seat → is_over a.session.phase ≡ true
     → Goes read a (last_calls a.session.phase) b
 finish_closed read a b session took seat e =
     subst (λ (events : List WorkerEvent). Goes read a events b) (sym (no_call a.session.phase e))
     (goes_none read a b session took seat)
 
 pub finish_abandoned : (read : Decoding) (a b : WorkerParts) → b.session ≡ abandon a.session → b.took ≡ a.took
-    → b.seat.parts ≡ a.seat.parts → is_over a.session.phase ≡ false
+    → beside_shares b.seat ≡ beside_shares a.seat → is_over a.session.phase ≡ false
     → Goes read a (last_calls a.session.phase) b
 finish_abandoned read a b session took seat e =
     subst (λ (events : List WorkerEvent). Goes read a events b) (sym (one_call a.session.phase e))
-    (goes_calls read a b (call.Abandon ∷ []) session refl took seat)
+    (goes_calls read a b (call.Abandon ∷ []) session refl (λ waiting. refl) took seat)
 
 pub abandoned_closed : (s t : SessionParts) → t ≡ abandon s → t.phase ≡ Closed
 abandoned_closed s t e = ap (λ (u : SessionParts). u.phase) e

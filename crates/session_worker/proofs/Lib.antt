@@ -1,3 +1,4 @@
+pub mod Booking
 pub mod Hearing
 pub mod Spoken
 pub mod Speech

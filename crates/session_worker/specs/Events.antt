@@ -1,6 +1,7 @@
 -- What a venue's worker does: the calls of its session, and what becomes of the legs that it takes from its ring.
-use Rattle.std.specs.Prelude.{◌≡◌, ℕ, false, List, [], ◌∷◌, ◌++◌}
+use Rattle.std.specs.Prelude.{◌≡◌, ℕ, false, List, [], ◌∷◌, ◌++◌, Option}
 use Rattle.leg.specs.declared.placed_leg.PlacedLeg.{PlacedLeg}
+use Rattle.dialect.specs.declared.note.Note.{Note}
 use Rattle.dialect.specs.Wording.{Decoding}
 use Rattle.session_core.specs.declared.phase.Phase.TheVariants.{Up}
 use Rattle.session_core.specs.declared.session_call.SessionCall.{SessionCall}
@@ -9,6 +10,7 @@ use Rattle.session_core.specs.Session.{SessionParts, may_write}
 use Rattle.session_core.specs.Trial.{after_calls}
 use Rattle.release_lock.specs.Queues.{Took}
 use Rattle.exec_collector.specs.Seats.{Seat}
+use Rattle.session_worker.specs.Booking.{booked_by}
 use Rattle.session_worker.specs.Speaking.{Wire}
 
 -- what a worker does. A leg that fails was handed to the session, which wanted memory for it, and the connection was
@@ -78,8 +80,9 @@ abbrev pub new_worker : SessionParts → ℕ → Seat → Wire → WorkerParts
 new_worker session venue seat wire =
     record { session = session; took = record { venue = venue; taken = [] }; seat = seat; wire = wire }
 
--- a worker before and after these events: the session is that after the calls, the legs taken are the events', and the
--- seat has as many parts
+-- a worker before and after these events: the session is that after the calls, and the legs taken are the events'.
+-- The seat has as many parts, and the notes that the book took on it are those that the calls confirm, whichever note
+-- waited before
 pub record Goes (read : Decoding) (before : WorkerParts) (events : List WorkerEvent) (after : WorkerParts)
     : Type 0 where
   pub session : after.session ≡ after_calls read before.session (calls_of events)
@@ -87,3 +90,5 @@ pub record Goes (read : Decoding) (before : WorkerParts) (events : List WorkerEv
   pub allowed : AreAllowed read before.session events
   pub venue : after.took.venue ≡ before.took.venue
   pub seat : after.seat.parts ≡ before.seat.parts
+  pub booked : (waiting : Option Note)
+      → after.seat.booked ≡ before.seat.booked ++ booked_by read before.session waiting (calls_of events)

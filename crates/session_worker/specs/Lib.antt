@@ -1,6 +1,7 @@
 pub mod Taking
 pub mod Timing
 pub mod Hearing
+pub mod Booking
 pub mod Speaking
 pub mod Events
 pub mod Linking

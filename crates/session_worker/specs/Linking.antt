@@ -1,5 +1,5 @@
 -- What a worker does at its link in one step of a turn.
-use Rattle.std.specs.Prelude.{◌≡◌, ◌⊎◌, ℕ, true, List, [], ◌++◌, Option, Some, None, Ok, Err}
+use Rattle.std.specs.Prelude.{◌≡◌, ◌⊎◌, ℕ, true, List, [], ◌∷◌, ◌++◌, Option, Some, None, Ok, Err}
 use Rattle.fix_text.specs.Tagged.{Tagged}
 use Rattle.fix_text.specs.Reading.{Stream, next_read, fed}
 use Rattle.fix_tags.specs.Reading.{envelope_read}
@@ -7,6 +7,7 @@ use Rattle.fix_tags.specs.Stamp.{StampParts}
 use Rattle.fix_tags.specs.declared.envelope.Envelope.{Envelope}
 use Rattle.fix_tags.specs.declared.tag_fault.TagFault.{TagFault}
 use Rattle.leg.specs.declared.placed_leg.PlacedLeg.{PlacedLeg}
+use Rattle.dialect.specs.declared.note.Note.{Note}
 use Rattle.dialect.specs.Wording.{Wording}
 use Rattle.link.specs.Traffic.{Tells, Takes, TakesPart, Stays}
 use Rattle.session_core.specs.declared.session_call.SessionCall.{SessionCall}
@@ -23,6 +24,7 @@ use Rattle.exec_collector.specs.Seats.{Seat}
 use Rattle.session_worker.specs.declared.reading.Heard.{Heard}
 use Rattle.session_worker.specs.declared.reading.Heard.TheVariants as heard
 use Rattle.session_worker.specs.Hearing.{Said, said_with, said_after, Hears, ReaderOn}
+use Rattle.session_worker.specs.Booking.{booked_by}
 use Rattle.session_worker.specs.Speaking.{Wire, Speak, TakesFirst}
 use Rattle.session_worker.specs.Events.{WorkerEvent, WorkerParts, calls_in, calls_of, legs_in, Goes}
 use Rattle.session_worker.specs.Events.WorkerEvent.{Calls, Fails}
@@ -49,9 +51,19 @@ SpeaksOn w before calls after = (said : Said) → IsHearing said before
 abbrev pub MayBreak : SessionParts → SessionParts → Type 0
 MayBreak before after = (after ≡ before) ⊎ (after ≡ broken before)
 
--- a session as it was, or with its pending note confirmed
-abbrev pub MayConfirm : SessionParts → SessionParts → Type 0
-MayConfirm before after = (after ≡ before) ⊎ (after ≡ confirm before)
+-- a seat but for its shares: its parts, and the notes booked on it
+pub record BesideShares : Type 0 where
+  pub parts : ℕ
+  pub booked : List Note
+
+abbrev pub beside_shares : Seat → BesideShares
+beside_shares seat = record { parts = seat.parts; booked = seat.booked }
+
+-- a session as it was, and no note was booked; or the note was booked, if there is one, and confirmed
+abbrev pub MayBook : Option Note → SessionParts → List Note → SessionParts → List Note → Type 0
+MayBook given before booked after booked_after =
+    ((after ≡ before) × (booked_after ≡ booked))
+    ⊎ ((note : Note) × (given ≡ Some note) × (after ≡ confirm before) × (booked_after ≡ booked ++ note ∷ []))
 
 -- these bytes were handed to the reader; or the connection was given up
 abbrev pub TakesIn : List ℕ → SessionIoParts → SessionIoParts → Type 0
@@ -65,11 +77,12 @@ Writes bytes before after =
     ((after.session ≡ before.session) × Tells before.wire after.wire (Takes bytes))
     ⊎ ((after.session ≡ broken before.session) × Tells before.wire after.wire (TakesPart bytes))
 
--- some calls, none of which is to send a leg
+-- some calls, none of which is to send a leg, or books a note
 pub record Moves (w : Wording) (before after : SessionIoParts) : Type 0 where
   pub calls : List SessionCall
   pub session : after.session ≡ after_calls w.decoding before.session calls
   pub no_leg : legs_in calls ≡ []
+  pub no_note : (waiting : Option Note) → booked_by w.decoding before.session waiting calls ≡ []
   pub speaks : SpeaksOn w before calls after
 
 -- the session was to send a leg: that call and others, or the leg failed
@@ -79,10 +92,12 @@ pub record Hands (w : Wording) (leg : PlacedLeg) (before after : SessionIoParts)
   pub calls : List SessionCall
   pub session : after.session ≡ after_calls w.decoding before.session (calls_in event ++ calls)
   pub no_leg : legs_in calls ≡ []
+  pub no_note : (waiting : Option Note) → booked_by w.decoding before.session waiting (calls_in event ++ calls) ≡ []
   pub speaks : SpeaksOn w before (calls_in event ++ calls) after
 
--- a call that neither dials nor sends a leg
+-- a call that neither dials nor sends a leg, and books no note
 abbrev pub IsPlain : SessionCall → Type 0
+IsPlain call.Confirm = ⊥
 IsPlain call.Connect = ⊥
 IsPlain call.Broken = ⊥
 IsPlain (call.SendLeg ordinal leg) = ⊥
@@ -154,13 +169,13 @@ pub record Drains (before after : WorkerStateParts) : Type 0 where
   pub io : after.io ≡ before.io
   pub taken : after.took.taken ≡ before.took.taken ++ legs
   pub venue : after.took.venue ≡ before.took.venue
-  pub seat : after.seat.parts ≡ before.seat.parts
+  pub seat : beside_shares after.seat ≡ beside_shares before.seat
 
--- what a step wanted was done: its note, if it had one, was confirmed, and its frames were written; or the first bytes
--- of them, and the connection was given up
-pub record CarriesOut (bytes : List ℕ) (before after : WorkerStateParts) : Type 0 where
+-- what a step wanted was done: its note, if it had one, was booked and confirmed, and its frames were written; or the
+-- first bytes of them, and the connection was given up
+pub record CarriesOut (note : Option Note) (bytes : List ℕ) (before after : WorkerStateParts) : Type 0 where
   pub noted : SessionParts
-  pub notes : MayConfirm before.io.session noted
+  pub notes : MayBook note before.io.session before.seat.booked noted after.seat.booked
   pub writes : ((after.io.session ≡ noted) × Tells before.io.wire after.io.wire (Takes bytes))
       ⊎ ((after.io.session ≡ broken noted) × Tells before.io.wire after.io.wire (TakesFirst bytes))
   pub took : after.took ≡ before.took

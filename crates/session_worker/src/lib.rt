@@ -4,7 +4,8 @@
 //! Promises:
 //! - `Worker::run`: there is a list of events, calls of its session and legs taken, by which its session is that after
 //!   these calls, from the start on, and the legs that it took are just those of the events, in order. A leg is handed
-//!   to the session only where that is up, and dropped only where it isn't or no number is left. It ended as `Closed`
+//!   to the session only where that is up, and dropped only where it isn't or no number is left. The notes that its
+//!   session confirmed are just those that the book took on its seat, in order. It ended as `Closed`
 //!   exactly where the last turn left the session closed, else as `TurnLimit` or `Stopped`. So whatever is promised of
 //!   a session over any calls holds of a worker's, whatever its link gives.
 //! - Where the link tells its traffic, the same events say what went over it. A connection is dialled just before each

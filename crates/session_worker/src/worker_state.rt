@@ -1,6 +1,6 @@
 //! What a worker does in its turns.
 
-ghost use Rattle.std.specs.Prelude.{◌≡◌, true, false, MatchOption, MatchResult};
+ghost use Rattle.std.specs.Prelude.{◌≡◌, ◌++◌, ◌∷◌, [], true, false, MatchOption, MatchResult};
 ghost use Rattle.std.specs.List.{concat};
 ghost use Rattle.dialect.specs.Wording.{Decoding};
 ghost use Rattle.link.specs.Traffic.{Tells, Stays};
@@ -8,7 +8,7 @@ ghost use Rattle.session_core.specs.declared.phase.Phase.TheVariants as phase;
 ghost use Rattle.session_core.specs.Receiving.{confirm};
 ghost use Rattle.session_core.specs.Calling.{broken};
 ghost use Rattle.session_worker.specs.Events.{Goes};
-ghost use Rattle.session_worker.specs.Linking.{worker_in, MayConfirm, Hands, Does, Drains, CarriesOut};
+ghost use Rattle.session_worker.specs.Linking.{worker_in, beside_shares, MayBook, Hands, Does, Drains, CarriesOut};
 ghost use Rattle.session_worker.specs.Ends.{is_over, IsReason, last_calls};
 ghost use Rattle.session_worker.specs.Taking.{TakesNext};
 
@@ -155,7 +155,7 @@ impl<K: Link, C: Clock + Drop, L: Run, M: Ledger> WorkerState<K, C, L, M> {
         ensures wire { Tells self.old.io.wire self.new.io.wire Stays }
         ensures stream { self.new.io.stream ≡ self.old.io.stream }
         ensures took { self.new.took ≡ self.old.took }
-        ensures seat { self.new.seat.parts ≡ self.old.seat.parts }
+        ensures seat { beside_shares self.new.seat ≡ beside_shares self.old.seat }
     {
         let count = self.takings.count();
         if count != taken || !self.io.is_idle() {
@@ -315,7 +315,7 @@ impl<K: Link, C: Clock + Drop, L: Run, M: Ledger> WorkerState<K, C, L, M> {
         ensures io { MatchOption next (self.new.io ≡ self.old.io)
             (λ leg. Hands (D.wording dialect.now) leg self.old.io self.new.io) }
         ensures took { self.new.took ≡ self.old.took }
-        ensures seat { self.new.seat.parts ≡ self.old.seat.parts }
+        ensures seat { beside_shares self.new.seat ≡ beside_shares self.old.seat }
     {
         let Some(leg) = next else {
             return false;
@@ -388,7 +388,7 @@ impl<K: Link, C: Clock + Drop, L: Run, M: Ledger> WorkerState<K, C, L, M> {
     /// Does what a step of the session wants: the legs that it names are withdrawn in the book, its note is booked and
     /// then confirmed, and its frames are written. Where the book wants memory the connection is given up.
     fn carry_out(&mut self, rt: &impl Wait, collector: &Collector<M>, step: Step)
-        ensures { CarriesOut (concat step.out) self.old self.new }
+        ensures { CarriesOut step.note (concat step.out) self.old self.new }
     {
         let Step {
             out,
@@ -408,8 +408,10 @@ impl<K: Link, C: Clock + Drop, L: Run, M: Ledger> WorkerState<K, C, L, M> {
 
     /// Books the note, if there is one, and says whether the session may go on.
     fn take_note(&mut self, rt: &impl Wait, collector: &Collector<M>, note: Option<Note>) -> bool
-        ensures confirmed { result ≡ true → MayConfirm self.old.io.session self.new.io.session }
-        ensures broken { result ≡ false → self.new.io.session ≡ broken self.old.io.session }
+        ensures booked { result ≡ true → MayBook note self.old.io.session self.old.seat.booked self.new.io.session
+            self.new.seat.booked }
+        ensures broken { result ≡ false → (self.new.io.session ≡ broken self.old.io.session)
+            × (self.new.seat.booked ≡ self.old.seat.booked) }
         ensures wire { Tells self.old.io.wire self.new.io.wire Stays }
         ensures stream { self.new.io.stream ≡ self.old.io.stream }
         ensures took { self.new.took ≡ self.old.took }
@@ -423,8 +425,10 @@ impl<K: Link, C: Clock + Drop, L: Run, M: Ledger> WorkerState<K, C, L, M> {
 
     /// Books a note, and says whether the book took it. Where it wants memory the connection is given up.
     fn book(&mut self, rt: &impl Wait, collector: &Collector<M>, note: &Note) -> bool
-        ensures confirmed { result ≡ true → self.new.io.session ≡ confirm self.old.io.session }
-        ensures broken { result ≡ false → self.new.io.session ≡ broken self.old.io.session }
+        ensures booked { result ≡ true → (self.new.io.session ≡ confirm self.old.io.session)
+            × (self.new.seat.booked ≡ self.old.seat.booked ++ note.now ∷ []) }
+        ensures broken { result ≡ false → (self.new.io.session ≡ broken self.old.io.session)
+            × (self.new.seat.booked ≡ self.old.seat.booked) }
         ensures wire { Tells self.old.io.wire self.new.io.wire Stays }
         ensures stream { self.new.io.stream ≡ self.old.io.stream }
         ensures took { self.new.took ≡ self.old.took }
@@ -481,7 +485,7 @@ impl<K: Link, C: Clock + Drop, L: Run, M: Ledger> WorkerState<K, C, L, M> {
     fn withdraw_all(&mut self, rt: &impl Wait, collector: &Collector<M>, ids: LegIds)
         ensures io { self.new.io ≡ self.old.io }
         ensures took { self.new.took ≡ self.old.took }
-        ensures seat { self.new.seat.parts ≡ self.old.seat.parts }
+        ensures seat { beside_shares self.new.seat ≡ beside_shares self.old.seat }
     {
         let ids = ids.into_vec();
         for id in &ids {
@@ -493,7 +497,7 @@ impl<K: Link, C: Clock + Drop, L: Run, M: Ledger> WorkerState<K, C, L, M> {
     fn withdraw(&mut self, rt: &impl Wait, collector: &Collector<M>, id: LegId)
         ensures io { self.new.io ≡ self.old.io }
         ensures took { self.new.took ≡ self.old.took }
-        ensures seat { self.new.seat.parts ≡ self.old.seat.parts }
+        ensures seat { beside_shares self.new.seat ≡ beside_shares self.old.seat }
     {
         let _ = collector.withdraw(rt, id, &mut self.seat);
     }

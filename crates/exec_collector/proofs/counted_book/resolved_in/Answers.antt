@@ -1,6 +1,5 @@
-use Rattle.std.proofs.Common.{ℕ, suc, ◌+◌, ◌≤◌, ◌≡◌, Fits, w64, ap, sym, ◌∙◌, arith}
+use Rattle.std.proofs.Common.{suc, ap, sym, ◌∙◌, arith}
 use Rattle.share_ledger.specs.Book.{venue_resolved}
-use Rattle.exec_collector.specs.Resolved.{sum_below}
 use Rattle.exec_collector.proofs.Bounded.{few_below}
 use Rattle.exec_collector.proofs.Counts.{venue_is}
 use Rattle.exec_collector.proofs.counted_book.resolved_in.Goals as goal

@@ -1,4 +1,4 @@
-use Rattle.std.proofs.Common.{◌≡◌, ◌≤◌}
+use Rattle.std.proofs.Common.{◌≡◌}
 use Rattle.share_ledger.specs.Book.{venue_resolved}
 use Rattle.exec_collector.specs.Resolved.{sum_below}
 use Rattle.exec_collector.proofs.counted_book.resolved_in.Given as goal

@@ -1,4 +1,4 @@
-use Rattle.std.proofs.Common.{◌+◌, ◌-◌, ◌≤◌, ◌≡◌, ap, sym, ◌∙◌, arith}
+use Rattle.std.proofs.Common.{ap, sym, ◌∙◌, arith}
 use Rattle.exec_collector.specs.Resolved.{resolved}
 use Rattle.exec_collector.proofs.Counts.{noted}
 use Rattle.exec_collector.proofs.counted_book.CountedBook.apply.Goals as goal
@@ -53,8 +53,9 @@ returns-clause-seat g c =
     let counts = it.counts in
     let rises = it.rises in
     let seat = c.count.ensures.seat in
+    let same = c.add_note.ensures.shares in
     let view = ap resolved c.self.view_is in
-    omega (arith, before, now, counts, rises, seat, view)
+    omega (arith, before, now, counts, rises, seat, same, view)
 
 pub returns-clause-gains : goal.returns-clause-gains
 returns-clause-gains g c =
@@ -66,4 +67,5 @@ returns-clause-gains g c =
     let counts = it.counts in
     let rises = it.rises in
     let seat = c.count.ensures.seat in
-    it.gains c.args.seat.now.shares c.count.new.self.shares (omega (arith, before, now, counts, rises, seat))
+    let same = c.add_note.ensures.shares in
+    it.gains c.args.seat.now.shares c.add_note.new.self.shares (omega (arith, before, now, counts, rises, seat, same))

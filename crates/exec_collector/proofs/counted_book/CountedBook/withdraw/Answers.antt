@@ -1,6 +1,5 @@
-use Rattle.std.proofs.Common.{◌+◌, ◌-◌, ◌≤◌, ◌≡◌, ap, sym, subst, ◌∙◌, arith}
-use Rattle.share_ledger.specs.Book.{BookParts}
-use Rattle.exec_collector.specs.Resolved.{resolved, GainsLeg}
+use Rattle.std.proofs.Common.{ap, sym, ◌∙◌, arith}
+use Rattle.exec_collector.specs.Resolved.{resolved}
 use Rattle.exec_collector.proofs.Counts.{gone}
 use Rattle.exec_collector.proofs.counted_book.CountedBook.withdraw.Goals as goal
 

@@ -1,15 +1,18 @@
-use Rattle.std.proofs.Common.{true≢false, sym, ap, subst, ◌∙◌}
+use Rattle.std.proofs.Common.{[], ◌∷◌, ◌++◌, true≢false, sym, ap, subst, ◌∙◌}
 use Rattle.link.specs.Traffic.{Tells, Stays}
+use Rattle.exec_collector.specs.Seats.{Seat}
 use Rattle.session_core.specs.Receiving.{confirm}
 use Rattle.session_core.specs.Calling.{broken}
 use Rattle.session_worker.specs.Linking.{SessionIoParts, WorkerStateParts}
 use Rattle.session_worker.proofs.Speech.{stays_same}
 use Rattle.session_worker.proofs.worker_state.WorkerState.book.Goals as goal
 
-pub returns-in-Ok-clause-confirmed : goal.returns-in-Ok-clause-confirmed
-returns-in-Ok-clause-confirmed g c =
-    λ e. ap (λ (x : SessionIoParts). x.session) c.confirm.ensures
-    ∙ ap (λ (x : WorkerStateParts). confirm x.io.session) c.self.view_is
+pub returns-in-Ok-clause-booked : goal.returns-in-Ok-clause-booked
+returns-in-Ok-clause-booked g c = λ e. (
+  ap (λ (x : SessionIoParts). x.session) c.confirm.ensures
+      ∙ ap (λ (x : WorkerStateParts). confirm x.io.session) c.self.view_is,
+  c.in-Ok.ensures.booked ∙ ap (λ (x : WorkerStateParts). x.seat.booked ++ c.args.note.now ∷ []) c.self.view_is,
+)
 
 pub returns-in-Ok-clause-broken : goal.returns-in-Ok-clause-broken
 returns-in-Ok-clause-broken g c = λ e. absurd (true≢false e)
@@ -23,12 +26,15 @@ pub returns-in-Ok-clause-stream : goal.returns-in-Ok-clause-stream
 returns-in-Ok-clause-stream g c =
     ap (λ (x : SessionIoParts). x.stream) c.confirm.ensures ∙ ap (λ (x : WorkerStateParts). x.io.stream) c.self.view_is
 
-pub returns-in-Err-clause-confirmed : goal.returns-in-Err-clause-confirmed
-returns-in-Err-clause-confirmed g c = λ e. absurd (true≢false (sym e))
+pub returns-in-Err-clause-booked : goal.returns-in-Err-clause-booked
+returns-in-Err-clause-booked g c = λ e. absurd (true≢false (sym e))
 
 pub returns-in-Err-clause-broken : goal.returns-in-Err-clause-broken
 returns-in-Err-clause-broken g c =
-    λ e. c.break_off.ensures.session ∙ ap (λ (x : WorkerStateParts). broken x.io.session) c.self.view_is
+    λ e. (
+      c.break_off.ensures.session ∙ ap (λ (x : WorkerStateParts). broken x.io.session) c.self.view_is,
+      ap (λ (s : Seat). s.booked) c.in-Err.ensures.gains.1 ∙ ap (λ (x : WorkerStateParts). x.seat.booked) c.self.view_is,
+    )
 
 pub returns-in-Err-clause-wire : goal.returns-in-Err-clause-wire
 returns-in-Err-clause-wire g c =

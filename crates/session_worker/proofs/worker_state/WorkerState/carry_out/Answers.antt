@@ -1,8 +1,5 @@
-use Rattle.std.proofs.Common.{refl, ap, subst, ◌∙◌}
-use Rattle.std.specs.List.{concat}
-use Rattle.session_worker.specs.Linking.{WorkerStateParts, Writes}
-use Rattle.session_worker.proofs.Carrying.{carries_none, carries_all, carries_ended}
-use Rattle.session_worker.proofs.Doing.{state_of}
+use Rattle.session_worker.specs.Linking.{WorkerStateParts}
+use Rattle.session_worker.proofs.Carrying.{carries_none}
 use Rattle.session_worker.proofs.worker_state.WorkerState.carry_out.Goals as goal
 
 pub returns-then-not-take_note : goal.returns-then-not-take_note
@@ -10,6 +7,7 @@ returns-then-not-take_note g c =
     let a : WorkerStateParts = c.args.self.now in
     let b : WorkerStateParts = c.withdraw_all.new.self in
     let d : WorkerStateParts = c.take_note.new.self in
-    carries_none _ a b d c.withdraw_all.ensures.io c.withdraw_all.ensures.took c.withdraw_all.ensures.seat
-    (c.take_note.ensures.broken c.if-not-take_note.true) c.take_note.ensures.wire c.take_note.ensures.took
+    let gone = c.take_note.ensures.broken c.if-not-take_note.true in
+    carries_none _ _ a b d c.withdraw_all.ensures.io c.withdraw_all.ensures.took c.withdraw_all.ensures.seat
+    gone.0 gone.1 c.take_note.ensures.wire c.take_note.ensures.took
     c.take_note.ensures.seat c.take_note.ensures.stream
