@@ -26,6 +26,9 @@ setting w seen index number v before is at number_is low found =
       there = is_there w.venues index v before (at ∙ number_is) here found;
     }
 
+abbrev pub world_of : {w seen : World} {index v : ℕ} {before : VenueParts} → Setting w seen index v before → World
+world_of {w} s = w
+
 -- what becomes of the venue that is kept is what happens in the world that is seen
 pub happened : (w seen left : World) (index v : ℕ) (before now : VenueParts) (e : Event) → Setting w seen index v before
     → with_venue left v now ≡ happens w e → with_venue left index now ≡ happens seen e

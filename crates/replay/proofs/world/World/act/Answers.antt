@@ -3,7 +3,7 @@ use Rattle.schedule.specs.declared.event.Event.TheVariants as event
 use Rattle.schedule.specs.Happening.{act_of}
 use Rattle.replay.specs.Telling.{by_exchange}
 use Rattle.venue_replay.specs.Ending.{refusal_of}
-use Rattle.replay.proofs.AtVenue.{setting, happened, told_so}
+use Rattle.replay.proofs.AtVenue.{setting, world_of, happened, told_so}
 use Rattle.replay.proofs.EventsHappen.{act_happens}
 use Rattle.replay.proofs.Tells.{told_here}
 use Rattle.replay.proofs.world.World.act.Goals as goal
@@ -24,4 +24,4 @@ returns-clause-told g c =
     told_so _ c.args.self.now _ _ _ (event.Act c.args.venue c.args.act.now) c.by_exchange.result s
     (c.by_exchange.ensures
     ∙ (ap by_exchange c.in_ok-refused.ensures.refused
-    ∙ told_here _ _ _ (λ venue. by_exchange (refusal_of (act_of c.args.act.now venue.exchange))) s.there))
+    ∙ told_here (world_of s) c.args.venue c.index_mut.result.now (λ venue. by_exchange (refusal_of (act_of c.args.act.now venue.exchange))) s.there))

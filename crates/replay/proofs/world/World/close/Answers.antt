@@ -5,7 +5,7 @@ use Rattle.schedule.specs.World.{World}
 use Rattle.schedule.specs.Happening.{with_venue}
 use Rattle.replay.specs.Telling.{by_session}
 use Rattle.venue_replay.specs.Ending.{refusal_of}
-use Rattle.replay.proofs.AtVenue.{setting, happened, told_so}
+use Rattle.replay.proofs.AtVenue.{setting, world_of, happened, told_so}
 use Rattle.replay.proofs.EventsHappen.{close_refused, close_happens}
 use Rattle.replay.proofs.Tells.{told_here}
 use Rattle.replay.proofs.world.World.close.Goals as goal
@@ -27,7 +27,7 @@ returns-in-Some-clause-told g c =
     told_so _ c.args.self.now _ _ _ (event.Close c.args.venue) c.by_session.result s
     (c.by_session.ensures
     ∙ (ap by_session (sym c.in-Some.is ∙ c.in_ok-refused.ensures.refused)
-    ∙ told_here _ _ _ (λ venue. by_session (refusal_of (close venue.session))) s.there))
+    ∙ told_here (world_of s) c.args.venue c.index_mut.result.now (λ venue. by_session (refusal_of (close venue.session))) s.there))
 
 pub returns-in-None-clause-world : goal.returns-in-None-clause-world
 returns-in-None-clause-world g c =
@@ -37,7 +37,7 @@ returns-in-None-clause-world g c =
     let left : World = record { desk = c.shut.new.self.desk; book = c.self.inside.book; venues = c.self.inside.venues.items } in
     happened _ c.args.self.now left _ _ _ c.close.new.self (event.Close c.args.venue) s
     (ap (λ desk. with_venue (record left { desk = desk }) c.args.venue c.close.new.self) c.shut.ensures.desk
-    ∙ close_happens _ _ _ _ s.there (sym c.in-None.is ∙ c.in_ok-refused.ensures.refused) c.in_ok-refused.ensures.now)
+    ∙ close_happens (world_of s) c.args.venue c.index_mut.result.now c.close.new.self s.there (sym c.in-None.is ∙ c.in_ok-refused.ensures.refused) c.in_ok-refused.ensures.now)
 
 pub returns-in-None-clause-told : goal.returns-in-None-clause-told
 returns-in-None-clause-told g c =
@@ -46,4 +46,4 @@ returns-in-None-clause-told g c =
     c.number.ensures.value c.requires c.index_mut.ensures.value in
     told_so _ c.args.self.now _ _ _ (event.Close c.args.venue) (by_session None) s
     (ap by_session (sym c.in-None.is ∙ c.in_ok-refused.ensures.refused)
-    ∙ told_here _ _ _ (λ venue. by_session (refusal_of (close venue.session))) s.there)
+    ∙ told_here (world_of s) c.args.venue c.index_mut.result.now (λ venue. by_session (refusal_of (close venue.session))) s.there)

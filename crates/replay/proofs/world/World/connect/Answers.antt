@@ -5,7 +5,7 @@ use Rattle.schedule.specs.World.{World}
 use Rattle.schedule.specs.Happening.{may_connect}
 use Rattle.replay.specs.Telling.{by_session, nothing_told}
 use Rattle.venue_replay.specs.Ending.{refusal_of}
-use Rattle.replay.proofs.AtVenue.{setting, happened, told_so}
+use Rattle.replay.proofs.AtVenue.{setting, world_of, happened, told_so}
 use Rattle.replay.proofs.EventsHappen.{connect_happens, chosen_true}
 use Rattle.replay.proofs.Tells.{told_here}
 use Rattle.replay.proofs.world.World.connect.Goals as goal
@@ -34,5 +34,5 @@ returns-clause-told g c =
     (c.by_session.ensures
     ∙ (ap by_session c.in_ok-refused.ensures.refused
     ∙ (sym (chosen_true (may_connect c.self.inside.desk.desk c.args.venue) answer nothing_told may)
-    ∙ told_here _ _ _
+    ∙ told_here (world_of s) c.args.venue c.index_mut.result.now
     (λ venue. if may_connect c.self.inside.desk.desk c.args.venue then by_session (refusal_of (connect venue.session)) else nothing_told) s.there)))

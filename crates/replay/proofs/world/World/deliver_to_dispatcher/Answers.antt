@@ -4,7 +4,7 @@ use Rattle.schedule.specs.World.{World, VenueParts}
 use Rattle.schedule.specs.Happening.{with_venue, happens}
 use Rattle.replay.specs.declared.event_outcome.EventOutcome.{EventOutcome}
 use Rattle.replay.specs.Telling.{nothing_told}
-use Rattle.replay.proofs.AtVenue.{setting, happened, told_so}
+use Rattle.replay.proofs.AtVenue.{setting, world_of, happened, told_so}
 use Rattle.replay.proofs.DispatcherHappens.{dispatcher_at, dispatcher_waits}
 use Rattle.replay.proofs.Tells.{tells, tells_nothing}
 use Rattle.replay.proofs.world.World.deliver_to_dispatcher.Goals as goal
@@ -23,7 +23,7 @@ returns-in_default-clause-told g c =
     setting _ c.args.self.now c.from-at.result _ c.args.venue c.index_mut.result.now c.self.view_is c.from-at.ensures
     c.number.ensures.value c.requires c.index_mut.ensures.value in
     told_so _ c.args.self.now _ _ _ (event.ToDispatcher c.args.venue c.args.frame) nothing_told s
-    (tells_nothing _ _ c.args.frame _ s.there (sym c.in_default.is ∙ c.in_ok-inbound.ensures.told))
+    (tells_nothing (world_of s) c.args.venue c.args.frame c.index_mut.result.now s.there (sym c.in_default.is ∙ c.in_ok-inbound.ensures.told))
 
 pub returns-clause-world : goal.returns-clause-world
 returns-clause-world g c =
@@ -46,4 +46,4 @@ returns-clause-told g c =
     c.number.ensures.value c.requires c.index_mut.ensures.value in
     let answer : EventOutcome = record nothing_told { answer = c.in_ok-answer.answer; ended = c.in-Some.inbound.ended } in
     told_so _ c.args.self.now _ _ _ (event.ToDispatcher c.args.venue c.args.frame) answer s
-    (tells _ _ c.args.frame _ c.in-Some.inbound c.in_ok-answer.answer s.there (sym c.in-Some.is ∙ c.in_ok-inbound.ensures.told) c.in_ok-answer.ensures.answer)
+    (tells (world_of s) c.args.venue c.args.frame c.index_mut.result.now c.in-Some.inbound c.in_ok-answer.answer s.there (sym c.in-Some.is ∙ c.in_ok-inbound.ensures.told) c.in_ok-answer.ensures.answer)

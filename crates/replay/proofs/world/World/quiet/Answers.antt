@@ -3,7 +3,7 @@ use Rattle.session_core.specs.Calling.{quiet}
 use Rattle.schedule.specs.declared.event.Event.TheVariants as event
 use Rattle.replay.specs.Telling.{by_session}
 use Rattle.venue_replay.specs.Ending.{refusal_of}
-use Rattle.replay.proofs.AtVenue.{setting, happened, told_so}
+use Rattle.replay.proofs.AtVenue.{setting, world_of, happened, told_so}
 use Rattle.replay.proofs.EventsHappen.{quiet_happens}
 use Rattle.replay.proofs.Tells.{told_here}
 use Rattle.replay.proofs.world.World.quiet.Goals as goal
@@ -24,4 +24,4 @@ returns-clause-told g c =
     told_so _ c.args.self.now _ _ _ (event.Quiet c.args.venue) c.by_session.result s
     (c.by_session.ensures
     ∙ (ap by_session c.in_ok-refused.ensures.refused
-    ∙ told_here _ _ _ (λ venue. by_session (refusal_of (quiet venue.session))) s.there))
+    ∙ told_here (world_of s) c.args.venue c.index_mut.result.now (λ venue. by_session (refusal_of (quiet venue.session))) s.there))

@@ -3,7 +3,7 @@ use Rattle.session_core.specs.Calling.{silent}
 use Rattle.schedule.specs.declared.event.Event.TheVariants as event
 use Rattle.replay.specs.Telling.{by_silence}
 use Rattle.venue_replay.specs.Ending.{ending_of}
-use Rattle.replay.proofs.AtVenue.{setting, happened, told_so}
+use Rattle.replay.proofs.AtVenue.{setting, world_of, happened, told_so}
 use Rattle.replay.proofs.EventsHappen.{silent_happens}
 use Rattle.replay.proofs.Tells.{told_here}
 use Rattle.replay.proofs.world.World.silent.Goals as goal
@@ -24,4 +24,4 @@ returns-clause-told g c =
     told_so _ c.args.self.now _ _ _ (event.Silent c.args.venue) c.by_silence.result s
     (c.by_silence.ensures
     ∙ (ap by_silence c.in_ok-ended.ensures.ended
-    ∙ told_here _ _ _ (λ venue. by_silence (ending_of (silent venue.session))) s.there))
+    ∙ told_here (world_of s) c.args.venue c.index_mut.result.now (λ venue. by_silence (ending_of (silent venue.session))) s.there))
