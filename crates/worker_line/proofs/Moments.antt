@@ -19,6 +19,7 @@ use Rattle.venue_line.proofs.GivenSteps.{Whole, whole_new, whole_step}
 use Rattle.venue_line.proofs.LineGives.{line_holds}
 use Rattle.venue_line.proofs.ForGood.{settled-trans}
 use Rattle.session_worker.specs.Events.{WorkerParts, calls_of, taken_of, Goes}
+use Rattle.session_worker.specs.Booking.{booked_by}
 use Rattle.session_worker.specs.Events.WorkerEvent.{Drops}
 use Rattle.session_worker.specs.Ends.{WorkerLeft, last_calls, Runs}
 use Rattle.session_worker.proofs.Doing.{goes_on}
@@ -84,15 +85,17 @@ the_worker_theorem read config released events after small worked may next =
       session = session_along read a events
           ∙ (ap (λ s. after_calls read s (calls_of (works_of events))) (sym worked.new) ∙ sym worked.goes.session);
       given = given_along read a events;
+      booked = worked.goes.booked a.waiting ∙ ap (λ l. worked.before.seat.booked ++ l)
+          (ap (λ s. booked_by read s a.waiting (calls_of (works_of events))) worked.new ∙ sym (given_along read a events));
       left = has.left ∙ ap length (sym took);
       first = subst (λ l. IsPrefix l (placed_from 1 (after_events read a events).released)) (sym took) has.first;
     }
 
 -- where the legs taken are the first of those released
 the_taken_theorem : (read : Decoding) (config : ConfigParts) (legs : List Leg) (events : List VenueEvent)
-    (after : WorkerParts) → config.max_number ≤ 999999999 → Worked read config events after
+    (after : WorkerParts) → config.max_number ≤ 999999999 → (worked : Worked read config events after)
     → MayAllHappen read (released_line config legs) events → IsPrefix after.took.taken (placed_from 1 legs)
-    → IsSafeLine read (released_line config legs) events after
+    → IsSafeLine read (released_line config legs) events worked.before after
 the_taken_theorem read config legs events after small worked may first =
     the_worker_theorem read config legs events after small worked may
     (each_is_next read (released_line config legs) [] events refl
@@ -116,6 +119,7 @@ ran_worked w config events after ran = record {
 }
 
 pub the_run_theorem : (w : Wording) → TheRunTheorem w
+unfolding ran_worked
 the_run_theorem w config legs events after small ran may first =
     the_taken_theorem w.decoding config legs events after small (ran_worked w config events after ran) may first
 

@@ -1,21 +1,24 @@
 -- What a worker's line comes to along the events: its session, the notes that were booked, and the legs taken.
 use Rattle.std.proofs.Common.{◌≡◌, ◌+◌, ℕ, suc, List, [], ◌∷◌, ◌++◌, length, drop, refl, sym, ap, subst, ◌∙◌, append_assoc, length-append, arith}
-use Rattle.std.specs.Prelude.{if◌then◌else◌}
+use Rattle.std.specs.Prelude.{option_to_list, Option, Some, None, if◌then◌else◌}
+use Rattle.std.specs.Option.{option_or}
 use Rattle.std.proofs.lemmas.List.{append-nil}
 use mathlib.Core.List.{IsPrefix}
 use Rattle.leg.specs.declared.leg.Leg.{Leg}
 use Rattle.leg.specs.declared.placed_leg.PlacedLeg.{PlacedLeg}
+use Rattle.dialect.specs.declared.note.Note.{Note}
+use Rattle.dialect.specs.Message.{decoded}
 use Rattle.dialect.specs.Wording.{Decoding}
 use Rattle.session_core.specs.declared.session_call.SessionCall.{SessionCall}
 use Rattle.session_core.specs.declared.session_call.SessionCall.TheVariants as call
 use Rattle.session_core.specs.Trial.{called, after_calls}
 use Rattle.release_lock.specs.Queues.{placed_from}
-use Rattle.session_core.specs.Receiving.{confirm}
-use Rattle.venue_line.specs.Line.{Line, noted}
+use Rattle.session_core.specs.Receiving.{receive, confirm}
+use Rattle.venue_line.specs.Line.{Line, noted, latest}
+use Rattle.session_worker.specs.Booking.{booked_by}
 use Rattle.session_worker.specs.Events.{WorkerEvent, calls_of, taken_in, taken_of}
 use Rattle.session_worker.specs.Events.WorkerEvent.{Calls, Drops, Fails}
 use Rattle.worker_line.specs.Happening.{VenueEvent, works_of, after_called, after_doing, after_event, after_events, AllTakeNext}
-use Rattle.worker_line.specs.Booked.{booked_by}
 use Rattle.worker_line.specs.Happening.VenueEvent.{Works, Exchanges, Releases}
 
 -- a call changes the session as it does, and nothing of the desk
@@ -61,16 +64,30 @@ session_along read a (Exchanges coming t written ∷ events) =
     session_along read (after_event read a (Exchanges coming t written)) events
 session_along read a (Releases legs ∷ events) = session_along read (after_event read a (Releases legs)) events
 
+-- the note that waits, as a line has it and as a worker's calls do
+noted_list : (note : Option Note) → noted note ≡ option_to_list note
+noted_list None = refl
+noted_list (Some note) = refl
+
+latest_or : (earlier given : Option Note) → latest earlier given ≡ option_or given earlier
+latest_or earlier None = refl
+latest_or earlier (Some note) = refl
+
 -- and the notes that were booked
 pub given_along : (read : Decoding) (a : Line) (events : List VenueEvent)
     → (after_events read a events).given ≡ a.given ++ booked_by read a.session a.waiting (calls_of (works_of events))
 given_along read a [] = sym (append-nil a.given)
 given_along read a (Works (Calls (call.Receive envelope)) ∷ events) =
+    let turn = receive a.session (decoded read envelope) in
     given_along read (after_event read a (Works (Calls (call.Receive envelope)))) events
+    ∙ ap (λ waiting. a.given ++ booked_by read turn.session waiting (calls_of (works_of events)))
+    (latest_or a.waiting turn.step.note)
 given_along read a (Works (Calls call.Confirm) ∷ events) =
     let now = if a.session.current.pending then noted a.waiting else [] in
     given_along read (after_event read a (Works (Calls call.Confirm))) events
-    ∙ append_assoc a.given now (booked_by read (confirm a.session) a.waiting (calls_of (works_of events)))
+    ∙ (append_assoc a.given now (booked_by read (confirm a.session) a.waiting (calls_of (works_of events)))
+    ∙ ap (λ l. a.given ++ ((if a.session.current.pending then l else [])
+    ++ booked_by read (confirm a.session) a.waiting (calls_of (works_of events)))) (noted_list a.waiting))
 given_along read a (Works (Calls (call.SendLeg ordinal leg)) ∷ events) =
     given_along read (after_event read a (Works (Calls (call.SendLeg ordinal leg)))) events
 given_along read a (Works (Calls call.Connect) ∷ events) =

@@ -1,4 +1,3 @@
-pub mod Booked
 pub mod Happening
 pub mod WorkerTheorem
 pub mod Example

@@ -14,11 +14,11 @@ use Rattle.venue_line.specs.LineTheorem.{LineHolds}
 use Rattle.venue_line.specs.ForGood.{StaysSettled}
 use Rattle.session_worker.specs.declared.day_report.DayReport.{DayReport}
 use Rattle.session_worker.specs.declared.end_reason.EndReason.{EndReason}
+use Rattle.session_worker.specs.Booking.{booked_by}
 use Rattle.session_worker.specs.Events.{WorkerEvent, WorkerParts, calls_of, Goes}
 use Rattle.session_worker.specs.Events.WorkerEvent.{Drops}
 use Rattle.session_worker.specs.Ends.{WorkerLeft, last_calls, Runs}
 use Rattle.session_worker.specs.Audit.{AuditedDay}
-use Rattle.worker_line.specs.Booked.{booked_by}
 use Rattle.worker_line.specs.Happening.{VenueEvent, works_of, after_events, moments_of, MayAllHappen, AllTakeNext}
 
 -- a line on which nothing has happened, but that these legs are released
@@ -47,36 +47,39 @@ pub record Ran (w : Wording) (config : ConfigParts) (events : List VenueEvent) (
   pub works : works_of events ≡ works_in runs
 
 -- at each moment what is safe on a line holds, and from each to every later one what is settled stays so; the line that
--- is reached at the end has the worker's session and was given the notes that it says were booked; and the legs that
--- left are those that the worker took, the first ones released
-pub record IsSafeLine (read : Decoding) (start : Line) (events : List VenueEvent) (after : WorkerParts) : Type 0 where
+-- is reached at the end has the worker's session, and was given the notes that the session's calls confirm. These are
+-- just the notes that the book took on the worker's seat meanwhile, in order. And the legs that left are those that the
+-- worker took, the first ones released
+pub record IsSafeLine (read : Decoding) (start : Line) (events : List VenueEvent) (before after : WorkerParts)
+    : Type 0 where
   pub holds : All LineHolds (moments_of read start events)
   pub settled : AllPairs StaysSettled (moments_of read start events)
   pub session : (after_events read start events).session ≡ after.session
   pub given : (after_events read start events).given
       ≡ booked_by read start.session start.waiting (calls_of (works_of events))
+  pub booked : after.seat.booked ≡ before.seat.booked ++ (after_events read start events).given
   pub left : (after_events read start events).left ≡ length after.took.taken
   pub first : IsPrefix after.took.taken (placed_from 1 (after_events read start events).released)
 
 -- whatever the exchange does that keeps the rules, and whenever legs are released and taken
 abbrev pub TheWorkerTheorem : Type 0
 TheWorkerTheorem = (read : Decoding) (config : ConfigParts) (legs : List Leg) (events : List VenueEvent)
-    (after : WorkerParts) → config.max_number ≤ 999999999 → Worked read config events after
+    (after : WorkerParts) → config.max_number ≤ 999999999 → (worked : Worked read config events after)
     → MayAllHappen read (released_line config legs) events → AllTakeNext read (released_line config legs) events
-    → IsSafeLine read (released_line config legs) events after
+    → IsSafeLine read (released_line config legs) events worked.before after
 
 -- of a worker that ran, where all that is known of its legs is that they are the first of those released
 abbrev pub TheRunTheorem : Wording → Type 0
 TheRunTheorem w = (config : ConfigParts) (legs : List Leg) (events : List VenueEvent) (after : WorkerParts)
-    → config.max_number ≤ 999999999 → Ran w config events after
+    → config.max_number ≤ 999999999 → (ran : Ran w config events after)
     → MayAllHappen w.decoding (released_line config legs) events → IsPrefix after.took.taken (placed_from 1 legs)
-    → IsSafeLine w.decoding (released_line config legs) events after
+    → IsSafeLine w.decoding (released_line config legs) events ran.before after
 
 -- and of each worker of a day that was audited, where nothing need be known of its legs
 abbrev pub TheDayTheorem : Wording → Type 0
 TheDayTheorem w = (callers : List Seat) (queues : List Took) (seats : List Seat) (report : DayReport)
     (day : AuditedDay callers queues seats (Ok report)) (venue : ℕ) (config : ConfigParts) (events : List VenueEvent)
     (after : WorkerParts) → slice_get queues venue ≡ Some after.took
-    → config.max_number ≤ 999999999 → Ran w config events after
+    → config.max_number ≤ 999999999 → (ran : Ran w config events after)
     → MayAllHappen w.decoding (released_line config (released venue day.desk.desk.sweeps)) events
-    → IsSafeLine w.decoding (released_line config (released venue day.desk.desk.sweeps)) events after
+    → IsSafeLine w.decoding (released_line config (released venue day.desk.desk.sweeps)) events ran.before after
