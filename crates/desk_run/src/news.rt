@@ -104,7 +104,10 @@ impl Told {
                 continue;
             };
             if self.notes_venue(place, seen.standing)? {
-                let said = floor.views.get(place).and_then(|view| view.said(rt));
+                let said = match floor.views.get(place) {
+                    Some(view) => view.said(rt),
+                    None => None,
+                };
                 floor
                     .voice
                     .say(rt, &venue_news(name, seen.standing, seen.seconds, said))?;
