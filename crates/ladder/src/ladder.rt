@@ -34,7 +34,7 @@ impl Ladder {
     }
 
     /// Sees an event that is to happen in this world. It takes no memory.
-    pub fn decode<D: Dialect + Drop>(&mut self, world: &World<D>, event: &Event) {
+    pub fn see<D: Dialect + Drop>(&mut self, world: &World<D>, event: &Event) {
         self.seen = Some(Seen::of(world, event));
     }
 
