@@ -6,7 +6,7 @@ ghost use Rattle.exchange_core.specs.Sound as exchange;
 
 use crate::day::Day;
 use crate::frame::Frame;
-use dialect::{Plain, decode};
+use dialect::Plain;
 use fix_text::FrameReader;
 use trial::{TrialFault, envelope_in};
 
