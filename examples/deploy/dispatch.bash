@@ -6,7 +6,7 @@ _dispatch_options() {
     case $1 in
         order) echo --dialect --sweep --leg --symbol --side --shares --price --number --from --to --at --raw --read --help ;;
         replay) echo --steps --frames --summary --ladder --check --help ;;
-        check) echo --from --desk --json --legs --help ;;
+        check) echo --from --desk --json --legs --exact --help ;;
         live) echo --venues --callers --sweeps --cut --turns --cut-short --stop-on-input --help ;;
         run) echo --check --json --patience --quiet --help ;;
         exchange) echo --port --sender --target --dialect --fill --cut --lose --help ;;
@@ -33,7 +33,7 @@ _dispatch() {
     fi
     if _dispatch_takes_value "$command" "$before"; then
         case $before in
-            --dialect) mapfile -t COMPREPLY < <(compgen -W 'plain split coded' -- "$word") ;;
+            --dialect | --exact) mapfile -t COMPREPLY < <(compgen -W 'plain split coded' -- "$word") ;;
             --side) mapfile -t COMPREPLY < <(compgen -W 'buy sell' -- "$word") ;;
             --from) [ "$command" != check ] || mapfile -t COMPREPLY < <(compgen -W 'quickfix' -- "$word") ;;
         esac

@@ -6,6 +6,7 @@ use crate::fault::CommandFault;
 use crate::finding::Printing;
 use crate::form::Form;
 use clap::{Arg, ArgAction, Command};
+use dialect::AnyDialect;
 use fix_tags::CompId;
 use std::alloc::{AllocError, Global};
 use std::convert::AsStr;
@@ -20,8 +21,13 @@ const JSON: &str = "json";
 
 const LEGS: &str = "legs";
 
+const EXACT: &str = "exact";
+
 /// The engines of others whose logs are read.
 static ENGINES: [&str; 1] = ["quickfix"];
+
+/// The dialects in which orders and reports are spelled.
+static DIALECTS: [&str; 3] = ["plain", "split", "coded"];
 
 /// What stands behind the options in the help.
 const OUTPUT: &str = "\
@@ -34,6 +40,8 @@ Blank lines and lines that begin with # are passed over. Printed are, for each l
 and with --legs, for each order and then for each sweep:
   leg S1L1 taken number 3 sent 1 IBM buy 100 10.25 filled 60 busted 0 cancelled 40 withdrawn 0 open 0
   sweep 1 legs 100 filled 60 busted 0 cancelled 40 withdrawn 0 open 0
+and with --exact, behind the rules, the first line that isn't what the session writes, and a line for this rule:
+  line N exact: the session writes 8=FIX.4.4|9=..|
 With sweeps.log among the logs, behind all of them what the day came to, for each sweep that was placed, and then
 whether each sentence of the sweep theorem holds, or where it doesn't:
   sentence order holds                or `broken PATH line N: what it says`, and the line below it
@@ -53,6 +61,8 @@ pub(crate) struct Request<'a> {
     pub is_json: bool,
     /// Whether it is told what became of each leg.
     pub tells_legs: bool,
+    /// The dialect in which each log is held against what the session writes.
+    pub exact: Option<AnyDialect>,
 }
 
 impl<'a> Request<'a> {
@@ -85,6 +95,15 @@ fn desk_arg<'a>(alloc: Global) -> Result<Arg<'a>, AllocError> {
         .requires_arg(FROM)
 }
 
+fn exact_arg<'a>(alloc: Global) -> Result<Arg<'a>, AllocError> {
+    Arg::new(alloc, EXACT)
+        .long(EXACT)
+        .value_name("DIALECT")
+        .help("holds each log of this program against what its session writes")
+        .value_parser(DIALECTS.as_slice())
+        .conflicts_with(FROM)
+}
+
 fn json_arg<'a>(alloc: Global) -> Arg<'a> {
     Arg::new(alloc, JSON)
         .long(JSON)
@@ -114,6 +133,7 @@ pub fn check_command<'a>(alloc: Global) -> Result<Command<'a>, AllocError> {
         .arg(from_arg(alloc)?)?
         .arg(desk_arg(alloc)?)?
         .arg(legs_arg(alloc))?
+        .arg(exact_arg(alloc)?)?
         .arg(json_arg(alloc))
 }
 
@@ -128,6 +148,11 @@ fn form_of(desk: Option<&str>) -> Result<Form, CommandFault>
         Some(desk) => Ok(Form::Quickfix { desk }),
         None => Err(CommandFault::BadDesk),
     }
+}
+
+/// The dialect of a name.
+fn dialect_of(name: Option<&str>) -> Option<AnyDialect> {
+    AnyDialect::named(name?)
 }
 
 /// What the words behind the command's name ask for.
@@ -146,10 +171,12 @@ pub(crate) fn read_words<'a, S: AsStr>(
     };
     let is_json = matches.get_flag(JSON);
     let tells_legs = matches.get_flag(LEGS);
+    let exact = dialect_of(matches.get_str(EXACT));
     Ok(Request {
         paths,
         form,
         is_json,
         tells_legs,
+        exact,
     })
 }

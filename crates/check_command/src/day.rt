@@ -35,6 +35,11 @@ impl<'a> Day<'a> {
         self.is_broken = self.is_broken || log.is_broken();
     }
 
+    /// Notes whether a log isn't what the session writes.
+    pub(crate) fn note_broken(&mut self, is_broken: bool) {
+        self.is_broken = self.is_broken || is_broken;
+    }
+
     /// One more log, which was read from this path.
     pub(crate) fn push(&mut self, path: &'a str, log: LogCheck) -> Result<(), AllocError> {
         self.paths.push(path)?;

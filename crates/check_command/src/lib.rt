@@ -9,6 +9,8 @@
 //!   counts aren't said.
 //! - The text of what became of a log's orders and sweeps is `legs_text` of `log_legs`, over what is known behind its
 //!   lines. That it is then printed isn't said, and of the same as JSON only each line's form (`json_line`).
+//! - With `--exact` each log is given to `explain` of `session_trace`, which says of one without a difference that it
+//!   is that of some session. That its answer is then printed isn't said.
 //! - Of a whole day `hear_line` hears a line of the desk's log exactly as the definition does (`Hears`), and what the
 //!   logs say of each sentence is `judge` of `day_rules`. That it is then printed, with the line that breaks it, isn't
 //!   said.
@@ -20,6 +22,7 @@ ghost use Rattle.check_command.specs.Running.{EndsCheck, ExitsSo, check_status};
 
 mod command;
 mod day;
+mod exact;
 mod fault;
 mod finding;
 mod form;
@@ -36,6 +39,7 @@ mod sweeps_log;
 
 use crate::command::{Request, read_words};
 use crate::day::{Day, LinePlace};
+use crate::exact::print_exact;
 use crate::finding::Printing;
 use crate::input::read_line_at;
 use crate::path_name::{is_sweeps, sweeps_of, venue_names};
@@ -118,12 +122,32 @@ fn check_logs<'a, F: Files, W: Write>(
             let printing = request.printing(path, is_of_day);
             let log = print_log(alloc, &printing, &mut open(files, alloc, path)?, out)?;
             day.note(&log);
+            day.note_broken(check_exactly(files, alloc, request, &printing, out)?);
             if is_of_day {
                 day.push(path, log)?;
             }
         }
     }
     Ok(day)
+}
+
+/// Whether a log isn't what the session writes, where that is asked for.
+fn check_exactly<F: Files, W: Write>(
+    files: &F,
+    alloc: Global,
+    request: &Request<'_>,
+    printing: &Printing<'_>,
+    out: &mut W,
+) -> Result<bool, CommandFault>
+    ensures { IfErr result IsOfLogs }
+{
+    match request.exact {
+        None => Ok(false),
+        Some(dialect) => {
+            let mut input = open(files, alloc, printing.log)?;
+            print_exact(alloc, printing, dialect, &mut input, out)
+        }
+    }
 }
 
 /// Whether a sentence of the sweep theorem is broken by the logs of a day's venues and of the lines that its desk took.
