@@ -86,7 +86,7 @@ fn value<'a>(matches: &ArgMatches<'a>, option: LiveOption) -> Result<&'a str, Co
 
 /// The options that the command line matched, each under its name.
 fn options_of<'a>(matches: &ArgMatches<'a>) -> Result<Options<'a>, CommandFault>
-    ensures { IfOk result (AreOptions matches.now) }
+    ensures { MatchResult result (AreOptions matches.now) IsOfWords }
 {
     Ok(Options {
         venues: value(matches, LiveOption::Venues)?,
