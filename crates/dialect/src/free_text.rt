@@ -52,6 +52,7 @@ fn is_free_text(greatest: usize, text: &[u8]) -> bool
 
 impl<const N: usize> FreeText<N> {
     /// The text, or none where it is empty, longer than N bytes or has a byte SOH.
+    #[inline(always)]
     pub fn new(text: &[u8]) -> Option<FreeText<N>>
         ensures { result ≡ free_text_of N text.now }
     {

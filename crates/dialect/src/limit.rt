@@ -1,4 +1,5 @@
 //! How much an order is for, at which limit, and on which side: OrderQty (38), OrdType (40), Price (44) and Side (54).
+//! It is on the way of each order, in each dialect: so what reads it is inlined.
 
 ghost use Rattle.std.specs.Prelude.{◌≡◌, ◌+◌, ◌<◌, ◌≤◌, IfOk, IfSome, OnErr, length};
 ghost use Rattle.fix_tags.specs.Price.{price_of};
@@ -30,6 +31,7 @@ pub(crate) struct Limit {
 }
 
 /// Reads shares that a leg may be for.
+#[inline(always)]
 pub(crate) fn read_order_shares(text: &[u8]) -> Option<u64>
     ensures value { result ≡ order_shares_of text.now }
     ensures in_range { IfSome result IsShares }
@@ -41,6 +43,7 @@ pub(crate) fn read_order_shares(text: &[u8]) -> Option<u64>
     Some(shares)
 }
 
+#[inline(always)]
 fn read_order_price(text: &[u8]) -> Option<u64>
     ensures value { result ≡ price_of text.now }
     ensures in_range { IfSome result IsPrice }
@@ -49,6 +52,7 @@ fn read_order_price(text: &[u8]) -> Option<u64>
 }
 
 /// Reads `1` as a buy and `2` as a sell.
+#[inline(always)]
 fn read_side(text: &[u8]) -> Option<Side>
     ensures { result ≡ side_of text.now }
 {
@@ -59,6 +63,7 @@ fn read_side(text: &[u8]) -> Option<Side>
     }
 }
 
+#[inline(always)]
 fn shares_in(fields: &AppFields<'_>) -> Result<u64, DialectFault>
     ensures value { result ≡ required_as order_shares_of fields.now 38 }
     ensures in_range { IfOk result IsShares }
@@ -67,6 +72,7 @@ fn shares_in(fields: &AppFields<'_>) -> Result<u64, DialectFault>
     read_order_shares(text).ok_or(DialectFault::Bad(ORDER_QTY))
 }
 
+#[inline(always)]
 fn check_limit_order(fields: &AppFields<'_>) -> Result<(), DialectFault>
     ensures { result ≡ limit_order_in fields.now }
 {
@@ -78,6 +84,7 @@ fn check_limit_order(fields: &AppFields<'_>) -> Result<(), DialectFault>
     }
 }
 
+#[inline(always)]
 fn price_in(fields: &AppFields<'_>) -> Result<u64, DialectFault>
     ensures value { result ≡ required_as price_of fields.now 44 }
     ensures in_range { IfOk result IsPrice }
@@ -86,6 +93,7 @@ fn price_in(fields: &AppFields<'_>) -> Result<u64, DialectFault>
     read_order_price(text).ok_or(DialectFault::Bad(PRICE))
 }
 
+#[inline(always)]
 fn side_in(fields: &AppFields<'_>) -> Result<Side, DialectFault>
     ensures { result ≡ required_as side_of fields.now 54 }
 {
@@ -94,6 +102,7 @@ fn side_in(fields: &AppFields<'_>) -> Result<Side, DialectFault>
 }
 
 /// Reads 38 to 54, of which 40 must be `2`. The price may be spelled in every way that a price is read.
+#[inline(always)]
 #[tactic(auto, unfolding(crate::specs::Limit::limit_in))]
 pub(crate) fn read_limit(fields: &AppFields<'_>) -> Result<Limit, DialectFault>
     ensures value { result ≡ limit_in fields.now }

@@ -73,6 +73,7 @@ fn append_session<'a>(
 /// and TransactTime (60) of an order. Where the message may have been sent before (43=Y) the stamp is OrigSendingTime
 /// (122) too. The only refusal is out of memory, and leaves `out` as it was: none comes where `out` has room for the
 /// frame.
+#[inline(always)]
 pub fn append_message<D: Dialect>(
     alloc: Global,
     dialect: &D,

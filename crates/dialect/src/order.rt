@@ -37,6 +37,7 @@ pub(crate) fn id_in<S: Spelling>(
 }
 
 /// Reads an order, as a venue spells it.
+#[inline(always)]
 #[tactic(auto, unfolding(crate::specs::Order::order_read_of))]
 pub(crate) fn read_order<S: Spelling>(
     spelling: &S,

@@ -1,4 +1,4 @@
-//! A report is read.
+//! A report is read. What it traded is on the way of each, in each dialect: so what reads that is inlined.
 
 ghost use Rattle.std.specs.Prelude.{◌≡◌, IfOk};
 ghost use Rattle.leg.specs.Terms.{IsShares};
@@ -26,6 +26,7 @@ fn exec_id_in(fields: &AppFields<'_>, tag: u32) -> Result<ExecId, DialectFault>
     ExecId::new(text).ok_or(DialectFault::Bad(tag))
 }
 
+#[inline(always)]
 fn last_shares_in(fields: &AppFields<'_>) -> Result<u64, DialectFault>
     ensures value { result ≡ required_as order_shares_of fields.now 32 }
     ensures in_range { IfOk result IsShares }
@@ -34,6 +35,7 @@ fn last_shares_in(fields: &AppFields<'_>) -> Result<u64, DialectFault>
     read_order_shares(text).ok_or(DialectFault::Bad(LAST_QTY))
 }
 
+#[inline(always)]
 fn last_px_in(fields: &AppFields<'_>) -> Result<LastPx, DialectFault>
     ensures { result ≡ required_as (free_text_of 20) fields.now 31 }
 {
@@ -42,6 +44,7 @@ fn last_px_in(fields: &AppFields<'_>) -> Result<LastPx, DialectFault>
 }
 
 /// Reads 32 and 31.
+#[inline(always)]
 #[tactic(auto, unfolding(crate::specs::ReportRead::fill_in))]
 fn fill_in(fields: &AppFields<'_>) -> Result<Fill, DialectFault>
     ensures { result ≡ fill_in fields.now }
@@ -51,6 +54,7 @@ fn fill_in(fields: &AppFields<'_>) -> Result<Fill, DialectFault>
     Ok(Fill::new(shares, px).unwrap())
 }
 
+#[inline(always)]
 fn trade_in(fields: &AppFields<'_>) -> Result<ReportKind, DialectFault>
     ensures { result ≡ trade_in fields.now }
 {
@@ -66,6 +70,7 @@ fn bust_in(fields: &AppFields<'_>) -> Result<ReportKind, DialectFault>
 }
 
 /// Reads what the byte of 150 says, with the fields that it needs.
+#[inline(always)]
 fn kind_by(fields: &AppFields<'_>, byte: u8) -> Result<ReportKind, DialectFault>
     ensures { result ≡ kind_of_byte fields.now byte }
 {
@@ -80,6 +85,7 @@ fn kind_by(fields: &AppFields<'_>, byte: u8) -> Result<ReportKind, DialectFault>
     }
 }
 
+#[inline(always)]
 fn kind_in(fields: &AppFields<'_>) -> Result<ReportKind, DialectFault>
     ensures { result ≡ kind_in fields.now }
 {

@@ -17,6 +17,7 @@ use leg::Symbol;
 const MAX_LEN: usize = 10;
 
 /// Reads a root of 1 to 6 letters A to Z and, behind the first separator, a suffix of 1 to 3.
+#[inline(always)]
 #[tactic(auto, unfolding(crate::specs::JoinedSymbol::joined_symbol_of))]
 fn read_joined_symbol(separator: u8, text: &[u8]) -> Option<Symbol>
     ensures { result ≡ joined_symbol_of separator text.now }
@@ -29,6 +30,7 @@ fn read_joined_symbol(separator: u8, text: &[u8]) -> Option<Symbol>
 }
 
 /// Reads a symbol in the one field Symbol (55).
+#[inline(always)]
 pub(crate) fn joined_symbol_in(
     separator: u8,
     fields: &AppFields<'_>,

@@ -29,6 +29,7 @@ pub(crate) fn check_immediate(fields: &AppFields<'_>) -> Result<(), DialectFault
 }
 
 /// Pushes 59 and 60, of which the text is given.
+#[inline(always)]
 pub(crate) fn push_immediate<F: FieldSink>(
     alloc: Global,
     stamp: &Stamp,

@@ -35,7 +35,7 @@ fn decimals_after(rest: &[u8]) -> Option<&[u8]>
 }
 
 /// The first four decimals as a number, where these are digits and only zeros follow.
-#[inline]
+#[inline(always)]
 fn ten_thousandths(decimals: &[u8]) -> Option<u64>
     ensures value { result ≡ (if all_digits decimals.now && all_zeros (drop 4 decimals.now)
         then Some (ten_thousandths decimals.now) else None) }
@@ -55,7 +55,7 @@ fn ten_thousandths(decimals: &[u8]) -> Option<u64>
 
 /// Reads a price of 1 to 9,999,999,999 ten-thousandths, as `10.25`, `.5` or `5.` (FIX 4.4 Volume 1, data type Price).
 /// Past the fourth decimal only zeros are read, however many.
-#[inline]
+#[inline(always)]
 #[tactic(auto, unfolding(crate::specs::Price::price_of))]
 pub fn read_price(bytes: &[u8]) -> Option<u64>
     ensures { result ≡ price_of bytes.now }
@@ -107,7 +107,7 @@ fn short_len(price: u64) -> usize
 pub type PriceText = ArrayVec<u8, MAX_TEXT_LEN>;
 
 /// The dollars of a price and what is written of its fraction.
-#[inline]
+#[inline(always)]
 fn dollars_and(price: u64, fraction: &[u8]) -> PriceText
     requires { length fraction.now ≤ FRACTION_LEN }
     ensures { result.items ≡ decimal (price / 10_000) ++ fraction.now }

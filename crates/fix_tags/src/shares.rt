@@ -21,6 +21,7 @@ fn is_no_part(rest: &[u8]) -> bool
 
 /// Reads whole shares up to 999,999,999, with or without a point and zeros (FIX 4.4 Volume 1, data type Qty).
 /// They are written by `write_number`.
+#[inline(always)]
 #[inline]
 #[tactic(auto, unfolding(crate::specs::Shares::shares_of))]
 pub fn read_shares(bytes: &[u8]) -> Option<u64>

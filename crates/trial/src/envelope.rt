@@ -5,6 +5,7 @@ use fix_tags::{EnvelopeRef, read_envelope};
 use fix_text::FrameReader;
 
 /// The message of a frame that a reader is given.
+#[inline(always)]
 pub fn envelope_in<'r>(
     reader: &'r mut FrameReader,
     bytes: &[u8],

@@ -7,6 +7,7 @@ use leg::Leg;
 use trial::{TrialFault, envelope_in};
 
 /// The leg of an order's frame.
+#[inline(always)]
 pub fn read_leg(reader: &mut FrameReader, bytes: &[u8]) -> Result<Leg, TrialFault> {
     let message = envelope_in(reader, bytes)?;
     match message.body() {
@@ -18,6 +19,7 @@ pub fn read_leg(reader: &mut FrameReader, bytes: &[u8]) -> Result<Leg, TrialFaul
 }
 
 /// The report of a report's frame.
+#[inline(always)]
 pub fn read_report(reader: &mut FrameReader, bytes: &[u8]) -> Result<Report, TrialFault> {
     let message = envelope_in(reader, bytes)?;
     match message.body() {
