@@ -3,12 +3,12 @@
 use clock::UtcClock;
 use dialect::Plain;
 use exchange_sim::{MemoryLink, MemoryPlan, Plan};
+use exec_collector::Accounts;
 use release_lock::Run;
 use session_worker::{EndReason, Pace, Worker};
 use std::alloc::Global;
 use std::io::Write;
 use std::sync::Wait;
-use std::sync::ledger::Ledger;
 use std::time::Clock;
 use trial::{Floor, MAX_NUMBER, Post, Trial, TrialFault, far_end, near_end, on_floor};
 
@@ -39,7 +39,7 @@ struct Idle {
 impl<R: Wait + Clock> Trial<R> for Idle {
     type End = Result<(), TrialFault>;
 
-    fn run<L: Run, M: Ledger>(self, rt: &R, floor: Floor<L, M>) -> Result<(), TrialFault> {
+    fn run<L: Run, M: Accounts>(self, rt: &R, floor: Floor<L, M>) -> Result<(), TrialFault> {
         let Idle { alloc, turns } = self;
         let (near, far) = (near_end(MAX_NUMBER)?, far_end(MAX_NUMBER)?);
         let Floor {
@@ -49,7 +49,7 @@ impl<R: Wait + Clock> Trial<R> for Idle {
             ..
         } = floor;
         let Post { drain, seat } = posts.pop().ok_or(TrialFault::Missing)?;
-        if drain.popped() != 0 {
+        if drain.popped() != 0 || seat.venue() != drain.venue() {
             return Err(TrialFault::Missing);
         }
         let plan = MemoryPlan::faultless(PLAN);

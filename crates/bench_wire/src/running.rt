@@ -4,7 +4,7 @@ ghost use Rattle.std.specs.Prelude.{◌≡◌, map};
 
 use crate::WireLoad;
 use crate::workers::{WireWorker, Workers};
-use exec_collector::Collector;
+use exec_collector::{Accounts, Collector};
 use leg::VenueId;
 use link::Bell;
 use release_lock::{CallerSeat, ReleaseLock, Run};
@@ -13,7 +13,6 @@ use std::alloc::Global;
 use std::io::Write;
 use std::marker::Brand;
 use std::net::{Net, TcpListener, TcpStream};
-use std::sync::ledger::Ledger;
 use std::sync::{Arc, Wait};
 use std::thread;
 use std::thread::{Threads, join};
@@ -25,13 +24,13 @@ const MOST_TRIES: u64 = 10_000;
 
 /// What the threads share.
 #[derive(Drop)]
-struct Shared<L: Run, M: Ledger> {
+struct Shared<L: Run, M: Accounts> {
     lock: ReleaseLock<L>,
     collector: Collector<M>,
     bells: Vec<Arc<Bell, Global>>,
 }
 
-impl<L: Run, M: Ledger> Shared<L, M> {
+impl<L: Run, M: Accounts> Shared<L, M> {
     /// Rings the bell of each worker.
     fn ring_all(&self) {
         for bell in self.bells.iter() {
@@ -50,7 +49,7 @@ impl<L: Run, M: Ledger> Shared<L, M> {
 }
 
 /// Hands a sweep in until it is placed, and says when it was: the nanoseconds of the system's monotonic clock.
-fn hands_in<L: Run, M: Ledger>(
+fn hands_in<L: Run, M: Accounts>(
     rt: &(impl Wait + Clock),
     alloc: Global,
     shared: &Shared<L, M>,
@@ -74,7 +73,7 @@ fn hands_in<L: Run, M: Ledger>(
 }
 
 /// Hands in all sweeps, at their pace, and says when each was handed in.
-fn hands_in_all<L: Run, M: Ledger>(
+fn hands_in_all<L: Run, M: Accounts>(
     rt: &(impl Wait + Clock),
     alloc: Global,
     shared: &Shared<L, M>,
@@ -93,7 +92,7 @@ fn hands_in_all<L: Run, M: Ledger>(
 }
 
 /// The caller: whatever comes of its sweeps, the gates are shut at the end.
-fn calls<L: Run, M: Ledger>(
+fn calls<L: Run, M: Accounts>(
     rt: &(impl Wait + Clock),
     alloc: Global,
     shared: &Shared<L, M>,
@@ -108,7 +107,7 @@ fn calls<L: Run, M: Ledger>(
 /// Runs the workers to their end. Refused where one of them didn't close.
 fn works<
     L: Run + Send + Sync,
-    M: Ledger + Send + Sync,
+    M: Accounts + Send + Sync,
     R: Net<Listener = TcpListener, Stream = TcpStream> + Threads + Wait + Clock + Sync,
 >(
     rt: &R,
@@ -136,7 +135,7 @@ fn works<
 /// The caller and the workers, in threads.
 fn in_threads<
     L: Run + Send + Sync,
-    M: Ledger + Send + Sync,
+    M: Accounts + Send + Sync,
     R: Net<Listener = TcpListener, Stream = TcpStream> + Threads + Wait + Clock + Sync,
 >(rt: &R, alloc: Global, floor: Floor<L, M>, load: WireLoad) -> Result<Vec<u128>, TrialFault> {
     let Floor {
@@ -164,12 +163,12 @@ fn in_threads<
 /// A load at a floor of this site.
 fn load_at<
     L: Run + Send + Sync,
-    M: Ledger + Send + Sync,
+    M: Accounts + Send + Sync,
     R: Net<Listener = TcpListener, Stream = TcpStream> + Threads + Wait + Clock + Sync,
 >(rt: &R, alloc: Global, site: Site, load: WireLoad) -> Result<Vec<u128>, TrialFault>
     requires lock { (site.callers.name ≡ L.name) × (L.parts ≡ 1024)
         × (L.queues ≡ map (λ ends. ends.0.table) site.rings.items) }
-    requires book { (site.workers.name ≡ M.name) × (M.parts ≡ site.venues) }
+    requires book { (site.workers.name ≡ M.name) × (M.parts ≡ site.venues) × (site.workers.lists ≡ M.lists) }
 {
     in_threads(rt, alloc, Floor::<L, M>::open(alloc, site)?, load)
 }

@@ -3,13 +3,13 @@
 use crate::WireLoad;
 use clock::UtcClock;
 use dialect::Plain;
+use exec_collector::Accounts;
 use link::{Bell, Poller, TcpLink};
 use release_lock::Run;
 use session_worker::{Pace, Worker};
 use std::alloc::Global;
 use std::net::{Net, SocketAddr};
 use std::sync::Arc;
-use std::sync::ledger::Ledger;
 use std::time::Clock;
 use trial::{MAX_NUMBER, Post, TrialFault, near_end};
 
@@ -18,12 +18,12 @@ pub type WireWorker<'a, R, L, M> = Worker<Plain, TcpLink<'a, R>, UtcClock<'a, R>
 
 /// A worker for each post, in order, and the bell of each.
 #[derive(Drop)]
-pub struct Workers<'a, R: Net + Clock, L: Run, M: Ledger> {
+pub struct Workers<'a, R: Net + Clock, L: Run, M: Accounts> {
     pub workers: Vec<WireWorker<'a, R, L, M>>,
     pub bells: Vec<Arc<Bell, Global>>,
 }
 
-impl<'a, R: Net + Clock, L: Run, M: Ledger> Workers<'a, R, L, M> {
+impl<'a, R: Net + Clock, L: Run, M: Accounts> Workers<'a, R, L, M> {
     /// The workers of these posts.
     pub fn new(
         rt: &'a R,
@@ -50,7 +50,7 @@ impl<'a, R: Net + Clock, L: Run, M: Ledger> Workers<'a, R, L, M> {
         load: WireLoad,
     ) -> Result<(), TrialFault> {
         let Post { drain, seat } = post;
-        if drain.popped() != 0 {
+        if drain.popped() != 0 || seat.venue() != drain.venue() {
             return Err(TrialFault::Missing);
         }
         let port = load.port.saturating_add(u16::from(drain.venue().number()));

@@ -1,18 +1,17 @@
 //! A caller.
 
-use exec_collector::Collector;
+use exec_collector::{Accounts, Collector};
 use leg::{Totals, VenueId};
 use release_lock::{CallerSeat, ReleaseLock, Run};
 use session_worker::shut_gate;
 use std::alloc::Global;
 use std::sync::Wait;
-use std::sync::ledger::Ledger;
 use sweep_release::Receipt;
 use trial::{Order, sweep_of};
 
 /// A caller: it releases sweeps, and keeps what it gets for them.
 #[derive(Drop)]
-pub struct Caller<'a, R: Wait, L: Run, M: Ledger> {
+pub struct Caller<'a, R: Wait, L: Run, M: Accounts> {
     rt: &'a R,
     alloc: Global,
     lock: &'a ReleaseLock<L>,
@@ -30,7 +29,7 @@ pub struct CallerEnd<L: Run> {
     pub before_last: Option<Totals>,
 }
 
-impl<'a, R: Wait, L: Run, M: Ledger> Caller<'a, R, L, M> {
+impl<'a, R: Wait, L: Run, M: Accounts> Caller<'a, R, L, M> {
     /// A caller that has made no call yet. It takes no memory.
     pub fn new(
         rt: &'a R,

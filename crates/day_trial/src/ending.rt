@@ -3,12 +3,11 @@
 use crate::sums::{report_of, sweep_ends};
 use crate::venue_checks::venue_end;
 use crate::{DayFault, Outcome, Shown, SweepEnd, VenueEnd};
-use exec_collector::Collector;
+use exec_collector::{Accounts, Collector};
 use release_lock::{CallerSeat, ReleaseLock, Run};
 use session_worker::{WorkerEnd, audit};
 use std::alloc::Global;
 use std::sync::Wait;
-use std::sync::ledger::Ledger;
 use sweep_release::Receipt;
 
 /// The shares of all trades that the exchanges reported, if each of them took the session's Logout.
@@ -38,7 +37,7 @@ fn check_trades(venues: &[VenueEnd], sweeps: &[SweepEnd]) -> Result<(), DayFault
 }
 
 /// What each worker did, where its exchange agrees.
-fn venue_ends<K: Shown, L: Run, M: Ledger>(
+fn venue_ends<K: Shown, L: Run, M: Accounts>(
     alloc: Global,
     ends: &[WorkerEnd<K, L, M>],
 ) -> Result<Vec<VenueEnd>, DayFault> {
@@ -50,7 +49,7 @@ fn venue_ends<K: Shown, L: Run, M: Ledger>(
 }
 
 /// What went over the links, as far as they keep it.
-fn texts_of<K: Shown, L: Run, M: Ledger>(
+fn texts_of<K: Shown, L: Run, M: Accounts>(
     alloc: Global,
     ends: &[WorkerEnd<K, L, M>],
 ) -> Result<String, DayFault> {
@@ -63,7 +62,7 @@ fn texts_of<K: Shown, L: Run, M: Ledger>(
 
 /// What became of a day, where all of it agrees: the sums of each sweep, the legs and trades of each
 /// venue, and the audit.
-pub fn day_outcome<K: Shown, L: Run, M: Ledger>(
+pub fn day_outcome<K: Shown, L: Run, M: Accounts>(
     rt: &impl Wait,
     alloc: Global,
     lock: ReleaseLock<L>,

@@ -4,11 +4,11 @@ use crate::DayFault;
 use clock::StoppedClock;
 use dialect::Plain;
 use exchange_sim::{MemoryLink, MemoryPlan, Plan};
+use exec_collector::Accounts;
 use link::Link;
 use release_lock::Run;
 use session_worker::{Pace, Worker};
 use std::alloc::Global;
-use std::sync::ledger::Ledger;
 use trial::{MAX_NUMBER, Post, TrialFault, far_end, near_end, stopped_clock};
 
 /// Of each order six shares are traded, and nothing is lost or cut.
@@ -28,7 +28,7 @@ pub fn memory_link(
 }
 
 /// The worker of a new post's venue. Its session is A.
-pub fn worker_of<K: Link, L: Run, M: Ledger>(
+pub fn worker_of<K: Link, L: Run, M: Accounts>(
     alloc: Global,
     link: K,
     max_number: u64,
@@ -36,7 +36,7 @@ pub fn worker_of<K: Link, L: Run, M: Ledger>(
     post: Post<L, M>,
 ) -> Result<Worker<Plain, K, StoppedClock, L, M>, DayFault> {
     let Post { drain, seat } = post;
-    if drain.popped() != 0 {
+    if drain.popped() != 0 || seat.venue() != drain.venue() {
         return Err(DayFault::Trial(TrialFault::Missing));
     }
     let config = near_end(max_number)?;

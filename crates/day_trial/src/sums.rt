@@ -1,7 +1,7 @@
 //! The sums over the sweeps of a day.
 
 use crate::{DayFault, SweepEnd};
-use exec_collector::Collector;
+use exec_collector::{Accounts, Collector};
 use leg::{LegState, PlacedLeg, Totals};
 use link::Link;
 use release_lock::Run;
@@ -9,7 +9,6 @@ use session_core::Session;
 use session_worker::{DayReport, WorkerEnd};
 use std::alloc::Global;
 use std::sync::Wait;
-use std::sync::ledger::Ledger;
 use sweep_release::Receipt;
 
 /// A sum, up to the greatest number.
@@ -40,7 +39,7 @@ pub fn is_withdrawn(session: &Session, placed: &PlacedLeg) -> bool {
 }
 
 /// The shares of a sweep's legs that these workers took and no exchange has or gets.
-fn withdrawn<K: Link, L: Run, M: Ledger>(ends: &[WorkerEnd<K, L, M>], sweep: u64) -> u64 {
+fn withdrawn<K: Link, L: Run, M: Accounts>(ends: &[WorkerEnd<K, L, M>], sweep: u64) -> u64 {
     let mut shares: u64 = 0;
     for end in ends {
         for placed in end.took.taken() {
@@ -53,7 +52,7 @@ fn withdrawn<K: Link, L: Run, M: Ledger>(ends: &[WorkerEnd<K, L, M>], sweep: u64
 }
 
 /// What became of each of these sweeps, whose parts add up, with just those shares withdrawn that no exchange can have.
-pub fn sweep_ends<K: Link, L: Run, M: Ledger>(
+pub fn sweep_ends<K: Link, L: Run, M: Accounts>(
     rt: &impl Wait,
     alloc: Global,
     collector: &Collector<M>,

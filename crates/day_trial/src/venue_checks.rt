@@ -4,11 +4,11 @@ use crate::sums::is_withdrawn;
 use crate::{DayFault, Shown, VenueEnd};
 use dialect::ReportKind;
 use exchange_core::Exchange;
+use exec_collector::Accounts;
 use leg::{LegState, PlacedLeg};
 use release_lock::Run;
 use session_core::Session;
 use session_worker::WorkerEnd;
-use std::sync::ledger::Ledger;
 
 /// Compares the legs that were taken from the ring, in order, with those that the exchange accepted: it has those that
 /// the session knows to be taken, none that is withdrawn, each once, in the order of the ring, and no other.
@@ -55,7 +55,7 @@ fn in_doubt(session: &Session, taken: &[PlacedLeg]) -> usize {
 }
 
 /// What a worker did. What it says of its legs agrees with the exchange, where that can be looked at.
-pub fn venue_end<K: Shown, L: Run, M: Ledger>(
+pub fn venue_end<K: Shown, L: Run, M: Accounts>(
     end: &WorkerEnd<K, L, M>,
 ) -> Result<VenueEnd, DayFault> {
     let taken = end.took.taken();

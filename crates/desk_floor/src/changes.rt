@@ -4,11 +4,10 @@ ghost use Rattle.std.specs.Prelude.{◌≡◌, ◌<◌, ◌≤◌, ◌+◌, ◌+
 ghost use Rattle.desk_floor.specs.Changes.{changed_by, changed_in, opened_in, opened_with};
 
 use dialect::Note;
-use exec_collector::Collector;
+use exec_collector::{Accounts, Collector};
 use share_ledger::{Book, BookEntry};
 use std::alloc::{AllocError, Global};
 use std::sync::Wait;
-use std::sync::ledger::Ledger;
 
 /// How many entries of the history are looked at while the book's lock is held.
 const MOST_ENTRIES: usize = 512;
@@ -108,7 +107,11 @@ impl Changes {
     }
 
     /// Of a book whose history was looked at to its end. It may wait for the book's lock.
-    pub fn from_now<M: Ledger>(rt: &impl Wait, alloc: Global, collector: &Collector<M>) -> Changes {
+    pub fn from_now<M: Accounts>(
+        rt: &impl Wait,
+        alloc: Global,
+        collector: &Collector<M>,
+    ) -> Changes {
         Changes {
             cursor: collector.read(rt, |book: &Book| end_of(book)),
             sweeps: Vec::new(alloc),
@@ -130,7 +133,7 @@ impl Changes {
 
     /// Looks at a book: from then on the sweeps that changed are those too which changed since the last look. It may
     /// wait for the book's lock, which it holds for some hundred entries at a time.
-    pub fn look<M: Ledger>(
+    pub fn look<M: Accounts>(
         &mut self,
         rt: &impl Wait,
         collector: &Collector<M>,

@@ -5,11 +5,10 @@ ghost use Rattle.share_ledger.specs.Entries.{sweep_shares};
 ghost use Rattle.sweep_release.specs.History.{KeptDesk};
 ghost use Rattle.release_lock.specs.Locked.{Replays, Releases};
 
-use exec_collector::Collector;
+use exec_collector::{Accounts, Collector};
 use leg::Sweep;
 use release_lock::{CallerSeat, ReleaseLock, Run};
 use std::sync::Wait;
-use std::sync::ledger::Ledger;
 use sweep_release::{Receipt, ReleaseFault};
 
 /// A seat that has all parts of the run, so that all sweeps placed are counted on it.
@@ -28,7 +27,7 @@ impl<L: Run> Counter<L> {
     }
 
     /// Releases a sweep, and counts its shares if it is placed. It may wait for the locks of the desk and the book.
-    pub(crate) fn release<M: Ledger>(
+    pub(crate) fn release<M: Accounts>(
         &mut self,
         rt: &impl Wait,
         lock: &ReleaseLock<L>,

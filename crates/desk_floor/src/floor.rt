@@ -13,7 +13,7 @@ use crate::voice::Voice;
 use day_log::{LineLog, VenueLog};
 use desk_news::DayTotals;
 use desk_words::VenueName;
-use exec_collector::Collector;
+use exec_collector::{Accounts, Collector};
 use json_lines::Line;
 use leg::VenueId;
 use release_lock::{CallerSeat, ReleaseLock, Run};
@@ -21,7 +21,6 @@ use session_worker::Stop;
 use share_ledger::Book;
 use std::alloc::{AllocError, Global};
 use std::io::Write;
-use std::sync::ledger::Ledger;
 use std::sync::{Arc, Mutex, Wait};
 use std::thread;
 use std::time::{Clock, Duration};
@@ -34,7 +33,7 @@ const LOOKS: u64 = 400;
 
 /// What the threads of a day share.
 #[derive(Drop)]
-pub struct Floor<L: Run, M: Ledger, W: Write + Drop> {
+pub struct Floor<L: Run, M: Accounts, W: Write + Drop> {
     /// The names of the venues, each at the place that is its number.
     pub names: Vec<VenueName>,
     /// What is seen of them, in the same order.
@@ -59,14 +58,14 @@ pub struct Floor<L: Run, M: Ledger, W: Write + Drop> {
 
 /// What its threads leave.
 #[derive(Drop)]
-pub struct Left<L: Run, M: Ledger> {
+pub struct Left<L: Run, M: Accounts> {
     pub names: Vec<VenueName>,
     pub lock: ReleaseLock<L>,
     pub collector: Collector<M>,
     pub seat: CallerSeat<L>,
 }
 
-impl<L: Run, M: Ledger, W: Write + Drop> Floor<L, M, W> {
+impl<L: Run, M: Accounts, W: Write + Drop> Floor<L, M, W> {
     /// What is seen of the venue at a place, if there is one. It waits for no lock.
     pub fn seen(&self, place: usize) -> Option<Seen> {
         let venue = VenueId::new(u8::try_from(place).ok()?).ok()?;

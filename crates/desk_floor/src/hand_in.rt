@@ -9,11 +9,11 @@ use crate::counter::Counter;
 use crate::floor::Floor;
 use day_log::{LineLog, moment};
 use desk_words::VenueName;
+use exec_collector::Accounts;
 use leg::{Routed, Sweep, VenueId};
 use release_lock::Run;
 use std::io::Write;
 use std::sync::Wait;
-use std::sync::ledger::Ledger;
 use std::time::Clock;
 use sweep_release::{Receipt, ReleaseFault};
 use sweep_text::{Answer, Refusal};
@@ -73,7 +73,7 @@ fn venues_of(legs: &[Routed]) -> [bool; VENUES] {
     marks
 }
 
-impl<L: Run, M: Ledger, W: Write + Drop> Floor<L, M, W> {
+impl<L: Run, M: Accounts, W: Write + Drop> Floor<L, M, W> {
     /// Hands a sweep in that this line asks for, and answers with what became of it, or that the day is closing. The
     /// line and its answer stand behind one another in the log. It may wait for the locks; once those of the desk and
     /// the book are given up it wakes the workers of the sweep's venues.

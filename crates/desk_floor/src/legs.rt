@@ -9,14 +9,13 @@ ghost use Rattle.leg.specs.LegId.{IsLegId};
 
 use crate::floor::Floor;
 use crate::venue_view::VenueView;
-use exec_collector::Collector;
+use exec_collector::{Accounts, Collector};
 use leg::{Leg, LegId, LegState, MAX_PLACE, MAX_SWEEP, Split, Terms, VenueId};
 use release_lock::Run;
 use share_ledger::{Book, BookedLeg};
 use std::alloc::{AllocError, Global};
 use std::io::Write;
 use std::sync::Wait;
-use std::sync::ledger::Ledger;
 use sweep_release::Desk;
 
 /// How a leg stands.
@@ -55,7 +54,11 @@ fn state_of(parts: &Split, ordinal: u64, taken: u64, settled: u64) -> LegState
 
 /// The leg of this number, if its sweep was opened, of a book that replays from its own history. It may wait for the
 /// lock.
-pub fn leg_now<M: Ledger>(rt: &impl Wait, collector: &Collector<M>, id: LegId) -> Option<BookedLeg>
+pub fn leg_now<M: Accounts>(
+    rt: &impl Wait,
+    collector: &Collector<M>,
+    id: LegId,
+) -> Option<BookedLeg>
     ensures { (book : BookParts) × Replays book × (result ≡ leg_in book id) }
 {
     collector.read(
@@ -88,7 +91,7 @@ fn released_leg(desk: &mut Desk, venue: VenueId, id: LegId) -> Result<Option<Rel
 }
 
 /// How a leg stands that the book has, if the desk has it too.
-fn standing_of<L: Run, M: Ledger, W: Write + Drop>(
+fn standing_of<L: Run, M: Accounts, W: Write + Drop>(
     rt: &impl Wait,
     floor: &Floor<L, M, W>,
     id: LegId,
@@ -115,7 +118,7 @@ fn standing_of<L: Run, M: Ledger, W: Write + Drop>(
 
 /// The legs of the sweep of this number, by their places; none where no sweep has it. It may wait for the locks, one
 /// after the other, so that its legs need not be of one moment. The only refusal is out of memory.
-pub fn sweep_legs<L: Run, M: Ledger, W: Write + Drop>(
+pub fn sweep_legs<L: Run, M: Accounts, W: Write + Drop>(
     rt: &impl Wait,
     alloc: Global,
     floor: &Floor<L, M, W>,

@@ -6,11 +6,11 @@ ghost use Rattle.sweep_release.specs.Released.{released};
 
 use crate::floor::Floor;
 use desk_news::VenueStatus;
+use exec_collector::Accounts;
 use leg::VenueId;
 use release_lock::Run;
 use std::io::Write;
 use std::sync::Wait;
-use std::sync::ledger::Ledger;
 use sweep_release::Desk;
 
 /// How many legs were released to a venue.
@@ -22,7 +22,7 @@ fn released_to(desk: &mut Desk, venue: VenueId) -> u64
 }
 
 /// How the venue at a place stands, if there is one. It may wait for the locks of the desk and of the venue's log.
-pub fn venue_status<L: Run, M: Ledger, W: Write + Drop>(
+pub fn venue_status<L: Run, M: Accounts, W: Write + Drop>(
     rt: &impl Wait,
     floor: &Floor<L, M, W>,
     place: usize,

@@ -7,12 +7,11 @@ ghost use Rattle.exec_collector.specs.Resolved.{Replays};
 ghost use Rattle.desk_floor.specs.Sweeps.{sweeps_in, sum_of, AddsUp};
 
 use desk_news::SweepParts;
-use exec_collector::Collector;
+use exec_collector::{Accounts, Collector};
 use leg::Totals;
 use share_ledger::Book;
 use std::alloc::{AllocError, Global};
 use std::sync::Wait;
-use std::sync::ledger::Ledger;
 
 /// The sweeps of a book, in the order of their numbers.
 pub fn booked_sweeps(alloc: Global, book: &Book) -> Result<Vec<SweepParts>, AllocError>
@@ -37,7 +36,7 @@ pub fn booked_sweeps(alloc: Global, book: &Book) -> Result<Vec<SweepParts>, Allo
 
 /// The sweep of this number, from 1, as the book has it now, if it was opened. It may wait for the lock.
 #[tactic(auto, using(crate::proofs::Booked::few_numbered))]
-pub fn sweep_now<M: Ledger>(
+pub fn sweep_now<M: Accounts>(
     rt: &impl Wait,
     collector: &Collector<M>,
     number: u64,

@@ -1,13 +1,13 @@
 -- The workers of a day keep their places: each is that of its venue, and their seats have all parts.
-use Rattle.std.proofs.Common.{◌≡◌, ◌⊎◌, inl, inr, ℕ, zero, suc, List, [], ◌∷◌, ◌++◌, length, map, All, replicate, Some, None, refl, sym, ap, subst, ◌∙◌, arith}
+use Rattle.std.proofs.Common.{◌≡◌, ◌⊎◌, inl, inr, ℕ, zero, suc, List, [], ◌∷◌, ◌++◌, length, map, All, Some, None, refl, sym, ap, subst, ◌∙◌, arith}
 use Rattle.std.specs.Prelude.{slice_get, sum_by}
 use Rattle.std.proofs.lemmas.List.{length-append, append-nil, append_assoc, map-append}
-use Rattle.std.proofs.lemmas.List.Elements.{All-nil, All-replicate, All-push}
+use Rattle.std.proofs.lemmas.List.Elements.{All-nil, All-push}
 use Rattle.std.proofs.lemmas.List.Sums.{sum_by-cons}
-use Rattle.exec_collector.specs.Seats.{Seat, new_seat, parts_of as seat_parts}
+use Rattle.exec_collector.specs.Seats.{Seat, worker_seat, worker_seats, parts_of as seat_parts}
 use Rattle.release_lock.specs.Queues.{DrainParts, new_drains, Took, AreInOrder}
 use Rattle.dialect.specs.Wording.{Wording}
-use Rattle.session_worker.specs.Events.{WorkerParts}
+use Rattle.session_worker.specs.Events.{WorkerParts, Lasting}
 use Rattle.session_worker.specs.Ends.{WorkerStart, WorkerLeft, queues_of, seats_of, AllRan}
 use Rattle.desk_run.specs.Places.{Place, place, place_of, new_place, new_places}
 
@@ -20,7 +20,7 @@ kept_places wording (worker ∷ workers) [] ran = absurd ran
 kept_places wording (worker ∷ workers) (end ∷ ends) ran =
     let runs = ran.0 in
     let venue : end.parts.took.venue ≡ worker.parts.took.venue = runs.last.venue ∙ runs.goes.venue in
-    let seat : end.parts.seat.parts ≡ worker.parts.seat.parts = runs.last.seat ∙ runs.goes.seat in
+    let seat : end.parts.seat.parts ≡ worker.parts.seat.parts = ap (λ (l : Lasting). l.parts) (runs.last.seat ∙ runs.goes.seat) in
     let rest = kept_places wording workers ends ran.1 in
     let first : place end.parts ≡ place worker.parts = (λ k. record { venue = venue k; parts = seat k }) in
     (λ k. first k ∷ rest k)
@@ -50,8 +50,31 @@ none_popped zero = All-nil (λ (d : DrainParts). d.popped ≡ [])
 none_popped (suc venues) = All-push (λ (d : DrainParts). d.popped ≡ []) (new_drains venues) (record { venue = venues; popped = [] })
     (none_popped venues) refl
 
-pub all_new : (count : ℕ) → All (λ (s : Seat). s ≡ new_seat) (replicate count new_seat)
-all_new count = All-replicate (λ (s : Seat). s ≡ new_seat) count new_seat refl
+pub seats_length : (venues : ℕ) → length (worker_seats venues) ≡ venues
+seats_length zero = refl
+seats_length (suc venues) =
+    let rest = seats_length venues in
+    let one = length-append (worker_seats venues) (worker_seat venues ∷ []) in
+    omega (arith, rest, one)
+
+-- the seat of a drain's venue
+abbrev pub seat_of : DrainParts → Seat
+seat_of drain = worker_seat drain.venue
+
+pub all_seats : (venues : ℕ) → worker_seats venues ≡ map seat_of (new_drains venues)
+all_seats zero = refl
+all_seats (suc venues) =
+    ap (λ (seats : List Seat). seats ++ worker_seat venues ∷ []) (all_seats venues)
+    ∙ sym (map-append seat_of (new_drains venues) (record { venue = venues; popped = [] } ∷ []))
+
+-- of the seats of some drains the first is that of the first drain, and the others are those of the others
+pub first_seat : (seat : Seat) (seats all : List Seat) (drain : DrainParts) (drains left : List DrainParts)
+    → all ≡ seat ∷ seats → left ≡ drain ∷ drains → all ≡ map seat_of left
+    → (seat ≡ seat_of drain) × (seats ≡ map seat_of drains)
+first_seat seat seats all drain drains left is here same =
+    let both : seat ∷ seats ≡ seat_of drain ∷ map seat_of drains =
+    sym is ∙ (same ∙ ap (map seat_of) here) in
+    (cc, cc)
 
 drain_at : (venues at : ℕ) (drain : DrainParts) → slice_get (new_drains venues) at ≡ Some drain → drain.venue ≡ at
 drain_at zero at drain e = absurd cc
@@ -112,7 +135,7 @@ all_parts venues ends kept =
 
 -- a worker that was made of a new seat has the place of its drain
 pub is_new : (made : WorkerParts) (drain : DrainParts) (seat : Seat) → place made ≡ place_of drain.venue seat.parts
-    → seat ≡ new_seat → place made ≡ new_place drain
+    → seat ≡ seat_of drain → place made ≡ new_place drain
 is_new made drain seat is same = is ∙ ap (λ (s : Seat). place_of drain.venue s.parts) same
 
 -- one worker more was made, of the first drain left

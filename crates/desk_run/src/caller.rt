@@ -6,11 +6,11 @@ use crate::status::tell_status;
 use clock::UtcClock;
 use day_log::LineLog;
 use desk_floor::{Floor, TalkFault};
+use exec_collector::Accounts;
 use release_lock::Run;
 use std::alloc::Global;
 use std::io::{Read, Write};
 use std::sync::Wait;
-use std::sync::ledger::Ledger;
 use std::time::{Clock, Duration};
 use sweep_text::{Answer, Command, read_line};
 
@@ -20,7 +20,7 @@ const LOOK_MILLIS: u64 = 20;
 /// Takes the lines of an input and answers each. Before the first it waits until each venue is up, but no longer than
 /// two seconds. With the end of the input, with `close`, or where input or output fails, the day is to close. It gives
 /// why no line was taken any more before the input ended, if that is so.
-pub fn take_lines<L: Run, M: Ledger, W: Write + Drop, I: Read + Drop, R: Wait + Clock>(
+pub fn take_lines<L: Run, M: Accounts, W: Write + Drop, I: Read + Drop, R: Wait + Clock>(
     rt: &R,
     alloc: Global,
     floor: &Floor<L, M, W>,
@@ -37,7 +37,7 @@ pub fn take_lines<L: Run, M: Ledger, W: Write + Drop, I: Read + Drop, R: Wait + 
 }
 
 /// Takes and answers lines to the end of the input, and logs them, if a log is kept.
-fn log_lines<L: Run, M: Ledger, W: Write + Drop, I: Read + Drop, R: Wait + Clock>(
+fn log_lines<L: Run, M: Accounts, W: Write + Drop, I: Read + Drop, R: Wait + Clock>(
     rt: &R,
     alloc: Global,
     floor: &Floor<L, M, W>,
@@ -58,7 +58,7 @@ fn answer_lines<'a, L, M, W, I, R, C>(
 ) -> Result<(), TalkFault>
 where
     L: Run,
-    M: Ledger,
+    M: Accounts,
     W: Write + Drop,
     I: Read + Drop,
     R: Wait + Clock,
@@ -89,7 +89,7 @@ fn answer_line<'a, L, M, W, I, R, C>(
 ) -> Result<(), TalkFault>
 where
     L: Run,
-    M: Ledger,
+    M: Accounts,
     W: Write + Drop,
     I: Read + Drop,
     R: Wait + Clock,

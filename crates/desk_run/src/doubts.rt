@@ -5,15 +5,15 @@ ghost use Rattle.desk_run.specs.Doubts.{if_doubt, legs_in_doubt};
 
 use crate::day::VenueDoubt;
 use desk_words::VenueName;
+use exec_collector::Accounts;
 use leg::{LegId, LegState};
 use link::Link;
 use release_lock::Run;
 use session_worker::{EndReason, WorkerEnd};
 use std::alloc::{AllocError, Global};
-use std::sync::ledger::Ledger;
 
 /// The venues whose workers leave legs in doubt, each with these. Each worker is that of the venue at its place.
-pub fn doubts_of<K: Link, L: Run, M: Ledger>(
+pub fn doubts_of<K: Link, L: Run, M: Accounts>(
     alloc: Global,
     names: &[VenueName],
     ends: &[WorkerEnd<K, L, M>],
@@ -32,7 +32,7 @@ pub fn doubts_of<K: Link, L: Run, M: Ledger>(
 }
 
 /// The legs that a worker sent and that aren't settled, in order. The only refusal is out of memory.
-fn legs_in_doubt<K: Link, L: Run, M: Ledger>(
+fn legs_in_doubt<K: Link, L: Run, M: Accounts>(
     alloc: Global,
     end: &WorkerEnd<K, L, M>,
 ) -> Result<Vec<LegId>, AllocError>
@@ -66,6 +66,6 @@ fn push_if_doubt(
 }
 
 /// Whether a worker gave its session up.
-pub fn is_given_up<K: Link, L: Run, M: Ledger>(ends: &[WorkerEnd<K, L, M>]) -> bool {
+pub fn is_given_up<K: Link, L: Run, M: Accounts>(ends: &[WorkerEnd<K, L, M>]) -> bool {
     ends.iter().any(|end| end.reason == EndReason::Stopped)
 }

@@ -2,11 +2,11 @@
 
 use crate::news::Told;
 use desk_floor::{Floor, TalkFault};
+use exec_collector::Accounts;
 use release_lock::Run;
 use std::alloc::Global;
 use std::io::Write;
 use std::sync::Wait;
-use std::sync::ledger::Ledger;
 use std::thread;
 use std::time::{Clock, Duration};
 
@@ -32,7 +32,7 @@ enum Until {
 
 /// Tells what changes until the workers have ended. Once the day is closing it waits until no share is open, as long as
 /// the patience goes; then it tells once more what changed, and the workers are told to stop.
-pub fn keep<L: Run, M: Ledger, W: Write + Drop, R: Wait + Clock>(
+pub fn keep<L: Run, M: Accounts, W: Write + Drop, R: Wait + Clock>(
     rt: &R,
     alloc: Global,
     floor: &Floor<L, M, W>,
@@ -51,7 +51,7 @@ pub fn keep<L: Run, M: Ledger, W: Write + Drop, R: Wait + Clock>(
 }
 
 /// Whether what is waited for has come.
-fn is_reached<L: Run, M: Ledger, W: Write + Drop>(
+fn is_reached<L: Run, M: Accounts, W: Write + Drop>(
     rt: &impl Wait,
     floor: &Floor<L, M, W>,
     until: Until,
@@ -67,7 +67,7 @@ fn is_reached<L: Run, M: Ledger, W: Write + Drop>(
 }
 
 /// Tells what changes until that has come, for so many looks at most.
-fn watch<L: Run, M: Ledger, W: Write + Drop, R: Wait + Clock>(
+fn watch<L: Run, M: Accounts, W: Write + Drop, R: Wait + Clock>(
     rt: &R,
     floor: &Floor<L, M, W>,
     told: &mut Option<Told>,
@@ -87,7 +87,7 @@ fn watch<L: Run, M: Ledger, W: Write + Drop, R: Wait + Clock>(
 
 /// Tells what changed; where the output can't be written, nothing is told any more. What memory is wanted for is told
 /// at a later look.
-fn tell<L: Run, M: Ledger, W: Write + Drop>(
+fn tell<L: Run, M: Accounts, W: Write + Drop>(
     rt: &impl Wait,
     floor: &Floor<L, M, W>,
     told: &mut Option<Told>,

@@ -7,12 +7,12 @@ ghost use Rattle.desk_floor.specs.Standing.{state_of};
 use desk_floor::{Changes, Floor, Standing, TalkFault, sweep_now};
 use desk_news::News;
 use desk_words::VenueName;
+use exec_collector::Accounts;
 use leg::Totals;
 use release_lock::Run;
 use std::alloc::Global;
 use std::io::Write;
 use std::sync::Wait;
-use std::sync::ledger::Ledger;
 
 /// What was told of a day.
 #[derive(Drop)]
@@ -52,7 +52,7 @@ fn notes(told: &mut Vec<Totals>, place: usize, totals: Totals) -> Result<bool, T
 }
 
 /// Tells the parts of the sweep of this number, if they differ from what was told of it, and notes them.
-fn tell_sweep<L: Run, M: Ledger, W: Write + Drop>(
+fn tell_sweep<L: Run, M: Accounts, W: Write + Drop>(
     rt: &impl Wait,
     floor: &Floor<L, M, W>,
     told: &mut Vec<Totals>,
@@ -94,7 +94,7 @@ impl Told {
     }
 
     /// Tells that venues stand otherwise.
-    fn tell_venues<L: Run, M: Ledger, W: Write + Drop>(
+    fn tell_venues<L: Run, M: Accounts, W: Write + Drop>(
         &mut self,
         rt: &impl Wait,
         floor: &Floor<L, M, W>,
@@ -117,7 +117,7 @@ impl Told {
     }
 
     /// Tells each sweep whose parts changed.
-    fn tell_sweeps<L: Run, M: Ledger, W: Write + Drop>(
+    fn tell_sweeps<L: Run, M: Accounts, W: Write + Drop>(
         &mut self,
         rt: &impl Wait,
         floor: &Floor<L, M, W>,
@@ -137,7 +137,7 @@ impl Told {
 
     /// Tells what changed: of venues until the workers are told to stop. What wasn't told for lack of memory is told
     /// the next time, if it differs then from what was told before.
-    pub fn tell<L: Run, M: Ledger, W: Write + Drop>(
+    pub fn tell<L: Run, M: Accounts, W: Write + Drop>(
         &mut self,
         rt: &impl Wait,
         floor: &Floor<L, M, W>,

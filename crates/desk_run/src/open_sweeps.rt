@@ -1,11 +1,10 @@
 //! The sweeps of a day that have open shares.
 
 use desk_floor::{Changes, sweep_now};
-use exec_collector::Collector;
+use exec_collector::{Accounts, Collector};
 use std::alloc::{AllocError, Global};
 use std::collections::BTreeSet;
 use std::sync::Wait;
-use std::sync::ledger::Ledger;
 
 /// The sweeps that have open shares, as far as the book was looked at. A look costs what changed since the one before.
 #[derive(Drop)]
@@ -15,7 +14,7 @@ pub struct OpenSweeps {
 }
 
 /// Whether the sweep of a number has open shares. It may wait for the book's lock.
-fn is_open<M: Ledger>(rt: &impl Wait, collector: &Collector<M>, number: u64) -> bool {
+fn is_open<M: Accounts>(rt: &impl Wait, collector: &Collector<M>, number: u64) -> bool {
     if number == 0 {
         return false;
     }
@@ -36,7 +35,7 @@ impl OpenSweeps {
 
     /// Looks at a book: from then on these are the sweeps that have open shares now. It may wait for the book's lock.
     /// The only refusal is out of memory, after which it goes on where it was.
-    pub fn look<M: Ledger>(
+    pub fn look<M: Accounts>(
         &mut self,
         rt: &impl Wait,
         collector: &Collector<M>,

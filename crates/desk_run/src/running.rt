@@ -29,7 +29,7 @@ use desk_floor::{
 };
 use desk_serve::PageServer;
 use desk_words::VenueName;
-use exec_collector::Collector;
+use exec_collector::{Accounts, BlankBook, Collector};
 use json_lines::Form;
 use link::Link;
 use release_lock::{CallerSeat, Opened, ReleaseLock, Run, rings};
@@ -41,7 +41,7 @@ use std::fs::{File, Files};
 use std::io::{Read, Write};
 use std::marker::Brand;
 use std::net::{Net, TcpListener, TcpStream};
-use std::sync::ledger::{Blank, Ledger};
+use std::sync::ledger::Blank;
 use std::sync::{Arc, Mutex, Wait};
 use std::thread::Threads;
 use std::time::Clock;
@@ -115,7 +115,9 @@ where
         servers: open_pages(rt, alloc, config)?,
     };
     let caller = Blank::new(1024);
-    let workers = Blank::new(u64::from(count));
+    let Ok(workers) = BlankBook::new(alloc, count) else {
+        return Err(DayFault::OutOfMemory);
+    };
     named_day::<Brand, Brand, R, I, W>(rt, alloc, venues, means, caller, workers, rings)
 }
 
@@ -126,12 +128,12 @@ fn named_day<L, M, R, I, W>(
     venues: &[Venue],
     means: Means<'_, I, W>,
     caller: Blank,
-    workers: Blank,
+    workers: BlankBook,
     rings: VecDeque<(Feed, Drain)>,
 ) -> Result<DeskDay, DayFault>
 where
     L: Run + Send + Sync,
-    M: Ledger + Send + Sync,
+    M: Accounts + Send + Sync,
     R: Net<Listener = TcpListener, Stream = TcpStream>
         + Files<File = File>
         + Threads
@@ -143,6 +145,7 @@ where
     requires venues { (1 ≤ length venues.now) × (length venues.now ≤ 16) }
     requires caller { (caller.name ≡ L.name) × (caller.parts ≡ L.parts) × (L.parts ≡ 1024) }
     requires workers { (workers.name ≡ M.name) × (workers.parts ≡ M.parts) × (M.parts ≡ length venues.now) }
+    requires lists { workers.lists ≡ M.lists }
     requires rings { (length rings.items ≡ length venues.now) × All IsFresh rings.items }
     requires queues { L.queues ≡ map (λ ends. ends.0.table) rings.items }
     ensures sweeps { IfOk result (λ day. (book : BookParts) × Replays book × (day.sweeps.items ≡ sweeps_in book)) }
@@ -224,7 +227,7 @@ fn views_of(
 }
 
 /// What became of a day whose threads have ended.
-fn told<K: Link, L: Run, M: Ledger, W: Write + Drop>(
+fn told<K: Link, L: Run, M: Accounts, W: Write + Drop>(
     rt: &impl Wait,
     alloc: Global,
     floor: Floor<L, M, W>,
@@ -261,7 +264,7 @@ fn told<K: Link, L: Run, M: Ledger, W: Write + Drop>(
 }
 
 /// The audit of a day.
-fn audited<K: Link, L: Run, M: Ledger>(
+fn audited<K: Link, L: Run, M: Accounts>(
     alloc: Global,
     lock: ReleaseLock<L>,
     collector: Collector<M>,

@@ -5,14 +5,14 @@ use clock::Clock;
 use day_log::LineLog;
 use desk_floor::{Floor, TalkFault, sweep_now, venue_status};
 use desk_news::Status;
+use exec_collector::Accounts;
 use release_lock::Run;
 use std::io::Write;
 use std::sync::Wait;
-use std::sync::ledger::Ledger;
 
 /// Answers `status`: a line for each venue, and one for each sweep that isn't whole. It looks at what changed since the
 /// last one.
-pub fn tell_status<'a, L: Run, M: Ledger, W: Write + Drop, R: Wait, C: Clock + Drop>(
+pub fn tell_status<'a, L: Run, M: Accounts, W: Write + Drop, R: Wait, C: Clock + Drop>(
     rt: &'a R,
     floor: &Floor<L, M, W>,
     open: &mut OpenSweeps,

@@ -15,6 +15,7 @@ use day_log::{FileWriter, write_until};
 use desk_floor::{Floor, TalkFault};
 use desk_serve::PageServer;
 use dialect::AnyDialect;
+use exec_collector::Accounts;
 use link::Link;
 use release_lock::Run;
 use session_worker::{Worker, WorkerEnd};
@@ -24,13 +25,12 @@ use std::fs::File;
 use std::io::{Read, Write};
 use std::net::TcpStream;
 use std::sync::Wait;
-use std::sync::ledger::Ledger;
 use std::thread::{JoinHandle, Threads, join};
 use std::{thread, time};
 
 /// Who takes part in a day.
 #[derive(Drop)]
-pub struct Cast<X, K: Link, C: Clock + Drop, L: Run, M: Ledger> {
+pub struct Cast<X, K: Link, C: Clock + Drop, L: Run, M: Accounts> {
     pub exchanges: Vec<X>,
     pub workers: Vec<Worker<AnyDialect, K, C, L, M>>,
     /// What serves the page; none where it isn't served.
@@ -41,7 +41,7 @@ pub struct Cast<X, K: Link, C: Clock + Drop, L: Run, M: Ledger> {
 
 /// What its threads leave.
 #[derive(Drop)]
-pub struct Ended<K: Link, L: Run, M: Ledger> {
+pub struct Ended<K: Link, L: Run, M: Accounts> {
     pub workers: Vec<WorkerEnd<K, L, M>>,
     /// Why no line was taken any more before the input ended, if that is so.
     pub broken_off: Option<TalkFault>,
@@ -51,7 +51,7 @@ pub struct Ended<K: Link, L: Run, M: Ledger> {
 
 /// What the dispatcher's threads leave.
 #[derive(Drop)]
-struct Dispatched<K: Link, L: Run, M: Ledger> {
+struct Dispatched<K: Link, L: Run, M: Accounts> {
     workers: Vec<WorkerEnd<K, L, M>>,
     broken_off: Option<TalkFault>,
 }
@@ -71,7 +71,7 @@ where
     K: Link + Send,
     C: Clock + Drop + Send,
     L: Run + Send + Sync,
-    M: Ledger + Send + Sync,
+    M: Accounts + Send + Sync,
     W: Write + Drop + Send,
     I: Read + Drop,
     R: Threads + Wait + time::Clock + Sync,
@@ -119,7 +119,7 @@ fn run_servers<X, L, M, W, R>(
 where
     X: Serve + Drop + Send,
     L: Run + Send + Sync,
-    M: Ledger + Send + Sync,
+    M: Accounts + Send + Sync,
     W: Write + Drop + Send,
     R: Threads + Wait + time::Clock + Sync,
     ensures { IfErr result IsNoMismatch }
@@ -175,7 +175,7 @@ where
 }
 
 /// Serves an exchange's clients until it is stopped. Where it wants memory the day closes.
-fn serve_exchange<X: Serve, L: Run, M: Ledger, W: Write + Drop>(
+fn serve_exchange<X: Serve, L: Run, M: Accounts, W: Write + Drop>(
     floor: &Floor<L, M, W>,
     exchange: X,
 ) -> Result<(), AllocError> {
@@ -200,7 +200,7 @@ where
     K: Link + Send,
     C: Clock + Drop + Send,
     L: Run + Send + Sync,
-    M: Ledger + Send + Sync,
+    M: Accounts + Send + Sync,
     W: Write + Drop + Send,
     I: Read + Drop,
     R: Threads + Wait + time::Clock + Sync,
@@ -234,7 +234,7 @@ fn run_desk<L, M, W, I, R>(
 ) -> Result<Option<TalkFault>, DayFault>
 where
     L: Run + Send + Sync,
-    M: Ledger + Send + Sync,
+    M: Accounts + Send + Sync,
     W: Write + Drop + Send,
     I: Read + Drop,
     R: Threads + Wait + time::Clock + Sync,

@@ -1,7 +1,7 @@
 //! The workers of a day, each over TCP.
 
-ghost use Rattle.std.specs.Prelude.{◌≡◌, [], length, replicate, IfOk, IfErr, map};
-ghost use Rattle.exec_collector.specs.Seats.{new_seat};
+ghost use Rattle.std.specs.Prelude.{◌≡◌, [], length, Some, IfOk, IfErr, map};
+ghost use Rattle.exec_collector.specs.Seats.{worker_seats};
 ghost use Rattle.release_lock.specs.Queues.{new_drains};
 ghost use Rattle.desk_run.specs.Faults.{IsNoMismatch};
 ghost use Rattle.desk_run.specs.Places.{place, place_of, new_places};
@@ -13,7 +13,7 @@ use day_log::{LoggedLink, Recorder};
 use desk_config::Venue;
 use desk_floor::{Bells, Floor, VenueView};
 use dialect::AnyDialect;
-use exec_collector::WorkerSeat;
+use exec_collector::{Accounts, WorkerSeat};
 use link::{Link, Poller, Rest, TcpLink};
 use release_lock::{Run, VenueDrain};
 use session_worker::{Pace, Worker, WorkerEnd, run_all_until};
@@ -22,7 +22,6 @@ use std::collections::VecDeque;
 use std::io::Write;
 use std::net::{Net, SocketAddr};
 use std::sync::Wait;
-use std::sync::ledger::Ledger;
 use std::thread::Threads;
 use std::time;
 
@@ -34,7 +33,7 @@ pub type DeskWorker<'a, R, L, M> = Worker<AnyDialect, DeskLink<'a, R>, UtcClock<
 
 /// The workers of these venues, in order, each with the drain and the seat at its place, linked to its address, and
 /// seen in its view. The bell of each is added to these.
-pub fn new_workers<'a, L: Run, M: Ledger, R: Net + Wait + time::Clock>(
+pub fn new_workers<'a, L: Run, M: Accounts, R: Net + Wait + time::Clock>(
     rt: &'a R,
     alloc: Global,
     venues: &[Venue],
@@ -47,7 +46,7 @@ pub fn new_workers<'a, L: Run, M: Ledger, R: Net + Wait + time::Clock>(
     requires addrs { length addrs.now ≡ length venues.now }
     requires views { length views.now ≡ length venues.now }
     requires drains { drains.items ≡ new_drains (length venues.now) }
-    requires seats { seats.items ≡ replicate (length venues.now) new_seat }
+    requires seats { seats.items ≡ worker_seats (length venues.now) }
     ensures new { IfOk result (λ workers. map (λ w. place w.parts) workers.items
         ≡ new_places (length venues.now)) }
     ensures only { IfErr result IsNoMismatch }
@@ -71,7 +70,7 @@ pub fn new_workers<'a, L: Run, M: Ledger, R: Net + Wait + time::Clock>(
 }
 
 /// The worker of a venue over a link, with this drain and seat, which tells on the board of this view.
-fn new_worker<'a, L: Run, M: Ledger, R: Net + Wait + time::Clock>(
+fn new_worker<'a, L: Run, M: Accounts, R: Net + Wait + time::Clock>(
     rt: &'a R,
     alloc: Global,
     venue: &Venue,
@@ -80,7 +79,8 @@ fn new_worker<'a, L: Run, M: Ledger, R: Net + Wait + time::Clock>(
     drain: VenueDrain<L>,
     seat: WorkerSeat<M>,
 ) -> Result<DeskWorker<'a, R, L, M>, AllocError>
-    requires { drain.popped ≡ [] }
+    requires drain { drain.popped ≡ [] }
+    requires seat { seat.venue ≡ Some drain.venue }
     ensures { IfOk result (λ worker. place worker.parts ≡ place_of drain.venue seat.parts) }
 {
     let board = view.board()?;
@@ -135,7 +135,7 @@ where
     K: Link + Send,
     C: Clock + Drop + Send,
     L: Run + Send + Sync,
-    M: Ledger + Send + Sync,
+    M: Accounts + Send + Sync,
     R: Threads + Wait + Sync,
     W: Write + Drop + Send,
     ensures kept { IfOk result (λ ends. map (λ e. place e.parts) ends.items

@@ -12,12 +12,12 @@ use desk_floor::{Floor, sweep_legs, sweep_now};
 use desk_http::{Changes, Day, DaySums, RefusalCounts};
 use desk_json::{Outcome, SweepLegs, SweepsPage, VenueRow};
 use desk_words::VenueName;
+use exec_collector::Accounts;
 use leg::Sweep;
 use release_lock::Run;
 use std::alloc::{AllocError, Global};
 use std::io::Write;
 use std::sync::Wait;
-use std::sync::ledger::Ledger;
 use std::thread;
 use std::time::{Clock, Duration};
 use sweep_text::{Answer, Refusal, write_sweep};
@@ -30,7 +30,7 @@ const LOOKS: u64 = 10;
 
 /// A desk's day, as one connection asks it.
 #[derive(Drop)]
-pub(crate) struct DayView<'a, L: Run, M: Ledger, W: Write + Drop, R: Wait + Clock> {
+pub(crate) struct DayView<'a, L: Run, M: Accounts, W: Write + Drop, R: Wait + Clock> {
     rt: &'a R,
     alloc: Global,
     floor: &'a Floor<L, M, W>,
@@ -54,7 +54,7 @@ fn outcome_of(answer: Answer) -> Outcome
     }
 }
 
-impl<'a, L: Run, M: Ledger, W: Write + Drop, R: Wait + Clock> DayView<'a, L, M, W, R> {
+impl<'a, L: Run, M: Accounts, W: Write + Drop, R: Wait + Clock> DayView<'a, L, M, W, R> {
     /// The day as a new connection asks it. The only refusal is out of memory.
     pub fn new(
         rt: &'a R,
@@ -94,7 +94,7 @@ impl<'a, L: Run, M: Ledger, W: Write + Drop, R: Wait + Clock> DayView<'a, L, M, 
     }
 }
 
-impl<'a, L: Run, M: Ledger, W: Write + Drop, R: Wait + Clock> Day for DayView<'a, L, M, W, R> {
+impl<'a, L: Run, M: Accounts, W: Write + Drop, R: Wait + Clock> Day for DayView<'a, L, M, W, R> {
     ghost venue_names = { λ day. day.floor.now.names.items };
 
     ghost places = { λ day legs outcome _. IsAnswered day.floor.now.names.items legs outcome };

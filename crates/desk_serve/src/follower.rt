@@ -5,12 +5,12 @@ use clock::Clock;
 use desk_floor::{Changes, Floor, Standing, sweep_now};
 use desk_json::{Audit, Event, event_text};
 use desk_news::DayTotals;
+use exec_collector::Accounts;
 use release_lock::Run;
 use std::alloc::{AllocError, Global};
 use std::io::Write;
 use std::net::TcpStream;
 use std::sync::Wait;
-use std::sync::ledger::Ledger;
 
 /// What a client that follows a day was told.
 #[derive(Drop)]
@@ -27,7 +27,7 @@ pub(crate) struct Follower {
 
 impl Follower {
     /// One that is told what changes from now on. It may wait for locks.
-    pub fn new<L: Run, M: Ledger, W: Write + Drop>(
+    pub fn new<L: Run, M: Accounts, W: Write + Drop>(
         rt: &impl Wait,
         alloc: Global,
         floor: &Floor<L, M, W>,
@@ -47,7 +47,7 @@ impl Follower {
     }
 
     /// What changed since it was asked last. It may wait for locks.
-    pub fn news<L: Run, M: Ledger, W: Write + Drop>(
+    pub fn news<L: Run, M: Accounts, W: Write + Drop>(
         &mut self,
         rt: &impl Wait,
         clock: &impl Clock,
@@ -63,7 +63,7 @@ impl Follower {
     }
 
     /// Adds the venues that stand otherwise than before.
-    fn add_venues<L: Run, M: Ledger, W: Write + Drop>(
+    fn add_venues<L: Run, M: Accounts, W: Write + Drop>(
         &mut self,
         rt: &impl Wait,
         clock: &impl Clock,
@@ -84,7 +84,7 @@ impl Follower {
     }
 
     /// Adds the sweeps that changed.
-    fn add_sweeps<L: Run, M: Ledger, W: Write + Drop>(
+    fn add_sweeps<L: Run, M: Accounts, W: Write + Drop>(
         &mut self,
         rt: &impl Wait,
         floor: &Floor<L, M, W>,
@@ -104,7 +104,7 @@ impl Follower {
     }
 
     /// Adds the sweeps that were refused.
-    fn add_refusals<L: Run, M: Ledger, W: Write + Drop>(
+    fn add_refusals<L: Run, M: Accounts, W: Write + Drop>(
         &mut self,
         rt: &impl Wait,
         floor: &Floor<L, M, W>,
@@ -122,7 +122,7 @@ impl Follower {
     }
 
     /// Adds the shares of the day, if they changed.
-    fn add_totals<L: Run, M: Ledger, W: Write + Drop>(
+    fn add_totals<L: Run, M: Accounts, W: Write + Drop>(
         &mut self,
         rt: &impl Wait,
         floor: &Floor<L, M, W>,

@@ -3,13 +3,12 @@
 use crate::part_sums::PartSums;
 use desk_config::{Address, TokenText};
 use desk_http::Door;
-use exec_collector::Collector;
+use exec_collector::{Accounts, Collector};
 use leg::Totals;
 use std::alloc::{AllocError, Global};
 use std::fmt::Display;
 use std::net::SocketAddr;
 use std::sync::atomic::{AtomicU64, Ordering};
-use std::sync::ledger::Ledger;
 use std::sync::{Mutex, Wait};
 
 /// How many clients may follow a day at once.
@@ -70,7 +69,7 @@ impl Page {
     }
 
     /// What became of the shares of all sweeps. It may wait for locks. The only refusal is out of memory.
-    pub fn parts<M: Ledger>(
+    pub fn parts<M: Accounts>(
         &self,
         rt: &impl Wait,
         collector: &Collector<M>,

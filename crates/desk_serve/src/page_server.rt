@@ -6,13 +6,13 @@ use desk_config::{Address, TokenText};
 use desk_floor::Floor;
 use desk_http::serve;
 use desk_page::PAGE;
+use exec_collector::Accounts;
 use readiness::Readiness;
 use release_lock::Run;
 use std::alloc::Global;
 use std::io::{self, Write};
 use std::net::{Net, SocketAddr, TcpListener, TcpStream};
 use std::os::fd::AsRawFd;
-use std::sync::ledger::Ledger;
 use std::sync::{Arc, Wait};
 use std::time::{Clock, Duration};
 
@@ -63,7 +63,7 @@ pub fn open_page<R: Net<Listener = TcpListener, Stream = TcpStream>>(
 impl PageServer {
     /// Serves the page until the day is over, and gives the clients that followed it to its end. A client for which
     /// there is no memory is let go.
-    pub fn serve<L: Run, M: Ledger, W: Write + Drop, R: Wait + Clock>(
+    pub fn serve<L: Run, M: Accounts, W: Write + Drop, R: Wait + Clock>(
         self,
         rt: &R,
         alloc: Global,
@@ -95,7 +95,7 @@ impl PageServer {
     }
 
     /// Serves a client's request, and gives the client if it followed the day to its end.
-    fn serve_client<L: Run, M: Ledger, W: Write + Drop, R: Wait + Clock>(
+    fn serve_client<L: Run, M: Accounts, W: Write + Drop, R: Wait + Clock>(
         &self,
         rt: &R,
         alloc: Global,

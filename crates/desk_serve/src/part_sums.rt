@@ -1,11 +1,10 @@
 //! What became of the shares of all sweeps.
 
 use desk_floor::{Changes, sweep_now};
-use exec_collector::Collector;
+use exec_collector::{Accounts, Collector};
 use leg::Totals;
 use std::alloc::{AllocError, Global};
 use std::sync::Wait;
-use std::sync::ledger::Ledger;
 
 /// Of no shares.
 const NOTHING: Totals = Totals {
@@ -43,7 +42,7 @@ impl PartSums {
 
     /// What became of the shares of all sweeps until now. It may wait for the book's lock. The only refusal is out of
     /// memory, after which it goes on where it was.
-    pub fn now<M: Ledger>(
+    pub fn now<M: Accounts>(
         &mut self,
         rt: &impl Wait,
         collector: &Collector<M>,

@@ -6,12 +6,12 @@ use clock::Clock;
 use day_log::{BOUNDS, OrderTimes};
 use desk_floor::{Floor, LegStanding, venue_status};
 use desk_json::{LegRow, OrderWaits, VenueRow, WaitCount};
+use exec_collector::Accounts;
 use leg::{Split, Totals};
 use release_lock::Run;
 use std::alloc::{AllocError, Global};
 use std::io::Write;
 use std::sync::Wait;
-use std::sync::ledger::Ledger;
 
 /// How long orders waited: at most each of the bounds, however long, and in all.
 fn waits_of(alloc: Global, times: &OrderTimes) -> Result<OrderWaits, AllocError> {
@@ -29,7 +29,7 @@ fn waits_of(alloc: Global, times: &OrderTimes) -> Result<OrderWaits, AllocError>
 }
 
 /// How the venue at a place stands, if there is one. It may wait for locks. The only refusal is out of memory.
-pub(crate) fn venue_row<L: Run, M: Ledger, W: Write + Drop>(
+pub(crate) fn venue_row<L: Run, M: Accounts, W: Write + Drop>(
     rt: &impl Wait,
     clock: &impl Clock,
     alloc: Global,
@@ -77,7 +77,7 @@ fn totals_of(parts: &Split) -> Totals
 }
 
 /// A leg as it is told, if the desk has its venue.
-pub(crate) fn leg_row<L: Run, M: Ledger, W: Write + Drop>(
+pub(crate) fn leg_row<L: Run, M: Accounts, W: Write + Drop>(
     floor: &Floor<L, M, W>,
     leg: LegStanding,
 ) -> Option<LegRow> {

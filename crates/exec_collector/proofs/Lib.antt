@@ -3,4 +3,6 @@ pub mod Weighed
 pub mod Bounded
 pub mod Resolving
 pub mod Counts
-pub mod Walks
+pub mod Booked
+pub mod Blank
+pub mod Opening

@@ -1,3 +1,6 @@
 pub mod Resolved
 pub mod Seats
+pub mod Booked
+pub mod Sides
+pub mod Blank
 pub mod Calls

@@ -1,16 +1,29 @@
 -- The seats of a count.
-use Rattle.std.specs.Prelude.{ℕ, List, [], sum_by}
+use Rattle.std.specs.Prelude.{ℕ, zero, suc, List, [], ◌∷◌, ◌++◌, Option, Some, None, sum_by}
 use Rattle.dialect.specs.declared.note.Note.{Note}
+use Rattle.exec_collector.specs.declared.booking.Booking.{Booking}
 
--- a seat: its parts of the count, the shares counted on it, and the notes booked on it, in order
+-- a seat: its parts of the count, the shares counted on it, the venue whose worker has it, if one has, the notes booked
+-- on it, in order, and each with what the book made of it
 pub record Seat : Type 0 where
   pub parts : ℕ
   pub shares : ℕ
+  pub venue : Option ℕ
   pub booked : List Note
+  pub bookings : List Booking
 
--- a seat of one part on which nothing was counted or booked yet
+-- a seat of one part on which nothing was counted yet
 abbrev pub new_seat : Seat
-new_seat = record { parts = 1; shares = 0; booked = [] }
+new_seat = record { parts = 1; shares = 0; venue = None; booked = []; bookings = [] }
+
+-- such a seat for the worker of a venue, on which nothing was booked yet
+abbrev pub worker_seat : ℕ → Seat
+worker_seat venue = record new_seat { venue = Some venue }
+
+-- those of so many venues, in order
+abbrev pub worker_seats : ℕ → List Seat
+worker_seats zero = []
+worker_seats (suc venue) = worker_seats venue ++ worker_seat venue ∷ []
 
 -- the parts of some seats, and their shares
 abbrev pub parts_of : List Seat → ℕ

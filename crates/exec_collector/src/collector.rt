@@ -1,50 +1,61 @@
 //! The book behind a lock.
 
-ghost use Rattle.std.specs.Prelude.{◌≡◌, ◌≤◌, ◌++◌, ◌∷◌, [], replicate, IfOk, IsOkUnless, MatchResult, OnOk};
+ghost use Rattle.std.specs.Prelude.{◌≡◌, ◌≤◌, ◌++◌, ◌∷◌, [], IfOk, IsOkUnless, MatchResult, OnOk};
 ghost use Rattle.std.specs.Fn.{FnOnceReturnsAt, FnOnceReturnsAtMut};
 ghost use Rattle.share_ledger.specs.Book.{BookParts, totals};
 ghost use Rattle.exec_collector.specs.Calls.{CallGives};
 ghost use Rattle.exec_collector.specs.Resolved.{Replays, OnlyOpens, GainsBy, GainsLeg, resolved};
-ghost use Rattle.exec_collector.specs.Seats.{new_seat};
+ghost use Rattle.exec_collector.specs.Seats.{worker_seats};
 
-use crate::{CountedBook, WorkerSeat};
+use crate::venue_bookings::VenueBookings;
+use crate::{Accounts, BlankBook, CountedBook, WorkerSeat};
 use dialect::Note;
-use leg::{LegId, Totals, VenueId};
+use leg::{LegId, Totals};
 use share_ledger::{Applied, Book, BookFault};
 use std::alloc::Global;
-use std::sync::ledger::{Blank, Ledger};
+use std::collections::VecDeque;
 use std::sync::{Mutex, Wait};
 
 /// The book behind a lock, which all workers share. Each call may wait for the lock.
 #[derive(Drop)]
-pub struct Collector<M: Ledger> {
+pub struct Collector<M: Accounts> {
     counted: Mutex<CountedBook<M>>,
 }
 
-impl<M: Ledger> Collector<M> {
-    /// A new book of 1 to 16 venues behind a lock, and a seat for the worker of each venue. B02.
+impl<M: Accounts> Collector<M> {
+    /// A new book of 1 to 16 venues behind a lock, and a seat for the worker of each venue, in their order. B02.
     pub fn new(
         alloc: Global,
         venues: u8,
-        blank: Blank,
+        blank: BlankBook,
     ) -> Result<(Collector<M>, Vec<WorkerSeat<M>>), BookFault>
         requires low { 1 ≤ venues }
         requires high { venues ≤ 16 }
         requires name { blank.name ≡ M.name }
         requires parts { (blank.parts ≡ M.parts) × (M.parts ≡ venues) }
-        ensures seats { IfOk result (λ made. made.1.items ≡ replicate venues new_seat) }
+        requires lists { blank.lists ≡ M.lists }
+        ensures seats { IfOk result (λ made. made.1.items ≡ worker_seats venues) }
         ensures only { IsOkUnless result BookFault.OutOfMemory }
     {
+        let count = usize::from(venues);
         let book = Book::new(alloc, venues)?;
-        let mut seats = Vec::with_capacity(alloc, usize::from(venues))?;
-        let (total, mut whole) = blank.open::<M>();
-        for _ in 0..venues {
-            seats.push_reserved(WorkerSeat::new(whole.split_off(1, 0)));
+        let mut bookings = Vec::with_capacity(alloc, count)?;
+        let mut seats = Vec::with_capacity(alloc, count)?;
+        let BlankBook { total, lists } = blank;
+        let (total, mut whole) = total.open::<M>();
+        let mut lists = VecDeque::from(lists);
+        while let Some(list) = lists.pop_front() {
+            bookings.push_reserved(VenueBookings {
+                venue: list.venue,
+                side: list.book,
+            });
+            seats.push_reserved(WorkerSeat::new(list.venue, whole.split_off(1, 0), list.seat));
         }
         let counted = CountedBook {
             venues,
             book,
             total,
+            bookings,
         };
         let collector = Collector {
             counted: Mutex::new(counted),
@@ -52,21 +63,20 @@ impl<M: Ledger> Collector<M> {
         Ok((collector, seats))
     }
 
-    /// Applies a note of a venue; the seat gains the shares that cease to be open, and the note as one that was booked.
-    /// No other call books one. B02, and the note may be applied again.
+    /// Applies a note of the seat's venue; the seat gains the shares that cease to be open, and the note as one that
+    /// was booked. No other call books one. B02, and the note may be applied again.
     pub fn apply(
         &self,
         rt: &impl Wait,
-        venue: VenueId,
         note: &Note,
         seat: &mut WorkerSeat<M>,
     ) -> Result<Applied, BookFault>
         ensures gains { MatchResult result (λ applied. GainsBy note.now applied seat.old.shares seat.new.shares)
             (λ fault. (fault ≡ BookFault.OutOfMemory) × (seat.new ≡ seat.old)) }
-        ensures parts { seat.new.parts ≡ seat.old.parts }
+        ensures parts { (seat.new.parts ≡ seat.old.parts) × (seat.new.venue ≡ seat.old.venue) }
         ensures booked { OnOk result (seat.new.booked ≡ seat.old.booked ++ note.now ∷ []) }
     {
-        self.counted.lock(rt).apply(venue, note, seat)
+        self.counted.lock(rt).apply(note, seat)
     }
 
     /// Withdraws a leg; the seat gains its shares. B03. It takes no memory.
@@ -78,7 +88,7 @@ impl<M: Ledger> Collector<M> {
     ) -> Result<(), BookFault>
         ensures gains { MatchResult result (λ _. GainsLeg id seat.old.shares seat.new.shares)
             (λ fault. (fault ≡ BookFault.AlreadyMoved) × (seat.new ≡ seat.old)) }
-        ensures parts { seat.new.parts ≡ seat.old.parts }
+        ensures parts { (seat.new.parts ≡ seat.old.parts) × (seat.new.venue ≡ seat.old.venue) }
         ensures booked { seat.new.booked ≡ seat.old.booked }
     {
         self.counted.lock(rt).withdraw(id, seat)

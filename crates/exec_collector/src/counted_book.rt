@@ -1,42 +1,48 @@
 //! The book, and the count of what its venues have resolved.
 
-ghost use Rattle.std.specs.Prelude.{◌≡◌, ◌+◌, ◌≤◌, ◌++◌, ◌∷◌, [], MatchResult, OnErr, OnOk};
+ghost use Rattle.std.specs.Prelude.{◌≡◌, ◌+◌, ◌≤◌, ◌++◌, ◌∷◌, [], IfSome, IsOkUnless, MatchResult, OnErr, OnOk};
 ghost use Rattle.std.specs.Fn.{FnOnceReturnsAt, FnOnceReturnsAtMut};
 ghost use Rattle.leg.specs.Answering.{Answers};
 ghost use Rattle.share_ledger.specs.Book.{BookParts, apply, answer_to, withdraw, totals};
+ghost use Rattle.exec_collector.specs.Booked.{IsKept};
 ghost use Rattle.exec_collector.specs.Calls.{CallGives};
 ghost use Rattle.exec_collector.specs.Resolved.{Replays, OnlyOpens, GainsBy, GainsLeg, resolved, sum_below};
 
-use crate::WorkerSeat;
+use crate::venue_bookings::{VenueBookings, add_booking};
+use crate::{Accounts, WorkerSeat};
 use dialect::Note;
 use leg::{LegId, Totals, VenueId};
 use share_ledger::{Applied, Book, BookFault};
 use std::marker::Model;
-use std::sync::ledger::{Book as Total, Ledger};
+use std::sync::ledger::Book as Total;
 
-/// What lies under the collector's lock. Contracts see the book. It replays from its own history, and the seats add up
-/// to the shares that its venues have resolved.
+/// What lies under the collector's lock. Contracts see the book. It replays from its own history, the seats add up to
+/// the shares that its venues have resolved, and each venue's notes in it are those booked on the seat of the venue.
 #[derive(Drop)]
-pub struct CountedBook<M: Ledger> {
+pub struct CountedBook<M: Accounts> {
     pub(crate) venues: u8,
     pub(crate) book: Book,
     pub(crate) total: Total<M>,
+    pub(crate) bookings: Vec<VenueBookings>,
 }
 
-impl<M: Ledger> Model for CountedBook<M> {
-    ghost use Rattle.std.specs.Prelude.{◌≡◌, ◌≤◌};
+impl<M: Accounts> Model for CountedBook<M> {
+    ghost use Rattle.std.specs.Prelude.{◌≡◌, ◌≤◌, map};
     ghost use Rattle.share_ledger.specs.Book.{BookParts};
     ghost use Rattle.exec_collector.specs.Resolved.{Replays, resolved};
+    ghost use Rattle.exec_collector.specs.Sides.{AreWritten};
 
     ghost Value = { BookParts };
 
     ghost view = { λ counted. counted.book };
 
     ghost invariant = { λ counted. (counted.venues ≡ counted.book.venues) × (counted.venues ≤ 16)
-        × Replays counted.book × (counted.total.total ≡ resolved counted.book) };
+        × Replays counted.book × (counted.total.total ≡ resolved counted.book)
+        × (map (λ venue. venue.side.name) counted.bookings.items ≡ M.lists)
+        × AreWritten counted.book 0 counted.bookings.items };
 }
 
-impl<M: Ledger> CountedBook<M> {
+impl<M: Accounts> CountedBook<M> {
     /// The book.
     pub fn book(&self) -> &Book
         ensures value { result.now ≡ self.now }
@@ -54,27 +60,27 @@ impl<M: Ledger> CountedBook<M> {
         resolved_in(&self.book, self.venues)
     }
 
-    /// Applies a note of a venue; the seat gains the shares that cease to be open, and the note as one that was booked.
-    /// B02, and the note may be applied again.
-    pub fn apply(
-        &mut self,
-        venue: VenueId,
-        note: &Note,
-        seat: &mut WorkerSeat<M>,
-    ) -> Result<Applied, BookFault>
-        ensures book { Answers BookFault.OutOfMemory self.old (apply self.old venue note.now) result self.new }
-        ensures wanting { OnErr result (answer_to self.old venue note.now ≡ Applied.Moved) }
+    /// Applies a note of the seat's venue; the seat gains the shares that cease to be open, and the note as one that
+    /// was booked. B02, and the note may be applied again.
+    pub fn apply(&mut self, note: &Note, seat: &mut WorkerSeat<M>) -> Result<Applied, BookFault>
+        ensures book { IfSome seat.old.venue (λ venue.
+            Answers BookFault.OutOfMemory self.old (apply self.old venue note.now) result self.new) }
+        ensures only { IsOkUnless result BookFault.OutOfMemory }
+        ensures wanting { OnErr result (IfSome seat.old.venue (λ venue.
+            answer_to self.old venue note.now ≡ Applied.Moved)) }
         ensures seat { seat.new.shares + resolved self.old ≡ seat.old.shares + resolved self.new }
         ensures gains { MatchResult result (λ applied. GainsBy note.now applied seat.old.shares seat.new.shares)
             (λ _. seat.new ≡ seat.old) }
-        ensures parts { seat.new.parts ≡ seat.old.parts }
+        ensures parts { (seat.new.parts ≡ seat.old.parts) × (seat.new.venue ≡ seat.old.venue) }
         ensures booked { OnOk result (seat.new.booked ≡ seat.old.booked ++ note.now ∷ []) }
     {
+        let venue = seat.venue;
+        let entries = self.book.history().len();
         let before = self.book.venue_resolved(venue);
         let applied = self.book.apply(venue, note)?;
         let gained = self.book.venue_resolved(venue) - before;
         seat.count(&mut self.total, gained);
-        seat.add_note(note);
+        add_booking(&mut self.bookings, seat, note, applied, entries);
         Ok(applied)
     }
 
@@ -84,7 +90,7 @@ impl<M: Ledger> CountedBook<M> {
         ensures seat { seat.new.shares + resolved self.old ≡ seat.old.shares + resolved self.new }
         ensures gains { MatchResult result (λ _. GainsLeg id seat.old.shares seat.new.shares)
             (λ _. seat.new ≡ seat.old) }
-        ensures parts { seat.new.parts ≡ seat.old.parts }
+        ensures parts { (seat.new.parts ≡ seat.old.parts) × (seat.new.venue ≡ seat.old.venue) }
         ensures booked { seat.new.booked ≡ seat.old.booked }
     {
         let before = resolved_in(&self.book, self.venues);
@@ -92,6 +98,17 @@ impl<M: Ledger> CountedBook<M> {
         let gained = resolved_in(&self.book, self.venues) - before;
         seat.count(&mut self.total, gained);
         Ok(())
+    }
+
+    /// Changes nothing, and tells that on a seat stands what the book took of its venue.
+    pub fn compare(&mut self, seat: &mut WorkerSeat<M>)
+        ensures kept { IsKept self.old seat.old }
+        ensures same { (self.new ≡ self.old) × (seat.new ≡ seat.old) }
+    {
+        let Some(bookings) = self.bookings.get_mut(usize::from(seat.venue.number())) else {
+            unreachable!()
+        };
+        seat.compare(&mut bookings.side);
     }
 
     /// Lends the book to a closure that reads it.

@@ -1,31 +1,36 @@
 //! Compares what the seats count with what the book has resolved.
 
 ghost use Rattle.std.specs.Prelude.{◌≡◌, ◌<◌, ◌↔◌, IfOk, IsOk};
+ghost use Rattle.std.specs.List.{All};
+ghost use Rattle.exec_collector.specs.Booked.{IsKept};
 ghost use Rattle.exec_collector.specs.Resolved.{resolved};
 ghost use Rattle.exec_collector.specs.Seats.{parts_of, shares_of};
 
-use crate::{CountedBook, WorkerSeat};
-use std::sync::ledger::Ledger;
+use crate::{Accounts, CountedBook, WorkerSeat};
 
 /// The seats don't add up to what the venues have resolved.
 #[derive(Clone, Copy, Debug, PartialEq, Eq)]
 pub struct Miscounted;
 
 /// The shares of these seats, where they are those that the venues have resolved. The seats of all workers always are.
-pub fn check_count<M: Ledger>(
+/// In either case what stands on each seat is what the book took of its venue.
+pub fn check_count<M: Accounts>(
     counted: &mut CountedBook<M>,
     seats: Vec<WorkerSeat<M>>,
 ) -> Result<u64, Miscounted>
     ensures exact { IsOk result ↔ (shares_of seats.items ≡ resolved counted.old) }
     ensures shares { IfOk result (λ shares. shares ≡ resolved counted.old) }
     ensures whole { parts_of seats.items ≡ M.parts → 0 < M.parts → IsOk result }
+    ensures kept { All (IsKept counted.old) seats.items }
     ensures same { counted.new ≡ counted.old }
 {
     let mut seats = seats;
     let resolved = counted.resolved();
     let mut shares = 0;
     if let Some(mut all) = seats.pop() {
-        while let Some(seat) = seats.pop() {
+        counted.compare(&mut all);
+        while let Some(mut seat) = seats.pop() {
+            counted.compare(&mut seat);
             all.join(seat);
         }
         counted.total.audit(&mut all.share);

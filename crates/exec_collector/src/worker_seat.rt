@@ -1,24 +1,30 @@
-//! What one worker resolved and booked.
+//! What the worker of a venue resolved and booked.
 
-ghost use Rattle.std.specs.Prelude.{◌≡◌, ◌+◌, ◌<◌, ◌≤◌, ◌++◌, ◌∷◌, [], min};
-ghost use Rattle.exec_collector.specs.Seats.{new_seat};
+ghost use Rattle.std.specs.Prelude.{◌≡◌, ◌+◌, ◌<◌, ◌≤◌, ◌++◌, ◌∷◌, [], Some, min, slice_get, IfSome};
+ghost use Rattle.exec_collector.specs.Seats.{worker_seat};
+ghost use Rattle.exec_collector.specs.declared.booking.Booking.{Booking};
 
-use crate::bookings::Bookings;
+use crate::{Accounts, Booking};
+use agreed_list::{BookSide, SeatSide};
 use dialect::Note;
+use leg::VenueId;
+use share_ledger::Applied;
 use std::marker::Model;
-use std::sync::ledger::{Book as Total, Ledger, Share};
+use std::sync::ledger::{Book as Total, Share};
 
 /// A worker's part of the count: the shares that ceased to be open by its calls. Contracts see its parts of the ledger,
-/// its shares, and the notes that were booked on it.
+/// its shares, its venue, and what was booked on it.
 #[derive(Drop)]
-pub struct WorkerSeat<M: Ledger> {
+pub struct WorkerSeat<M: Accounts> {
+    pub(crate) venue: VenueId,
     pub(crate) shares: u64,
     pub(crate) share: Share<M>,
-    pub(crate) booked: Bookings,
+    pub(crate) bookings: SeatSide<Booking>,
 }
 
-impl<M: Ledger> Model for WorkerSeat<M> {
-    ghost use Rattle.std.specs.Prelude.{◌≡◌, ◌<◌, min};
+impl<M: Accounts> Model for WorkerSeat<M> {
+    ghost use Rattle.std.specs.Prelude.{◌≡◌, ◌<◌, Some, min, slice_get};
+    ghost use Rattle.exec_collector.specs.Booked.{notes_of};
     ghost use Rattle.exec_collector.specs.Seats.{Seat};
 
     ghost Value = { Seat };
@@ -26,35 +32,49 @@ impl<M: Ledger> Model for WorkerSeat<M> {
     ghost view = { λ seat. record {
       parts = seat.share.parts;
       shares = seat.share.amount;
-      booked = seat.booked.notes;
+      venue = Some seat.venue;
+      booked = notes_of seat.bookings.items;
+      bookings = seat.bookings.items;
     } };
 
-    ghost invariant = { λ seat. (0 < seat.share.parts) × (seat.shares ≡ min seat.share.amount 18446744073709551615) };
+    ghost invariant = { λ seat. (0 < seat.share.parts) × (seat.shares ≡ min seat.share.amount 18446744073709551615)
+        × (slice_get M.lists seat.venue ≡ Some seat.bookings.name) };
 }
 
-impl<M: Ledger> WorkerSeat<M> {
+impl<M: Accounts> WorkerSeat<M> {
     /// A seat of one part of the ledger, on which nothing was counted or booked yet.
-    pub(crate) fn new(share: Share<M>) -> WorkerSeat<M>
-        requires { (share.parts ≡ 1) × (share.amount ≡ 0) }
-        ensures { result ≡ new_seat }
+    pub(crate) fn new(venue: VenueId, share: Share<M>, bookings: SeatSide<Booking>) -> WorkerSeat<M>
+        requires share { (share.parts ≡ 1) × (share.amount ≡ 0) }
+        requires list { (slice_get M.lists venue ≡ Some bookings.name) × (bookings.items ≡ []) }
+        ensures { result ≡ worker_seat venue }
     {
         WorkerSeat {
+            venue,
             shares: 0,
             share,
-            booked: Bookings::new(),
+            bookings,
         }
+    }
+
+    /// The venue whose worker has it.
+    pub fn venue(&self) -> VenueId
+        ensures { self.now.venue ≡ Some result }
+    {
+        self.venue
     }
 
     /// Takes in another worker's seat, but none of the notes booked on that.
     pub fn join(&mut self, other: WorkerSeat<M>)
         ensures parts { self.new.parts ≡ self.old.parts + other.parts }
         ensures shares { self.new.shares ≡ self.old.shares + other.shares }
-        ensures booked { self.new.booked ≡ self.old.booked }
+        ensures booked { (self.new.booked ≡ self.old.booked) × (self.new.bookings ≡ self.old.bookings) }
+        ensures venue { self.new.venue ≡ self.old.venue }
     {
         let WorkerSeat {
+            venue: _,
             shares,
             share,
-            booked: _,
+            bookings: _,
         } = other;
         self.share.merge(share);
         self.shares = self.shares.saturating_add(shares);
@@ -72,20 +92,43 @@ impl<M: Ledger> WorkerSeat<M> {
         requires { total.old.total + shares ≤ 1000000000000000000 }
         ensures seat { self.new.shares ≡ self.old.shares + shares }
         ensures parts { self.new.parts ≡ self.old.parts }
-        ensures booked { self.new.booked ≡ self.old.booked }
+        ensures booked { (self.new.booked ≡ self.old.booked) × (self.new.bookings ≡ self.old.bookings) }
+        ensures venue { self.new.venue ≡ self.old.venue }
         ensures total { total.new.total ≡ total.old.total + shares }
     {
         total.add(&mut self.share, shares);
         total.audit(&mut self.share);
         self.shares += shares;
     }
-
-    /// A note was booked.
-    pub(crate) fn add_note(&mut self, note: &Note)
+    /// A note of its venue was booked, to which the book, of so many entries, answered this.
+    pub(crate) fn book(
+        &mut self,
+        side: &mut BookSide<Booking>,
+        note: &Note,
+        answer: Applied,
+        entries: usize,
+    )
+        ghost booking: { Booking }
+        requires list { IfSome self.old.venue (λ venue. slice_get M.lists venue ≡ Some side.old.name) }
+        requires booking { booking ≡ record { note = note.now; answer = answer; entries = entries } }
+        ensures agreed { side.old.items ≡ self.old.bookings }
+        ensures side { (side.new.name ≡ side.old.name) × (side.new.items ≡ side.old.items ++ booking ∷ []) }
+        ensures bookings { self.new.bookings ≡ self.old.bookings ++ booking ∷ [] }
         ensures booked { self.new.booked ≡ self.old.booked ++ note.now ∷ [] }
         ensures shares { self.new.shares ≡ self.old.shares }
         ensures parts { self.new.parts ≡ self.old.parts }
+        ensures venue { self.new.venue ≡ self.old.venue }
     {
-        self.booked = self.booked.with(note);
+        side.push(&mut self.bookings);
+    }
+
+    /// Changes nothing, and tells that the book's side has the same bookings.
+    pub(crate) fn compare(&mut self, side: &mut BookSide<Booking>)
+        requires list { IfSome self.old.venue (λ venue. slice_get M.lists venue ≡ Some side.old.name) }
+        ensures agreed { side.old.items ≡ self.old.bookings }
+        ensures side { (side.new.name ≡ side.old.name) × (side.new.items ≡ side.old.items) }
+        ensures same { self.new ≡ self.old }
+    {
+        side.compare(&mut self.bookings);
     }
 }

@@ -1,15 +1,15 @@
 -- The workers of a day keep their places: each is that of its venue, and their seats have all parts.
-use Rattle.std.proofs.Common.{◌≡◌, ◌⊎◌, inl, inr, ℕ, zero, suc, List, [], ◌∷◌, ◌++◌, length, map, All, replicate, Some, None, refl, sym, ap, subst, ◌∙◌, arith}
+use Rattle.std.proofs.Common.{◌≡◌, ◌⊎◌, inl, inr, ℕ, zero, suc, List, [], ◌∷◌, ◌++◌, length, map, All, Some, None, refl, sym, ap, subst, ◌∙◌, arith}
 use Rattle.std.specs.Prelude.{slice_get, sum_by}
 use Rattle.std.proofs.lemmas.List.{length-append, append-nil, append_assoc, map-append}
-use Rattle.std.proofs.lemmas.List.Elements.{All-nil, All-replicate, All-push}
+use Rattle.std.proofs.lemmas.List.Elements.{All-nil, All-push}
 use Rattle.std.proofs.lemmas.List.Sums.{sum_by-cons}
-use Rattle.exec_collector.specs.Seats.{Seat, new_seat, parts_of as seat_parts}
+use Rattle.exec_collector.specs.Seats.{Seat, worker_seat, worker_seats, parts_of as seat_parts}
 use Rattle.release_lock.specs.Queues.{DrainParts, new_drains, Took, AreInOrder}
 use Rattle.dialect.specs.Wording.{Wording}
 use Rattle.fix_tags.specs.Config.{ConfigParts}
 use Rattle.session_core.specs.Session.{new_session}
-use Rattle.session_worker.specs.Events.{WorkerParts, new_worker}
+use Rattle.session_worker.specs.Events.{Lasting, WorkerParts, new_worker}
 use Rattle.session_worker.specs.Ends.{WorkerStart, WorkerLeft, queues_of, seats_of, AllRan}
 use Rattle.live_day.specs.Day.{dispatcher, worker_of, new_workers, KeepsPlace, AllKeepPlace}
 
@@ -21,7 +21,7 @@ kept_places wording [] (end ∷ ends) ran = absurd ran
 kept_places wording (worker ∷ workers) [] ran = absurd ran
 kept_places wording (worker ∷ workers) (end ∷ ends) ran =
     let runs = ran.0 in
-    ((runs.last.venue ∙ runs.goes.venue, runs.last.seat ∙ runs.goes.seat), kept_places wording workers ends ran.1)
+    ((runs.last.venue ∙ runs.goes.venue, ap (λ (l : Lasting). l.parts) (runs.last.seat ∙ runs.goes.seat)), kept_places wording workers ends ran.1)
 
 -- what stands at a place of a list with one element more
 snoc_at : {A : Type 0} (xs : List A) (y : A) (at : ℕ) (x : A) → slice_get (xs ++ y ∷ []) at ≡ Some x
@@ -48,8 +48,31 @@ none_popped zero = All-nil (λ (d : DrainParts). d.popped ≡ [])
 none_popped (suc venues) = All-push (λ (d : DrainParts). d.popped ≡ []) (new_drains venues) (record { venue = venues; popped = [] })
     (none_popped venues) refl
 
-pub all_new : (count : ℕ) → All (λ (s : Seat). s ≡ new_seat) (replicate count new_seat)
-all_new count = All-replicate (λ (s : Seat). s ≡ new_seat) count new_seat refl
+pub seats_length : (venues : ℕ) → length (worker_seats venues) ≡ venues
+seats_length zero = refl
+seats_length (suc venues) =
+    let rest = seats_length venues in
+    let one = length-append (worker_seats venues) (worker_seat venues ∷ []) in
+    omega (arith, rest, one)
+
+-- the seat of a drain's venue
+abbrev pub seat_of : DrainParts → Seat
+seat_of drain = worker_seat drain.venue
+
+pub all_seats : (venues : ℕ) → worker_seats venues ≡ map seat_of (new_drains venues)
+all_seats zero = refl
+all_seats (suc venues) =
+    ap (λ (seats : List Seat). seats ++ worker_seat venues ∷ []) (all_seats venues)
+    ∙ sym (map-append seat_of (new_drains venues) (record { venue = venues; popped = [] } ∷ []))
+
+-- of the seats of some drains the first is that of the first drain, and the others are those of the others
+pub first_seat : (seat : Seat) (seats all : List Seat) (drain : DrainParts) (drains left : List DrainParts)
+    → all ≡ seat ∷ seats → left ≡ drain ∷ drains → all ≡ map seat_of left
+    → (seat ≡ seat_of drain) × (seats ≡ map seat_of drains)
+first_seat seat seats all drain drains left is here same =
+    let both : seat ∷ seats ≡ seat_of drain ∷ map seat_of drains =
+    sym is ∙ (same ∙ ap (map seat_of) here) in
+    (cc, cc)
 
 drain_at : (venues at : ℕ) (drain : DrainParts) → slice_get (new_drains venues) at ≡ Some drain → drain.venue ≡ at
 drain_at zero at drain e = absurd cc
@@ -119,7 +142,7 @@ all_parts venues ends kept =
     parts_kept (new_workers venues) ends kept ∙ (one_each (new_drains venues) ∙ drains_length venues)
 
 -- a worker that was made of a new seat is the new one of its drain's venue
-pub is_new : (config : ConfigParts) (drain : DrainParts) (seat : Seat) → config ≡ dispatcher → seat ≡ new_seat
+pub is_new : (config : ConfigParts) (drain : DrainParts) (seat : Seat) → config ≡ dispatcher → seat ≡ seat_of drain
     → new_worker (new_session config) drain.venue seat None ≡ worker_of drain
 is_new config drain seat is same =
     ap (λ (c : ConfigParts). new_worker (new_session c) drain.venue seat None) is

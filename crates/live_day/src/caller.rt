@@ -8,10 +8,10 @@ ghost use Rattle.live_day.specs.Day.{caller_of, left_of, shares_each, Called};
 
 use crate::floor::Floor;
 use crate::order::one_sweep;
+use exec_collector::Accounts;
 use release_lock::{CallerSeat, Run};
 use std::alloc::{AllocError, Global};
 use std::sync::Wait;
-use std::sync::ledger::Ledger;
 use std::thread;
 use std::time::{Clock, Duration};
 
@@ -27,7 +27,7 @@ pub struct CallerEnd<L: Run> {
 
 /// A caller releases its sweeps, one after the other. Each is tried again while it is refused, as often as the plan
 /// says; then it is given up.
-pub fn call<L: Run, M: Ledger>(
+pub fn call<L: Run, M: Accounts>(
     rt: &(impl Wait + Clock),
     alloc: Global,
     floor: &Floor<L, M>,
@@ -47,7 +47,7 @@ pub fn call<L: Run, M: Ledger>(
 }
 
 /// Tries a sweep until it is placed, and says whether it was.
-fn places<L: Run, M: Ledger>(
+fn places<L: Run, M: Accounts>(
     rt: &(impl Wait + Clock),
     alloc: Global,
     floor: &Floor<L, M>,
@@ -72,7 +72,7 @@ fn places<L: Run, M: Ledger>(
 
 /// Tries a sweep once, and says whether it was placed. If it was, the workers are woken once no lock is held.
 #[tactic(auto, using(crate::proofs::Orders::orders_shares))]
-fn releases<L: Run, M: Ledger>(
+fn releases<L: Run, M: Accounts>(
     rt: &impl Wait,
     alloc: Global,
     floor: &Floor<L, M>,

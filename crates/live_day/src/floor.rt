@@ -5,13 +5,12 @@ use crate::exchange::Serve;
 use crate::order::SHARES;
 use crate::signals::{Running, Signals};
 use crate::{LivePlan, Progress, SoFar};
-use exec_collector::Collector;
+use exec_collector::{Accounts, Collector};
 use leg::VenueId;
 use release_lock::{ReleaseLock, Run};
 use session_worker::shut_gate;
 use std::alloc::AllocError;
 use std::sync::Wait;
-use std::sync::ledger::Ledger;
 use std::thread;
 use std::time::{Clock, Duration};
 
@@ -26,7 +25,7 @@ const MOST_IDLE_LOOKS: u64 = 10_000;
 
 /// What the threads of a day share.
 #[derive(Drop)]
-pub struct Floor<L: Run, M: Ledger> {
+pub struct Floor<L: Run, M: Accounts> {
     pub plan: LivePlan,
     pub lock: ReleaseLock<L>,
     pub collector: Collector<M>,
@@ -34,7 +33,7 @@ pub struct Floor<L: Run, M: Ledger> {
     pub bells: Bells,
 }
 
-impl<L: Run, M: Ledger> Floor<L, M> {
+impl<L: Run, M: Accounts> Floor<L, M> {
     /// How far the day is.
     fn so_far(&self, rt: &impl Wait) -> SoFar {
         SoFar {

@@ -21,7 +21,7 @@ use crate::threads::{Cast, Ended, in_threads};
 use crate::venues::left_venues;
 use crate::workers::new_workers;
 use crate::{LiveDay, LiveFault, LivePlan, Progress};
-use exec_collector::Collector;
+use exec_collector::{Accounts, BlankBook, Collector};
 use link::Link;
 use release_lock::{CallerSeat, Opened, ReleaseLock, Run, rings};
 use session_worker::{AuditFault, DayReport, WorkerEnd, audit};
@@ -31,7 +31,7 @@ use std::collections::VecDeque;
 use std::marker::Brand;
 use std::net::{Net, TcpListener, TcpStream};
 use std::sync::Wait;
-use std::sync::ledger::{Blank, Ledger};
+use std::sync::ledger::Blank;
 use std::thread::Threads;
 use std::time::Clock;
 use venue_queue::{Drain, Feed};
@@ -53,16 +53,11 @@ where
     ensures only { IfErr result IsNoMismatch }
 {
     let rings = rings(alloc, plan.venues)?;
-    let workers = u64::from(plan.venues);
-    named_day::<Brand, Brand, R, P>(
-        rt,
-        alloc,
-        plan,
-        Blank::new(1024),
-        Blank::new(workers),
-        rings,
-        progress,
-    )
+    let Ok(workers) = BlankBook::new(alloc, plan.venues) else {
+        return Err(LiveFault::OutOfMemory);
+    };
+    let callers = Blank::new(1024);
+    named_day::<Brand, Brand, R, P>(rt, alloc, plan, callers, workers, rings, progress)
 }
 
 /// A day whose names were picked.
@@ -71,18 +66,19 @@ fn named_day<L, M, R, P>(
     alloc: Global,
     plan: LivePlan,
     callers: Blank,
-    workers: Blank,
+    workers: BlankBook,
     rings: VecDeque<(Feed, Drain)>,
     progress: P,
 ) -> Result<LiveDay, LiveFault>
 where
     L: Run + Send + Sync,
-    M: Ledger + Send + Sync,
+    M: Accounts + Send + Sync,
     R: Net<Listener = TcpListener, Stream = TcpStream> + Threads + Wait + Clock + Sync,
     P: Progress + Drop + Send,
     requires plan { IsLivePlan plan }
     requires callers { (callers.name ≡ L.name) × (callers.parts ≡ L.parts) × (L.parts ≡ 1024) }
     requires workers { (workers.name ≡ M.name) × (workers.parts ≡ M.parts) × (M.parts ≡ plan.venues) }
+    requires lists { workers.lists ≡ M.lists }
     requires rings { (length rings.items ≡ plan.venues) × All IsFresh rings.items }
     requires queues { L.queues ≡ map (λ ends. ends.0.table) rings.items }
     ensures sweeps { IfOk result (λ day. (book : BookParts) × Replays book × (day.sweeps.items ≡ sweeps_in book)) }
@@ -119,7 +115,7 @@ where
 }
 
 /// What became of a day whose threads have ended.
-fn told<K: Link, L: Run, M: Ledger>(
+fn told<K: Link, L: Run, M: Accounts>(
     rt: &impl Wait,
     alloc: Global,
     floor: Floor<L, M>,
@@ -177,7 +173,7 @@ fn parted<L: Run>(
 }
 
 /// The audit of a day.
-fn audited<K: Link, L: Run, M: Ledger>(
+fn audited<K: Link, L: Run, M: Accounts>(
     alloc: Global,
     lock: ReleaseLock<L>,
     collector: Collector<M>,

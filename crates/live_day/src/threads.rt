@@ -11,6 +11,7 @@ use crate::promise::EndOf;
 use crate::{LiveFault, Progress};
 use clock::Clock;
 use dialect::Dialect;
+use exec_collector::Accounts;
 use link::Link;
 use release_lock::{CallerSeat, Run};
 use session_worker::{Worker, WorkerEnd, run_all};
@@ -18,13 +19,12 @@ use std::alloc::{AllocError, Global};
 use std::collections::VecDeque;
 use std::snapshot::Snapshot;
 use std::sync::Wait;
-use std::sync::ledger::Ledger;
 use std::thread::{JoinHandle, PromisedHandle, Threads, join, join_promised};
 use std::{thread, time};
 
 /// Who takes part in a day.
 #[derive(Drop)]
-pub struct Cast<X, D: Dialect + Drop, K: Link, C: Clock + Drop, L: Run, M: Ledger> {
+pub struct Cast<X, D: Dialect + Drop, K: Link, C: Clock + Drop, L: Run, M: Accounts> {
     pub exchanges: Vec<X>,
     pub workers: Vec<Worker<D, K, C, L, M>>,
     pub callers: Vec<CallerSeat<L>>,
@@ -32,7 +32,7 @@ pub struct Cast<X, D: Dialect + Drop, K: Link, C: Clock + Drop, L: Run, M: Ledge
 
 /// What its threads leave.
 #[derive(Drop)]
-pub struct Ended<K: Link, L: Run, M: Ledger> {
+pub struct Ended<K: Link, L: Run, M: Accounts> {
     pub workers: Vec<WorkerEnd<K, L, M>>,
     pub callers: Vec<CallerEnd<L>>,
 }
@@ -53,7 +53,7 @@ where
     K: Link + Send,
     C: Clock + Drop + Send,
     L: Run + Send + Sync,
-    M: Ledger + Send + Sync,
+    M: Accounts + Send + Sync,
     R: Threads + Wait + time::Clock + Sync,
     P: Progress + Drop + Send,
     ensures workers { IfOk result (λ ended. AllKeepPlace
@@ -93,7 +93,7 @@ fn run_exchanges<X, L, M, R>(
 where
     X: Serve + Drop + Send,
     L: Run + Send + Sync,
-    M: Ledger + Send + Sync,
+    M: Accounts + Send + Sync,
     R: Threads + Wait + Sync,
     ensures { IfErr result IsNoMismatch }
 {
@@ -139,7 +139,7 @@ where
     K: Link + Send,
     C: Clock + Drop + Send,
     L: Run + Send + Sync,
-    M: Ledger + Send + Sync,
+    M: Accounts + Send + Sync,
     R: Threads + Wait + time::Clock + Sync,
     P: Progress + Drop + Send,
     ensures workers { IfOk result (λ ended. AllKeepPlace
@@ -174,7 +174,7 @@ fn run_callers<L, M, R, P>(
 ) -> Result<Vec<CallerEnd<L>>, LiveFault>
 where
     L: Run + Send + Sync,
-    M: Ledger + Send + Sync,
+    M: Accounts + Send + Sync,
     R: Threads + Wait + time::Clock + Sync,
     P: Progress + Drop,
     ensures called { IfOk result (λ ends. AllCalled (map (λ s. caller_of floor.now.plan s) seats.items)
@@ -223,7 +223,7 @@ where
     K: Link + Send,
     C: Clock + Drop + Send,
     L: Run + Send + Sync,
-    M: Ledger + Send + Sync,
+    M: Accounts + Send + Sync,
     R: Threads + Wait + time::Clock + Sync,
     ensures kept { IfOk result (λ ends. AllKeepPlace
         (map (λ w. w.parts) workers.items) (map (λ e. e.parts) ends.items)) }

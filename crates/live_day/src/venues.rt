@@ -4,16 +4,16 @@ ghost use Rattle.std.specs.Prelude.{◌≡◌, map, IfOk};
 ghost use Rattle.live_day.specs.Venues.{lost_of, venue_left};
 
 use crate::day::LiveVenue;
+use exec_collector::Accounts;
 use leg::{LegState, PlacedLeg};
 use link::Link;
 use release_lock::Run;
 use session_core::Session;
 use session_worker::WorkerEnd;
 use std::alloc::{AllocError, Global};
-use std::sync::ledger::Ledger;
 
 /// The venues of these workers, in order. The only refusal is out of memory.
-pub fn left_venues<K: Link, L: Run, M: Ledger>(
+pub fn left_venues<K: Link, L: Run, M: Accounts>(
     alloc: Global,
     ends: &[WorkerEnd<K, L, M>],
 ) -> Result<Vec<LiveVenue>, AllocError>
@@ -29,7 +29,7 @@ pub fn left_venues<K: Link, L: Run, M: Ledger>(
 
 /// The venue of a worker.
 #[tactic(auto, unfolding(crate::specs::Venues::venue_left))]
-fn left_venue<K: Link, L: Run, M: Ledger>(
+fn left_venue<K: Link, L: Run, M: Accounts>(
     alloc: Global,
     end: &WorkerEnd<K, L, M>,
 ) -> Result<LiveVenue, AllocError>

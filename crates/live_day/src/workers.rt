@@ -1,7 +1,7 @@
 //! The workers of a day.
 
-ghost use Rattle.std.specs.Prelude.{◌≡◌, length, replicate, IfOk, IfErr, map};
-ghost use Rattle.exec_collector.specs.Seats.{new_seat};
+ghost use Rattle.std.specs.Prelude.{◌≡◌, length, IfOk, IfErr, map};
+ghost use Rattle.exec_collector.specs.Seats.{worker_seats};
 ghost use Rattle.release_lock.specs.Queues.{new_drains};
 ghost use Rattle.live_day.specs.Day.{new_workers};
 ghost use Rattle.live_day.specs.Faults.{IsNoMismatch};
@@ -12,21 +12,20 @@ use crate::ends::dispatcher_end;
 use crate::exchange::Exchange;
 use clock::UtcClock;
 use dialect::Plain;
-use exec_collector::WorkerSeat;
+use exec_collector::{Accounts, WorkerSeat};
 use link::{Poller, Rest, TcpLink};
 use release_lock::{Run, VenueDrain};
 use session_worker::{Pace, Worker};
 use std::alloc::Global;
 use std::collections::VecDeque;
 use std::net::{Net, SocketAddr};
-use std::sync::ledger::Ledger;
 use std::time::Clock;
 
 /// The worker of a venue, over loopback.
 pub type LiveWorker<'a, R, L, M> = Worker<Plain, TcpLink<'a, R>, UtcClock<'a, R>, L, M>;
 
 /// The workers of these drains, in order, each linked to the exchange at its place. The bell of each is added to these.
-pub fn new_workers<'a, L: Run, M: Ledger, R: Net + Clock>(
+pub fn new_workers<'a, L: Run, M: Accounts, R: Net + Clock>(
     rt: &'a R,
     alloc: Global,
     exchanges: &[Exchange<'a, R>],
@@ -35,7 +34,7 @@ pub fn new_workers<'a, L: Run, M: Ledger, R: Net + Clock>(
     bells: &mut Bells,
 ) -> Result<Vec<LiveWorker<'a, R, L, M>>, LiveFault>
     requires drains { drains.items ≡ new_drains (length exchanges.now) }
-    requires seats { seats.items ≡ replicate (length exchanges.now) new_seat }
+    requires seats { seats.items ≡ worker_seats (length exchanges.now) }
     ensures new { IfOk result (λ workers. map (λ w. w.parts) workers.items ≡ new_workers (length exchanges.now)) }
     ensures only { IfErr result IsNoMismatch }
 {

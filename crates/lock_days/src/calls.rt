@@ -6,10 +6,10 @@ use crate::answer::Answer;
 use crate::day::Played;
 use crate::turn::{Reported, Turn};
 use dialect::{ExecId, Fill, LastPx, Note, Report, ReportKind};
+use exec_collector::Accounts;
 use leg::{LegId, VenueId};
 use release_lock::Run;
 use std::sync::Wait;
-use std::sync::ledger::Ledger;
 use sweep_release::{Desk, GateFault, ReleaseFault};
 use trial::{Order, Post, TrialFault, sweep_of};
 
@@ -37,7 +37,7 @@ fn note_of(exec: &str, says: Reported) -> Option<Note> {
 
 /// The next leg of a ring while fewer than `count` were popped in all, if the ring has one. One out of its order is a
 /// fault.
-fn pop_to<L: Run, M: Ledger>(
+fn pop_to<L: Run, M: Accounts>(
     rt: &impl Wait,
     post: &mut Post<L, M>,
     count: u64,
@@ -49,7 +49,7 @@ fn pop_to<L: Run, M: Ledger>(
     }
 }
 
-impl<L: Run, M: Ledger> Played<L, M> {
+impl<L: Run, M: Accounts> Played<L, M> {
     /// The calls of a turn.
     pub fn call(&mut self, rt: &impl Wait, turn: &Turn) -> Result<Answer, TrialFault> {
         match turn {
@@ -129,8 +129,7 @@ impl<L: Run, M: Ledger> Played<L, M> {
     fn book(&mut self, rt: &impl Wait, exec: &str, says: Reported) -> Result<Answer, TrialFault> {
         let note = note_of(exec, says).ok_or(TrialFault::Missing)?;
         let post = self.floor.posts.first_mut().ok_or(TrialFault::Missing)?;
-        let at = VenueId::new(0)?;
-        let applied = self.floor.collector.apply(rt, at, &note, &mut post.seat)?;
+        let applied = self.floor.collector.apply(rt, &note, &mut post.seat)?;
         Ok(Answer::Booked(applied))
     }
 }

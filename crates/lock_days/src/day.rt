@@ -5,11 +5,11 @@ use crate::days::LockDay;
 use crate::ending::tell_sums;
 use crate::standing::{PostStanding, Standing, desk_standing};
 use crate::turn::Turn;
+use exec_collector::Accounts;
 use release_lock::Run;
 use std::alloc::Global;
 use std::fmt::Write;
 use std::sync::Wait;
-use std::sync::ledger::Ledger;
 use sweep_release::Desk;
 use trial::{Floor, Post, Trial, TrialFault, on_floor, room_for_text};
 
@@ -18,12 +18,12 @@ const MAX_TEXT: usize = 65_536;
 
 /// A day that is played.
 #[derive(Drop)]
-pub struct Played<L: Run, M: Ledger> {
+pub struct Played<L: Run, M: Accounts> {
     pub alloc: Global,
     pub floor: Floor<L, M>,
 }
 
-impl<L: Run, M: Ledger> Played<L, M> {
+impl<L: Run, M: Accounts> Played<L, M> {
     /// The post of a venue.
     pub fn post(&self, venue: usize) -> Result<&Post<L, M>, TrialFault> {
         self.floor.posts.get(venue).ok_or(TrialFault::Missing)
@@ -92,7 +92,7 @@ impl<R: Wait> Trial<R> for Playing {
     /// The lines of the day.
     type End = Result<String, TrialFault>;
 
-    fn run<L: Run, M: Ledger>(self, rt: &R, floor: Floor<L, M>) -> Result<String, TrialFault> {
+    fn run<L: Run, M: Accounts>(self, rt: &R, floor: Floor<L, M>) -> Result<String, TrialFault> {
         let Playing { alloc, day } = self;
         let mut text = room_for_text(alloc, MAX_TEXT)?;
         let name = day.name;

@@ -1,14 +1,13 @@
 //! The sums once a day is over.
 
-use exec_collector::{WorkerSeat, check_count};
+use exec_collector::{Accounts, WorkerSeat, check_count};
 use release_lock::{CallerSeat, Run, check_placed};
 use std::alloc::Global;
 use std::fmt::Write;
-use std::sync::ledger::Ledger;
 use trial::{Floor, Post, TrialFault, room_for};
 
 /// The seats of the posts, and the caller's.
-fn seats_of<L: Run, M: Ledger>(
+fn seats_of<L: Run, M: Accounts>(
     alloc: Global,
     seat: CallerSeat<L>,
     posts: Vec<Post<L, M>>,
@@ -25,7 +24,7 @@ fn seats_of<L: Run, M: Ledger>(
 
 /// Adds the line of the sums: the shares on the caller's seat and on those of the workers, where they are those placed
 /// and those resolved; and what is placed where no seat counts it.
-pub fn tell_sums<L: Run, M: Ledger>(
+pub fn tell_sums<L: Run, M: Accounts>(
     alloc: Global,
     floor: Floor<L, M>,
     text: &mut String,

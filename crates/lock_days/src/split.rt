@@ -1,9 +1,9 @@
 //! A seat that is split until each seat has one part.
 
+use exec_collector::Accounts;
 use release_lock::{CallerSeat, Miscounted, Run, check_placed};
 use std::alloc::Global;
 use std::sync::Wait;
-use std::sync::ledger::Ledger;
 use trial::{Floor, Trial, TrialFault, on_floor, seats_of};
 
 /// How many seats there may be.
@@ -29,7 +29,7 @@ impl<R: Wait> Trial<R> for Split {
     /// What all seats count.
     type End = Result<Result<u64, Miscounted>, TrialFault>;
 
-    fn run<L: Run, M: Ledger>(
+    fn run<L: Run, M: Accounts>(
         self,
         rt: &R,
         floor: Floor<L, M>,

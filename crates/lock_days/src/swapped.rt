@@ -1,10 +1,10 @@
 //! The ends of two workers in the wrong order.
 
 use crate::threads::works;
+use exec_collector::Accounts;
 use release_lock::{Run, WrongQueue, check_queues};
 use std::alloc::Global;
 use std::sync::Wait;
-use std::sync::ledger::Ledger;
 use trial::{Floor, Order, Post, TEN, Trial, TrialFault, on_floor, sweep_of};
 
 /// A leg for each of two venues.
@@ -20,7 +20,7 @@ impl<R: Wait> Trial<R> for Swapped {
     /// What the comparison of the queues tells.
     type End = Result<Result<(), WrongQueue>, TrialFault>;
 
-    fn run<L: Run, M: Ledger>(
+    fn run<L: Run, M: Accounts>(
         self,
         rt: &R,
         floor: Floor<L, M>,

@@ -2,7 +2,7 @@
 
 ghost use Rattle.std.specs.Prelude.{◌≡◌, map};
 
-use exec_collector::{Collector, Miscounted as MiscountedBook, WorkerSeat, check_count};
+use exec_collector::{Accounts, Collector, Miscounted as MiscountedBook, WorkerSeat, check_count};
 use release_lock::{
     CallerSeat, Miscounted, ReleaseLock, Run, VenueDrain, VenueEnd, WrongQueue, check_placed,
     check_queues,
@@ -11,7 +11,6 @@ use std::alloc::Global;
 use std::fmt;
 use std::marker::Brand;
 use std::sync::Wait;
-use std::sync::ledger::Ledger;
 use std::thread::{Threads, join, map_vec, yield_now};
 use trial::{Floor, Post, Site, TrialFault, seats_of, sweep_each};
 
@@ -52,7 +51,7 @@ impl fmt::Display for CrowdEnd {
 }
 
 /// A caller releases its sweeps.
-fn calls<L: Run, M: Ledger>(
+fn calls<L: Run, M: Accounts>(
     rt: &impl Wait,
     alloc: Global,
     lock: &ReleaseLock<L>,
@@ -101,7 +100,7 @@ pub fn works<L: Run>(
 type Worked<L, M> = (VenueEnd<L>, WorkerSeat<M>);
 
 /// A worker pops all legs of its venue, and withdraws each in the book.
-fn withdraws<L: Run, M: Ledger>(
+fn withdraws<L: Run, M: Accounts>(
     rt: &impl Wait,
     alloc: Global,
     lock: &ReleaseLock<L>,
@@ -117,7 +116,7 @@ fn withdraws<L: Run, M: Ledger>(
 }
 
 /// What the workers took, and their seats.
-fn parted<L: Run, M: Ledger>(
+fn parted<L: Run, M: Accounts>(
     alloc: Global,
     workers: Vec<Option<Worked<L, M>>>,
 ) -> Result<(Vec<VenueEnd<L>>, Vec<WorkerSeat<M>>), TrialFault> {
@@ -132,7 +131,7 @@ fn parted<L: Run, M: Ledger>(
 }
 
 /// Compares the seats and the rings with desk and book.
-fn compared<L: Run, M: Ledger>(
+fn compared<L: Run, M: Accounts>(
     alloc: Global,
     lock: ReleaseLock<L>,
     collector: Collector<M>,
@@ -152,7 +151,7 @@ fn compared<L: Run, M: Ledger>(
 }
 
 /// Callers and workers, each in a thread.
-fn in_threads<L: Run + Send + Sync, M: Ledger + Send + Sync, R: Threads + Wait + Sync>(
+fn in_threads<L: Run + Send + Sync, M: Accounts + Send + Sync, R: Threads + Wait + Sync>(
     rt: &R,
     alloc: Global,
     floor: Floor<L, M>,
@@ -185,14 +184,14 @@ fn in_threads<L: Run + Send + Sync, M: Ledger + Send + Sync, R: Threads + Wait +
 }
 
 /// Callers and workers at a floor of this site.
-fn crowd_at<L: Run + Send + Sync, M: Ledger + Send + Sync, R: Threads + Wait + Sync>(
+fn crowd_at<L: Run + Send + Sync, M: Accounts + Send + Sync, R: Threads + Wait + Sync>(
     rt: &R,
     alloc: Global,
     site: Site,
 ) -> Result<CrowdEnd, TrialFault>
     requires lock { (site.callers.name ≡ L.name) × (L.parts ≡ 1024)
         × (L.queues ≡ map (λ ends. ends.0.table) site.rings.items) }
-    requires book { (site.workers.name ≡ M.name) × (M.parts ≡ site.venues) }
+    requires book { (site.workers.name ≡ M.name) × (M.parts ≡ site.venues) × (site.workers.lists ≡ M.lists) }
 {
     in_threads(rt, alloc, Floor::<L, M>::open(alloc, site)?)
 }

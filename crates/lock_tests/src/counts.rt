@@ -6,13 +6,12 @@ ghost use Rattle.exec_collector.specs.Resolved.{OnlyOpens};
 use crate::orders::sweep;
 use crate::reports::{report, trade};
 use dialect::{Note, ReportKind};
-use exec_collector::{Collector, Miscounted, WorkerSeat, check_count};
-use leg::{LegId, Sweep, Totals, VenueId};
+use exec_collector::{Accounts, BlankBook, Collector, Miscounted, WorkerSeat, check_count};
+use leg::{LegId, Sweep, Totals};
 use share_ledger::{Applied, Book, BookFault};
 use std::alloc::Global;
 use std::marker::Brand;
 use std::sync::Wait;
-use std::sync::ledger::{Blank, Ledger};
 use std::test::Fail;
 use std::thread::{Threads, join};
 
@@ -24,7 +23,7 @@ fn opens(book: &mut Book, legs: &Sweep) -> Result<(), BookFault>
 }
 
 /// Legs of 100 shares at two venues, and one of 30 at the second.
-fn opens_in<M: Ledger>(
+fn opens_in<M: Accounts>(
     rt: &impl Wait,
     alloc: Global,
     collector: &Collector<M>,
@@ -50,23 +49,22 @@ fn notes(alloc: Global, place: u8) -> Result<Vec<(Note, Applied)>, Fail>
     Ok(notes)
 }
 
-/// Applies notes of a venue, and says whether each was answered as wanted.
-fn work<M: Ledger>(
+/// Applies notes of a seat's venue, and says whether each was answered as wanted.
+fn work<M: Accounts>(
     rt: &impl Wait,
     collector: &Collector<M>,
-    at: VenueId,
     notes: &[(Note, Applied)],
     seat: &mut WorkerSeat<M>,
 ) -> bool {
     let mut as_wanted = true;
     for (note, wanted) in notes {
-        as_wanted &= collector.apply(rt, at, note, seat) == Ok(*wanted);
+        as_wanted &= collector.apply(rt, note, seat) == Ok(*wanted);
     }
     as_wanted
 }
 
 /// Both workers in threads. Whether each note was answered as wanted.
-fn both_work<M: Ledger + Send + Sync, R: Threads + Wait + Sync>(
+fn both_work<M: Accounts + Send + Sync, R: Threads + Wait + Sync>(
     rt: &R,
     alloc: Global,
     collector: &Collector<M>,
@@ -74,11 +72,10 @@ fn both_work<M: Ledger + Send + Sync, R: Threads + Wait + Sync>(
     second: &mut WorkerSeat<M>,
 ) -> Result<(bool, bool), Fail> {
     let (ones, others) = (notes(alloc, 1)?, notes(alloc, 2)?);
-    let (at, other_at) = (VenueId::new(0)?, VenueId::new(1)?);
     Ok(join(
         rt,
-        || work(rt, collector, at, ones.as_slice(), first),
-        || work(rt, collector, other_at, others.as_slice(), second),
+        || work(rt, collector, ones.as_slice(), first),
+        || work(rt, collector, others.as_slice(), second),
     ))
 }
 
@@ -98,13 +95,14 @@ struct Seen {
 }
 
 /// Two workers in threads, and a withdrawal by the second.
-fn two_workers<M: Ledger + Send + Sync, R: Threads + Wait + Sync>(
+fn two_workers<M: Accounts + Send + Sync, R: Threads + Wait + Sync>(
     rt: &R,
     alloc: Global,
-    blank: Blank,
+    blank: BlankBook,
 ) -> Result<Seen, Fail>
     requires name { blank.name ≡ M.name }
     requires parts { (blank.parts ≡ M.parts) × (M.parts ≡ 2) }
+    requires lists { blank.lists ≡ M.lists }
 {
     let (collector, mut seats) = Collector::<M>::new(alloc, 2, blank)?;
     opens_in(rt, alloc, &collector)?;
@@ -130,7 +128,7 @@ fn two_workers<M: Ledger + Send + Sync, R: Threads + Wait + Sync>(
 
 #[test]
 fn the_seats_count_what_is_resolved(rt: HostRuntime) -> Result<(), Fail> {
-    let seen = two_workers::<Brand, HostRuntime>(&rt, rt.alloc(), Blank::new(2))?;
+    let seen = two_workers::<Brand, HostRuntime>(&rt, rt.alloc(), BlankBook::new(rt.alloc(), 2)?)?;
     let totals = Totals {
         filled: 104,
         busted: 0,

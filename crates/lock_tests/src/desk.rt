@@ -3,11 +3,10 @@
 ghost use Rattle.std.specs.Prelude.{◌≡◌};
 ghost use Rattle.release_lock.specs.Locked.{OnlyTurns};
 
-use exec_collector::Collector;
+use exec_collector::{Accounts, Collector};
 use leg::{Sweep, VenueId};
 use release_lock::{CallerSeat, ReleaseLock, Run, VenueDrain};
 use std::sync::Wait;
-use std::sync::ledger::Ledger;
 use std::test::Fail;
 use sweep_release::{Desk, DeskEntry, Receipt, ReleaseFault};
 
@@ -45,7 +44,7 @@ pub(crate) fn placed_at(desk: &mut Desk, at: VenueId) -> usize
 }
 
 /// A sweep is released, with this answer; the seat then has so many shares.
-pub(crate) fn releases<L: Run, M: Ledger>(
+pub(crate) fn releases<L: Run, M: Accounts>(
     rt: &impl Wait,
     lock: &ReleaseLock<L>,
     collector: &Collector<M>,

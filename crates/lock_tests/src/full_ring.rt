@@ -2,17 +2,16 @@
 
 use crate::desk::{lowers, placed_at, pops_to, received, releases};
 use crate::orders::legs_of_ten;
-use exec_collector::Collector;
+use exec_collector::{Accounts, Collector};
 use release_lock::{CallerSeat, ReleaseLock, Run, VenueDrain};
 use std::alloc::Global;
 use std::ops::Range;
 use std::sync::Wait;
-use std::sync::ledger::Ledger;
 use std::test::Fail;
 use sweep_release::{Desk, GateFault, ReleaseFault};
 
 /// Sweeps of 32 legs are released under these numbers.
-fn fills<L: Run, M: Ledger>(
+fn fills<L: Run, M: Accounts>(
     rt: &impl Wait,
     alloc: Global,
     lock: &ReleaseLock<L>,
@@ -79,7 +78,7 @@ fn drains_all<L: Run>(
 }
 
 /// A ring of 64 legs, and 256 behind it; the gate goes down, and up again once all were popped.
-pub(crate) fn fills_up<L: Run, M: Ledger>(
+pub(crate) fn fills_up<L: Run, M: Accounts>(
     rt: &impl Wait,
     alloc: Global,
     lock: &ReleaseLock<L>,
@@ -102,7 +101,7 @@ pub(crate) fn fills_up<L: Run, M: Ledger>(
 }
 
 /// With 64 legs in the ring and 32 behind it, five are popped. A refused sweep moves none; the next one moves five.
-pub(crate) fn moves_on<L: Run, M: Ledger>(
+pub(crate) fn moves_on<L: Run, M: Accounts>(
     rt: &impl Wait,
     alloc: Global,
     lock: &ReleaseLock<L>,

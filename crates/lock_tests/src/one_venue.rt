@@ -6,13 +6,13 @@ ghost use Rattle.release_lock.specs.Queues.{IsFresh};
 
 use crate::full_ring::{fills_up, moves_on};
 use crate::read_back::reads_back;
-use exec_collector::Collector;
+use exec_collector::{Accounts, BlankBook, Collector};
 use release_lock::{CallerSeat, Miscounted, Opened, ReleaseLock, Run, check_placed, rings};
 use std::alloc::Global;
 use std::collections::VecDeque;
 use std::marker::Brand;
 use std::sync::Wait;
-use std::sync::ledger::{Blank, Ledger};
+use std::sync::ledger::Blank;
 use std::test::Fail;
 use venue_queue::{Drain, Feed};
 
@@ -39,16 +39,17 @@ fn counts<L: Run>(alloc: Global, lock: ReleaseLock<L>, seat: CallerSeat<L>) -> R
 }
 
 /// How many shares are placed in the end.
-fn at_one_venue<L: Run, M: Ledger>(
+fn at_one_venue<L: Run, M: Accounts>(
     rt: &impl Wait,
     alloc: Global,
     callers: Blank,
-    workers: Blank,
+    workers: BlankBook,
     rings: VecDeque<(Feed, Drain)>,
     trial: Trial,
 ) -> Result<u64, Fail>
     requires callers { (callers.name ≡ L.name) × (callers.parts ≡ L.parts) × (L.parts ≡ 1024) }
     requires workers { (workers.name ≡ M.name) × (workers.parts ≡ M.parts) × (M.parts ≡ 1) }
+    requires lists { workers.lists ≡ M.lists }
     requires rings { (length rings.items ≡ 1) × All IsFresh rings.items }
     requires queues { L.queues ≡ map (λ ends. ends.0.table) rings.items }
 {
@@ -78,7 +79,8 @@ fn at_one_venue<L: Run, M: Ledger>(
 
 fn tries(rt: &impl Wait, alloc: Global, trial: Trial) -> Result<u64, Fail> {
     let rings = rings(alloc, 1)?;
-    at_one_venue::<Brand, Brand>(rt, alloc, Blank::new(1024), Blank::new(1), rings, trial)
+    let workers = BlankBook::new(alloc, 1)?;
+    at_one_venue::<Brand, Brand>(rt, alloc, Blank::new(1024), workers, rings, trial)
 }
 
 #[test]

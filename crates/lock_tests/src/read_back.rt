@@ -4,13 +4,12 @@ use crate::desk::{last_sweep, pops_to, received, releases};
 use crate::orders::sweep;
 use crate::reports::{report, trade};
 use dialect::ReportKind;
-use exec_collector::{Collector, WorkerSeat};
+use exec_collector::{Accounts, Collector, WorkerSeat};
 use leg::Totals;
 use release_lock::{CallerSeat, ReleaseLock, Run, VenueDrain};
 use share_ledger::Applied;
 use std::alloc::Global;
 use std::sync::Wait;
-use std::sync::ledger::Ledger;
 use std::test::Fail;
 use sweep_release::{Desk, ReleaseFault};
 
@@ -24,7 +23,7 @@ struct Kept {
     second: Option<Totals>,
 }
 
-fn kept_in<L: Run, M: Ledger>(
+fn kept_in<L: Run, M: Accounts>(
     rt: &impl Wait,
     lock: &ReleaseLock<L>,
     collector: &Collector<M>,
@@ -60,7 +59,7 @@ const ENDED: Option<Totals> = Some(Totals {
 });
 
 /// Whether a trade, the same again, and its end are booked.
-fn trades<L: Run, M: Ledger>(
+fn trades<L: Run, M: Accounts>(
     rt: &impl Wait,
     collector: &Collector<M>,
     drain: &VenueDrain<L>,
@@ -73,7 +72,7 @@ fn trades<L: Run, M: Ledger>(
         (&trade, Applied::Duplicate),
         (&end, Applied::Moved),
     ] {
-        if collector.apply(rt, drain.venue(), note, worker) != Ok(wanted) {
+        if collector.apply(rt, note, worker) != Ok(wanted) {
             return Ok(false);
         }
     }
@@ -86,7 +85,7 @@ fn are_popped<L: Run>(rt: &impl Wait, drain: &mut VenueDrain<L>, count: u64) -> 
 }
 
 /// Behind a gate that is down a sweep is refused. Once it is up, one is released, and traded; and then another.
-pub(crate) fn reads_back<L: Run, M: Ledger>(
+pub(crate) fn reads_back<L: Run, M: Accounts>(
     rt: &impl Wait,
     alloc: Global,
     lock: &ReleaseLock<L>,
@@ -107,7 +106,7 @@ pub(crate) fn reads_back<L: Run, M: Ledger>(
 }
 
 /// One leg of ten.
-fn first_sweep<L: Run, M: Ledger>(
+fn first_sweep<L: Run, M: Accounts>(
     rt: &impl Wait,
     alloc: Global,
     lock: &ReleaseLock<L>,
@@ -131,7 +130,7 @@ fn first_sweep<L: Run, M: Ledger>(
 }
 
 /// Legs of ten and 20, behind the first one's end.
-fn second_sweep<L: Run, M: Ledger>(
+fn second_sweep<L: Run, M: Accounts>(
     rt: &impl Wait,
     alloc: Global,
     lock: &ReleaseLock<L>,

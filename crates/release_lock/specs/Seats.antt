@@ -1,7 +1,6 @@
 -- The seats of the callers.
-use Rattle.std.specs.Prelude.{[]}
-use Rattle.exec_collector.specs.Seats.{Seat}
+use Rattle.exec_collector.specs.Seats.{Seat, new_seat}
 
 -- the first seat of a run has all its parts
 abbrev pub first_seat : Seat
-first_seat = record { parts = 1024; shares = 0; booked = [] }
+first_seat = record new_seat { parts = 1024 }

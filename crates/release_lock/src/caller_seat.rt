@@ -17,12 +17,18 @@ pub struct CallerSeat<L: Run> {
 }
 
 impl<L: Run> Model for CallerSeat<L> {
-    ghost use Rattle.std.specs.Prelude.{◌≡◌, ◌<◌, [], min};
+    ghost use Rattle.std.specs.Prelude.{◌≡◌, ◌<◌, [], None, min};
     ghost use Rattle.exec_collector.specs.Seats.{Seat};
 
     ghost Value = { Seat };
 
-    ghost view = { λ seat. record { parts = seat.share.parts; shares = seat.share.amount; booked = [] } };
+    ghost view = { λ seat. record {
+      parts = seat.share.parts;
+      shares = seat.share.amount;
+      venue = None;
+      booked = [];
+      bookings = [];
+    } };
 
     ghost invariant = { λ seat. (L.parts ≡ 1024) × (seat.parts ≡ seat.share.parts) × (0 < seat.parts)
         × (seat.shares ≡ min seat.share.amount 18446744073709551615) };

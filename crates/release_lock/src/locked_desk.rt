@@ -16,12 +16,12 @@ ghost use Rattle.release_lock.specs.Queues.{left_to, Pumps, raise};
 use crate::pumping::{pump, pump_each};
 use crate::sweep_venues::SweepVenues;
 use crate::{CallerSeat, Run, VenueDrain};
-use exec_collector::Collector;
+use exec_collector::{Accounts, Collector};
 use leg::{Sweep, VenueId};
 use share_ledger::Book;
 use std::marker::Model;
 use std::sync::Wait;
-use std::sync::ledger::{Book as Total, Ledger};
+use std::sync::ledger::Book as Total;
 use sweep_release::{Desk, Gate, GateFault, Receipt, ReleaseFault, place};
 use venue_queue::Feed;
 
@@ -59,7 +59,7 @@ impl<L: Run> LockedDesk<L> {
     /// Releases a sweep at the desk and opens it in the collector's book, under one number, or does neither; the seat
     /// gains its shares. Then each venue of its legs is pumped, in the order of the venues' numbers. R01 to R08 in the
     /// order of `place`; a refused sweep is dropped, no venue is pumped, and nothing else changes.
-    pub fn release<M: Ledger>(
+    pub fn release<M: Accounts>(
         &mut self,
         rt: &impl Wait,
         collector: &Collector<M>,
@@ -79,7 +79,7 @@ impl<L: Run> LockedDesk<L> {
     }
 
     /// Releases a sweep and opens it in the book, or does neither; the seat gains its shares.
-    fn place_sweep<M: Ledger>(
+    fn place_sweep<M: Accounts>(
         &mut self,
         rt: &impl Wait,
         collector: &Collector<M>,

@@ -15,12 +15,12 @@ ghost use Rattle.release_lock.specs.Seats.{first_seat};
 
 use crate::venue_note::VenueNote;
 use crate::{CallerSeat, LockedDesk, Run, VenueDrain};
-use exec_collector::Collector;
+use exec_collector::{Accounts, Collector};
 use leg::{Sweep, VenueId};
 use std::alloc::{AllocError, Global};
 use std::collections::VecDeque;
 use std::marker::PhantomData;
-use std::sync::ledger::{Blank, Ledger};
+use std::sync::ledger::Blank;
 use std::sync::{Mutex, Wait};
 use sweep_release::{Desk, GateFault, Receipt, ReleaseFault};
 use venue_queue::{Drain, Feed};
@@ -96,7 +96,7 @@ impl<L: Run> ReleaseLock<L> {
     /// Releases a sweep under both locks, the desk's first: at the desk and in the collector's book, under one number,
     /// or in neither; the seat gains its shares. Before it gives up the lock, each venue of the sweep's legs is pumped,
     /// so that a worker finds them without it. R01 to R08 in the order of `place`, and no venue is pumped.
-    pub fn release<M: Ledger>(
+    pub fn release<M: Accounts>(
         &self,
         rt: &impl Wait,
         collector: &Collector<M>,

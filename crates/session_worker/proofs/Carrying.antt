@@ -5,6 +5,7 @@ use Rattle.dialect.specs.declared.note.Note.{Note}
 use Rattle.link.specs.Traffic.{Tells, Takes, Stays}
 use Rattle.session_core.specs.Calling.{broken}
 use Rattle.exec_collector.specs.Seats.{Seat}
+use Rattle.session_worker.specs.Events.{lasting}
 use Rattle.session_worker.specs.Speaking.{TakesFirst}
 use Rattle.session_worker.specs.Linking.{SessionIoParts, WorkerStateParts, BesideShares, beside_shares, MayBook, Writes, CarriesOut}
 use Rattle.session_worker.proofs.Spoken.{stays_last}
@@ -14,7 +15,7 @@ use Rattle.session_worker.proofs.Speech.{stays_first, takes_first, takes_no_firs
 pub carries_none : (given : Option Note) (bytes : List ℕ) (a b d : WorkerStateParts) → b.io ≡ a.io → b.took ≡ a.took
     → beside_shares b.seat ≡ beside_shares a.seat → d.io.session ≡ broken b.io.session
     → d.seat.booked ≡ b.seat.booked → Tells b.io.wire d.io.wire Stays → d.took ≡ b.took
-    → d.seat.parts ≡ b.seat.parts → d.io.stream ≡ b.io.stream → CarriesOut given bytes a d
+    → lasting d.seat ≡ lasting b.seat → d.io.stream ≡ b.io.stream → CarriesOut given bytes a d
 carries_none given bytes a b d io took seat gone none stays taken parts stream = record {
   noted = a.io.session;
   notes = inl (refl, none ∙ ap (λ (told : BesideShares). told.booked) seat);
@@ -24,7 +25,7 @@ carries_none given bytes a b d io took seat gone none stays taken parts stream =
         (subst (λ (x : SessionIoParts). Tells x.wire d.io.wire Stays) io stays),
   );
   took = taken ∙ took;
-  seat = parts ∙ ap (λ (told : BesideShares). told.parts) seat;
+  seat = parts ∙ ap (λ (told : BesideShares). told.lasts) seat;
   stream = stream ∙ ap (λ (x : SessionIoParts). x.stream) io;
 }
 
@@ -32,7 +33,7 @@ carries_none given bytes a b d io took seat gone none stays taken parts stream =
 pub carries_all : (given : Option Note) (bytes : List ℕ) (a b d e : WorkerStateParts) → b.io ≡ a.io → b.took ≡ a.took
     → beside_shares b.seat ≡ beside_shares a.seat
     → MayBook given b.io.session b.seat.booked d.io.session d.seat.booked → Tells b.io.wire d.io.wire Stays
-    → d.took ≡ b.took → d.seat.parts ≡ b.seat.parts → d.io.stream ≡ b.io.stream → Writes bytes d.io e.io
+    → d.took ≡ b.took → lasting d.seat ≡ lasting b.seat → d.io.stream ≡ b.io.stream → Writes bytes d.io e.io
     → e.io.stream ≡ d.io.stream → e.took ≡ d.took → e.seat ≡ d.seat → CarriesOut given bytes a e
 carries_all given bytes a b d e io took seat notes stays taken parts stream writes read same still =
     let from : Tells a.io.wire d.io.wire Stays =
@@ -53,7 +54,7 @@ carries_all given bytes a b d e io took seat notes stays taken parts stream writ
         )
       ];
       took = same ∙ (taken ∙ took);
-      seat = ap (λ (s : Seat). s.parts) still ∙ (parts ∙ ap (λ (told : BesideShares). told.parts) seat);
+      seat = ap lasting still ∙ (parts ∙ ap (λ (told : BesideShares). told.lasts) seat);
       stream = read ∙ (stream ∙ ap (λ (x : SessionIoParts). x.stream) io);
     }
 
@@ -70,6 +71,6 @@ carries_ended given bytes a d e carries session stays took seat stream = record 
     | inr part ↦ inr (session ∙ part.0, stays_last (TakesFirst bytes) a.io.wire d.io.wire e.io.wire part.1 stays)
   ];
   took = took ∙ carries.took;
-  seat = ap (λ (s : Seat). s.parts) seat ∙ carries.seat;
+  seat = ap lasting seat ∙ carries.seat;
   stream = stream ∙ carries.stream;
 }

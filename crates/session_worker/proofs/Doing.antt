@@ -25,7 +25,7 @@ use Rattle.session_worker.specs.Booking.{waiting_in, booked_in, booked_by}
 use Rattle.session_worker.specs.Hearing.{Said, said_after}
 use Rattle.session_worker.specs.Speaking.{Wire, TakesFirst, Speak}
 use Rattle.session_worker.specs.Linking.{SessionIoParts, SpeaksOn, WorkerStateParts, worker_in, BesideShares, beside_shares, MayBook, Moves, Hands, Asks, CarriesOut, Does, Drains}
-use Rattle.session_worker.specs.Events.{WorkerEvent, calls_in, calls_of, leg_in, legs_in, taken_in, taken_of, IsIdle, IsAllowedCall, IsAllowed, AreAllowed, WorkerParts, Goes}
+use Rattle.session_worker.specs.Events.{WorkerEvent, calls_in, calls_of, leg_in, legs_in, taken_in, taken_of, IsIdle, IsAllowedCall, IsAllowed, AreAllowed, WorkerParts, lasting, Goes}
 use Rattle.session_worker.specs.Events.WorkerEvent.{Calls, Drops, Fails}
 use Rattle.session_worker.proofs.Booking.{waiting_after, booked-append, note_waits, waiting_booked}
 use Rattle.session_worker.proofs.Spoken.{stays_here}
@@ -115,8 +115,8 @@ same_booked a b notes same none =
     ap (λ (seat : BesideShares). seat.booked) same
     ∙ (sym (append-nil a.booked) ∙ ap (λ l. a.booked ++ l) (sym none))
 
-same_parts : (a b : Seat) → beside_shares b ≡ beside_shares a → b.parts ≡ a.parts
-same_parts a b same = ap (λ (seat : BesideShares). seat.parts) same
+still_lasts : (a b : Seat) → beside_shares b ≡ beside_shares a → lasting b ≡ lasting a
+still_lasts a b same = ap (λ (seat : BesideShares). seat.lasts) same
 
 -- nothing
 pub goes_none : (read : Decoding) (a b : WorkerParts) → b.session ≡ a.session → b.took ≡ a.took
@@ -126,7 +126,7 @@ goes_none read a b session took seat = record {
   taken = ap (λ t. t.taken) took ∙ sym (append-nil a.took.taken);
   allowed = tt;
   venue = ap (λ t. t.venue) took;
-  seat = same_parts a.seat b.seat seat;
+  seat = still_lasts a.seat b.seat seat;
   booked = λ waiting. same_booked a.seat b.seat [] seat refl;
 }
 
@@ -169,7 +169,7 @@ allowed_calls read s (made ∷ calls) e =
 goes_books : (read : Decoding) (a b : WorkerParts) (notes : List Note) (calls : List SessionCall)
     → b.session ≡ after_calls read a.session calls → legs_in calls ≡ []
     → ((waiting : Option Note) → booked_by read a.session waiting calls ≡ notes) → b.took ≡ a.took
-    → b.seat.parts ≡ a.seat.parts → b.seat.booked ≡ a.seat.booked ++ notes → Goes read a (calling calls) b
+    → lasting b.seat ≡ lasting a.seat → b.seat.booked ≡ a.seat.booked ++ notes → Goes read a (calling calls) b
 goes_books read a b notes calls session no_leg books took parts booked = record {
   session = session ∙ ap (after_calls read a.session) (sym (calling-calls calls));
   taken = ap (λ t. t.taken) took ∙ (sym (append-nil a.took.taken)
@@ -187,7 +187,7 @@ goes_calls : (read : Decoding) (a b : WorkerParts) (calls : List SessionCall)
     → ((waiting : Option Note) → booked_by read a.session waiting calls ≡ []) → b.took ≡ a.took
     → beside_shares b.seat ≡ beside_shares a.seat → Goes read a (calling calls) b
 goes_calls read a b calls session no_leg no_note took seat =
-    goes_books read a b [] calls session no_leg no_note took (same_parts a.seat b.seat seat)
+    goes_books read a b [] calls session no_leg no_note took (still_lasts a.seat b.seat seat)
     (same_booked a.seat b.seat [] seat refl)
 
 pub does_moves : (w : Wording) (a b : WorkerStateParts) → Moves w a.io b.io → b.took ≡ a.took
@@ -270,7 +270,7 @@ books_note w x m y step noted note asks is confirmed (inr part) stream =
     ))
 
 does_books : (w : Wording) (a b : WorkerStateParts) (notes : List Note) → Books w notes a.io b.io → b.took ≡ a.took
-    → b.seat.parts ≡ a.seat.parts → b.seat.booked ≡ a.seat.booked ++ notes → Does w a b
+    → lasting b.seat ≡ lasting a.seat → b.seat.booked ≡ a.seat.booked ++ notes → Does w a b
 does_books w a b notes books took parts booked = record {
   events = calling books.calls;
   goes = goes_books w.decoding (worker_in a) (worker_in b) notes books.calls books.session books.no_leg books.booked took
@@ -286,12 +286,12 @@ does_carried : (w : Wording) (a b d : WorkerStateParts) (step : Step) (carries :
 does_carried w a b d step carries asks took seat (inl none) =
     does_books w a d []
     (books_silent w a.io b.io d.io step carries.noted asks none.0 carries.writes carries.stream)
-    (carries.took ∙ took) (carries.seat ∙ same_parts a.seat b.seat seat)
+    (carries.took ∙ took) (carries.seat ∙ still_lasts a.seat b.seat seat)
     (none.1 ∙ same_booked a.seat b.seat [] seat refl)
 does_carried w a b d step carries asks took seat (inr one) =
     does_books w a d (one.0 ∷ [])
     (books_note w a.io b.io d.io step carries.noted one.0 asks one.1 one.2 carries.writes carries.stream)
-    (carries.took ∙ took) (carries.seat ∙ same_parts a.seat b.seat seat)
+    (carries.took ∙ took) (carries.seat ∙ still_lasts a.seat b.seat seat)
     (one.3 ∙ ap (λ (told : BesideShares). told.booked ++ one.0 ∷ []) seat)
 
 pub does_asked : (w : Wording) (a b d : WorkerStateParts) (step : Step) → Asks w a.io step b.io
@@ -323,7 +323,7 @@ goes_drains read a b drains idle = record {
   taken = drains.taken ∙ ap (λ l. a.took.taken ++ l) (sym (dropping-taken drains.legs));
   allowed = allowed_drops read a.io.session drains.legs idle;
   venue = drains.venue;
-  seat = same_parts a.seat b.seat drains.seat;
+  seat = still_lasts a.seat b.seat drains.seat;
   booked = λ waiting.
       same_booked a.seat b.seat (booked_by read a.io.session waiting (calls_of (dropping drains.legs))) drains.seat
       (ap (booked_by read a.io.session waiting) (dropping-calls drains.legs));
@@ -405,7 +405,7 @@ does_hands w a b leg hands up took seat =
           allowed_calls w.decoding (after_calls w.decoding a.io.session (calls_in hands.event)) hands.calls hands.no_leg,
         );
         venue = ap (λ t. t.venue) took;
-        seat = same_parts a.seat b.seat seat;
+        seat = still_lasts a.seat b.seat seat;
         booked = λ waiting.
             same_booked a.seat b.seat
             (booked_by w.decoding a.io.session waiting (calls_of (hands.event ∷ calling hands.calls))) seat

@@ -1,9 +1,11 @@
 -- What is compared once a day's threads have ended.
 use Rattle.std.specs.Prelude.{◌≡◌, ◌⊎◌, ℕ, List, length, sum_by, Result, Ok, Err}
+use Rattle.std.specs.List.{All}
 use Rattle.share_ledger.specs.Book.{BookParts, all_booked_from}
 use Rattle.share_ledger.specs.Entries.{opened}
 use Rattle.sweep_release.specs.Desk.{placed_shares}
 use Rattle.sweep_release.specs.History.{KeptDesk}
+use Rattle.exec_collector.specs.Booked.{IsKept}
 use Rattle.exec_collector.specs.Resolved.{resolved, Replays as BookReplays}
 use Rattle.exec_collector.specs.Seats.{Seat, shares_of}
 use Rattle.release_lock.specs.Locked.{Replays as DeskReplays}
@@ -55,13 +57,15 @@ Audits day (Err MismatchShares) = AreQueues day × (AreResolved day → ⊥)
 Audits day (Err MismatchPlaced) = AreQueues day × AreResolved day × (ArePlaced day → ⊥)
 Audits day (Err OutOfMemory) = ⊥
 
--- what it answers of a desk and a book that their own histories lead to; or there was no memory to take the ends apart
+-- what it answers of a desk and a book that their own histories lead to, where on each worker's seat stands what the
+-- book took of its venue; or there was no memory to take the ends apart
 pub record AuditedDay (callers : List Seat) (queues : List Took) (seats : List Seat)
     (answer : Result DayReport AuditFault) : Type 0 where
   pub desk : KeptDesk
   pub book : BookParts
   pub desk_replays : DeskReplays desk
   pub book_replays : BookReplays book
+  pub kept : All (IsKept book) seats
   pub audits : Audits (day_of desk book callers queues seats) answer
 
 abbrev pub AuditsOf : List Seat → List Took → List Seat → Result DayReport AuditFault → Type 0

@@ -80,15 +80,23 @@ abbrev pub new_worker : SessionParts → ℕ → Seat → Wire → WorkerParts
 new_worker session venue seat wire =
     record { session = session; took = record { venue = venue; taken = [] }; seat = seat; wire = wire }
 
+-- what of a seat lasts: its parts, and its venue
+pub record Lasting : Type 0 where
+  pub parts : ℕ
+  pub venue : Option ℕ
+
+abbrev pub lasting : Seat → Lasting
+lasting seat = record { parts = seat.parts; venue = seat.venue }
+
 -- a worker before and after these events: the session is that after the calls, and the legs taken are the events'.
--- The seat has as many parts, and the notes that the book took on it are those that the calls confirm, whichever note
--- waited before
+-- The seat has as many parts and is of the same venue, and the notes that the book took on it are those that the calls
+-- confirm, whichever note waited before
 pub record Goes (read : Decoding) (before : WorkerParts) (events : List WorkerEvent) (after : WorkerParts)
     : Type 0 where
   pub session : after.session ≡ after_calls read before.session (calls_of events)
   pub taken : after.took.taken ≡ before.took.taken ++ taken_of events
   pub allowed : AreAllowed read before.session events
   pub venue : after.took.venue ≡ before.took.venue
-  pub seat : after.seat.parts ≡ before.seat.parts
+  pub seat : lasting after.seat ≡ lasting before.seat
   pub booked : (waiting : Option Note)
       → after.seat.booked ≡ before.seat.booked ++ booked_by read before.session waiting (calls_of events)

@@ -26,7 +26,7 @@ use Rattle.session_worker.specs.declared.reading.Heard.TheVariants as heard
 use Rattle.session_worker.specs.Hearing.{Said, said_with, said_after, Hears, ReaderOn}
 use Rattle.session_worker.specs.Booking.{booked_by}
 use Rattle.session_worker.specs.Speaking.{Wire, Speak, TakesFirst}
-use Rattle.session_worker.specs.Events.{WorkerEvent, WorkerParts, calls_in, calls_of, legs_in, Goes}
+use Rattle.session_worker.specs.Events.{WorkerEvent, WorkerParts, Lasting, lasting, calls_in, calls_of, legs_in, Goes}
 use Rattle.session_worker.specs.Events.WorkerEvent.{Calls, Fails}
 
 -- a session, what its link tells, and what its reader has
@@ -51,13 +51,13 @@ SpeaksOn w before calls after = (said : Said) → IsHearing said before
 abbrev pub MayBreak : SessionParts → SessionParts → Type 0
 MayBreak before after = (after ≡ before) ⊎ (after ≡ broken before)
 
--- a seat but for its shares: its parts, and the notes booked on it
+-- a seat but for its shares: what lasts of it, and the notes booked on it
 pub record BesideShares : Type 0 where
-  pub parts : ℕ
+  pub lasts : Lasting
   pub booked : List Note
 
 abbrev pub beside_shares : Seat → BesideShares
-beside_shares seat = record { parts = seat.parts; booked = seat.booked }
+beside_shares seat = record { lasts = lasting seat; booked = seat.booked }
 
 -- a session as it was, and no note was booked; or the note was booked, if there is one, and confirmed
 abbrev pub MayBook : Option Note → SessionParts → List Note → SessionParts → List Note → Type 0
@@ -179,5 +179,5 @@ pub record CarriesOut (note : Option Note) (bytes : List ℕ) (before after : Wo
   pub writes : ((after.io.session ≡ noted) × Tells before.io.wire after.io.wire (Takes bytes))
       ⊎ ((after.io.session ≡ broken noted) × Tells before.io.wire after.io.wire (TakesFirst bytes))
   pub took : after.took ≡ before.took
-  pub seat : after.seat.parts ≡ before.seat.parts
+  pub seat : lasting after.seat ≡ lasting before.seat
   pub stream : after.io.stream ≡ before.io.stream

@@ -1,6 +1,8 @@
 //! The audit of a day, once its threads have ended.
 
 ghost use Rattle.std.specs.Prelude.{◌≡◌, ◌<◌, IfOk, IsOk, IsOkUnless};
+ghost use Rattle.std.specs.List.{All};
+ghost use Rattle.exec_collector.specs.Booked.{IsKept};
 ghost use Rattle.exec_collector.specs.Resolved.{Replays as BookReplays};
 ghost use Rattle.exec_collector.specs.Seats.{parts_of};
 ghost use Rattle.sweep_release.specs.History.{KeptDesk as ADesk};
@@ -12,20 +14,19 @@ ghost use Rattle.session_worker.specs.Ends.{queues_of, seats_of};
 
 use crate::open_shares::open_shares;
 use crate::{AuditFault, DayReport, WorkerEnd};
-use exec_collector::{Collector, CountedBook, WorkerSeat, check_count};
+use exec_collector::{Accounts, Collector, CountedBook, WorkerSeat, check_count};
 use link::Link;
 use release_lock::{
     CallerSeat, LockedDesk, ReleaseLock, Run, VenueEnd, check_placed, check_queues,
 };
 use std::alloc::{AllocError, Global};
 use std::collections::VecDeque;
-use std::sync::ledger::Ledger;
 
 /// Compares what is left of a day: what the workers took with the sweeps released, the workers' seats with the book,
 /// and the callers' seats with the desk. A01, A02, A03 in this order; A04 where there is no memory to take the ends
 /// apart. With the seats of all callers, and one end for each venue, in order, it is none of the first three, whatever
 /// the threads did.
-pub fn audit<K: Link, L: Run, M: Ledger>(
+pub fn audit<K: Link, L: Run, M: Accounts>(
     alloc: Global,
     lock: ReleaseLock<L>,
     collector: Collector<M>,
@@ -49,7 +50,7 @@ pub fn audit<K: Link, L: Run, M: Ledger>(
 }
 
 /// The same of an opened desk and an opened book. It takes no memory.
-fn audit_of<L: Run, M: Ledger>(
+fn audit_of<L: Run, M: Accounts>(
     locked: LockedDesk<L>,
     counted: CountedBook<M>,
     callers: Vec<CallerSeat<L>>,
@@ -58,6 +59,7 @@ fn audit_of<L: Run, M: Ledger>(
 ) -> Result<DayReport, AuditFault>
     ensures audits { Audits (day_of locked counted callers.items queues.items seats.items) result }
     ensures replays { Replays locked × BookReplays counted }
+    ensures kept { All (IsKept counted) seats.items }
     ensures whole { AreInOrder queues.items → parts_of seats.items ≡ M.parts → 0 < M.parts
         → parts_of callers.items ≡ 1024 → IsOk result }
 {
@@ -84,7 +86,7 @@ fn audit_of<L: Run, M: Ledger>(
 }
 
 /// What the workers took, and their seats, each in the order of the ends.
-fn parted<K: Link, L: Run, M: Ledger>(
+fn parted<K: Link, L: Run, M: Accounts>(
     alloc: Global,
     ends: Vec<WorkerEnd<K, L, M>>,
 ) -> Result<(Vec<VenueEnd<L>>, Vec<WorkerSeat<M>>), AllocError>

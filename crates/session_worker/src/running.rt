@@ -6,24 +6,23 @@ ghost use Rattle.session_worker.specs.Ends.{Runs, AllRan};
 use crate::{RunFault, Stop, Worker, WorkerEnd};
 use clock::Clock;
 use dialect::Dialect;
-use exec_collector::Collector;
+use exec_collector::{Accounts, Collector};
 use link::Link;
 use release_lock::{ReleaseLock, Run};
 use std::alloc::Global;
 use std::collections::VecDeque;
 use std::snapshot::Snapshot;
 use std::sync::Wait;
-use std::sync::ledger::Ledger;
 use std::thread;
 use std::thread::{Promise, PromisedHandle, Threads, join_promised};
 
 /// What the thread of a worker promises: an end of that worker.
 #[derive(Drop)]
-struct EndOf<D: Dialect + Drop, K: Link, C: Clock + Drop, L: Run, M: Ledger>(
+struct EndOf<D: Dialect + Drop, K: Link, C: Clock + Drop, L: Run, M: Accounts>(
     Snapshot<Worker<D, K, C, L, M>>,
 );
 
-impl<D: Dialect + Drop, K: Link, C: Clock + Drop, L: Run, M: Ledger> Promise<WorkerEnd<K, L, M>>
+impl<D: Dialect + Drop, K: Link, C: Clock + Drop, L: Run, M: Accounts> Promise<WorkerEnd<K, L, M>>
     for EndOf<D, K, C, L, M> {
     ghost kept_by = { λ p end. Runs (D.wording p.0.value.dialect) p.0.value.parts end };
 }
@@ -43,7 +42,7 @@ where
     K: Link + Send,
     C: Clock + Drop + Send,
     L: Run + Send + Sync,
-    M: Ledger + Send + Sync,
+    M: Accounts + Send + Sync,
     R: Threads + Wait + Sync,
     ensures { IfOk result (λ ends. AllRan D.wording workers.items ends.items) }
 {
@@ -73,7 +72,7 @@ where
     K: Link + Send,
     C: Clock + Drop + Send,
     L: Run + Send + Sync,
-    M: Ledger + Send + Sync,
+    M: Accounts + Send + Sync,
     R: Threads + Wait + Sync,
     ensures { IfOk result (λ ends. AllRan D.wording workers.items ends.items) }
 {

@@ -1,6 +1,6 @@
 //! The worker of one venue.
 
-ghost use Rattle.std.specs.Prelude.{◌≡◌, []};
+ghost use Rattle.std.specs.Prelude.{◌≡◌, [], Some};
 ghost use Rattle.session_core.specs.Session.{new_session};
 ghost use Rattle.session_worker.specs.Events.{new_worker};
 ghost use Rattle.session_worker.specs.Ends.{Runs};
@@ -12,25 +12,24 @@ use crate::worker_state::WorkerState;
 use crate::{Pace, Stop, WorkerEnd};
 use clock::Clock;
 use dialect::Dialect;
-use exec_collector::{Collector, WorkerSeat};
+use exec_collector::{Accounts, Collector, WorkerSeat};
 use fix_tags::Config;
 use link::Link;
 use release_lock::{ReleaseLock, Run, VenueDrain};
 use std::alloc::Global;
 use std::marker::Model;
-use std::sync::ledger::Ledger;
 use std::sync::{Arc, Wait};
 use venue_board::VenueBoard;
 
 /// The worker of one venue: its dialect, and its session over its link, the end of the venue's ring, and its seat.
 /// Contracts see the dialect, and the worker's parts as its events change them.
 #[derive(Drop)]
-pub struct Worker<D: Dialect + Drop, K: Link, C: Clock + Drop, L: Run, M: Ledger> {
+pub struct Worker<D: Dialect + Drop, K: Link, C: Clock + Drop, L: Run, M: Accounts> {
     pub(crate) dialect: D,
     pub(crate) state: WorkerState<K, C, L, M>,
 }
 
-impl<D: Dialect + Drop, K: Link, C: Clock + Drop, L: Run, M: Ledger> Model
+impl<D: Dialect + Drop, K: Link, C: Clock + Drop, L: Run, M: Accounts> Model
     for Worker<D, K, C, L, M> {
     ghost use Rattle.session_worker.specs.Ends.{WorkerStart};
     ghost use Rattle.session_worker.specs.Linking.{worker_in};
@@ -40,8 +39,9 @@ impl<D: Dialect + Drop, K: Link, C: Clock + Drop, L: Run, M: Ledger> Model
     ghost view = { λ w. record { dialect = w.dialect; parts = worker_in w.state } };
 }
 
-impl<D: Dialect + Drop, K: Link, C: Clock + Drop, L: Run, M: Ledger> Worker<D, K, C, L, M> {
-    /// The worker of a drain's venue, with a session that has done nothing. Nothing was popped from the drain yet.
+impl<D: Dialect + Drop, K: Link, C: Clock + Drop, L: Run, M: Accounts> Worker<D, K, C, L, M> {
+    /// The worker of a drain's venue, with a session that has done nothing, and the seat of that venue. Nothing was
+    /// popped from the drain yet.
     pub fn new(
         alloc: Global,
         dialect: D,
@@ -52,7 +52,8 @@ impl<D: Dialect + Drop, K: Link, C: Clock + Drop, L: Run, M: Ledger> Worker<D, K
         drain: VenueDrain<L>,
         pace: Pace,
     ) -> Worker<D, K, C, L, M>
-        requires { drain.popped ≡ [] }
+        requires drain { drain.popped ≡ [] }
+        requires seat { seat.venue ≡ Some drain.venue }
         ensures dialect { result.dialect ≡ dialect }
         ensures parts { result.parts ≡ new_worker (new_session config) drain.venue seat (K.wire link) }
     {

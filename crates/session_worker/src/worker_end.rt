@@ -4,19 +4,18 @@ ghost use Rattle.std.specs.Prelude.{◌≡◌, ◌++◌, option_to_list, IfOk, O
 ghost use Rattle.session_worker.specs.Doubt.{if_doubt, in_doubt_of};
 
 use crate::EndReason;
-use exec_collector::WorkerSeat;
+use exec_collector::{Accounts, WorkerSeat};
 use leg::LegState;
 use link::Link;
 use release_lock::{Run, VenueEnd};
 use session_core::Session;
 use std::alloc::{AllocError, Global};
 use std::marker::Model;
-use std::sync::ledger::Ledger;
 
 /// What a worker gives back: its session, the drain of its venue with all legs taken from it, its seat, its link, and
 /// why it ended. Contracts see what the link tells in its place.
 #[derive(Drop)]
-pub struct WorkerEnd<K: Link, L: Run, M: Ledger> {
+pub struct WorkerEnd<K: Link, L: Run, M: Accounts> {
     pub session: Session,
     pub took: VenueEnd<L>,
     pub seat: WorkerSeat<M>,
@@ -24,7 +23,7 @@ pub struct WorkerEnd<K: Link, L: Run, M: Ledger> {
     pub reason: EndReason,
 }
 
-impl<K: Link, L: Run, M: Ledger> Model for WorkerEnd<K, L, M> {
+impl<K: Link, L: Run, M: Accounts> Model for WorkerEnd<K, L, M> {
     ghost use Rattle.session_worker.specs.Ends.{WorkerLeft};
 
     ghost Value = { WorkerLeft };
@@ -35,7 +34,7 @@ impl<K: Link, L: Run, M: Ledger> Model for WorkerEnd<K, L, M> {
     } };
 }
 
-impl<K: Link, L: Run, M: Ledger> WorkerEnd<K, L, M> {
+impl<K: Link, L: Run, M: Accounts> WorkerEnd<K, L, M> {
     /// The ordinals of the legs that it sent and that aren't settled, in order: the exchange may have them or not. The
     /// only refusal is out of memory.
     pub fn in_doubt(&self, alloc: Global) -> Result<Vec<u64>, AllocError>

@@ -7,7 +7,7 @@ ghost use Rattle.link.specs.Traffic.{Tells, Stays};
 ghost use Rattle.session_core.specs.declared.phase.Phase.TheVariants as phase;
 ghost use Rattle.session_core.specs.Receiving.{confirm};
 ghost use Rattle.session_core.specs.Calling.{broken};
-ghost use Rattle.session_worker.specs.Events.{Goes};
+ghost use Rattle.session_worker.specs.Events.{Goes, lasting};
 ghost use Rattle.session_worker.specs.Linking.{worker_in, beside_shares, MayBook, Hands, Does, Drains, CarriesOut};
 ghost use Rattle.session_worker.specs.Ends.{is_over, IsReason, last_calls};
 ghost use Rattle.session_worker.specs.Taking.{TakesNext};
@@ -19,7 +19,7 @@ use crate::takings::Takings;
 use crate::{EndReason, Stop};
 use clock::Clock;
 use dialect::{Dialect, Note};
-use exec_collector::{Collector, WorkerSeat};
+use exec_collector::{Accounts, Collector, WorkerSeat};
 use leg::{LegId, PlacedLeg};
 use link::Link;
 use release_lock::{ReleaseLock, Run};
@@ -27,7 +27,6 @@ use session_core::{LegIds, Phase, Step};
 use std::alloc::AllocError;
 use std::marker::Model;
 use std::sync::Wait;
-use std::sync::ledger::Ledger;
 use venue_board::Loss;
 
 /// In how many rounds a turn drains a ring at most.
@@ -53,14 +52,14 @@ pub(crate) enum Drained {
 /// What a worker works with: its session over its link, what it took from the ring, its seat, and whether its gate may
 /// be up. Contracts see the first three.
 #[derive(Drop)]
-pub(crate) struct WorkerState<K: Link, C: Clock + Drop, L: Run, M: Ledger> {
+pub(crate) struct WorkerState<K: Link, C: Clock + Drop, L: Run, M: Accounts> {
     pub(crate) io: SessionIo<K, C>,
     pub(crate) takings: Takings<L>,
     pub(crate) seat: WorkerSeat<M>,
     pub(crate) raised: bool,
 }
 
-impl<K: Link, C: Clock + Drop, L: Run, M: Ledger> Model for WorkerState<K, C, L, M> {
+impl<K: Link, C: Clock + Drop, L: Run, M: Accounts> Model for WorkerState<K, C, L, M> {
     ghost use Rattle.session_worker.specs.Linking.{WorkerStateParts};
 
     ghost Value = { WorkerStateParts };
@@ -68,7 +67,7 @@ impl<K: Link, C: Clock + Drop, L: Run, M: Ledger> Model for WorkerState<K, C, L,
     ghost view = { λ p. record { io = p.io; took = p.takings; seat = p.seat } };
 }
 
-impl<K: Link, C: Clock + Drop, L: Run, M: Ledger> WorkerState<K, C, L, M> {
+impl<K: Link, C: Clock + Drop, L: Run, M: Accounts> WorkerState<K, C, L, M> {
     /// Takes its turns, until one leaves the session closed, it has rested so often, or it is told to stop and its
     /// patience is over. A turn in which it had something to do doesn't count.
     pub(crate) fn turns<D: Dialect>(
@@ -415,7 +414,7 @@ impl<K: Link, C: Clock + Drop, L: Run, M: Ledger> WorkerState<K, C, L, M> {
         ensures wire { Tells self.old.io.wire self.new.io.wire Stays }
         ensures stream { self.new.io.stream ≡ self.old.io.stream }
         ensures took { self.new.took ≡ self.old.took }
-        ensures seat { self.new.seat.parts ≡ self.old.seat.parts }
+        ensures seat { lasting self.new.seat ≡ lasting self.old.seat }
     {
         match note {
             Some(note) => self.book(rt, collector, &note),
@@ -432,9 +431,9 @@ impl<K: Link, C: Clock + Drop, L: Run, M: Ledger> WorkerState<K, C, L, M> {
         ensures wire { Tells self.old.io.wire self.new.io.wire Stays }
         ensures stream { self.new.io.stream ≡ self.old.io.stream }
         ensures took { self.new.took ≡ self.old.took }
-        ensures seat { self.new.seat.parts ≡ self.old.seat.parts }
+        ensures seat { lasting self.new.seat ≡ lasting self.old.seat }
     {
-        match collector.apply(rt, self.takings.venue(), note, &mut self.seat) {
+        match collector.apply(rt, note, &mut self.seat) {
             Ok(_) => {
                 self.io.confirm();
                 true

@@ -8,7 +8,7 @@ use day_trial::{
 };
 use dialect::Plain;
 use exchange_sim::{MemoryLink, MemoryPlan, Plan};
-use exec_collector::Collector;
+use exec_collector::{Accounts, Collector};
 use leg::VenueId;
 use release_lock::{CallerSeat, ReleaseLock, Run};
 use session_worker::{EndReason, Pace, Worker, run_all, shut_gate};
@@ -16,7 +16,6 @@ use std::alloc::Global;
 use std::fmt::Write;
 use std::marker::Brand;
 use std::sync::Wait;
-use std::sync::ledger::Ledger;
 use std::thread;
 use std::thread::{Threads, join, map_vec};
 use std::time::{Clock, Duration};
@@ -60,7 +59,7 @@ impl Size {
 }
 
 /// A caller releases its sweeps, each again and again until it is placed.
-fn calls<L: Run, M: Ledger, R: Wait + Clock>(
+fn calls<L: Run, M: Accounts, R: Wait + Clock>(
     rt: &R,
     alloc: Global,
     lock: &ReleaseLock<L>,
@@ -81,7 +80,7 @@ fn calls<L: Run, M: Ledger, R: Wait + Clock>(
 }
 
 /// All callers make their calls, and then the gates are shut.
-fn all_call<L: Run + Send + Sync, M: Ledger + Send + Sync, R: Threads + Wait + Clock + Sync>(
+fn all_call<L: Run + Send + Sync, M: Accounts + Send + Sync, R: Threads + Wait + Clock + Sync>(
     rt: &R,
     alloc: Global,
     lock: &ReleaseLock<L>,
@@ -101,7 +100,7 @@ fn all_call<L: Run + Send + Sync, M: Ledger + Send + Sync, R: Threads + Wait + C
 }
 
 /// The worker of a post. The exchange of venue 0 cuts its connection once.
-fn worker_at<L: Run, M: Ledger>(
+fn worker_at<L: Run, M: Accounts>(
     alloc: Global,
     post: Post<L, M>,
 ) -> Result<MemoryWorker<L, M>, DayFault> {
@@ -119,7 +118,7 @@ fn worker_at<L: Run, M: Ledger>(
 }
 
 /// A worker for each post, in order.
-fn workers_of<L: Run, M: Ledger>(
+fn workers_of<L: Run, M: Accounts>(
     alloc: Global,
     posts: Vec<Post<L, M>>,
 ) -> Result<Vec<MemoryWorker<L, M>>, DayFault> {
@@ -146,7 +145,7 @@ fn parted<L: Run>(
 }
 
 /// The callers and the workers of a day, each in a thread.
-fn in_threads<L: Run + Send + Sync, M: Ledger + Send + Sync, R: Threads + Wait + Clock + Sync>(
+fn in_threads<L: Run + Send + Sync, M: Accounts + Send + Sync, R: Threads + Wait + Clock + Sync>(
     rt: &R,
     alloc: Global,
     floor: Floor<L, M>,
@@ -179,7 +178,7 @@ fn in_threads<L: Run + Send + Sync, M: Ledger + Send + Sync, R: Threads + Wait +
 }
 
 /// A day at a floor of this site.
-fn day_at<L: Run + Send + Sync, M: Ledger + Send + Sync, R: Threads + Wait + Clock + Sync>(
+fn day_at<L: Run + Send + Sync, M: Accounts + Send + Sync, R: Threads + Wait + Clock + Sync>(
     rt: &R,
     alloc: Global,
     site: Site,
@@ -187,7 +186,7 @@ fn day_at<L: Run + Send + Sync, M: Ledger + Send + Sync, R: Threads + Wait + Clo
 ) -> Result<Outcome, DayFault>
     requires lock { (site.callers.name ≡ L.name) × (L.parts ≡ 1024)
         × (L.queues ≡ map (λ ends. ends.0.table) site.rings.items) }
-    requires book { (site.workers.name ≡ M.name) × (M.parts ≡ site.venues) }
+    requires book { (site.workers.name ≡ M.name) × (M.parts ≡ site.venues) × (site.workers.lists ≡ M.lists) }
 {
     in_threads(rt, alloc, Floor::<L, M>::open(alloc, site)?, size)
 }

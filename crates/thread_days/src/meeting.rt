@@ -3,6 +3,7 @@
 ghost use Rattle.std.specs.Prelude.{◌≡◌, map, None};
 
 use day_trial::{DayFault, FENCE, LOGON, Said, Script, worker_of};
+use exec_collector::Accounts;
 use link::{Got, Link, LinkFault};
 use release_lock::Run;
 use session_worker::{EndReason, Pace, run_all};
@@ -11,7 +12,6 @@ use std::fmt::Write;
 use std::marker::Brand;
 use std::sync::Wait;
 use std::sync::atomic::{AtomicBool, Ordering};
-use std::sync::ledger::Ledger;
 use std::thread;
 use std::thread::Threads;
 use std::time::{Clock, Duration};
@@ -92,7 +92,7 @@ impl<'a, T: Clock> Link for Meeting<'a, T> {
 }
 
 /// Two workers in threads, and why they ended.
-fn run_both<L: Run + Send + Sync, M: Ledger + Send + Sync, R: Threads + Wait + Clock + Sync>(
+fn run_both<L: Run + Send + Sync, M: Accounts + Send + Sync, R: Threads + Wait + Clock + Sync>(
     rt: &R,
     alloc: Global,
     floor: Floor<L, M>,
@@ -124,14 +124,14 @@ fn run_both<L: Run + Send + Sync, M: Ledger + Send + Sync, R: Threads + Wait + C
 }
 
 /// Two workers at a floor of this site.
-fn both_at<L: Run + Send + Sync, M: Ledger + Send + Sync, R: Threads + Wait + Clock + Sync>(
+fn both_at<L: Run + Send + Sync, M: Accounts + Send + Sync, R: Threads + Wait + Clock + Sync>(
     rt: &R,
     alloc: Global,
     site: Site,
 ) -> Result<(EndReason, EndReason), DayFault>
     requires lock { (site.callers.name ≡ L.name) × (L.parts ≡ 1024)
         × (L.queues ≡ map (λ ends. ends.0.table) site.rings.items) }
-    requires book { (site.workers.name ≡ M.name) × (M.parts ≡ site.venues) }
+    requires book { (site.workers.name ≡ M.name) × (M.parts ≡ site.venues) × (site.workers.lists ≡ M.lists) }
 {
     run_both(rt, alloc, Floor::<L, M>::open(alloc, site)?)
 }

@@ -3,33 +3,32 @@
 ghost use Rattle.std.specs.Prelude.{◌≡◌, map};
 
 use crate::{Site, TrialFault};
-use exec_collector::{Collector, WorkerSeat};
+use exec_collector::{Accounts, Collector, WorkerSeat};
 use release_lock::{CallerSeat, Opened, ReleaseLock, Run, VenueDrain};
 use std::alloc::Global;
-use std::sync::ledger::Ledger;
 
 /// What the worker of a venue is given: the drain of its ring, and its seat.
 #[derive(Drop)]
-pub struct Post<L: Run, M: Ledger> {
+pub struct Post<L: Run, M: Accounts> {
     pub drain: VenueDrain<L>,
     pub seat: WorkerSeat<M>,
 }
 
 /// A lock and a collector of one run, the seat of the first caller, and the post of each venue, in their order.
 #[derive(Drop)]
-pub struct Floor<L: Run, M: Ledger> {
+pub struct Floor<L: Run, M: Accounts> {
     pub lock: ReleaseLock<L>,
     pub collector: Collector<M>,
     pub seat: CallerSeat<L>,
     pub posts: Vec<Post<L, M>>,
 }
 
-impl<L: Run, M: Ledger> Floor<L, M> {
+impl<L: Run, M: Accounts> Floor<L, M> {
     /// A floor on which nothing was done.
     pub fn open(alloc: Global, site: Site) -> Result<Floor<L, M>, TrialFault>
         requires lock { (site.callers.name ≡ L.name) × (L.parts ≡ 1024)
             × (L.queues ≡ map (λ ends. ends.0.table) site.rings.items) }
-        requires book { (site.workers.name ≡ M.name) × (M.parts ≡ site.venues) }
+        requires book { (site.workers.name ≡ M.name) × (M.parts ≡ site.venues) × (site.workers.lists ≡ M.lists) }
     {
         let Site {
             venues,
@@ -50,16 +49,14 @@ impl<L: Run, M: Ledger> Floor<L, M> {
     }
 }
 
-/// A post of each drain, in order.
-fn posts_of<L: Run, M: Ledger>(
+/// A post of each drain, with the seat at its place, in order.
+fn posts_of<L: Run, M: Accounts>(
     alloc: Global,
     drains: Vec<VenueDrain<L>>,
     seats: Vec<WorkerSeat<M>>,
 ) -> Result<Vec<Post<L, M>>, TrialFault> {
-    let mut seats = seats;
     let mut posts = Vec::with_capacity(alloc, drains.len())?;
-    for drain in drains {
-        let seat = seats.pop().ok_or(TrialFault::Missing)?;
+    for (drain, seat) in drains.into_iter().zip(seats) {
         posts.push(Post { drain, seat })?;
     }
     Ok(posts)

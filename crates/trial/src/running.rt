@@ -3,22 +3,22 @@
 ghost use Rattle.std.specs.Prelude.{◌≡◌, map};
 
 use crate::{Floor, Site, TrialFault};
+use exec_collector::Accounts;
 use release_lock::Run;
 use std::alloc::Global;
 use std::marker::Brand;
 use std::sync::Wait;
-use std::sync::ledger::Ledger;
 
 /// What one thread does on a floor, whatever the name of its run.
 pub trait Trial<R: Wait> {
     /// What becomes of it.
     type End;
 
-    fn run<L: Run, M: Ledger>(self, rt: &R, floor: Floor<L, M>) -> Self::End;
+    fn run<L: Run, M: Accounts>(self, rt: &R, floor: Floor<L, M>) -> Self::End;
 }
 
 /// Opens a floor of this site, and runs a trial on it.
-fn run_at<L: Run, M: Ledger, R: Wait, T: Trial<R> + Drop>(
+fn run_at<L: Run, M: Accounts, R: Wait, T: Trial<R> + Drop>(
     rt: &R,
     alloc: Global,
     site: Site,
@@ -26,7 +26,7 @@ fn run_at<L: Run, M: Ledger, R: Wait, T: Trial<R> + Drop>(
 ) -> Result<T::End, TrialFault>
     requires lock { (site.callers.name ≡ L.name) × (L.parts ≡ 1024)
         × (L.queues ≡ map (λ ends. ends.0.table) site.rings.items) }
-    requires book { (site.workers.name ≡ M.name) × (M.parts ≡ site.venues) }
+    requires book { (site.workers.name ≡ M.name) × (M.parts ≡ site.venues) × (site.workers.lists ≡ M.lists) }
 {
     let floor = Floor::<L, M>::open(alloc, site)?;
     Ok(trial.run(rt, floor))

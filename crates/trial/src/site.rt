@@ -5,6 +5,7 @@ ghost use Rattle.std.specs.List.{All};
 ghost use Rattle.release_lock.specs.Queues.{IsFresh};
 
 use crate::TrialFault;
+use exec_collector::BlankBook;
 use release_lock::rings;
 use std::alloc::Global;
 use std::collections::VecDeque;
@@ -14,13 +15,13 @@ use venue_queue::{Drain, Feed};
 /// How many venues a lock has at most.
 const MAX_VENUES: u8 = 16;
 
-/// What a floor of so many venues is made of: the parts of the callers' seats and of the workers', and the rings,
-/// through which nothing went.
+/// What a floor of so many venues is made of: the parts of the callers' seats, a book that has no
+/// name yet, and the rings, through which nothing went.
 #[derive(Drop)]
 pub struct Site {
     pub venues: u8,
     pub callers: Blank,
-    pub workers: Blank,
+    pub workers: BlankBook,
     pub rings: VecDeque<(Feed, Drain)>,
     ghost least: { 1 ≤ venues },
     ghost most: { venues ≤ 16 },
@@ -40,7 +41,7 @@ impl Site {
         Ok(Site {
             venues,
             callers: Blank::new(1024),
-            workers: Blank::new(u64::from(venues)),
+            workers: BlankBook::new(alloc, venues)?,
             rings,
         })
     }

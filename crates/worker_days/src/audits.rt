@@ -2,13 +2,12 @@
 
 use crate::worked::COURSE;
 use day_trial::{Caller, CallerEnd, DayFault, Script, worker_of};
-use exec_collector::Collector;
+use exec_collector::{Accounts, Collector};
 use release_lock::{CallerSeat, ReleaseLock, Run};
 use session_worker::{AuditFault, DayReport, WorkerEnd, audit, shut_gate};
 use std::alloc::Global;
 use std::fmt::Write;
 use std::sync::Wait;
-use std::sync::ledger::Ledger;
 use trial::{Floor, Order, Post, TEN, Trial, TrialFault, on_floor};
 
 /// What is handed to the audit.
@@ -30,7 +29,7 @@ const BOTH: [Order; 2] = [TEN, Order { venue: 1, ..TEN }];
 const MOST_TURNS: u64 = 10;
 
 /// What a worker gives back that closes in its first turn, and drops what was placed at its venue.
-fn drops<L: Run, M: Ledger>(
+fn drops<L: Run, M: Accounts>(
     rt: &impl Wait,
     alloc: Global,
     lock: &ReleaseLock<L>,
@@ -43,7 +42,7 @@ fn drops<L: Run, M: Ledger>(
 }
 
 /// The ends of all workers, in the order of their venues.
-fn all_drop<L: Run, M: Ledger>(
+fn all_drop<L: Run, M: Accounts>(
     rt: &impl Wait,
     alloc: Global,
     lock: &ReleaseLock<L>,
@@ -59,7 +58,7 @@ fn all_drop<L: Run, M: Ledger>(
 }
 
 /// The seat of a caller that released a leg to each of two venues.
-fn releases<L: Run, M: Ledger>(
+fn releases<L: Run, M: Accounts>(
     rt: &impl Wait,
     alloc: Global,
     lock: &ReleaseLock<L>,
@@ -89,7 +88,7 @@ fn seats_left<L: Run>(
 }
 
 /// The ends that are left.
-fn ends_left<L: Run, M: Ledger>(
+fn ends_left<L: Run, M: Accounts>(
     ends: Vec<WorkerEnd<Script, L, M>>,
     left: Left,
 ) -> Vec<WorkerEnd<Script, L, M>> {
@@ -115,7 +114,7 @@ impl<R: Wait> Trial<R> for Audited {
     /// What the audit tells.
     type End = Result<Result<DayReport, AuditFault>, DayFault>;
 
-    fn run<L: Run, M: Ledger>(
+    fn run<L: Run, M: Accounts>(
         self,
         rt: &R,
         floor: Floor<L, M>,

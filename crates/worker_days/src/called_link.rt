@@ -4,17 +4,17 @@ ghost use Rattle.std.specs.Prelude.{◌≡◌};
 
 use crate::course::{Beside, Course, Shuts};
 use day_trial::Caller;
+use exec_collector::Accounts;
 use leg::VenueId;
 use link::{Got, Link, LinkFault};
 use release_lock::Run;
 use std::sync::Wait;
-use std::sync::ledger::Ledger;
 use std::time::Duration;
 
 /// A link to a venue's exchange, and a caller that makes its calls while the link is read or written to. So one thread
 /// plays a day in which sweeps are released while the worker takes its turns.
 #[derive(Drop)]
-pub struct CalledLink<'a, 'c, R: Wait, K: Link, L: Run, M: Ledger> {
+pub struct CalledLink<'a, 'c, R: Wait, K: Link, L: Run, M: Accounts> {
     link: K,
     caller: Caller<'a, R, L, M>,
     venue: VenueId,
@@ -27,7 +27,7 @@ pub struct CalledLink<'a, 'c, R: Wait, K: Link, L: Run, M: Ledger> {
     calls: u64,
 }
 
-impl<'a, 'c, R: Wait, K: Link, L: Run, M: Ledger> CalledLink<'a, 'c, R, K, L, M> {
+impl<'a, 'c, R: Wait, K: Link, L: Run, M: Accounts> CalledLink<'a, 'c, R, K, L, M> {
     /// A link whose caller hasn't begun the calls of the course.
     pub fn new(
         link: K,
@@ -108,7 +108,7 @@ impl<'a, 'c, R: Wait, K: Link, L: Run, M: Ledger> CalledLink<'a, 'c, R, K, L, M>
     }
 }
 
-impl<'a, 'c, R: Wait, K: Link, L: Run, M: Ledger> Link for CalledLink<'a, 'c, R, K, L, M> {
+impl<'a, 'c, R: Wait, K: Link, L: Run, M: Accounts> Link for CalledLink<'a, 'c, R, K, L, M> {
     ghost wire = { λ called. K.wire called.link };
 
     ghost fault_count = { λ called. K.fault_count called.link };

@@ -3,14 +3,13 @@
 use crate::called_link::CalledLink;
 use crate::course::Course;
 use day_trial::{Caller, CallerEnd, DayFault, Outcome, Shown, day_outcome, worker_of};
-use exec_collector::Collector;
+use exec_collector::{Accounts, Collector};
 use leg::Totals;
 use link::Link;
 use release_lock::{CallerSeat, ReleaseLock, Run};
 use session_worker::WorkerEnd;
 use std::alloc::Global;
 use std::sync::Wait;
-use std::sync::ledger::Ledger;
 use trial::{Floor, Order, Post, Trial, TrialFault, on_floor};
 
 /// What became of a day, what had become of the sweep before the last when that was released, and how many calls of the
@@ -23,7 +22,7 @@ pub struct Played {
 }
 
 /// A caller that has placed the early sweep of a course, if it has orders: the gate is up for that.
-fn early_caller<'a, R: Wait, L: Run, M: Ledger>(
+fn early_caller<'a, R: Wait, L: Run, M: Accounts>(
     rt: &'a R,
     alloc: Global,
     lock: &'a ReleaseLock<L>,
@@ -43,7 +42,7 @@ fn early_caller<'a, R: Wait, L: Run, M: Ledger>(
 }
 
 /// The end of a worker over its own link, that of the caller, and how many calls of the link were made that may fail.
-fn parted<R: Wait, K: Link, L: Run, M: Ledger>(
+fn parted<R: Wait, K: Link, L: Run, M: Accounts>(
     end: WorkerEnd<CalledLink<'_, '_, R, K, L, M>, L, M>,
 ) -> (WorkerEnd<K, L, M>, CallerEnd<L>, u64) {
     let WorkerEnd {
@@ -72,7 +71,7 @@ fn list_of<T: Drop>(alloc: Global, one: T) -> Result<Vec<T>, DayFault> {
 }
 
 /// What becomes of the day of a worker and a caller that have ended.
-fn day_end<K: Shown, L: Run, M: Ledger>(
+fn day_end<K: Shown, L: Run, M: Accounts>(
     rt: &impl Wait,
     alloc: Global,
     lock: ReleaseLock<L>,
@@ -107,7 +106,7 @@ struct Playing<'c, K: Shown> {
 impl<'c, R: Wait, K: Shown> Trial<R> for Playing<'c, K> {
     type End = Result<Played, DayFault>;
 
-    fn run<L: Run, M: Ledger>(self, rt: &R, floor: Floor<L, M>) -> Result<Played, DayFault> {
+    fn run<L: Run, M: Accounts>(self, rt: &R, floor: Floor<L, M>) -> Result<Played, DayFault> {
         let Playing {
             alloc,
             link,

@@ -1,4 +1,4 @@
--- At each moment of a running worker its line is safe.
+-- At each moment of a running worker its line is safe; and on an audited day the shares are as its notes say.
 use Rattle.std.proofs.Common.{◌≡◌, ◌≤◌, List, [], ◌∷◌, ◌++◌, length, map, refl, sym, ap, subst, ◌∙◌, arith}
 use Rattle.std.specs.List.{All, AllPairs}
 use Rattle.std.proofs.lemmas.List.Elements.{All-cons, All-nil}
@@ -18,7 +18,8 @@ use Rattle.venue_line.specs.ForGood.{StaysSettled}
 use Rattle.venue_line.proofs.GivenSteps.{Whole, whole_new, whole_step}
 use Rattle.venue_line.proofs.LineGives.{line_holds}
 use Rattle.venue_line.proofs.ForGood.{settled-trans}
-use Rattle.session_worker.specs.Events.{WorkerParts, calls_of, taken_of, Goes}
+use Rattle.exec_collector.specs.Seats.{Seat}
+use Rattle.session_worker.specs.Events.{WorkerParts, Lasting, calls_of, taken_of, Goes}
 use Rattle.session_worker.specs.Booking.{booked_by}
 use Rattle.session_worker.specs.Events.WorkerEvent.{Drops}
 use Rattle.session_worker.specs.Ends.{WorkerLeft, last_calls, Runs}
@@ -27,6 +28,7 @@ use Rattle.worker_line.specs.Happening.{VenueEvent, works_of, after_event, after
 use Rattle.worker_line.specs.WorkerTheorem.{released_line, IsSafeLine, Worked, TheWorkerTheorem, works_in, Ran, TheRunTheorem, TheDayTheorem}
 use Rattle.worker_line.proofs.OneEvent.{event_leads}
 use Rattle.worker_line.proofs.TakenAlong.{session_along, given_along, HasTaken, taken_along, each_is_next}
+use Rattle.worker_line.proofs.Shares.{shares_at}
 
 module _ (read : Decoding) where
   all_hold : (a : Line) (events : List VenueEvent) → MayAllHappen read a events → AllTakeNext read a events → Whole a
@@ -124,6 +126,16 @@ the_run_theorem w config legs events after small ran may first =
     the_taken_theorem w.decoding config legs events after small (ran_worked w config events after ran) may first
 
 pub the_day_theorem : (w : Wording) → TheDayTheorem w
-the_day_theorem w callers queues seats report day venue config events after there small ran may =
-    the_run_theorem w config (released venue day.desk.desk.sweeps) events after small ran may
-    (day.audits.0 venue after.took (slice_get_within queues venue after.took there) there)
+the_day_theorem w callers queues seats report day venue config events after took sits small ran new may =
+    let start = released_line config (released venue day.desk.desk.sweeps) in
+    let line = the_run_theorem w config (released venue day.desk.desk.sweeps) events after small ran may
+    (day.audits.0 venue after.took (slice_get_within queues venue after.took took) took) in
+    let given = (after_events w.decoding start events).given in
+    let lasts = ran.runs.last.seat ∙ ran.runs.goes.seat in
+    let of_venue = ap (λ (l : Lasting). l.venue) lasts ∙ ap (λ (s : Seat). s.venue) new in
+    let none = ap (λ (s : Seat). s.booked) new in
+    record {
+      line = line;
+      shares = shares_at day.book seats venue after.seat given day.book_replays day.kept sits of_venue
+          (line.booked ∙ ap (λ l. l ++ given) none);
+    }

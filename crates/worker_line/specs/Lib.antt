@@ -1,3 +1,7 @@
 pub mod Happening
+pub mod Shares
 pub mod WorkerTheorem
 pub mod Example
+pub mod Wire
+pub mod Coming
+pub mod DayByBytes

@@ -6,9 +6,10 @@ use Rattle.fix_tags.specs.Config.{ConfigParts}
 use Rattle.leg.specs.declared.leg.Leg.{Leg}
 use Rattle.dialect.specs.Wording.{Decoding, Wording}
 use Rattle.session_core.specs.Session.{new_session}
+use Rattle.share_ledger.specs.Book.{BookParts}
 use Rattle.sweep_release.specs.Released.{released}
 use Rattle.release_lock.specs.Queues.{Took, placed_from}
-use Rattle.exec_collector.specs.Seats.{Seat}
+use Rattle.exec_collector.specs.Seats.{Seat, worker_seat}
 use Rattle.venue_line.specs.Line.{Line, new_line}
 use Rattle.venue_line.specs.LineTheorem.{LineHolds}
 use Rattle.venue_line.specs.ForGood.{StaysSettled}
@@ -20,6 +21,7 @@ use Rattle.session_worker.specs.Events.WorkerEvent.{Drops}
 use Rattle.session_worker.specs.Ends.{WorkerLeft, last_calls, Runs}
 use Rattle.session_worker.specs.Audit.{AuditedDay}
 use Rattle.worker_line.specs.Happening.{VenueEvent, works_of, after_events, moments_of, MayAllHappen, AllTakeNext}
+use Rattle.worker_line.specs.Shares.{AreShares}
 
 -- a line on which nothing has happened, but that these legs are released
 abbrev pub released_line : ConfigParts → List Leg → Line
@@ -75,11 +77,19 @@ TheRunTheorem w = (config : ConfigParts) (legs : List Leg) (events : List VenueE
     → MayAllHappen w.decoding (released_line config legs) events → IsPrefix after.took.taken (placed_from 1 legs)
     → IsSafeLine w.decoding (released_line config legs) events ran.before after
 
--- and of each worker of a day that was audited, where nothing need be known of its legs
+-- so it is of a venue's worker, and the shares of the venue's legs in the book are as the line's notes say
+pub record IsSafeVenue (read : Decoding) (start : Line) (events : List VenueEvent) (book : BookParts) (venue : ℕ)
+    (before after : WorkerParts) : Type 0 where
+  pub line : IsSafeLine read start events before after
+  pub shares : AreShares book venue (after_events read start events).given
+
+-- and of each worker of a day that was audited, where nothing need be known of its legs: it began with the new seat of
+-- its venue, and ended with the one at the venue's place
 abbrev pub TheDayTheorem : Wording → Type 0
 TheDayTheorem w = (callers : List Seat) (queues : List Took) (seats : List Seat) (report : DayReport)
     (day : AuditedDay callers queues seats (Ok report)) (venue : ℕ) (config : ConfigParts) (events : List VenueEvent)
-    (after : WorkerParts) → slice_get queues venue ≡ Some after.took
-    → config.max_number ≤ 999999999 → (ran : Ran w config events after)
+    (after : WorkerParts) → slice_get queues venue ≡ Some after.took → slice_get seats venue ≡ Some after.seat
+    → config.max_number ≤ 999999999 → (ran : Ran w config events after) → ran.before.seat ≡ worker_seat venue
     → MayAllHappen w.decoding (released_line config (released venue day.desk.desk.sweeps)) events
-    → IsSafeLine w.decoding (released_line config (released venue day.desk.desk.sweeps)) events ran.before after
+    → IsSafeVenue w.decoding (released_line config (released venue day.desk.desk.sweeps)) events day.book venue
+    ran.before after

@@ -4,19 +4,18 @@ ghost use Rattle.std.specs.Prelude.{◌≡◌, map};
 
 use super::outcome::Outcome;
 use super::{Load, MAX_TURNS, VENUES, worked_sweep};
-use exec_collector::Collector;
+use exec_collector::{Accounts, Collector};
 use release_lock::{CallerSeat, ReleaseLock, Run};
 use std::alloc::Global;
 use std::marker::Brand;
 use std::sync::Wait;
-use std::sync::ledger::Ledger;
 use std::thread::{Threads, join, map_vec, yield_now};
 use std::time::{Clock, Instant};
 use sweep_release::ReleaseFault;
 use trial::{Floor, Post, Site, TrialFault, seats_of};
 
 /// Releases a sweep, and makes and releases it again while a venue has too many legs. Whether it was released.
-fn releases<L: Run, M: Ledger>(
+fn releases<L: Run, M: Accounts>(
     rt: &impl Wait,
     alloc: Global,
     lock: &ReleaseLock<L>,
@@ -37,7 +36,7 @@ fn releases<L: Run, M: Ledger>(
 }
 
 /// A caller releases so many sweeps. How many it did.
-fn calls<L: Run, M: Ledger>(
+fn calls<L: Run, M: Accounts>(
     rt: &impl Wait,
     alloc: Global,
     lock: &ReleaseLock<L>,
@@ -55,7 +54,7 @@ fn calls<L: Run, M: Ledger>(
 }
 
 /// A worker pops so many legs, and pumps where it finds none. How many it popped; 0 where one came out of its order.
-fn pops<L: Run, M: Ledger>(
+fn pops<L: Run, M: Accounts>(
     rt: &impl Wait,
     lock: &ReleaseLock<L>,
     post: Post<L, M>,
@@ -79,7 +78,7 @@ fn pops<L: Run, M: Ledger>(
 }
 
 /// Callers release and workers pop, each in a thread. The time is that of all of them.
-fn in_threads<L: Run + Send + Sync, M: Ledger + Send + Sync, R: Threads + Wait + Clock + Sync>(
+fn in_threads<L: Run + Send + Sync, M: Accounts + Send + Sync, R: Threads + Wait + Clock + Sync>(
     rt: &R,
     alloc: Global,
     floor: Floor<L, M>,
@@ -111,7 +110,7 @@ fn in_threads<L: Run + Send + Sync, M: Ledger + Send + Sync, R: Threads + Wait +
 }
 
 /// A load at a floor of this site.
-fn load_at<L: Run + Send + Sync, M: Ledger + Send + Sync, R: Threads + Wait + Clock + Sync>(
+fn load_at<L: Run + Send + Sync, M: Accounts + Send + Sync, R: Threads + Wait + Clock + Sync>(
     rt: &R,
     alloc: Global,
     site: Site,
@@ -119,7 +118,7 @@ fn load_at<L: Run + Send + Sync, M: Ledger + Send + Sync, R: Threads + Wait + Cl
 ) -> Result<Outcome, TrialFault>
     requires lock { (site.callers.name ≡ L.name) × (L.parts ≡ 1024)
         × (L.queues ≡ map (λ ends. ends.0.table) site.rings.items) }
-    requires book { (site.workers.name ≡ M.name) × (M.parts ≡ site.venues) }
+    requires book { (site.workers.name ≡ M.name) × (M.parts ≡ site.venues) × (site.workers.lists ≡ M.lists) }
 {
     in_threads(rt, alloc, Floor::<L, M>::open(alloc, site)?, load)
 }

@@ -1,7 +1,7 @@
 use Rattle.std.proofs.Common.{◌≡◌, ◌+◌, ◌++◌, [], List, length, map, All}
-use Rattle.exec_collector.specs.Seats.{Seat, new_seat}
 use Rattle.release_lock.specs.Queues.{DrainParts}
 use Rattle.desk_run.specs.Places.{Place, place, new_place}
+use Rattle.desk_run.proofs.Places.{seat_of}
 use Rattle.desk_run.proofs.workers.new_workers.Given as goal
 
 abbrev pub invariant-loop-venue : goal.invariant-loop-venue
@@ -10,7 +10,7 @@ invariant-loop-venue g l =
     record {
       made_are : made ++ map new_place l.drains.items ≡ map new_place l.initial.drains.items;
       none_popped : All (λ (d : DrainParts). d.popped ≡ []) l.drains.items;
-      new_seats : All (λ (s : Seat). s ≡ new_seat) l.seats.items;
+      their_seats : l.seats.items ≡ map seat_of l.drains.items;
       made : length l.workers.items ≡ l.venue-index;
       as_many : length l.drains.items + l.venue-index ≡ length l.venues;
       seats_left : length l.seats.items + l.venue-index ≡ length l.venues;

@@ -1,4 +1,6 @@
 use Rattle.std.proofs.Common.{◌≡◌, ◌+◌, vec_len}
+use Rattle.std.specs.List.{All}
+use Rattle.exec_collector.specs.Booked.{IsKept}
 use Rattle.exec_collector.specs.Seats.{parts_of, shares_of}
 use Rattle.exec_collector.proofs.counting.check_count.Given as goal
 
@@ -6,6 +8,8 @@ abbrev pub invariant-loop-seat : goal.invariant-loop-seat
 invariant-loop-seat g l =
     (parts_of l.seats.items + l.all.parts ≡ parts_of l.fn.seats.items)
     × (shares_of l.seats.items + l.all.shares ≡ shares_of l.fn.seats.items)
+    × (l.counted ≡ l.fn.counted)
+    × (All (IsKept l.fn.counted) l.seats.items → All (IsKept l.fn.counted) l.fn.seats.items)
 
 abbrev pub decreases-loop-seat : goal.decreases-loop-seat
 decreases-loop-seat g l = vec_len l.seats

@@ -1,5 +1,5 @@
-use Rattle.std.proofs.Common.{◌∙◌, List, length, map, replicate, refl, sym, ap, subst}
-use Rattle.exec_collector.specs.Seats.{new_seat}
+use Rattle.std.proofs.Common.{◌∙◌, List, length, map, refl, sym, ap, subst}
+use Rattle.exec_collector.specs.Seats.{worker_seats}
 use Rattle.release_lock.specs.Queues.{new_drains}
 use Rattle.session_worker.specs.Events.{WorkerParts}
 use Rattle.live_day.specs.Day.{new_workers, AllKeepPlace}
@@ -16,7 +16,7 @@ new_workers-requires-clause-drains g c =
 pub new_workers-requires-clause-seats : goal.new_workers-requires-clause-seats
 new_workers-requires-clause-seats g c =
     let many = as_many _ c.in_ok-exchanges.exchanges.items c.args.plan.cut c.args.plan.venues c.in_ok-exchanges.ensures.plans in
-    c.in-Ok-made.ensures.seats ∙ ap (λ n. replicate n new_seat) (sym (ap length c.deref.ensures.value ∙ many))
+    c.in-Ok-made.ensures.seats ∙ ap worker_seats (sym (ap length c.deref.ensures.value ∙ many))
 
 pub told-requires-clause-order : goal.told-requires-clause-order
 told-requires-clause-order g c =

@@ -9,3 +9,6 @@ ghosts-named_day-L-Ledger g a = record { name = a.callers.name; parts = a.caller
 
 abbrev pub ghosts-named_day-M-Ledger : goal.ghosts-named_day-M-Ledger
 ghosts-named_day-M-Ledger g a = record { name = a.workers.name; parts = a.workers.parts }
+
+abbrev pub ghosts-named_day-M-Accounts : goal.ghosts-named_day-M-Accounts
+ghosts-named_day-M-Accounts g a = record { lists = a.workers.lists }

@@ -1,8 +1,8 @@
 use Rattle.std.proofs.Common.{◌≡◌, ◌+◌, ◌++◌, [], List, length, map, All}
-use Rattle.exec_collector.specs.Seats.{Seat, new_seat}
 use Rattle.release_lock.specs.Queues.{DrainParts}
 use Rattle.session_worker.specs.Events.{WorkerParts}
 use Rattle.live_day.specs.Day.{worker_of}
+use Rattle.live_day.proofs.Places.{seat_of}
 use Rattle.live_day.proofs.workers.new_workers.Given as goal
 
 abbrev pub invariant-loop-exchange : goal.invariant-loop-exchange
@@ -11,7 +11,7 @@ invariant-loop-exchange g l =
     record {
       made_are : made ++ map worker_of l.drains.items ≡ map worker_of l.initial.drains.items;
       none_popped : All (λ (d : DrainParts). d.popped ≡ []) l.drains.items;
-      new_seats : All (λ (s : Seat). s ≡ new_seat) l.seats.items;
+      their_seats : l.seats.items ≡ map seat_of l.drains.items;
       as_many : length l.drains.items + l.exchange-index ≡ length l.exchanges;
       seats_left : length l.seats.items + l.exchange-index ≡ length l.exchanges;
     }

@@ -9,3 +9,6 @@ ghosts-crowd_at-L-Ledger g a = record { name = a.site.callers.name; parts = a.si
 
 abbrev pub ghosts-crowd_at-M-Ledger : goal.ghosts-crowd_at-M-Ledger
 ghosts-crowd_at-M-Ledger g a = record { name = a.site.workers.name; parts = a.site.workers.parts }
+
+abbrev pub ghosts-crowd_at-M-Accounts : goal.ghosts-crowd_at-M-Accounts
+ghosts-crowd_at-M-Accounts g a = record { lists = a.site.workers.lists }

@@ -9,3 +9,6 @@ ghosts-at_one_venue-L-Ledger g a = record { name = a.callers.name; parts = a.cal
 
 abbrev pub ghosts-at_one_venue-M-Ledger : goal.ghosts-at_one_venue-M-Ledger
 ghosts-at_one_venue-M-Ledger g a = record { name = a.workers.name; parts = a.workers.parts }
+
+abbrev pub ghosts-at_one_venue-M-Accounts : goal.ghosts-at_one_venue-M-Accounts
+ghosts-at_one_venue-M-Accounts g a = record { lists = a.workers.lists }

@@ -9,3 +9,6 @@ ghosts-day_at-L-Ledger g a = record { name = a.site.callers.name; parts = a.site
 
 abbrev pub ghosts-day_at-M-Ledger : goal.ghosts-day_at-M-Ledger
 ghosts-day_at-M-Ledger g a = record { name = a.site.workers.name; parts = a.site.workers.parts }
+
+abbrev pub ghosts-day_at-M-Accounts : goal.ghosts-day_at-M-Accounts
+ghosts-day_at-M-Accounts g a = record { lists = a.site.workers.lists }

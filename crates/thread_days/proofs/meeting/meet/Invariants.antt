@@ -9,3 +9,6 @@ ghosts-both_at-L-Ledger g a = record { name = a.site.callers.name; parts = a.sit
 
 abbrev pub ghosts-both_at-M-Ledger : goal.ghosts-both_at-M-Ledger
 ghosts-both_at-M-Ledger g a = record { name = a.site.workers.name; parts = a.site.workers.parts }
+
+abbrev pub ghosts-both_at-M-Accounts : goal.ghosts-both_at-M-Accounts
+ghosts-both_at-M-Accounts g a = record { lists = a.site.workers.lists }

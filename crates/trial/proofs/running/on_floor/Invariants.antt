@@ -9,3 +9,6 @@ ghosts-run_at-L-Ledger g a = record { name = a.site.callers.name; parts = a.site
 
 abbrev pub ghosts-run_at-M-Ledger : goal.ghosts-run_at-M-Ledger
 ghosts-run_at-M-Ledger g a = record { name = a.site.workers.name; parts = a.site.workers.parts }
+
+abbrev pub ghosts-run_at-M-Accounts : goal.ghosts-run_at-M-Accounts
+ghosts-run_at-M-Accounts g a = record { lists = a.site.workers.lists }

@@ -9,3 +9,6 @@ ghosts-load_at-L-Ledger g a = record { name = a.site.callers.name; parts = a.sit
 
 abbrev pub ghosts-load_at-M-Ledger : goal.ghosts-load_at-M-Ledger
 ghosts-load_at-M-Ledger g a = record { name = a.site.workers.name; parts = a.site.workers.parts }
+
+abbrev pub ghosts-load_at-M-Accounts : goal.ghosts-load_at-M-Accounts
+ghosts-load_at-M-Accounts g a = record { lists = a.site.workers.lists }

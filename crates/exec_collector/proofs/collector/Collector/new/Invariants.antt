@@ -1,8 +1,13 @@
-use Rattle.std.proofs.Common.{◌≡◌, ◌+◌, ◌≤◌, replicate, vec_capacity}
-use Rattle.exec_collector.specs.Seats.{new_seat}
+use Rattle.std.proofs.Common.{◌≡◌, ◌+◌, ◌≤◌, length, vec_capacity}
+use Rattle.exec_collector.proofs.Opening.{HasOpened}
 use Rattle.exec_collector.proofs.collector.Collector.new.Given as goal
 
-abbrev pub invariant-loop : goal.invariant-loop
-invariant-loop g l =
-    (l.seats.items ≡ replicate l.counter new_seat) × (l.whole.parts + l.counter ≡ l.venues) × (l.whole.amount ≡ 0)
-    × (l.venues ≤ vec_capacity l.seats)
+abbrev pub invariant-loop-list : goal.invariant-loop-list
+invariant-loop-list g l =
+    HasOpened g.M.Accounts.lists l.venues l.bookings.items l.lists.items l.seats.items
+    × (l.whole.parts ≡ length l.lists.items) × (l.whole.amount ≡ 0)
+    × (length l.bookings.items + length l.lists.items ≡ l.venues)
+    × (l.venues ≤ vec_capacity l.bookings) × (l.venues ≤ vec_capacity l.seats)
+
+abbrev pub decreases-loop-list : goal.decreases-loop-list
+decreases-loop-list g l = length l.lists.items

@@ -1,4 +1,8 @@
-use Rattle.std.proofs.Common.{ap, sym, ◌∙◌, arith}
+use Rattle.std.proofs.Common.{ℕ, Option, length, ap, sym, subst, ◌∙◌, arith}
+use Rattle.std.specs.Prelude.{IfSome}
+use Rattle.exec_collector.specs.Seats.{Seat}
+use Rattle.exec_collector.specs.Sides.{IsOneMore}
+use Rattle.exec_collector.proofs.Booked.{written-one}
 use Rattle.exec_collector.specs.Resolved.{resolved}
 use Rattle.exec_collector.proofs.Counts.{noted}
 use Rattle.exec_collector.proofs.counted_book.CountedBook.apply.Goals as goal
@@ -6,7 +10,7 @@ use Rattle.exec_collector.proofs.counted_book.CountedBook.apply.Goals as goal
 pub overflow_sub-gained : goal.overflow_sub-gained
 overflow_sub-gained g c =
     let done = c.in_ok-applied.ensures.answer in
-    let it = noted c.self.inside.book c.apply.new.self c.args.venue c.args.note.now c.in_ok-applied.applied
+    let it = noted c.self.inside.book c.apply.new.self c.seat.inside.venue c.args.note.now c.in_ok-applied.applied
     c.self.invariant.2 done.0 done.1 in
     let before = c.venue_resolved-before.ensures in
     let now = c.venue_resolved.ensures in
@@ -16,7 +20,7 @@ overflow_sub-gained g c =
 pub count-requires : goal.count-requires
 count-requires g c =
     let done = c.in_ok-applied.ensures.answer in
-    let it = noted c.self.inside.book c.apply.new.self c.args.venue c.args.note.now c.in_ok-applied.applied
+    let it = noted c.self.inside.book c.apply.new.self c.seat.inside.venue c.args.note.now c.in_ok-applied.applied
     c.self.invariant.2 done.0 done.1 in
     let before = c.venue_resolved-before.ensures in
     let now = c.venue_resolved.ensures in
@@ -29,7 +33,7 @@ count-requires g c =
 pub invariant_of-self-2 : goal.invariant_of-self-2
 invariant_of-self-2 g c =
     let done = c.in_ok-applied.ensures.answer in
-    let it = noted c.self.inside.book c.apply.new.self c.args.venue c.args.note.now c.in_ok-applied.applied
+    let it = noted c.self.inside.book c.apply.new.self c.seat.inside.venue c.args.note.now c.in_ok-applied.applied
     c.self.invariant.2 done.0 done.1 in
     let before = c.venue_resolved-before.ensures in
     let now = c.venue_resolved.ensures in
@@ -41,31 +45,41 @@ invariant_of-self-2 g c =
       c.self.invariant.1,
       it.replays,
       omega (arith, before, now, counts, total, rises, sum),
+      c.add_booking.ensures.lists,
+      written-one c.self.inside.book c.apply.new.self c.seat.inside.venue c.args.note.now c.in_ok-applied.applied _
+          c.self.inside.bookings.items c.add_booking.new.bookings.items done.0 done.1
+          (ap length c.history-entries.ensures)
+          (subst (λ (v : Option ℕ). IfSome v (λ venue. IsOneMore venue (record {
+            note = c.args.note.now;
+            answer = c.in_ok-applied.applied;
+            entries = length c.history-entries.result.now;
+          }) c.self.inside.bookings.items
+          c.add_booking.new.bookings.items)) (c.count.ensures.venue ∙ sym (ap (λ (s : Seat). s.venue) c.seat.view_is)) c.add_booking.ensures.side) c.self.invariant.5,
     )
 
 pub returns-clause-seat : goal.returns-clause-seat
 returns-clause-seat g c =
     let done = c.in_ok-applied.ensures.answer in
-    let it = noted c.self.inside.book c.apply.new.self c.args.venue c.args.note.now c.in_ok-applied.applied
+    let it = noted c.self.inside.book c.apply.new.self c.seat.inside.venue c.args.note.now c.in_ok-applied.applied
     c.self.invariant.2 done.0 done.1 in
     let before = c.venue_resolved-before.ensures in
     let now = c.venue_resolved.ensures in
     let counts = it.counts in
     let rises = it.rises in
     let seat = c.count.ensures.seat in
-    let same = c.add_note.ensures.shares in
+    let same = c.add_booking.ensures.shares in
     let view = ap resolved c.self.view_is in
     omega (arith, before, now, counts, rises, seat, same, view)
 
 pub returns-clause-gains : goal.returns-clause-gains
 returns-clause-gains g c =
     let done = c.in_ok-applied.ensures.answer in
-    let it = noted c.self.inside.book c.apply.new.self c.args.venue c.args.note.now c.in_ok-applied.applied
+    let it = noted c.self.inside.book c.apply.new.self c.seat.inside.venue c.args.note.now c.in_ok-applied.applied
     c.self.invariant.2 done.0 done.1 in
     let before = c.venue_resolved-before.ensures in
     let now = c.venue_resolved.ensures in
     let counts = it.counts in
     let rises = it.rises in
     let seat = c.count.ensures.seat in
-    let same = c.add_note.ensures.shares in
-    it.gains c.args.seat.now.shares c.add_note.new.self.shares (omega (arith, before, now, counts, rises, seat, same))
+    let same = c.add_booking.ensures.shares in
+    it.gains c.args.seat.now.shares c.add_booking.new.seat.shares (omega (arith, before, now, counts, rises, seat, same))

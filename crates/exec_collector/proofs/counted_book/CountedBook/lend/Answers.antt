@@ -1,6 +1,7 @@
 use Rattle.std.proofs.Common.{rules, sym, subst, ◌∙◌}
 use Rattle.share_ledger.specs.Book.{BookParts}
 use Rattle.exec_collector.specs.Resolved.{OnlyOpens}
+use Rattle.exec_collector.proofs.Booked.{written-opened}
 use Rattle.exec_collector.proofs.Counts.{only_opened}
 use Rattle.exec_collector.proofs.counted_book.CountedBook.lend.Goals as goal
 
@@ -8,6 +9,13 @@ pub invariant_of-self : goal.invariant_of-self
 invariant_of-self g c =
     let kept = c.self.invariant in
     let opens = c.requires.opens c.args.self.now c.f.result c.f.new.arg2 (search rules) in
+    let only = subst (λ (b : BookParts). OnlyOpens b c.f.new.arg2) (sym c.self.view_is) opens in
     let after = only_opened c.self.inside.book c.f.new.arg2 kept.2
-    (subst (λ (b : BookParts). OnlyOpens b c.f.new.arg2) (sym c.self.view_is) opens) in
-    (kept.0 ∙ sym after.venues, kept.1, after.replays, kept.3 ∙ sym after.counts)
+    only in (
+      kept.0 ∙ sym after.venues,
+      kept.1,
+      after.replays,
+      kept.3 ∙ sym after.counts,
+      kept.4,
+      written-opened c.self.inside.book c.f.new.arg2 c.self.inside.bookings.items only kept.5,
+    )

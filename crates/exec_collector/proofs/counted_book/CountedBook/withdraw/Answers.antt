@@ -1,5 +1,8 @@
-use Rattle.std.proofs.Common.{ap, sym, ◌∙◌, arith}
+use Rattle.std.proofs.Common.{ap, sym, subst, ◌∙◌, arith}
+use Rattle.share_ledger.specs.Book.{BookAnswer}
 use Rattle.exec_collector.specs.Resolved.{resolved}
+use Rattle.exec_collector.specs.Sides.{AreWritten}
+use Rattle.exec_collector.proofs.Booked.{written-withdrawn}
 use Rattle.exec_collector.proofs.Counts.{gone}
 use Rattle.exec_collector.proofs.counted_book.CountedBook.withdraw.Goals as goal
 
@@ -23,7 +26,14 @@ invariant_of-self-2 g c =
     let counts = it.counts in
     let total = c.self.invariant.3 in
     let sum = c.count.ensures.total in
-    (c.self.invariant.0 ∙ sym it.venues, c.self.invariant.1, it.replays, omega (arith, before, now, counts, total, sum))
+    let written = written-withdrawn c.self.inside.book c.args.id c.self.inside.bookings.items c.self.invariant.5 in (
+      c.self.invariant.0 ∙ sym it.venues,
+      c.self.invariant.1,
+      it.replays,
+      omega (arith, before, now, counts, total, sum),
+      c.self.invariant.4,
+      subst (λ (r : BookAnswer). AreWritten r.1 0 c.self.inside.bookings.items) (sym c.in_ok-withdraw.ensures) written,
+    )
 
 pub returns-clause-seat : goal.returns-clause-seat
 returns-clause-seat g c =

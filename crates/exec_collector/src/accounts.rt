@@ -1,0 +1,16 @@
+//! Which lists stand under the lock.
+
+ghost use Rattle.std.specs.Prelude.{ℕ, List, []};
+
+use std::marker::Brand;
+use std::sync::ledger::Ledger;
+
+/// The count of a book and of its workers' seats, with the list of each venue's bookings, by its name: one for the book
+/// and the seat of that venue.
+pub trait Accounts: Ledger {
+    ghost lists: { List ℕ };
+}
+
+impl Accounts for Brand {
+    ghost lists = { [] };
+}
