@@ -1,5 +1,5 @@
 -- A note of a leg that is kept, of the note's venue and not withdrawn.
-use Rattle.std.proofs.Common.{◌≡◌, ◌≢◌, ℕ, ◌<◌, inl, inr, Bool, false, List, length, set, Option, Some, Ok, Err, refl, ap, sym, ◌∙◌, subst, arith}
+use Rattle.std.proofs.Common.{◌≡◌, ℕ, ◌<◌, inl, inr, Bool, false, List, length, set, Some, Ok, Err, refl, ap, sym, ◌∙◌, subst, arith}
 use Rattle.std.specs.Prelude.{option_map, not, nat_eq, nat_lt, Result, is_some, get_or, OnErr}
 use Rattle.std.proofs.lemmas.Bool.{cases_eq, eqb-true, not-false}
 use Rattle.std.proofs.lemmas.List.{get_or_read, get_or-set_same, get_or-set_other, length-set}
@@ -14,11 +14,11 @@ use Rattle.share_ledger.specs.declared.book_entry.BookEntry.TheVariants.{Moved}
 use Rattle.share_ledger.specs.declared.book_fault.BookFault.{BookFault}
 use Rattle.share_ledger.specs.declared.ledger.Ledger.{Ledger}
 use Rattle.share_ledger.specs.declared.reports.Reports.{Reports}
-use Rattle.share_ledger.specs.Entries.{order_of, is_booked}
+use Rattle.share_ledger.specs.Entries.{order_of}
 use Rattle.share_ledger.specs.Shares.{Ends, move_of}
 use Rattle.share_ledger.specs.Book.{BookParts, BookedLeg, written, moves_on, answer_to}
 use Rattle.share_ledger.specs.Reports.{report_at, shares_on, report_after, moved_by}
-use Rattle.share_ledger.specs.Kept.{ledger_seen, booked_leg, standing, ChangesLeg, IsKept, AreTold, IsKeptBook}
+use Rattle.share_ledger.specs.Kept.{ledger_seen, booked_leg, standing, ChangesLeg, IsNewOn, MovesLeg, MovesNothing, IsLegOf, IsKept, AreTold, IsKeptBook}
 use Rattle.share_ledger.proofs.Told.{IsTold, told-replay}
 use Rattle.share_ledger.proofs.KeptChanged.{sound_kept, order_kept}
 use Rattle.share_ledger.proofs.KeptTold.{told_moved}
@@ -82,108 +82,125 @@ told_reordered all book venue was now h there was_is same =
           ∙ stands v other exec id old_there of);
     }
 
--- a report that may move a leg: the leg is kept, of the report's venue and not withdrawn, and no report of that id was
--- booked there
-pub record MayMove (ledger : Ledger) (all : List Reports) (venue : ℕ) (report : Report) (was : BookedLeg)
-    (reports : Reports) : Type 0 where
-  pub kept : option_map (booked_leg (ledger_seen ledger) report.id) (order_of report.id ledger.history.items)
-      ≡ Some was
-  pub range : IsSplit was.parts
-  pub of_venue : was.venue ≡ venue
-  pub reports_are : reports ≡ get_or all venue reports
-  pub fresh : is_some (report_at reports report.exec) ≡ false
-  pub there : nat_lt 0 was.parts.withdrawn ≡ false
-
--- the same, by what the calls before answered
-pub may_move : {found : Option BookedLeg} {differs has gone : Bool} (ledger : Ledger) (all : List Reports) (venue : ℕ)
-    (report : Report) (was : BookedLeg) (reports : Reports) (at : ℕ)
-    → found ≡ option_map (booked_leg (ledger_seen ledger) report.id) (order_of report.id ledger.history.items)
-    → found ≡ Some was → IsSplit was.parts → differs ≡ not (nat_eq was.venue venue) → differs ≡ false → at ≡ venue
-    → reports ≡ get_or all at reports → has ≡ is_some (report_at reports report.exec) → has ≡ false
-    → gone ≡ nat_lt 0 was.parts.withdrawn → gone ≡ false → MayMove ledger all venue report was reports
-may_move ledger all venue report was reports at found_is found range differs_is differs at_is reports_are has_is has
-    gone_is gone =
+-- a report on a leg that is kept, of the report's venue, where no report of that id was booked
+pub is_new_on : (ledger : Ledger) (all : List Reports) → IsKeptBook ledger all → (venue : ℕ) (report : Report)
+    (leg : BookedLeg) (at : ℕ) (reports : Reports)
+    → option_map (booked_leg (ledger_seen ledger) report.id) (order_of report.id ledger.history.items) ≡ Some leg
+    → IsSplit leg.parts → leg.venue ≡ venue → at ≡ venue → reports ≡ get_or all at reports
+    → is_some (report_at reports report.exec) ≡ false → IsNewOn leg venue report (ledger_seen ledger)
+is_new_on ledger all h venue report leg at reports kept range of_venue at_is reports_are fresh =
+    let sums = h.sums in
+    let told = h.told in
+    let within = sums.known in
+    let legs = sums.legs in
+    let inside = within report.id leg (legs report.id ∙ kept) in
+    let known : venue < length ledger.resolved.items = omega (arith, inside, of_venue) in
+    let count = told.count in
+    let venue_there : venue < length all = omega (arith, known, count) in
+    let has = told.has in
     record {
-      kept = sym found_is ∙ found;
+      kept = kept;
       range = range;
-      of_venue = same_venue was.venue venue (sym differs_is ∙ differs);
-      reports_are = reports_are ∙ ap (λ n. get_or all n reports) at_is;
-      fresh = sym has_is ∙ has;
-      there = sym gone_is ∙ gone;
+      known = known;
+      of_venue = of_venue;
+      fresh =
+          sym (has venue reports report.exec venue_there)
+          ∙ (ap (λ r. is_some (report_at r report.exec)) (sym (reports_are ∙ ap (λ n. get_or all n reports) at_is))
+          ∙ fresh);
     }
 
--- a report on a leg
+-- a new report on a leg that isn't withdrawn
 module _ (ledger : Ledger) (all : List Reports) (h : IsKeptBook ledger all) (venue : ℕ) (report : Report)
-    (was : BookedLeg) (reports : Reports) (may : MayMove ledger all venue report was reports) where
-  pub venue_there : venue < length all
-  venue_there =
-      let sums = h.sums in
-      let told = h.told in
-      let known = sums.known in
-      let legs = sums.legs in
-      let inside = known report.id was (legs report.id ∙ may.kept) in
-      let count = told.count in
-      let of_venue = may.of_venue in
-      omega (arith, inside, count, of_venue)
+    (was : BookedLeg) (on : IsNewOn was venue report (ledger_seen ledger))
+    (there : nat_lt 0 was.parts.withdrawn ≡ false) (reports : Reports) (at : ℕ) (at_is : at ≡ venue)
+    (reports_at_are : reports ≡ get_or all at reports) where
+  reports_are : reports ≡ get_or all venue reports
+  reports_are = reports_at_are ∙ ap (λ n. get_or all n reports) at_is
 
-  free : is_booked venue report.exec ledger.history.items ≡ false
-  free =
+  venue_there : venue < length all
+  venue_there =
       let told = h.told in
-      let has = told.has in
-      sym (has venue reports report.exec venue_there)
-      ∙ (ap (λ r. is_some (report_at r report.exec)) (sym may.reports_are) ∙ may.fresh)
+      let known = on.known in
+      let count = told.count in
+      omega (arith, known, count)
 
   of_order : (routed : Routed) → order_of report.id ledger.history.items ≡ Some routed → routed.venue ≡ venue
   of_order routed found =
-      let it = order_kept (ledger_seen ledger) report.id (order_of report.id ledger.history.items) was may.kept in
+      let it = order_kept (ledger_seen ledger) report.id (order_of report.id ledger.history.items) was on.kept in
       let also = it.1 in
       let same : it.0 ≡ routed = cc in
-      sym (ap (λ r. r.venue) same) ∙ (sym (ap (λ l. l.venue) it.2) ∙ may.of_venue)
+      sym (ap (λ r. r.venue) same) ∙ (sym (ap (λ l. l.venue) it.2) ∙ on.of_venue)
 
   stands : (exec : List ℕ)
       → shares_on report.id (report_at reports exec) ≡ standing exec (moves_on report.id (ledger_seen ledger))
   stands exec =
       let told = h.told in
       let standing_on = told.standing_on in
-      ap (λ r. shares_on report.id (report_at r exec)) may.reports_are
+      ap (λ r. shares_on report.id (report_at r exec)) reports_are
       ∙ standing_on venue reports exec report.id venue_there of_order
 
   -- what the reports make of the leg is what the definition does
-  pub judged_report : Judged (answer_to (ledger_seen ledger) venue (note.Report report))
-      (moves_on report.id (ledger_seen ledger)) (move_of (note.Report report)) was
-      (moved_by reports report.id report.kind was)
-  judged_report =
-      let shares = may.range.shares in
-      judged (ledger_seen ledger) (sound_kept ledger h.sums)
-      (told_kept ledger h.sums) venue report was may.kept shares.low may.of_venue free may.there reports stands
+  judged_report : (moved : Result BookedLeg Applied) → moved_by reports report.id report.kind was ≡ moved
+      → Judged (answer_to (ledger_seen ledger) venue (note.Report report)) (moves_on report.id (ledger_seen ledger))
+      (move_of (note.Report report)) was moved
+  judged_report moved is =
+      let range = on.range in
+      let shares = range.shares in
+      subst (Judged (answer_to (ledger_seen ledger) venue (note.Report report))
+      (moves_on report.id (ledger_seen ledger)) (move_of (note.Report report)) was) is
+      (judged (ledger_seen ledger) (sound_kept ledger h.sums) (told_kept ledger h.sums) venue report was on.kept
+      shares.low on.of_venue on.fresh there reports stands)
 
-  pub report_changes : (now : BookedLeg) → moved_by reports report.id report.kind was ≡ Ok now
-      → ChangesLeg report.id was now (Moved venue (note.Report report)) (ledger_seen ledger)
-  report_changes now is =
-      let it = subst (Judged (answer_to (ledger_seen ledger) venue (note.Report report))
-      (moves_on report.id (ledger_seen ledger)) (move_of (note.Report report)) was) is judged_report in
-      changes_moved (ledger_seen ledger) (sound_kept ledger h.sums) (told_kept ledger h.sums) venue
-      (note.Report report) report.id was now refl (λ k. refl) may.kept it.0 it.1 it.2
+  -- where the report can't be written, the same reports are kept, in another order of their table
+  pub told_unwritten : (now : Reports) → ((exec : List ℕ) → report_at now exec ≡ report_at reports exec)
+      → AreTold (set all at now) (ledger_seen ledger)
+  told_unwritten now same =
+      subst (λ n. AreTold (set all n now) (ledger_seen ledger)) (sym at_is)
+      (told_reordered all (ledger_seen ledger) venue reports now h.told venue_there reports_are same)
 
-  pub report_moves : (now : BookedLeg) → moved_by reports report.id report.kind was ≡ Ok now
+  pub told_written : (now : Reports)
+      → ((exec : List ℕ) → report_at now exec ≡ report_after reports report exec)
       → answer_to (ledger_seen ledger) venue (note.Report report) ≡ applied.Moved
-  report_moves now is =
-      let it = subst (Judged (answer_to (ledger_seen ledger) venue (note.Report report))
-      (moves_on report.id (ledger_seen ledger)) (move_of (note.Report report)) was) is judged_report in it.0
+      → AreTold (set all at now) (written (Moved venue (note.Report report)) (ledger_seen ledger))
+  told_written now after moved =
+      let it = order_kept (ledger_seen ledger) report.id (order_of report.id ledger.history.items) was on.kept in
+      let range = on.range in
+      let shares = range.shares in
+      subst (λ n. AreTold (set all n now) (written (Moved venue (note.Report report)) (ledger_seen ledger))) (sym at_is)
+      (told_moved all (ledger_seen ledger) venue report it.0 h.told venue_there it.1 (of_order it.0 it.1) on.fresh
+      (told_kept ledger h.sums) (sound_kept ledger h.sums) reports now reports_are after
+      (busted_kept (ledger_seen ledger) (sound_kept ledger h.sums) (told_kept ledger h.sums) venue report was on.kept
+      shares.low on.of_venue on.fresh there reports stands moved))
 
-  pub report_stays : (answer : Applied) → moved_by reports report.id report.kind was ≡ Err answer
-      → (answer_to (ledger_seen ledger) venue (note.Report report) ≡ answer) × (answer ≢ applied.Moved)
-  report_stays answer is = subst
-      (Judged (answer_to (ledger_seen ledger) venue (note.Report report)) (moves_on report.id (ledger_seen ledger))
-      (move_of (note.Report report)) was) is judged_report
+-- what the report makes of that leg
+module _ (ledger : Ledger) (all : List Reports) (h : IsKeptBook ledger all) (venue : ℕ) (report : Report)
+    (book : BookParts) (seen : ledger_seen ledger ≡ book) (leg : Result BookedLeg Applied) (was : BookedLeg)
+    (leg_of : IsLegOf book venue report leg) (leg_is : leg ≡ Ok was) (gone : Bool)
+    (gone_is : gone ≡ nat_lt 0 was.parts.withdrawn) (there : gone ≡ false) (at : ℕ) (at_is : at ≡ venue)
+    (reports : Reports) (reports_are : reports ≡ get_or all at reports) where
+  on : IsNewOn was venue report (ledger_seen ledger)
+  on = subst (IsNewOn was venue report) (sym seen) (subst (IsLegOf book venue report) leg_is leg_of)
 
-  pub told_report : (after : Reports) → ((exec : List ℕ) → report_at after exec ≡ report_after reports report exec)
-      → answer_to (ledger_seen ledger) venue (note.Report report) ≡ applied.Moved
-      → AreTold (set all venue after) (written (Moved venue (note.Report report)) (ledger_seen ledger))
-  told_report after after_is moved =
-      let it = order_kept (ledger_seen ledger) report.id (order_of report.id ledger.history.items) was may.kept in
-      let shares = may.range.shares in
-      told_moved all (ledger_seen ledger) venue report it.0 h.told venue_there it.1 (of_order it.0 it.1) free
-      (told_kept ledger h.sums) (sound_kept ledger h.sums) reports after may.reports_are after_is
-      (busted_kept (ledger_seen ledger) (sound_kept ledger h.sums)
-      (told_kept ledger h.sums) venue report was may.kept shares.low may.of_venue free may.there reports stands moved)
+  made : (moved : Result BookedLeg Applied) → moved_by reports report.id report.kind was ≡ moved
+      → Judged (answer_to (ledger_seen ledger) venue (note.Report report)) (moves_on report.id (ledger_seen ledger))
+      (move_of (note.Report report)) was moved
+  made = judged_report ledger all h venue report was on (sym gone_is ∙ there) reports at at_is reports_are
+
+  pub moves_leg : (now : BookedLeg) → moved_by reports report.id report.kind was ≡ Ok now
+      → MovesLeg (record { was = was; now = now }) venue report book
+  moves_leg now is =
+      let it = made (Ok now) is in
+      let kept = on.kept in
+      subst (MovesLeg (record { was = was; now = now }) venue report) seen
+      (record {
+        on = on;
+        there = sym gone_is ∙ there;
+        answer = it.0;
+        changes = changes_moved (ledger_seen ledger) (sound_kept ledger h.sums) (told_kept ledger h.sums) venue
+            (note.Report report) report.id was now refl (λ k. refl) kept it.0 it.1 it.2;
+      })
+
+  pub moves_nothing : (answer : Applied) → moved_by reports report.id report.kind was ≡ Err answer
+      → MovesNothing book venue report answer
+  moves_nothing answer is =
+      subst (λ b. MovesNothing b venue report answer) seen (made (Err answer) is)

@@ -1,20 +1,26 @@
 -- What the book keeps beside its history, so that no call walks it.
-use Rattle.std.specs.Prelude.{◌≡◌, ℕ, ◌+◌, ◌<◌, ◌≤◌, ◌==◌, false, List, [], ◌∷◌, length, Option, Some, None, option_and_then, option_map, sum_by, is_some, get_or, vec_len, vec_capacity, if◌then◌else◌}
+use Rattle.std.specs.Prelude.{◌≡◌, ◌≢◌, ℕ, ◌+◌, ◌<◌, ◌≤◌, ◌==◌, false, List, [], ◌∷◌, length, Option, Some, None, Result, Ok, Err, option_and_then, option_map, sum_by, is_some, get_or, nat_lt, vec_len, vec_capacity, if◌then◌else◌}
 use Rattle.std.specs.Global.{Vec}
 use Rattle.leg.specs.LegId.{LegIdParts}
 use Rattle.leg.specs.Numbered.{numbered}
-use Rattle.leg.specs.Split.{all_open, leg_shares}
+use Rattle.leg.specs.Split.{IsSplit, all_open, leg_shares}
 use Rattle.leg.specs.declared.sweep.Routed.{Routed}
+use Rattle.dialect.specs.declared.note.Note.TheVariants as note
+use Rattle.dialect.specs.declared.report.Report.{Report}
+use Rattle.share_ledger.specs.declared.applied.Applied.{Applied}
+use Rattle.share_ledger.specs.declared.applied.Applied.TheVariants as applied
 use Rattle.share_ledger.specs.declared.book_entry.BookEntry.{BookEntry}
+use Rattle.share_ledger.specs.declared.book_entry.BookEntry.TheVariants.{Moved}
 use Rattle.share_ledger.specs.declared.booked_leg.BookedLeg.{BookedLeg}
 use Rattle.share_ledger.specs.declared.ledger.Ledger.{Ledger}
+use Rattle.share_ledger.specs.declared.leg_change.LegChange.{LegChange}
 use Rattle.share_ledger.specs.declared.reports.Reports.{Reports}
 use Rattle.share_ledger.specs.Entries.{opened, order_of, is_same_leg, is_booked}
 use Rattle.share_ledger.specs.Shares.{Move}
 use Rattle.share_ledger.specs.Reports.{report_at, shares_on}
 use Rattle.share_ledger.specs.Steps.{traded_under}
 pub use Rattle.share_ledger.specs.Book.{booked_leg}
-use Rattle.share_ledger.specs.Book.{BookParts, new_book, written, moves_on, leg_parts, resolved_shares, opened_shares, can_bust, again, replay}
+use Rattle.share_ledger.specs.Book.{BookParts, new_book, written, moves_on, leg_parts, resolved_shares, opened_shares, can_bust, answer_to, again, replay}
 
 -- the book as a caller sees it
 abbrev pub ledger_seen : Ledger → BookParts
@@ -53,6 +59,36 @@ pub record ChangesLeg (id : LegIdParts) (was now : BookedLeg) (entry : BookEntry
   pub others : (other : LegIdParts) (shares : ℕ) → is_same_leg id other ≡ false
       → leg_parts other shares (written entry book) ≡ leg_parts other shares book
   pub less : now.parts.still_open ≤ was.parts.still_open
+
+-- a report on a leg of its venue, under an id that is new there
+pub record IsNewOn (leg : BookedLeg) (venue : ℕ) (report : Report) (book : BookParts) : Type 0 where
+  pub kept : option_map (booked_leg book report.id) (order_of report.id book.entries) ≡ Some leg
+  pub range : IsSplit leg.parts
+  pub known : venue < book.venues
+  pub of_venue : leg.venue ≡ venue
+  pub fresh : is_booked venue report.exec book.entries ≡ false
+
+-- a report that moves its leg, which isn't withdrawn
+pub record MovesLeg (change : LegChange) (venue : ℕ) (report : Report) (book : BookParts) : Type 0 where
+  pub on : IsNewOn change.was venue report book
+  pub there : nat_lt 0 change.was.parts.withdrawn ≡ false
+  pub answer : answer_to book venue (note.Report report) ≡ applied.Moved
+  pub changes : ChangesLeg report.id change.was change.now (Moved venue (note.Report report)) book
+
+-- a report that moves nothing, and its answer
+abbrev pub MovesNothing : BookParts → ℕ → Report → Applied → Type 0
+MovesNothing book venue report answer =
+    (answer_to book venue (note.Report report) ≡ answer) × (answer ≢ applied.Moved)
+
+-- the leg that a new report is on, or the report's answer
+abbrev pub IsLegOf : BookParts → ℕ → Report → Result BookedLeg Applied → Type 0
+IsLegOf book venue report (Ok leg) = IsNewOn leg venue report book
+IsLegOf book venue report (Err answer) = MovesNothing book venue report answer
+
+-- what a report makes of its leg, or the report's answer
+abbrev pub IsChange : BookParts → ℕ → Report → Result LegChange Applied → Type 0
+IsChange book venue report (Ok change) = MovesLeg change venue report book
+IsChange book venue report (Err answer) = MovesNothing book venue report answer
 
 -- the legs are those of the history, each sum is that of its legs, and the history has room for each withdrawal
 pub record IsKept (ledger : Ledger) : Type 0 where

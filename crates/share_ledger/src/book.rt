@@ -5,8 +5,10 @@ ghost use Rattle.leg.specs.Answering.{Answers};
 ghost use Rattle.leg.specs.Split.{IsSplit};
 ghost use Rattle.dialect.specs.declared.note.Note.TheVariants as note;
 ghost use Rattle.share_ledger.specs.Book.{new_book, answer_to, open_sweep, apply, withdraw, totals, leg_in, next_sweep, venue_resolved};
+ghost use Rattle.share_ledger.specs.Kept.{IsLegOf, IsChange};
 
 use crate::ledger::Ledger;
+use crate::leg_change::LegChange;
 use crate::reports::Reports;
 use crate::{Applied, BookEntry, BookFault, BookedLeg};
 use dialect::{Note, Report};
@@ -78,28 +80,48 @@ impl Book {
             result self.new }
         ensures wanting { OnErr result (answer_to self.old venue (note.Report report.now) ≡ Applied.Moved) }
     {
-        let Some(was) = self.ledger.leg(report.id) else {
-            return Ok(Applied::Stray);
-        };
-        if was.venue != venue {
-            return Ok(Applied::Stray);
-        }
-        let reports = &mut self.reports[usize::from(venue.number())];
-        if reports.has(&report.exec) {
-            return Ok(Applied::Duplicate);
-        }
-        if was.is_withdrawn() {
-            return Ok(Applied::Stray);
-        }
-        let now = match reports.moved(was, report) {
-            Ok(now) => now,
+        let change = match self.change_by(venue, report) {
+            Ok(change) => change,
             Err(answer) => return Ok(answer),
         };
         self.ledger.reserve()?;
-        reports.book(report)?;
+        self.reports[usize::from(venue.number())].book(report)?;
         let entry = BookEntry::Moved(venue, Note::Report(report.clone().unwrap()));
-        self.ledger.settle(report.id, was, now, entry);
+        self.ledger.settle(report.id, change.was, change.now, entry);
         Ok(Applied::Moved)
+    }
+
+    /// What a report makes of its leg, or the report's answer where it moves nothing.
+    fn change_by(&self, venue: VenueId, report: &Report) -> Result<LegChange, Applied>
+        ensures { IsChange self.now venue report.now result }
+    {
+        let was = self.leg_of(venue, report)?;
+        if was.is_withdrawn() {
+            return Err(Applied::Stray);
+        }
+        let reports = &self.reports[usize::from(venue.number())];
+        match reports.moved(was, report) {
+            Ok(now) => Ok(LegChange { was, now }),
+            Err(answer) => Err(answer),
+        }
+    }
+
+    /// The leg that a report is on, if it is of the report's venue and no report of that id was booked for the venue;
+    /// else the report's answer.
+    fn leg_of(&self, venue: VenueId, report: &Report) -> Result<BookedLeg, Applied>
+        ensures { IsLegOf self.now venue report.now result }
+    {
+        let Some(leg) = self.ledger.leg(report.id) else {
+            return Err(Applied::Stray);
+        };
+        if leg.venue != venue {
+            return Err(Applied::Stray);
+        }
+        let reports = &self.reports[usize::from(venue.number())];
+        if reports.has(&report.exec) {
+            return Err(Applied::Duplicate);
+        }
+        Ok(leg)
     }
 
     /// Applies the refusal of a leg's order.

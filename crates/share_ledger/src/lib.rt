@@ -19,6 +19,7 @@ mod book_fault;
 mod booked_leg;
 pub mod laws;
 mod ledger;
+mod leg_change;
 mod limits;
 mod reports;
 pub mod rows;
