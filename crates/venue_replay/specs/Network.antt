@@ -1,5 +1,5 @@
 -- The network as bytes: what a frame is read as, and that each is one that was written.
-use Rattle.std.specs.Prelude.{ℕ, false, List, [], map, Option, Some, None, Result, Ok, Err}
+use Rattle.std.specs.Prelude.{ℕ, false, ◌&&◌, ◌==◌, List, [], map, Option, Some, None, Result, Ok, Err, if◌then◌else◌}
 use Rattle.fix_text.specs.Tagged.{Tagged}
 use Rattle.fix_text.specs.Reading.{Stream, next_read}
 use Rattle.fix_tags.specs.Reading.{envelope_read}
@@ -13,6 +13,7 @@ use Rattle.dialect.specs.Framed.{IsFramed}
 use Rattle.dialect.specs.Wording.{Decoding, Encoding}
 use Rattle.dialect.specs.Message.{decoded}
 use Rattle.dialect.specs.Writable.{IsWritable}
+use Rattle.session_core.specs.Session.{SessionParts, is_connected}
 use Rattle.venue_replay.specs.declared.frame.Frame.{Frame}
 use Rattle.schedule.specs.World as world
 
@@ -38,6 +39,12 @@ stream_of bytes = record { rest = bytes; skipped = 0; garbled = 0 }
 
 abbrev pub said_by : Decoding → List ℕ → Message
 said_by read bytes = message_in read (next_read (stream_of bytes)).frame
+
+-- a frame, if it was written in the session's present connection
+abbrev pub current_in : SessionParts → Option Frame → Option Frame
+current_in session None = None
+current_in session (Some frame) =
+    if is_connected session.phase && frame.connection == session.connection then Some frame else None
 
 -- the frames as a world has them: each a message with its connection
 abbrev pub said_in : Decoding → Frame → world.Frame
