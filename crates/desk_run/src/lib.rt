@@ -9,36 +9,28 @@
 //! - Each worker is that of the venue at its place in the file. A simulated exchange begins as one with the comp ids
 //!   of its venue, and fills as the file says; that it has the dialect is only tested.
 //! - Of a worker the legs told in doubt are those that its session has so (`legs_in_doubt`, private).
-//! - That a sweep is told when its parts change is only tested.
 //! - That the logs of a day, where it keeps any, hold its messages and lines is only tested; what they are, and that no
 //!   fault of a log reaches a session, is said by `day_log`.
-//! - That lines are answered in their order, what is told while the day runs, that a worker dials its venue's
-//!   address, that a second `close` gives the day up, and that a day ends, is only tested.
+//! - What is answered and told while the day runs is said by `desk_talk`. That a worker dials its venue's address, and
+//!   that a day ends, is only tested.
 //!
 //! See `docs/run.md`.
 #![tactic(auto)]
 
 mod address;
-mod caller;
 mod day;
 mod day_fault;
 mod doubts;
 mod exchange;
 mod followers;
-mod input_lines;
-mod keeper;
 mod logs;
-mod news;
-mod open_sweeps;
 mod opening;
 mod pages;
 mod running;
 mod session;
-mod status;
 mod threads;
 mod workers;
 
 pub use day::{DeskDay, VenueDoubt};
 pub use day_fault::DayFault;
-pub use input_lines::DeskInput;
 pub use running::{DayOptions, run_day};

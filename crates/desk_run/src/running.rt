@@ -16,7 +16,6 @@ use crate::DeskDay;
 use crate::day_fault::DayFault;
 use crate::doubts::{doubts_of, is_given_up};
 use crate::followers::tell_followers;
-use crate::input_lines::{DeskInput, InputLines};
 use crate::logs::begin_logs;
 use crate::opening::open_places;
 use crate::pages::open_pages;
@@ -28,6 +27,7 @@ use desk_floor::{
     Bells, Counter, Floor, Left, Manner, Refusals, Signals, VenueView, Voice, booked_sweeps,
 };
 use desk_serve::PageServer;
+use desk_talk::{DeskInput, InputLines};
 use desk_words::VenueName;
 use exec_collector::{Accounts, BlankBook, Collector};
 use json_lines::Form;

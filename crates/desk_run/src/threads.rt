@@ -4,16 +4,14 @@ ghost use Rattle.std.specs.Prelude.{◌≡◌, map, IfOk, IfErr};
 ghost use Rattle.desk_run.specs.Faults.{IsNoMismatch};
 ghost use Rattle.desk_run.specs.Places.{place};
 
-use crate::caller::take_lines;
 use crate::day_fault::DayFault;
 use crate::exchange::Serve;
-use crate::input_lines::InputLines;
-use crate::keeper::keep;
 use crate::workers::run_workers;
 use clock::Clock;
 use day_log::{FileWriter, write_until};
 use desk_floor::{Floor, TalkFault};
 use desk_serve::PageServer;
+use desk_talk::{InputLines, keep, take_lines};
 use dialect::AnyDialect;
 use exec_collector::Accounts;
 use link::Link;

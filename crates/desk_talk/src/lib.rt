@@ -1,0 +1,22 @@
+//! What is said while a desk's day runs: a caller takes the lines of the input in order and answers each, and a keeper
+//! tells what changes and closes the day.
+//!
+//! Promises:
+//! - All that is done here is proved to be safe. What is answered and told is the work of the crates below, and said
+//!   there: `desk_floor` (`Floor::hand_in`, `sweep_now`), `sweep_text` and `desk_news`.
+//! - That lines are answered in their order, that a venue and a sweep are told when they change, that a second `close`
+//!   gives the day up, and that a day closes once no share is open or its patience is over, is only tested.
+//!
+//! See `docs/run.md`.
+#![tactic(auto)]
+
+mod caller;
+mod input_lines;
+mod keeper;
+mod news;
+mod open_sweeps;
+mod status;
+
+pub use caller::take_lines;
+pub use input_lines::{DeskInput, InputLines, Next};
+pub use keeper::keep;
