@@ -1,3 +1,1 @@
 mod LegsInDoubt
-mod NoMismatch
-mod Places

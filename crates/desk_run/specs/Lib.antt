@@ -1,4 +1,1 @@
-pub mod Faults
-pub mod Places
-pub mod Venues
 pub mod Doubts

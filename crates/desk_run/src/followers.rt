@@ -1,9 +1,9 @@
 //! Those who followed a day to its end are told how its audit ended.
 
-use crate::day_fault::DayFault;
 use desk_json::Audit;
 use desk_news::Told;
 use desk_serve::tell_closed;
+use desk_venues::DayFault;
 use desk_words::shown;
 use session_worker::DayReport;
 use std::alloc::Global;

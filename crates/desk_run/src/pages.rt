@@ -1,12 +1,11 @@
 //! What serves the page of a day, if it has one.
 
 ghost use Rattle.std.specs.Prelude.{IfErr};
-ghost use Rattle.desk_run.specs.Faults.{IsNoMismatch};
+ghost use Rattle.desk_venues.specs.Faults.{IsNoMismatch};
 
-use crate::address::first_address;
-use crate::day_fault::DayFault;
 use desk_config::DeskConfig;
 use desk_serve::{PageServer, open_page};
+use desk_venues::{DayFault, first_address};
 use std::alloc::Global;
 use std::io::ErrorKind;
 use std::net::{Net, TcpListener, TcpStream};

@@ -8,19 +8,15 @@ ghost use Rattle.exec_collector.specs.Seats.{parts_of as seat_parts};
 ghost use Rattle.release_lock.specs.Queues.{IsFresh, AreInOrder};
 ghost use Rattle.session_worker.specs.Ends.{queues_of, seats_of};
 ghost use Rattle.desk_config.specs.Apart.{AreVenues};
-ghost use Rattle.desk_run.specs.Faults.{IsNoMismatch};
-ghost use Rattle.desk_run.specs.Places.{place, new_places};
+ghost use Rattle.desk_venues.specs.Faults.{IsNoMismatch};
+ghost use Rattle.desk_venues.specs.Places.{place, new_places};
 ghost use Rattle.desk_floor.specs.Sweeps.{sweeps_in};
 
 use crate::DeskDay;
-use crate::day_fault::DayFault;
 use crate::doubts::{doubts_of, is_given_up};
 use crate::followers::tell_followers;
-use crate::logs::begin_logs;
-use crate::opening::open_places;
 use crate::pages::open_pages;
 use crate::threads::{Cast, Ended, in_threads};
-use crate::workers::new_workers;
 use day_log::VenueLog;
 use desk_config::{DeskConfig, Venue};
 use desk_floor::{
@@ -28,6 +24,7 @@ use desk_floor::{
 };
 use desk_serve::PageServer;
 use desk_talk::{DeskInput, InputLines};
+use desk_venues::{DayFault, begin_logs, new_workers, open_places};
 use desk_words::VenueName;
 use exec_collector::{Accounts, BlankBook, Collector};
 use json_lines::Form;

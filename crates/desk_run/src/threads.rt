@@ -1,17 +1,15 @@
 //! The threads of a day.
 
 ghost use Rattle.std.specs.Prelude.{◌≡◌, map, IfOk, IfErr};
-ghost use Rattle.desk_run.specs.Faults.{IsNoMismatch};
-ghost use Rattle.desk_run.specs.Places.{place};
+ghost use Rattle.desk_venues.specs.Faults.{IsNoMismatch};
+ghost use Rattle.desk_venues.specs.Places.{place};
 
-use crate::day_fault::DayFault;
-use crate::exchange::Serve;
-use crate::workers::run_workers;
 use clock::Clock;
 use day_log::{FileWriter, write_until};
 use desk_floor::{Floor, TalkFault};
 use desk_serve::PageServer;
 use desk_talk::{InputLines, keep, take_lines};
+use desk_venues::{DayFault, Serve, run_workers};
 use dialect::AnyDialect;
 use exec_collector::Accounts;
 use link::Link;

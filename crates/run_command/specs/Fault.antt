@@ -6,8 +6,8 @@ use Rattle.desk_config.specs.declared.fault.ConfigFault.{ConfigFault}
 use Rattle.desk_config.specs.declared.fault.ConfigFault.TheVariants as config
 use Rattle.day_log.specs.declared.fault.LogFault.{LogFault}
 use Rattle.day_log.specs.declared.fault.LogFault.TheVariants as log
-use Rattle.desk_run.specs.declared.day_fault.DayFault.{DayFault}
-use Rattle.desk_run.specs.declared.day_fault.DayFault.TheVariants as day
+use Rattle.desk_venues.specs.declared.day_fault.DayFault.{DayFault}
+use Rattle.desk_venues.specs.declared.day_fault.DayFault.TheVariants as day
 use Rattle.desk_floor.specs.declared.talk_fault.TalkFault.{TalkFault}
 use Rattle.desk_floor.specs.declared.talk_fault.TalkFault.TheVariants as talk
 use Rattle.toml.specs.Errors.{IsMemory}

@@ -8,7 +8,7 @@ use command_line::{Fault, InputFault};
 use day_log::LogFault;
 use desk_config::ConfigFault;
 use desk_floor::TalkFault;
-use desk_run::DayFault;
+use desk_venues::DayFault;
 use std::alloc::AllocError;
 use std::io;
 use thiserror::Error;

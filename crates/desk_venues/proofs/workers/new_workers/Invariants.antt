@@ -1,8 +1,8 @@
 use Rattle.std.proofs.Common.{◌≡◌, ◌+◌, ◌++◌, [], List, length, map, All}
 use Rattle.release_lock.specs.Queues.{DrainParts}
-use Rattle.desk_run.specs.Places.{Place, place, new_place}
-use Rattle.desk_run.proofs.Places.{seat_of}
-use Rattle.desk_run.proofs.workers.new_workers.Given as goal
+use Rattle.desk_venues.specs.Places.{Place, place, new_place}
+use Rattle.desk_venues.proofs.Places.{seat_of}
+use Rattle.desk_venues.proofs.workers.new_workers.Given as goal
 
 abbrev pub invariant-loop-venue : goal.invariant-loop-venue
 invariant-loop-venue g l =

@@ -1,7 +1,7 @@
 //! Where the exchanges of a day's venues are.
 
 ghost use Rattle.std.specs.Prelude.{◌≡◌, length, IfOk, IfErr};
-ghost use Rattle.desk_run.specs.Faults.{IsNoMismatch};
+ghost use Rattle.desk_venues.specs.Faults.{IsNoMismatch};
 
 use crate::address::first_address;
 use crate::day_fault::DayFault;

@@ -1,6 +1,6 @@
-use Rattle.desk_run.proofs.Places.{kept_places}
-use Rattle.desk_run.proofs.NoMismatch.{no_mismatches}
-use Rattle.desk_run.proofs.workers.run_workers.Goals as goal
+use Rattle.desk_venues.proofs.Places.{kept_places}
+use Rattle.desk_venues.proofs.NoMismatch.{no_mismatches}
+use Rattle.desk_venues.proofs.workers.run_workers.Goals as goal
 
 pub returns-clause-kept : goal.returns-clause-kept
 returns-clause-kept g c =

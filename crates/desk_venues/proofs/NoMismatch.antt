@@ -3,8 +3,8 @@ use Rattle.std.proofs.Common.{◌≡◌, sym, subst}
 use Rattle.std.specs.Prelude.{Result, Ok, Err, IfErr, IsErrAnd}
 use Rattle.session_worker.specs.declared.run_fault.RunFault.{RunFault}
 use Rattle.session_worker.specs.declared.run_fault.RunFault.TheVariants.{OutOfMemory, NoThread}
-use Rattle.desk_run.specs.Faults.{run_fault, IsNoMismatch}
-use Rattle.desk_run.specs.declared.day_fault.DayFault.{DayFault}
+use Rattle.desk_venues.specs.Faults.{run_fault, IsNoMismatch}
+use Rattle.desk_venues.specs.declared.day_fault.DayFault.{DayFault}
 
 no_mismatch : (fault : RunFault) → IsNoMismatch (run_fault fault)
 no_mismatch OutOfMemory = tt

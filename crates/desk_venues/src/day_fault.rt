@@ -1,8 +1,8 @@
 //! Why a day can't be run.
 
 ghost use Rattle.std.specs.Prelude.{◌≡◌};
-ghost use Rattle.desk_run.specs.declared.day_fault.DayFault.TheVariants.{OutOfMemory};
-ghost use Rattle.desk_run.specs.Faults.{run_fault};
+ghost use Rattle.desk_venues.specs.declared.day_fault.DayFault.TheVariants.{OutOfMemory};
+ghost use Rattle.desk_venues.specs.Faults.{run_fault};
 
 use day_log::LogFault;
 use session_worker::RunFault;

@@ -1,7 +1,7 @@
 //! The two ends of a venue's session.
 
 ghost use Rattle.std.specs.Prelude.{◌≡◌};
-ghost use Rattle.desk_run.specs.Venues.{end_of, desk_end, exchange_end};
+ghost use Rattle.desk_venues.specs.Venues.{end_of, desk_end, exchange_end};
 
 use desk_config::{SessionTerms, Venue};
 use fix_tags::{CompId, Config};

@@ -3,8 +3,8 @@
 ghost use Rattle.std.specs.Prelude.{◌≡◌, [], length, Some, IfOk, IfErr, map};
 ghost use Rattle.exec_collector.specs.Seats.{worker_seats};
 ghost use Rattle.release_lock.specs.Queues.{new_drains};
-ghost use Rattle.desk_run.specs.Faults.{IsNoMismatch};
-ghost use Rattle.desk_run.specs.Places.{place, place_of, new_places};
+ghost use Rattle.desk_venues.specs.Faults.{IsNoMismatch};
+ghost use Rattle.desk_venues.specs.Places.{place, place_of, new_places};
 
 use crate::day_fault::DayFault;
 use crate::session::desk_end;

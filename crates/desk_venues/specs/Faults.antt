@@ -1,8 +1,8 @@
 -- The refusals of a day.
 use Rattle.session_worker.specs.declared.run_fault.RunFault.{RunFault}
 use Rattle.session_worker.specs.declared.run_fault.RunFault.TheVariants as run
-use Rattle.desk_run.specs.declared.day_fault.DayFault.{DayFault}
-use Rattle.desk_run.specs.declared.day_fault.DayFault.TheVariants.{NoAddress, NoLogs, NoPage, NoSocket, NoThread, OutOfMemory}
+use Rattle.desk_venues.specs.declared.day_fault.DayFault.{DayFault}
+use Rattle.desk_venues.specs.declared.day_fault.DayFault.TheVariants.{NoAddress, NoLogs, NoPage, NoSocket, NoThread, OutOfMemory}
 
 -- why the workers can't be run
 abbrev pub run_fault : RunFault → DayFault

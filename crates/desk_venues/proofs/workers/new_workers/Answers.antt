@@ -2,8 +2,8 @@ use Rattle.std.proofs.Common.{rules, ◌≡◌, [], ◌∷◌, length, refl, sym
 use Rattle.std.proofs.lemmas.List.Elements.{All-head, All-same, All-rest}
 use Rattle.exec_collector.specs.Seats.{Seat, worker_seats}
 use Rattle.release_lock.specs.Queues.{DrainParts, new_drains}
-use Rattle.desk_run.proofs.Places.{none_popped, all_seats, first_seat, seats_length, drains_length, is_new, one_made, all_made}
-use Rattle.desk_run.proofs.workers.new_workers.Goals as goal
+use Rattle.desk_venues.proofs.Places.{none_popped, all_seats, first_seat, seats_length, drains_length, is_new, one_made, all_made}
+use Rattle.desk_venues.proofs.workers.new_workers.Goals as goal
 
 pub loop-venue-init : goal.loop-venue-init
 loop-venue-init g c =

@@ -2,7 +2,7 @@
 
 ghost use Rattle.std.specs.Prelude.{◌≡◌, IfOk, IfErr};
 ghost use Rattle.exchange_core.specs.Exchange.{new_exchange};
-ghost use Rattle.desk_run.specs.Venues.{exchange_end, plan_of};
+ghost use Rattle.desk_venues.specs.Venues.{exchange_end, plan_of};
 
 use crate::day_fault::DayFault;
 use crate::session::exchange_end;

@@ -1,7 +1,7 @@
 //! The logs of a day, if it keeps any.
 
 ghost use Rattle.std.specs.Prelude.{IfErr};
-ghost use Rattle.desk_run.specs.Faults.{IsNoMismatch};
+ghost use Rattle.desk_venues.specs.Faults.{IsNoMismatch};
 
 use crate::day_fault::DayFault;
 use day_log::{FileWriter, LogFault, VenueLog, open_logs};

@@ -9,7 +9,7 @@ use Rattle.release_lock.specs.Queues.{DrainParts, new_drains, Took, AreInOrder}
 use Rattle.dialect.specs.Wording.{Wording}
 use Rattle.session_worker.specs.Events.{WorkerParts, Lasting}
 use Rattle.session_worker.specs.Ends.{WorkerStart, WorkerLeft, queues_of, seats_of, AllRan}
-use Rattle.desk_run.specs.Places.{Place, place, place_of, new_place, new_places}
+use Rattle.desk_venues.specs.Places.{Place, place, place_of, new_place, new_places}
 
 -- each worker that ran keeps its place
 pub kept_places : {D : Type 0} (wording : D → Wording) (workers : List (WorkerStart D)) (ends : List WorkerLeft)

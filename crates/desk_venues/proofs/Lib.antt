@@ -1,0 +1,2 @@
+mod NoMismatch
+pub mod Places

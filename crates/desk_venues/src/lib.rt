@@ -1,0 +1,29 @@
+//! The venues of a desk's day: where each is reached, an exchange inside the process for each that is simulated, its
+//! log, and its worker; and why a day can't be run.
+//!
+//! Promises:
+//! - What opens the venues, and what runs their workers, is refused for no mismatch of the audit (`IsNoMismatch`).
+//! - Each worker is made as that of the venue at its place (`new_workers`), and keeps this place while it runs
+//!   (`run_workers`).
+//! - A simulated exchange begins as one with the comp ids of its venue, and fills as the file says (`Exchange::open`);
+//!   that it has the dialect is only tested.
+//! - That the logs, where any are kept, hold the messages and lines of the day, and that a worker dials its venue's
+//!   address, is only tested. What a log is, and that no fault of it reaches a session, is said by `day_log`.
+//!
+//! See `docs/run.md`.
+#![tactic(auto)]
+
+mod address;
+mod day_fault;
+mod exchange;
+mod logs;
+mod opening;
+mod session;
+mod workers;
+
+pub use address::first_address;
+pub use day_fault::DayFault;
+pub use exchange::{Exchange, Serve};
+pub use logs::{Logs, begin_logs};
+pub use opening::{Places, open_places};
+pub use workers::{DeskLink, DeskWorker, new_workers, run_workers};
