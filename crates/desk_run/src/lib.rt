@@ -7,8 +7,8 @@
 //!   finds no mismatch, whatever the threads do. The sweeps that it tells at the end are all those of a book that its
 //!   own history leads to.
 //! - Of a worker the legs told in doubt are those that its session has so (`legs_in_doubt`, private).
-//! - What is promised of the venues and their workers is said by `desk_venues`, and what is answered and told while the
-//!   day runs by `desk_talk`. That a day ends is only tested.
+//! - What is promised of the venues and their workers is said by `desk_venues`, what is answered and told while the day
+//!   runs by `desk_talk`, and of the threads by `desk_threads`. That a day ends is only tested.
 //!
 //! See `docs/run.md`.
 #![tactic(auto)]
@@ -18,7 +18,6 @@ mod doubts;
 mod followers;
 mod pages;
 mod running;
-mod threads;
 
 pub use day::{DeskDay, VenueDoubt};
 pub use running::{DayOptions, run_day};

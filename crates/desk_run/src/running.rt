@@ -16,7 +16,6 @@ use crate::DeskDay;
 use crate::doubts::{doubts_of, is_given_up};
 use crate::followers::tell_followers;
 use crate::pages::open_pages;
-use crate::threads::{Cast, Ended, in_threads};
 use day_log::VenueLog;
 use desk_config::{DeskConfig, Venue};
 use desk_floor::{
@@ -24,6 +23,7 @@ use desk_floor::{
 };
 use desk_serve::PageServer;
 use desk_talk::{DeskInput, InputLines};
+use desk_threads::{Cast, Ended, in_threads};
 use desk_venues::{DayFault, begin_logs, new_workers, open_places};
 use desk_words::VenueName;
 use exec_collector::{Accounts, BlankBook, Collector};

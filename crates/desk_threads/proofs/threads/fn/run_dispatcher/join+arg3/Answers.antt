@@ -1,6 +1,6 @@
 use denote.Exit.{yes}
 use denote.Param.Send.{param_send, arg_send}
-use Rattle.desk_run.proofs.threads.fn.run_dispatcher.join+arg3.Goals as goal
+use Rattle.desk_threads.proofs.threads.fn.run_dispatcher.join+arg3.Goals as goal
 
 -- what may cross to a thread here may do so where the desk is run
 pub run_desk-requires-send-L : goal.run_desk-requires-send-L

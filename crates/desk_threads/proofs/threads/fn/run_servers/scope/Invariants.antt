@@ -1,5 +1,5 @@
 use Rattle.std.proofs.Common.{length}
-use Rattle.desk_run.proofs.threads.fn.run_servers.scope.Given as goal
+use Rattle.desk_threads.proofs.threads.fn.run_servers.scope.Given as goal
 
 abbrev pub decreases-loop-exchange : goal.decreases-loop-exchange
 decreases-loop-exchange g l = length l.exchanges.items

@@ -1,7 +1,7 @@
 use Rattle.std.proofs.Common.{rules, ◌≡◌}
 use denote.Exit.{yes}
 use denote.Param.Send.{param_send, param_sync, arg_send, arg_sync}
-use Rattle.desk_run.proofs.threads.fn.in_threads.join+arg3+FnOnce.call_once.Goals as goal
+use Rattle.desk_threads.proofs.threads.fn.in_threads.join+arg3+FnOnce.call_once.Goals as goal
 
 -- what may cross to a thread here may do so where the dispatcher is run
 pub join+arg3-requires : goal.join+arg3-requires
