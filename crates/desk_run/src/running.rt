@@ -16,16 +16,13 @@ use crate::DeskDay;
 use crate::doubts::{doubts_of, is_given_up};
 use crate::followers::tell_followers;
 use crate::pages::open_pages;
-use day_log::VenueLog;
 use desk_config::{DeskConfig, Venue};
-use desk_floor::{
-    Bells, Counter, Floor, Left, Manner, Refusals, Signals, VenueView, Voice, booked_sweeps,
-};
+use desk_floor::{Counter, Floor, Left, Manner, Refusals, Signals, Voice, booked_sweeps};
+use desk_news::SweepParts;
 use desk_serve::PageServer;
 use desk_talk::{DeskInput, InputLines};
 use desk_threads::{Cast, Ended, in_threads};
-use desk_venues::{DayFault, begin_logs, new_workers, open_places};
-use desk_words::VenueName;
+use desk_venues::{DayFault, OpenVenues, Sight, open_venues};
 use exec_collector::{Accounts, BlankBook, Collector};
 use json_lines::Form;
 use link::Link;
@@ -39,7 +36,7 @@ use std::io::{Read, Write};
 use std::marker::Brand;
 use std::net::{Net, TcpListener, TcpStream};
 use std::sync::ledger::Blank;
-use std::sync::{Arc, Mutex, Wait};
+use std::sync::{Mutex, Wait};
 use std::thread::Threads;
 use std::time::Clock;
 use venue_queue::{Drain, Feed};
@@ -164,21 +161,27 @@ where
         voice,
         servers,
     } = means;
-    let places = open_places(rt, alloc, venues)?;
-    let mut bells = Bells::new(alloc);
-    let addrs = places.addrs.as_slice();
-    let logs = begin_logs(rt, alloc, folder, venues)?;
-    let views = views_of(alloc, venues, logs.venues)?;
-    let seen = views.as_slice();
-    let workers = new_workers(rt, alloc, venues, addrs, seen, drains, seats, &mut bells)?;
+    let ready = open_venues(rt, alloc, venues, folder, drains, seats)?;
+    let OpenVenues {
+        sight,
+        exchanges,
+        workers,
+        bells,
+    } = ready;
+    let Sight {
+        names,
+        views,
+        line_log,
+        writers,
+    } = sight;
     let cast = Cast {
-        exchanges: places.exchanges,
+        exchanges,
         workers,
         servers,
-        writers: logs.writers,
+        writers,
     };
     let floor = Floor {
-        names: names_of(alloc, venues)?,
+        names,
         views,
         manner,
         lock,
@@ -186,41 +189,13 @@ where
         counter: Mutex::new(Counter::new(seat)),
         refusals: Refusals::new(alloc),
         voice,
-        line_log: logs.lines,
+        line_log,
         signals: Signals::new(),
         bells,
         stop: Stop::new(),
     };
     let ended = in_threads(rt, alloc, &floor, cast, lines)?;
     told(rt, alloc, floor, ended)
-}
-
-/// The names of venues, in order.
-fn names_of(alloc: Global, venues: &[Venue]) -> Result<Vec<VenueName>, AllocError>
-    ensures each { IfOk result (λ names. names.items ≡ map (λ v. v.name) venues.now) }
-    ensures as_many { IfOk result (λ names. length names.items ≡ length venues.now) }
-{
-    let mut names = Vec::new(alloc);
-    for venue in venues {
-        names.push(venue.name.clone()?)?;
-    }
-    Ok(names)
-}
-
-/// What is seen of venues before their workers are made, in order, each with its log, if there is one.
-fn views_of(
-    alloc: Global,
-    venues: &[Venue],
-    logs: Vec<Arc<VenueLog, Global>>,
-) -> Result<Vec<VenueView>, AllocError>
-    ensures { IfOk result (λ views. length views.items ≡ length venues.now) }
-{
-    let mut logs = VecDeque::from(logs);
-    let mut views = Vec::new(alloc);
-    'each: for _ in 0..venues.len() {
-        views.push(VenueView::new(alloc, logs.pop_front())?)?;
-    }
-    Ok(views)
 }
 
 /// What became of a day whose threads have ended.
@@ -246,7 +221,7 @@ fn told<K: Link, L: Run, M: Accounts, W: Write + Drop>(
         collector,
         seat,
     } = floor.into_left();
-    let sweeps = collector.read(rt, |book: &Book| booked_sweeps(alloc, book))?;
+    let sweeps = sweeps_of(rt, alloc, &collector)?;
     let doubts = doubts_of(alloc, names.as_slice(), workers.as_slice())?;
     let is_given_up = is_given_up(workers.as_slice());
     let report = audited(alloc, lock, collector, seat, workers);
@@ -258,6 +233,17 @@ fn told<K: Link, L: Run, M: Accounts, W: Write + Drop>(
         report: report?,
         broken_off,
     })
+}
+
+/// The sweeps of a day, as its book has them. The only refusal is out of memory.
+fn sweeps_of<M: Accounts>(
+    rt: &impl Wait,
+    alloc: Global,
+    collector: &Collector<M>,
+) -> Result<Vec<SweepParts>, AllocError>
+    ensures { IfOk result (λ sweeps. (book : BookParts) × Replays book × (sweeps.items ≡ sweeps_in book)) }
+{
+    collector.read(rt, |book: &Book| booked_sweeps(alloc, book))
 }
 
 /// The audit of a day.

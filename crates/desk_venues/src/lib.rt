@@ -3,7 +3,7 @@
 //!
 //! Promises:
 //! - What opens the venues, and what runs their workers, is refused for no mismatch of the audit (`IsNoMismatch`).
-//! - Each worker is made as that of the venue at its place (`new_workers`), and keeps this place while it runs
+//! - Each worker is made as that of the venue at its place (`open_venues`), and keeps this place while it runs
 //!   (`run_workers`).
 //! - A simulated exchange begins as one with the comp ids of its venue, and fills as the file says (`Exchange::open`);
 //!   that it has the dialect is only tested.
@@ -17,13 +17,15 @@ mod address;
 mod day_fault;
 mod exchange;
 mod logs;
+mod opened;
 mod opening;
 mod session;
+mod views;
 mod workers;
 
 pub use address::first_address;
 pub use day_fault::DayFault;
 pub use exchange::{Exchange, Serve};
-pub use logs::{Logs, begin_logs};
-pub use opening::{Places, open_places};
-pub use workers::{DeskLink, DeskWorker, new_workers, run_workers};
+pub use opened::{OpenVenues, open_venues};
+pub use views::Sight;
+pub use workers::{DeskLink, DeskWorker, run_workers};

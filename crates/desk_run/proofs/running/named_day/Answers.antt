@@ -4,4 +4,4 @@ use Rattle.desk_run.proofs.running.named_day.Goals as goal
 
 pub told-requires-clause-workers : goal.told-requires-clause-workers
 told-requires-clause-workers g c =
-    c.in_ok-ended.ensures.workers ∙ (c.in_ok-workers.ensures.new ∙ ap new_places (sym c.requires.workers.2))
+    c.in_ok-ended.ensures.workers ∙ (c.in_ok-ready.ensures.new ∙ ap new_places (sym c.requires.workers.2))

@@ -1,5 +1,5 @@
 use Rattle.std.proofs.Common.{◌≡◌, length, map, take}
-use Rattle.desk_run.proofs.running.names_of.Given as goal
+use Rattle.desk_venues.proofs.views.names_of.Given as goal
 
 abbrev pub invariant-loop-venue : goal.invariant-loop-venue
 invariant-loop-venue l = record {
