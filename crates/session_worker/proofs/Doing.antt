@@ -1,5 +1,5 @@
 -- What a worker's events do, one after the other.
-use Rattle.std.proofs.Common.{◌≡◌, ◌⊎◌, true, false, List, [], ◌∷◌, ◌++◌, map, refl, sym, ap, subst, ◌∙◌, inl, inr, append_assoc}
+use Rattle.std.proofs.Common.{◌≡◌, ◌⊎◌, ℕ, true, false, List, [], ◌∷◌, ◌++◌, map, refl, sym, ap, subst, ◌∙◌, inl, inr, append_assoc}
 use Rattle.std.specs.List.{concat}
 use Rattle.std.specs.Prelude.{Option, Some, None, MatchOption}
 use Rattle.std.proofs.lemmas.List.{append-nil}
@@ -105,8 +105,8 @@ does_on w a b c first next = record {
 }
 
 -- a worker in the middle of a turn, of its parts
-abbrev pub state_of : SessionIoParts → Took → Seat → WorkerStateParts
-state_of io took seat = record { io = io; took = took; seat = seat }
+abbrev pub state_of : SessionIoParts → Took → Seat → ℕ → WorkerStateParts
+state_of io took seat withdrawn = record { io = io; took = took; seat = seat; withdrawn = withdrawn }
 
 -- the seat is as it was but for its shares, so no note was booked
 same_booked : (a b : Seat) (notes : List Note) → beside_shares b ≡ beside_shares a → notes ≡ []

@@ -7,5 +7,6 @@ pub mod Calling
 pub mod Carrying
 pub mod Doing
 pub mod Doubts
+mod Withdrawals
 pub mod Shares
 pub mod Ran

@@ -148,11 +148,12 @@ abbrev pub AsksOrMoves : Wording → SessionIoParts → Option Step → SessionI
 AsksOrMoves w before None after = Moves w before after
 AsksOrMoves w before (Some step) after = Asks w before step after
 
--- a worker in the middle of a turn: its session over its link, what it took, and its seat
+-- a worker in the middle of a turn: its session over its link, what it took, its seat, and how many legs it withdrew
 pub record WorkerStateParts : Type 0 where
   pub io : SessionIoParts
   pub took : Took
   pub seat : Seat
+  pub withdrawn : ℕ
 
 abbrev pub worker_in : WorkerStateParts → WorkerParts
 worker_in p = record { session = p.io.session; took = p.took; seat = p.seat; wire = p.io.wire }

@@ -65,12 +65,20 @@ impl Reporter {
         self.board.is_some() && moment.saturating_sub(self.counted) >= COUNT_AFTER
     }
 
-    /// Counts the legs at this moment: so many were taken. The last message came at the moment `heard`.
-    pub fn count(&mut self, session: &Session, taken: u64, moment: u64, heard: u64) {
+    /// Counts the legs at this moment: so many were taken, and so many of them withdrawn. The last message came at the
+    /// moment `heard`.
+    pub fn count(
+        &mut self,
+        session: &Session,
+        taken: u64,
+        withdrawn: u64,
+        moment: u64,
+        heard: u64,
+    ) {
         if let Some(board) = &self.board {
             self.counted = moment;
             let doubts = self.unsettled.count(session, taken);
-            board.tell_legs(taken, doubts, self.unsettled.settled());
+            board.tell_legs(taken, doubts, self.unsettled.settled(), withdrawn);
             board.tell_heard(heard);
         }
     }

@@ -350,17 +350,18 @@ impl<K: Link, C: Clock + Drop> SessionIo<K, C> {
         self.reporter.tell(Progress::Up);
     }
 
-    /// Tells how many legs were taken and how many are in doubt, if that was told so long ago.
-    pub(crate) fn tell_legs_if_due(&mut self, taken: u64)
+    /// Tells how many legs were taken, how many of them were withdrawn and how many are in doubt, if that was told so
+    /// long ago.
+    pub(crate) fn tell_legs_if_due(&mut self, taken: u64, withdrawn: u64)
         ensures { self.new ≡ self.old }
     {
         if self.reporter.is_due(self.timer.now()) {
-            self.tell_legs(taken);
+            self.tell_legs(taken, withdrawn);
         }
     }
 
-    /// Tells how many legs were taken and how many are in doubt.
-    pub(crate) fn tell_legs(&mut self, taken: u64)
+    /// Tells how many legs were taken, how many of them were withdrawn and how many are in doubt.
+    pub(crate) fn tell_legs(&mut self, taken: u64, withdrawn: u64)
         ensures { self.new ≡ self.old }
     {
         let SessionIo {
@@ -373,7 +374,7 @@ impl<K: Link, C: Clock + Drop> SessionIo<K, C> {
             redial: _,
             reporter,
         } = self;
-        reporter.count(session, taken, timer.now(), timer.received());
+        reporter.count(session, taken, withdrawn, timer.now(), timer.received());
     }
 
     /// The milliseconds that the clock tells.

@@ -63,6 +63,7 @@ impl<D: Dialect + Drop, K: Link, C: Clock + Drop, L: Run, M: Accounts> Worker<D,
                 io: SessionIo::new(alloc, link, clock, config, drain.venue(), pace),
                 takings: Takings::new(alloc, drain),
                 seat,
+                withdrawn: 0,
                 raised: true,
             },
         }
@@ -113,6 +114,7 @@ impl<D: Dialect + Drop, K: Link, C: Clock + Drop, L: Run, M: Accounts> Worker<D,
             io,
             takings,
             seat,
+            withdrawn: _,
             raised: _,
         } = state;
         let (session, link) = io.into_parts();

@@ -9,6 +9,7 @@ ghost use Rattle.session_core.specs.Receiving.{confirm};
 ghost use Rattle.session_core.specs.Calling.{broken};
 ghost use Rattle.session_worker.specs.Events.{Goes, lasting};
 ghost use Rattle.session_worker.specs.Linking.{worker_in, beside_shares, MayBook, Hands, Does, Drains, CarriesOut};
+ghost use Rattle.session_worker.specs.Withdrawing.{Withdraws, WithdrawsAll};
 ghost use Rattle.session_worker.specs.Ends.{is_over, IsReason, last_calls};
 ghost use Rattle.session_worker.specs.Taking.{TakesNext};
 
@@ -49,13 +50,14 @@ pub(crate) enum Drained {
     NoRoom,
 }
 
-/// What a worker works with: its session over its link, what it took from the ring, its seat, and whether its gate may
-/// be up. Contracts see the first three.
+/// What a worker works with: its session over its link, what it took from the ring, its seat, how many legs it withdrew
+/// in the book, and whether its gate may be up. Contracts see the first four.
 #[derive(Drop)]
 pub(crate) struct WorkerState<K: Link, C: Clock + Drop, L: Run, M: Accounts> {
     pub(crate) io: SessionIo<K, C>,
     pub(crate) takings: Takings<L>,
     pub(crate) seat: WorkerSeat<M>,
+    pub(crate) withdrawn: u64,
     pub(crate) raised: bool,
 }
 
@@ -64,7 +66,7 @@ impl<K: Link, C: Clock + Drop, L: Run, M: Accounts> Model for WorkerState<K, C, 
 
     ghost Value = { WorkerStateParts };
 
-    ghost view = { λ p. record { io = p.io; took = p.takings; seat = p.seat } };
+    ghost view = { λ p. record { io = p.io; took = p.takings; seat = p.seat; withdrawn = p.withdrawn } };
 }
 
 impl<K: Link, C: Clock + Drop, L: Run, M: Accounts> WorkerState<K, C, L, M> {
@@ -158,10 +160,10 @@ impl<K: Link, C: Clock + Drop, L: Run, M: Accounts> WorkerState<K, C, L, M> {
     {
         let count = self.takings.count();
         if count != taken || !self.io.is_idle() {
-            self.io.tell_legs_if_due(count);
+            self.io.tell_legs_if_due(count, self.withdrawn);
             return false;
         }
-        self.io.tell_legs(count);
+        self.io.tell_legs(count, self.withdrawn);
         self.io.rest();
         true
     }
@@ -480,25 +482,30 @@ impl<K: Link, C: Clock + Drop, L: Run, M: Accounts> WorkerState<K, C, L, M> {
         true
     }
 
-    /// Withdraws legs in the book.
+    /// Withdraws legs in the book, and counts them.
     fn withdraw_all(&mut self, rt: &impl Wait, collector: &Collector<M>, ids: LegIds)
+        ensures counted { WithdrawsAll ids self.old self.new }
         ensures io { self.new.io ≡ self.old.io }
         ensures took { self.new.took ≡ self.old.took }
         ensures seat { beside_shares self.new.seat ≡ beside_shares self.old.seat }
     {
         let ids = ids.into_vec();
         for id in &ids {
-            let _ = collector.withdraw(rt, *id, &mut self.seat);
+            self.withdraw(rt, collector, *id);
         }
     }
 
-    /// Withdraws a leg in the book. Where the book has moved it already nothing happens.
+    /// Withdraws a leg in the book, and counts it. Where the book has moved it already nothing happens.
     fn withdraw(&mut self, rt: &impl Wait, collector: &Collector<M>, id: LegId)
+        ensures counted { Withdraws id self.old self.new }
         ensures io { self.new.io ≡ self.old.io }
         ensures took { self.new.took ≡ self.old.took }
         ensures seat { beside_shares self.new.seat ≡ beside_shares self.old.seat }
     {
-        let _ = collector.withdraw(rt, id, &mut self.seat);
+        match collector.withdraw(rt, id, &mut self.seat) {
+            Ok(()) => self.withdrawn = self.withdrawn.saturating_add(1),
+            Err(_) => {}
+        }
     }
 }
 

@@ -4,7 +4,7 @@ use crate::progress::Progress;
 use std::sync::atomic::{AtomicU64, Ordering};
 
 /// What a venue's worker tells others, who may read it at any time. How far the session is comes at once; how many legs
-/// were taken, settled and are in doubt, and when the exchange was heard, ten times a second at most.
+/// were taken, settled, withdrawn and are in doubt, and when the exchange was heard, ten times a second at most.
 #[derive(Drop)]
 pub struct VenueBoard {
     progress: AtomicU64,
@@ -12,6 +12,7 @@ pub struct VenueBoard {
     taken: AtomicU64,
     doubts: AtomicU64,
     settled: AtomicU64,
+    withdrawn: AtomicU64,
     heard: AtomicU64,
 }
 
@@ -24,6 +25,7 @@ impl VenueBoard {
             taken: AtomicU64::new(0),
             doubts: AtomicU64::new(0),
             settled: AtomicU64::new(0),
+            withdrawn: AtomicU64::new(0),
             heard: AtomicU64::new(0),
         }
     }
@@ -38,11 +40,13 @@ impl VenueBoard {
         self.pause.store(millis, Ordering::SeqCst);
     }
 
-    /// So many legs were taken, and so many of them are in doubt: none up to the ordinal `settled`.
-    pub fn tell_legs(&self, taken: u64, doubts: u64, settled: u64) {
+    /// So many legs were taken, and so many of them are in doubt: none up to the ordinal `settled`. So many of those
+    /// taken were withdrawn.
+    pub fn tell_legs(&self, taken: u64, doubts: u64, settled: u64, withdrawn: u64) {
         self.taken.store(taken, Ordering::SeqCst);
         self.doubts.store(doubts, Ordering::SeqCst);
         self.settled.store(settled, Ordering::SeqCst);
+        self.withdrawn.store(withdrawn, Ordering::SeqCst);
     }
 
     /// The last message was received when the worker's clock told so many milliseconds.
@@ -73,6 +77,11 @@ impl VenueBoard {
     /// Up to which ordinal no leg is in doubt any more: each was settled, or withdrawn.
     pub fn settled(&self) -> u64 {
         self.settled.load(Ordering::SeqCst)
+    }
+
+    /// How many of the legs taken were withdrawn in the book: the exchange has none of them.
+    pub fn withdrawn(&self) -> u64 {
+        self.withdrawn.load(Ordering::SeqCst)
     }
 
     /// What the worker's clock told, in milliseconds, when the last message was received or the connection was made; 0

@@ -1,5 +1,5 @@
 //! What the worker of a venue tells others while it runs: how far its session is and why its connection ended, how many
-//! legs it took, and how many are in doubt.
+//! legs it took, how many are in doubt, and how many were withdrawn.
 //!
 //! Promises:
 //! - A code stands for the progress that it was made of and for no other (`Progress::code`, `of_code`, private). The

@@ -11,8 +11,8 @@ returns-then-not-is_connected g c = does_none _ _
 pub returns-in-Everything : goal.returns-in-Everything
 returns-in-Everything g c =
     let w : Wording = g.D.Dialect.wording c.args.dialect.now in
-    let a : WorkerStateParts = state_of c.self.inside.io c.self.inside.takings c.self.inside.seat in
-    let b : WorkerStateParts = state_of c.close.new.self c.self.inside.takings c.self.inside.seat in
+    let a : WorkerStateParts = state_of c.self.inside.io c.self.inside.takings c.self.inside.seat c.self.inside.withdrawn in
+    let b : WorkerStateParts = state_of c.close.new.self c.self.inside.takings c.self.inside.seat c.self.inside.withdrawn in
     let d : WorkerStateParts = c.drain.new.self in
     subst (λ (x : WorkerStateParts). Does w x d) c.self.view_is
     (does_on w a b d (does_moves w a b c.close.ensures.moves refl refl)
@@ -21,8 +21,8 @@ returns-in-Everything g c =
 pub returns-in-SomeLeft : goal.returns-in-SomeLeft
 returns-in-SomeLeft g c =
     let w : Wording = g.D.Dialect.wording c.args.dialect.now in
-    let a : WorkerStateParts = state_of c.self.inside.io c.self.inside.takings c.self.inside.seat in
-    let b : WorkerStateParts = state_of c.close.new.self c.self.inside.takings c.self.inside.seat in
+    let a : WorkerStateParts = state_of c.self.inside.io c.self.inside.takings c.self.inside.seat c.self.inside.withdrawn in
+    let b : WorkerStateParts = state_of c.close.new.self c.self.inside.takings c.self.inside.seat c.self.inside.withdrawn in
     let d : WorkerStateParts = c.drain.new.self in
     subst (λ (x : WorkerStateParts). Does w x d) c.self.view_is
     (does_on w a b d (does_moves w a b c.close.ensures.moves refl refl)
@@ -31,11 +31,11 @@ returns-in-SomeLeft g c =
 pub returns-in-NoRoom : goal.returns-in-NoRoom
 returns-in-NoRoom g c =
     let w : Wording = g.D.Dialect.wording c.args.dialect.now in
-    let a : WorkerStateParts = state_of c.self.inside.io c.self.inside.takings c.self.inside.seat in
-    let b : WorkerStateParts = state_of c.close.new.self c.self.inside.takings c.self.inside.seat in
+    let a : WorkerStateParts = state_of c.self.inside.io c.self.inside.takings c.self.inside.seat c.self.inside.withdrawn in
+    let b : WorkerStateParts = state_of c.close.new.self c.self.inside.takings c.self.inside.seat c.self.inside.withdrawn in
     let d : WorkerStateParts = c.drain.new.self in
-    let m : WorkerStateParts = state_of c.self-2.inside.io c.self-2.inside.takings c.self-2.inside.seat in
-    let e : WorkerStateParts = state_of c.break_off.new.self c.self-2.inside.takings c.self-2.inside.seat in
+    let m : WorkerStateParts = state_of c.self-2.inside.io c.self-2.inside.takings c.self-2.inside.seat c.self-2.inside.withdrawn in
+    let e : WorkerStateParts = state_of c.break_off.new.self c.self-2.inside.takings c.self-2.inside.seat c.self-2.inside.withdrawn in
     subst (λ (x : WorkerStateParts). Does w x e) c.self.view_is
     (does_on w a d e (does_on w a b d (does_moves w a b c.close.ensures.moves refl refl)
     (does_drains w b d c.drain.ensures c.close.ensures.idle))

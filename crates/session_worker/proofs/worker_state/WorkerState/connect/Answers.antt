@@ -11,8 +11,8 @@ use Rattle.session_worker.proofs.worker_state.WorkerState.connect.Goals as goal
 pub returns-then-not-in_doubt : goal.returns-then-not-in_doubt
 returns-then-not-in_doubt g c =
     let w : Wording = g.D.Dialect.wording c.args.dialect.now in
-    let a : WorkerStateParts = state_of c.self.inside.io c.self.inside.takings c.self.inside.seat in
-    let b : WorkerStateParts = state_of c.abandon.new.self c.self.inside.takings c.self.inside.seat in
+    let a : WorkerStateParts = state_of c.self.inside.io c.self.inside.takings c.self.inside.seat c.self.inside.withdrawn in
+    let b : WorkerStateParts = state_of c.abandon.new.self c.self.inside.takings c.self.inside.seat c.self.inside.withdrawn in
     subst (λ (x : WorkerStateParts). Does w x b) c.self.view_is
     (does_moves w a b
     (moves_abandon w a.io b.io (ap (λ (x : SessionIoParts). x.session) c.abandon.ensures)
@@ -24,19 +24,19 @@ returns-then-not-may_dial g c = does_none _ _
 pub returns-then-connect : goal.returns-then-connect
 returns-then-connect g c =
     let w : Wording = g.D.Dialect.wording c.args.dialect.now in
-    let a : WorkerStateParts = state_of c.self.inside.io c.self.inside.takings c.self.inside.seat in
-    let b : WorkerStateParts = state_of c.connect.new.self c.self.inside.takings c.self.inside.seat in
+    let a : WorkerStateParts = state_of c.self.inside.io c.self.inside.takings c.self.inside.seat c.self.inside.withdrawn in
+    let b : WorkerStateParts = state_of c.connect.new.self c.self.inside.takings c.self.inside.seat c.self.inside.withdrawn in
     subst (λ (x : WorkerStateParts). Does w x b) c.self.view_is
     (does_moves w a b c.connect.ensures.moves refl refl)
 
 pub returns : goal.returns
 returns g c =
     let w : Wording = g.D.Dialect.wording c.args.dialect.now in
-    let a : WorkerStateParts = state_of c.self.inside.io c.self.inside.takings c.self.inside.seat in
-    let d : WorkerStateParts = state_of c.connect.new.self c.self.inside.takings c.self.inside.seat in
+    let a : WorkerStateParts = state_of c.self.inside.io c.self.inside.takings c.self.inside.seat c.self.inside.withdrawn in
+    let d : WorkerStateParts = state_of c.connect.new.self c.self.inside.takings c.self.inside.seat c.self.inside.withdrawn in
     let e : WorkerStateParts = c.drain.new.self in
-    let m : WorkerStateParts = state_of c.self-2.inside.io c.self-2.inside.takings c.self-2.inside.seat in
-    let f : WorkerStateParts = state_of c.abandon-2.new.self c.self-2.inside.takings c.self-2.inside.seat in
+    let m : WorkerStateParts = state_of c.self-2.inside.io c.self-2.inside.takings c.self-2.inside.seat c.self-2.inside.withdrawn in
+    let f : WorkerStateParts = state_of c.abandon-2.new.self c.self-2.inside.takings c.self-2.inside.seat c.self-2.inside.withdrawn in
     let down = ap (λ (x : WorkerStateParts). x.io.session.phase) c.self.view_is ∙ c.requires in
     let idle : IsIdle a.io.session = idle_in a.io.session Down down (λ e. cc) in
     let still : IsIdle d.io.session = subst IsIdle (sym (c.connect.ensures.spent c.if-connect.false)) idle in

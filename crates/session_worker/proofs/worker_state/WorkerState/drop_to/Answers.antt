@@ -9,8 +9,8 @@ loop-init g c = drains_none _ _ refl refl refl
 pub loop-preserved : goal.loop-preserved
 loop-preserved g c =
     let b : WorkerStateParts = c.loop.self in
-    let k : WorkerStateParts = state_of c.self-in-loop.inside.io c.self-in-loop.inside.takings c.self-in-loop.inside.seat in
-    let m : WorkerStateParts = state_of c.self-in-loop.inside.io c.next_to.new.self c.self-in-loop.inside.seat in
+    let k : WorkerStateParts = state_of c.self-in-loop.inside.io c.self-in-loop.inside.takings c.self-in-loop.inside.seat c.self-in-loop.inside.withdrawn in
+    let m : WorkerStateParts = state_of c.self-in-loop.inside.io c.next_to.new.self c.self-in-loop.inside.seat c.self-in-loop.inside.withdrawn in
     let d : WorkerStateParts = c.withdraw.new.self in
     drains_on _ m d
     (drains_on _ b m c.loop.invariant (subst (λ (x : WorkerStateParts). Drains x m) c.self-in-loop.view_is
@@ -20,15 +20,15 @@ loop-preserved g c =
 pub returns-in-Ok-None : goal.returns-in-Ok-None
 returns-in-Ok-None g c =
     let b : WorkerStateParts = c.loop.self in
-    let k : WorkerStateParts = state_of c.self-in-loop.inside.io c.self-in-loop.inside.takings c.self-in-loop.inside.seat in
-    let m : WorkerStateParts = state_of c.self-in-loop.inside.io c.next_to.new.self c.self-in-loop.inside.seat in
+    let k : WorkerStateParts = state_of c.self-in-loop.inside.io c.self-in-loop.inside.takings c.self-in-loop.inside.seat c.self-in-loop.inside.withdrawn in
+    let m : WorkerStateParts = state_of c.self-in-loop.inside.io c.next_to.new.self c.self-in-loop.inside.seat c.self-in-loop.inside.withdrawn in
     drains_on _ b m c.loop.invariant (subst (λ (x : WorkerStateParts). Drains x m) c.self-in-loop.view_is
     (drains_next k m c.in-Ok-None.field-0 c.in-Ok-None.ensures refl refl))
 
 pub returns-in-Err : goal.returns-in-Err
 returns-in-Err g c =
     let b : WorkerStateParts = c.loop.self in
-    let k : WorkerStateParts = state_of c.self-in-loop.inside.io c.self-in-loop.inside.takings c.self-in-loop.inside.seat in
-    let m : WorkerStateParts = state_of c.self-in-loop.inside.io c.next_to.new.self c.self-in-loop.inside.seat in
+    let k : WorkerStateParts = state_of c.self-in-loop.inside.io c.self-in-loop.inside.takings c.self-in-loop.inside.seat c.self-in-loop.inside.withdrawn in
+    let m : WorkerStateParts = state_of c.self-in-loop.inside.io c.next_to.new.self c.self-in-loop.inside.seat c.self-in-loop.inside.withdrawn in
     drains_on _ b m c.loop.invariant
     (subst (λ (x : WorkerStateParts). Drains x m) c.self-in-loop.view_is (drains_none k m refl c.in-Err.ensures refl))

@@ -22,8 +22,8 @@ returns-then-has_ended-clause-over g c =
 
 pub returns-clause-goes : goal.returns-clause-goes
 returns-clause-goes g c =
-    let a : WorkerStateParts = state_of c.self.inside.io c.self.inside.takings c.self.inside.seat in
-    let b : WorkerStateParts = state_of c.abandon.new.self c.self.inside.takings c.self.inside.seat in
+    let a : WorkerStateParts = state_of c.self.inside.io c.self.inside.takings c.self.inside.seat c.self.inside.withdrawn in
+    let b : WorkerStateParts = state_of c.abandon.new.self c.self.inside.takings c.self.inside.seat c.self.inside.withdrawn in
     let e : is_over a.io.session.phase ≡ false =
     ap is_over (sym c.phase.ensures) ∙ (sym c.has_ended.ensures ∙ c.if-has_ended.false) in
     λ read. subst (λ (x : WorkerStateParts). Goes read (worker_in x) (last_calls x.io.session.phase) (worker_in b)) c.self.view_is

@@ -11,8 +11,8 @@ returns-then-not-is_connected g c = does_none _ _
 pub loop-init : goal.loop-init
 loop-init g c =
     let w : Wording = g.D.Dialect.wording c.args.dialect.now in
-    let a : WorkerStateParts = state_of c.self.inside.io c.self.inside.takings c.self.inside.seat in
-    let b : WorkerStateParts = state_of c.read.new.self c.self.inside.takings c.self.inside.seat in
+    let a : WorkerStateParts = state_of c.self.inside.io c.self.inside.takings c.self.inside.seat c.self.inside.withdrawn in
+    let b : WorkerStateParts = state_of c.read.new.self c.self.inside.takings c.self.inside.seat c.self.inside.withdrawn in
     subst (λ (x : WorkerStateParts). Does w x b) c.self.view_is
     (does_moves w a b (moves_read w a.io b.io c.read.ensures.session c.read.ensures.wire c.read.ensures.hears) refl refl)
 
@@ -20,8 +20,8 @@ pub loop-preserved : goal.loop-preserved
 loop-preserved g c =
     let w : Wording = g.D.Dialect.wording c.args.dialect.now in
     let b : WorkerStateParts = c.loop.self in
-    let k : WorkerStateParts = state_of c.self-in-loop.inside.io c.self-in-loop.inside.takings c.self-in-loop.inside.seat in
-    let d : WorkerStateParts = state_of c.hear.new.self c.self-in-loop.inside.takings c.self-in-loop.inside.seat in
+    let k : WorkerStateParts = state_of c.self-in-loop.inside.io c.self-in-loop.inside.takings c.self-in-loop.inside.seat c.self-in-loop.inside.withdrawn in
+    let d : WorkerStateParts = state_of c.hear.new.self c.self-in-loop.inside.takings c.self-in-loop.inside.seat c.self-in-loop.inside.withdrawn in
     let e : WorkerStateParts = c.carry_out.new.self in
     does_on w _ b e c.loop.invariant
     (subst (λ (x : WorkerStateParts). Does w x e) c.self-in-loop.view_is
@@ -31,7 +31,7 @@ pub returns-in-None : goal.returns-in-None
 returns-in-None g c =
     let w : Wording = g.D.Dialect.wording c.args.dialect.now in
     let b : WorkerStateParts = c.loop.self in
-    let k : WorkerStateParts = state_of c.self-in-loop.inside.io c.self-in-loop.inside.takings c.self-in-loop.inside.seat in
-    let d : WorkerStateParts = state_of c.hear.new.self c.self-in-loop.inside.takings c.self-in-loop.inside.seat in
+    let k : WorkerStateParts = state_of c.self-in-loop.inside.io c.self-in-loop.inside.takings c.self-in-loop.inside.seat c.self-in-loop.inside.withdrawn in
+    let d : WorkerStateParts = state_of c.hear.new.self c.self-in-loop.inside.takings c.self-in-loop.inside.seat c.self-in-loop.inside.withdrawn in
     does_on w _ b d c.loop.invariant
     (subst (λ (x : WorkerStateParts). Does w x d) c.self-in-loop.view_is (does_moves w k d c.in-None.ensures refl refl))

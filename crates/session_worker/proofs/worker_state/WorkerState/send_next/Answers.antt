@@ -8,8 +8,8 @@ use Rattle.session_worker.proofs.worker_state.WorkerState.send_next.Goals as goa
 pub returns-in-Ok : goal.returns-in-Ok
 returns-in-Ok g c =
     let w : Wording = g.D.Dialect.wording c.args.dialect.now in
-    let a : WorkerStateParts = state_of c.self.inside.io c.self.inside.takings c.self.inside.seat in
-    let b : WorkerStateParts = state_of c.self.inside.io c.next_leg.new.takings c.self.inside.seat in
+    let a : WorkerStateParts = state_of c.self.inside.io c.self.inside.takings c.self.inside.seat c.self.inside.withdrawn in
+    let b : WorkerStateParts = state_of c.self.inside.io c.next_leg.new.takings c.self.inside.seat c.self.inside.withdrawn in
     let d : WorkerStateParts = c.send.new.self in
     let up = ap (λ (x : WorkerStateParts). x.io.session.phase) c.self.view_is ∙ c.requires in
     subst (λ (x : WorkerStateParts). Does w x d) c.self.view_is
@@ -18,7 +18,7 @@ returns-in-Ok g c =
 pub returns-in-Err : goal.returns-in-Err
 returns-in-Err g c =
     let w : Wording = g.D.Dialect.wording c.args.dialect.now in
-    let a : WorkerStateParts = state_of c.self.inside.io c.self.inside.takings c.self.inside.seat in
-    let b : WorkerStateParts = state_of c.break_off.new.self c.next_leg.new.takings c.self.inside.seat in
+    let a : WorkerStateParts = state_of c.self.inside.io c.self.inside.takings c.self.inside.seat c.self.inside.withdrawn in
+    let b : WorkerStateParts = state_of c.break_off.new.self c.next_leg.new.takings c.self.inside.seat c.self.inside.withdrawn in
     subst (λ (x : WorkerStateParts). Does w x b) c.self.view_is
     (does_moves w a b (moves_broken w a.io b.io c.break_off.ensures.session c.break_off.ensures.wire) c.in-Err.ensures refl)

@@ -7,11 +7,11 @@ use Rattle.session_worker.proofs.worker_state.WorkerState.turn.Goals as goal
 pub returns : goal.returns
 returns g c =
     let w : Wording = g.D.Dialect.wording c.args.dialect.now in
-    let a : WorkerStateParts = state_of c.self.inside.io c.self.inside.takings c.self.inside.seat in
-    let b : WorkerStateParts = state_of c.begin_turn.new.self c.self.inside.takings c.self.inside.seat in
+    let a : WorkerStateParts = state_of c.self.inside.io c.self.inside.takings c.self.inside.seat c.self.inside.withdrawn in
+    let b : WorkerStateParts = state_of c.begin_turn.new.self c.self.inside.takings c.self.inside.seat c.self.inside.withdrawn in
     let at_ask : WorkerStateParts = c.ask_if_silent.new.self in
     let at_rest : WorkerStateParts = c.rest_if_idle.new.self in
-    let begun = does_stay w a b (ap (λ (io : SessionIoParts). state_of io a.took a.seat) c.begin_turn.ensures) in
+    let begun = does_stay w a b (ap (λ (io : SessionIoParts). state_of io a.took a.seat a.withdrawn) c.begin_turn.ensures) in
     subst (λ (x : WorkerStateParts). Does w x at_rest) c.self.view_is
     (does_on w a at_ask at_rest (does_on w a _ at_ask (does_on w a _ _ (does_on w a _ _ (does_on w a _ _
     (does_on w a b _ begun c.begin.ensures) c.close_if_shut.ensures) c.listen.ensures) c.write_if_quiet.ensures)
