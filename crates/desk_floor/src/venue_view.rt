@@ -77,6 +77,11 @@ impl VenueView {
         self.board.taken().saturating_sub(self.board.doubts())
     }
 
+    /// How many of the settled ones were withdrawn.
+    pub fn withdrawn_legs(&self) -> u64 {
+        self.board.withdrawn()
+    }
+
     /// Up to which of them none is in doubt.
     pub fn settled(&self) -> u64 {
         self.board.settled()

@@ -5,6 +5,7 @@ use Rattle.desk_news.specs.declared.venue_state.VenueState.TheVariants.{Dialled,
 use Rattle.desk_json.specs.declared.standing.VenueRow.{VenueRow}
 use Rattle.desk_json.specs.declared.standing.OrderWaits.{OrderWaits}
 use Rattle.desk_json.specs.declared.standing.WaitCount.{WaitCount}
+use Rattle.desk_json.specs.Venues.{accepted}
 use Rattle.desk_http.specs.declared.venue_metric.VenueMetric.{VenueMetric}
 use Rattle.desk_http.specs.declared.venue_metric.VenueMetric.TheVariants.{State, Legs, LinesLost, Connections, FailedDials, Messages, Bytes, Waits}
 
@@ -38,6 +39,8 @@ legs_samples row =
     venue_sample (codes "dispatch_legs") row.status.venue (codes ",state=\"queued\"") row.status.unsent
     ++ venue_sample (codes "dispatch_legs") row.status.venue (codes ",state=\"doubt\"") row.status.doubt
     ++ venue_sample (codes "dispatch_legs") row.status.venue (codes ",state=\"settled\"") row.settled
+    ++ venue_sample (codes "dispatch_legs") row.status.venue (codes ",state=\"accepted\"") (accepted row)
+    ++ venue_sample (codes "dispatch_legs") row.status.venue (codes ",state=\"withdrawn\"") row.withdrawn
 
 -- the samples of what went both ways
 abbrev pub ways_samples : List ℕ → List ℕ → ℕ → ℕ → List ℕ

@@ -72,7 +72,9 @@ fn write_legs(text: &mut String, venue: &VenueRow) -> Result<(), AllocError>
     let name = &venue.status.venue;
     write_sample(text, metric, name, ",state=\"queued\"", venue.status.unsent)?;
     write_sample(text, metric, name, ",state=\"doubt\"", venue.status.doubt)?;
-    write_sample(text, metric, name, ",state=\"settled\"", venue.settled)
+    write_sample(text, metric, name, ",state=\"settled\"", venue.settled)?;
+    write_sample(text, metric, name, ",state=\"accepted\"", venue.accepted())?;
+    write_sample(text, metric, name, ",state=\"withdrawn\"", venue.withdrawn)
 }
 
 /// Appends the samples of what went both ways.

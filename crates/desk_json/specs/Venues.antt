@@ -1,5 +1,5 @@
 -- The venues, in JSON.
-use Rattle.std.specs.Prelude.{ℕ, List, [], ◌++◌, codes, decimal, Option, Some, None}
+use Rattle.std.specs.Prelude.{ℕ, ◌-◌, List, [], ◌++◌, codes, decimal, Option, Some, None}
 use Rattle.json.specs.Print.{quoted}
 use Rattle.session_core.specs.declared.ended.Ended.{Ended}
 use Rattle.session_core.specs.declared.ended.Ended.TheVariants.{FirstNotLogon, TooLow, WrongComp, ResetRefused, ResendInDoubt, BadResend, PeerLogout, LogonAgain, BadGapFill, Silent, Malformed, LogoutDone, BadNextExpected}
@@ -78,11 +78,16 @@ abbrev pub heard_json : Option ℕ → List ℕ
 heard_json None = codes "null}"
 heard_json (Some ms) = decimal ms ++ codes "}"
 
+-- how many of its settled legs the exchange took: those that weren't withdrawn
+abbrev pub accepted : VenueRow → ℕ
+accepted venue = venue.settled - venue.withdrawn
+
 -- the counts of a venue, with the key of what stands behind them
 unfoldable pub counts_json : VenueRow → List ℕ
 counts_json venue =
     codes ",\"unsent\":" ++ decimal venue.status.unsent ++ codes ",\"doubt\":" ++ decimal venue.status.doubt
-    ++ codes ",\"settled\":" ++ decimal venue.settled
+    ++ codes ",\"settled\":" ++ decimal venue.settled ++ codes ",\"accepted\":" ++ decimal (accepted venue)
+    ++ codes ",\"withdrawn\":" ++ decimal venue.withdrawn
     ++ codes ",\"lost\":" ++ decimal venue.status.lost ++ codes ",\"connections\":" ++ decimal venue.connections
     ++ codes ",\"refused_dials\":" ++ decimal venue.refused_dials ++ codes ",\"sent\":" ++ decimal venue.messages_sent
     ++ codes ",\"received\":" ++ decimal venue.messages_received

@@ -1,5 +1,8 @@
 //! How sweeps, legs, venues and the day stand.
 
+ghost use Rattle.std.specs.Prelude.{◌≡◌};
+ghost use Rattle.desk_json.specs.Venues.{accepted};
+
 use desk_news::{DayTotals, SweepParts, VenueStatus};
 use desk_words::VenueName;
 use leg::{LegId, LegState, Terms, Totals};
@@ -10,6 +13,8 @@ pub struct VenueRow {
     pub status: VenueStatus,
     /// How many of its legs are settled: the exchange took them, or they were withdrawn.
     pub settled: u64,
+    /// How many of these were withdrawn.
+    pub withdrawn: u64,
     /// How many connections it had in this day.
     pub connections: u64,
     /// How many dials failed.
@@ -22,6 +27,15 @@ pub struct VenueRow {
     pub waits: OrderWaits,
     /// How many milliseconds ago the last message came; none where no message came yet.
     pub heard_ms_ago: Option<u64>,
+}
+
+impl VenueRow {
+    /// How many of its settled legs the exchange took.
+    pub fn accepted(&self) -> u64
+        ensures { result ≡ accepted self.now }
+    {
+        self.settled.saturating_sub(self.withdrawn)
+    }
 }
 
 /// How many orders waited at most so long.

@@ -149,6 +149,8 @@ fn write_counts(text: &mut String, venue: &VenueRow) -> Result<(), AllocError>
     let unsent = venue.status.unsent;
     let doubt = venue.status.doubt;
     let settled = venue.settled;
+    let accepted = venue.accepted();
+    let withdrawn = venue.withdrawn;
     let lost = venue.status.lost;
     let connections = venue.connections;
     let refused_dials = venue.refused_dials;
@@ -158,7 +160,11 @@ fn write_counts(text: &mut String, venue: &VenueRow) -> Result<(), AllocError>
     let bytes_received = venue.bytes_received;
     write!(
         text,
-        ",\"unsent\":{unsent},\"doubt\":{doubt},\"settled\":{settled},\"lost\":{lost}"
+        ",\"unsent\":{unsent},\"doubt\":{doubt},\"settled\":{settled}"
+    )?;
+    write!(
+        text,
+        ",\"accepted\":{accepted},\"withdrawn\":{withdrawn},\"lost\":{lost}"
     )?;
     write!(
         text,

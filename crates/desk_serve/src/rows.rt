@@ -43,9 +43,11 @@ pub(crate) fn venue_row<L: Run, M: Accounts, W: Write + Drop>(
         return Ok(None);
     };
     let traffic = view.traffic();
+    let settled = view.settled_legs();
     Ok(Some(VenueRow {
         status,
-        settled: view.settled_legs(),
+        settled,
+        withdrawn: view.withdrawn_legs().min(settled),
         connections: traffic.connections(),
         refused_dials: traffic.refused_dials(),
         messages_sent: traffic.messages_sent(),

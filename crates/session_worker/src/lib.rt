@@ -12,8 +12,8 @@
 //!   Connect. The messages that the session receives on it are the first ones of the bytes read on it, in order, none
 //!   left out. The frames of the session's answer to each call are written, whole and once and in order, or the first
 //!   bytes of them, and then the connection is given up. Nothing else is written.
-//! - A leg that is withdrawn is counted just where the book takes that, and the worker's seat then gains the leg's
-//!   shares (`WorkerState::withdraw` and `withdraw_all`, private). What a worker tells on its board is claimed nowhere.
+//! - A leg that is withdrawn is counted just where the book takes that, and the worker's seat then gains its shares
+//!   (`WorkerState::withdraw` and `withdraw_all`, private). What a worker tells on its board is claimed nowhere.
 //! - `WorkerEnd::in_doubt` gives exactly the ordinals of the legs taken that the session has in doubt.
 //! - `run_all` promises the same of each of its workers, in order.
 //! - `audit` is `Ok` exactly where each worker took the first legs released to the venue at its place, the workers'

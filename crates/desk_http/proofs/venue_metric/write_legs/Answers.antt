@@ -4,6 +4,12 @@ use Rattle.desk_http.proofs.venue_metric.write_legs.Goals as goal
 
 pub returns : goal.returns
 returns c =
-    on_ok_weaker c.write_sample-3.result
-    (λ said. rw said (rw (c.in_ok-write_sample-2.ensures, c.in_ok-write_sample.ensures) (simp append_assoc)))
-    c.write_sample-3.ensures
+    on_ok_weaker c.write_sample-5.result
+    (λ said. rw said (rw (
+      c.in_ok-write_sample-4.ensures,
+      c.in_ok-write_sample-3.ensures,
+      c.in_ok-write_sample-2.ensures,
+      c.in_ok-write_sample.ensures,
+      c.accepted.ensures,
+    ) (simp append_assoc)))
+    c.write_sample-5.ensures
