@@ -18,7 +18,6 @@ use crate::followers::tell_followers;
 use crate::pages::open_pages;
 use desk_config::{DeskConfig, Venue};
 use desk_floor::{Counter, Floor, Left, Manner, Refusals, Signals, Voice, booked_sweeps};
-use desk_news::SweepParts;
 use desk_serve::PageServer;
 use desk_talk::{DeskInput, InputLines};
 use desk_threads::{Cast, Ended, in_threads};
@@ -29,7 +28,7 @@ use link::Link;
 use release_lock::{CallerSeat, Opened, ReleaseLock, Run, rings};
 use session_worker::{AuditFault, DayReport, Stop, WorkerEnd, audit};
 use share_ledger::Book;
-use std::alloc::{AllocError, Global};
+use std::alloc::Global;
 use std::collections::VecDeque;
 use std::fs::{File, Files};
 use std::io::{Read, Write};
@@ -221,7 +220,7 @@ fn told<K: Link, L: Run, M: Accounts, W: Write + Drop>(
         collector,
         seat,
     } = floor.into_left();
-    let sweeps = sweeps_of(rt, alloc, &collector)?;
+    let sweeps = collector.read(rt, |book: &Book| booked_sweeps(alloc, book))?;
     let doubts = doubts_of(alloc, names.as_slice(), workers.as_slice())?;
     let is_given_up = is_given_up(workers.as_slice());
     let report = audited(alloc, lock, collector, seat, workers);
@@ -233,17 +232,6 @@ fn told<K: Link, L: Run, M: Accounts, W: Write + Drop>(
         report: report?,
         broken_off,
     })
-}
-
-/// The sweeps of a day, as its book has them. The only refusal is out of memory.
-fn sweeps_of<M: Accounts>(
-    rt: &impl Wait,
-    alloc: Global,
-    collector: &Collector<M>,
-) -> Result<Vec<SweepParts>, AllocError>
-    ensures { IfOk result (λ sweeps. (book : BookParts) × Replays book × (sweeps.items ≡ sweeps_in book)) }
-{
-    collector.read(rt, |book: &Book| booked_sweeps(alloc, book))
 }
 
 /// The audit of a day.
