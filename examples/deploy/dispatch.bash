@@ -33,7 +33,8 @@ _dispatch() {
     fi
     if _dispatch_takes_value "$command" "$before"; then
         case $before in
-            --dialect | --exact) mapfile -t COMPREPLY < <(compgen -W 'plain split coded' -- "$word") ;;
+            --dialect) mapfile -t COMPREPLY < <(compgen -W 'plain split coded' -- "$word") ;;
+            --exact) mapfile -t COMPREPLY < <(compgen -W 'plain split coded auto' -- "$word") ;;
             --side) mapfile -t COMPREPLY < <(compgen -W 'buy sell' -- "$word") ;;
             --from) [ "$command" != check ] || mapfile -t COMPREPLY < <(compgen -W 'quickfix' -- "$word") ;;
         esac

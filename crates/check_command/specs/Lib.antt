@@ -1,7 +1,7 @@
 pub mod Fault
+pub mod Request
+pub mod PathName
+pub mod Runs
+pub mod DayRead
+pub mod Sentences
 pub mod Running
-pub mod Judge
-pub mod Shown
-pub mod Json
-pub mod SweepsLog
-pub mod DayText

@@ -1,11 +1,12 @@
 //! The words of `dispatch check`.
-ghost use Rattle.std.specs.Prelude.{IfErr};
+ghost use Rattle.std.specs.Prelude.{◌≡◌, IfErr, IfOk, is_some, option_map};
+ghost use Rattle.clap.specs.declared.parser.matches.ArgMatches.{ArgMatches};
 ghost use Rattle.check_command.specs.Fault.{IsOfCommandLine};
+ghost use Rattle.check_command.specs.Request.{IsForm, IsRequest};
 
 use crate::fault::CommandFault;
-use crate::finding::Printing;
-use crate::form::Form;
 use clap::{Arg, ArgAction, Command};
+use day_check::{DialectBy, Form, Printing, RuleWords};
 use dialect::AnyDialect;
 use fix_tags::CompId;
 use std::alloc::{AllocError, Global};
@@ -26,8 +27,8 @@ const EXACT: &str = "exact";
 /// The engines of others whose logs are read.
 static ENGINES: [&str; 1] = ["quickfix"];
 
-/// The dialects in which orders and reports are spelled.
-static DIALECTS: [&str; 3] = ["plain", "split", "coded"];
+/// The dialects in which orders and reports are spelled, and `auto` for the one that a log's head names.
+static DIALECTS: [&str; 4] = ["plain", "split", "coded", "auto"];
 
 /// What stands behind the options in the help.
 const OUTPUT: &str = "\
@@ -42,6 +43,8 @@ and with --legs, for each order and then for each sweep:
   sweep 1 legs 100 filled 60 busted 0 cancelled 40 withdrawn 0 open 0
 and with --exact, behind the rules, the first line that isn't what the session writes, and a line for this rule:
   line N exact: the session writes 8=FIX.4.4|9=..|
+The dialect is that of the log's orders; auto stands for the one that the log's first line names, as dispatch run
+writes it.
 With sweeps.log among the logs, behind all of them what the day came to, for each sweep that was placed, and then
 whether each sentence of the sweep theorem holds, or where it doesn't:
   sentence order holds                or `broken PATH line N: what it says`, and the line below it
@@ -57,20 +60,30 @@ Examples:
 pub(crate) struct Request<'a> {
     pub paths: Vec<&'a str>,
     pub form: Form,
+    /// The words of the rules.
+    pub words: [RuleWords; 14],
     /// Whether JSON is printed in place of text.
     pub is_json: bool,
     /// Whether it is told what became of each leg.
     pub tells_legs: bool,
     /// The dialect in which each log is held against what the session writes.
-    pub exact: Option<AnyDialect>,
+    pub exact: Option<DialectBy>,
 }
 
 impl<'a> Request<'a> {
+    ghost use Rattle.day_check.specs.LogText.{style_of};
+    ghost use Rattle.check_command.specs.Runs.{style_asked};
+
     /// How what is said of a log is printed, of a day's where the day is judged too.
-    pub(crate) fn printing<'b>(&'b self, log: &'b str, is_of_day: bool) -> Printing<'b> {
+    pub(crate) fn printing<'b>(&'b self, log: &'b str, is_of_day: bool) -> Printing<'b>
+        ensures style { style_of result ≡ style_asked self.entry.now is_of_day }
+        ensures path { result.log.now ≡ log.entry.now }
+        ensures is_json { result.is_json ≡ self.entry.now.is_json }
+    {
         Printing {
             log,
             form: &self.form,
+            words: &self.words,
             is_json: self.is_json,
             tells_legs: self.tells_legs,
             keeps_legs: self.tells_legs || is_of_day,
@@ -139,7 +152,8 @@ pub fn check_command<'a>(alloc: Global) -> Result<Command<'a>, AllocError> {
 
 /// The form of the logs of a desk of this name, if one is given; else they are this program's.
 fn form_of(desk: Option<&str>) -> Result<Form, CommandFault>
-    ensures { IfErr result IsOfCommandLine }
+    ensures form { IfOk result (IsForm (option_map (λ text. text.now) desk.entry)) }
+    ensures only { IfErr result IsOfCommandLine }
 {
     let Some(desk) = desk else {
         return Ok(Form::Own);
@@ -150,9 +164,14 @@ fn form_of(desk: Option<&str>) -> Result<Form, CommandFault>
     }
 }
 
-/// The dialect of a name.
-fn dialect_of(name: Option<&str>) -> Option<AnyDialect> {
-    AnyDialect::named(name?)
+/// The dialect of a name; `auto` stands for the one that a log's head names.
+fn dialect_of(name: Option<&str>) -> Option<DialectBy>
+    ensures { is_some result ≡ is_some name }
+{
+    match AnyDialect::named(name?) {
+        Some(dialect) => Some(DialectBy::Name(dialect)),
+        None => Some(DialectBy::Head),
+    }
 }
 
 /// What the words behind the command's name ask for.
@@ -160,7 +179,8 @@ pub(crate) fn read_words<'a, S: AsStr>(
     alloc: Global,
     words: &'a [S],
 ) -> Result<Request<'a>, CommandFault>
-    ensures { IfErr result IsOfCommandLine }
+    ensures asked { IfOk result (λ request. (matches : ArgMatches) × IsRequest matches request) }
+    ensures only { IfErr result IsOfCommandLine }
 {
     let command = check_command(alloc)?.bin_name("dispatch check")?;
     let matches = command.try_get_matches_from(words)?;
@@ -175,6 +195,7 @@ pub(crate) fn read_words<'a, S: AsStr>(
     Ok(Request {
         paths,
         form,
+        words: RuleWords::of_all(),
         is_json,
         tells_legs,
         exact,

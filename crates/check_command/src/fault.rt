@@ -1,11 +1,11 @@
 //! Why `dispatch check` failed.
 ghost use Rattle.std.specs.Prelude.{◌≡◌};
 ghost use Rattle.check_command.specs.declared.fault.CommandFault.TheVariants.{OutOfMemory, WriteFailed};
-ghost use Rattle.check_command.specs.Fault.{IsOfCommandLine, fault_status};
-ghost use Rattle.check_command.specs.Judge.{line_fault};
+ghost use Rattle.check_command.specs.Fault.{IsOfCommandLine, IsOfLogs, fault_status, of_log};
 
 use clap::error::ErrorKind;
 use command_line::Fault;
+use day_check::LogFault;
 use log_text::LineFault;
 use std::alloc::AllocError;
 use thiserror::Error;
@@ -22,6 +22,9 @@ pub enum CommandFault {
     /// This line of the log, counted from 1, says nothing.
     #[error("line {number}: {fault}")]
     BadLine { number: u64, fault: LineFault },
+    /// The first line of a log names no dialect, and no other is given.
+    #[error("the log's first line names no dialect")]
+    NoDialect,
     /// Beside the log of a desk's lines a log isn't called after a venue, or two are, or they are too many.
     #[error("beside sweeps.log each log is called after its venue, as NYSE.log, at most 16 and no two alike")]
     BadName,
@@ -33,25 +36,13 @@ pub enum CommandFault {
     OutOfMemory,
 }
 
-impl CommandFault {
-    /// The fault of a line.
-    pub(crate) fn of_line(number: u64, fault: LineFault) -> CommandFault
-        ensures { result ≡ line_fault number fault }
-    {
-        match fault {
-            LineFault::OutOfMemory => CommandFault::OutOfMemory,
-            fault => CommandFault::BadLine { number, fault },
-        }
-    }
-}
-
 impl Fault for CommandFault {
     ghost status_of = { fault_status };
 
     fn status(&self) -> u8 {
         match self {
             CommandFault::CommandLine(_) | CommandFault::BadDesk | CommandFault::BadName => 2,
-            CommandFault::BadLine { .. } => 3,
+            CommandFault::BadLine { .. } | CommandFault::NoDialect => 3,
             CommandFault::ReadFailed | CommandFault::WriteFailed => 4,
             CommandFault::OutOfMemory => 5,
         }
@@ -79,6 +70,20 @@ impl From<command_line::WriteFailed> for CommandFault {
 
     fn from(_: command_line::WriteFailed) -> CommandFault {
         CommandFault::WriteFailed
+    }
+}
+
+impl From<LogFault> for CommandFault {
+    ghost from_gives = { λ fault given. (given ≡ of_log fault) × IsOfLogs given };
+
+    fn from(fault: LogFault) -> CommandFault {
+        match fault {
+            LogFault::BadLine { number, fault } => CommandFault::BadLine { number, fault },
+            LogFault::NoDialect => CommandFault::NoDialect,
+            LogFault::ReadFailed => CommandFault::ReadFailed,
+            LogFault::WriteFailed => CommandFault::WriteFailed,
+            LogFault::OutOfMemory => CommandFault::OutOfMemory,
+        }
     }
 }
 

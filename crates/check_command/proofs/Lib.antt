@@ -1,0 +1,2 @@
+pub mod LogsRead
+pub mod DayJudged

@@ -1,0 +1,15 @@
+use Rattle.std.proofs.Common.{ap, ◌∙◌}
+use Rattle.day_rules.specs.DeskDay.{DeskParts}
+use Rattle.day_check.specs.SweepsLog.{lines_heard}
+use Rattle.check_command.proofs.DayJudged.{day_as_asked}
+use Rattle.check_command.proofs.sentences.check_day.Goals as goal
+
+pub returns-clause-judged : goal.returns-clause-judged
+returns-clause-judged g c =
+    let heard = c.in_ok-desk.ensures.heard in
+    day_as_asked c.args.request.now c.printing-printing.result c.args.day.now c.args.path.now c.args.names.items heard.lines
+    c.in_ok-desk.desk (g.W.Write.contents c.args.out.now) (g.W.Write.contents c.read_sweeps.new.out)
+    (g.W.Write.contents c.print_sweeps.new.out) (g.W.Write.contents c.judge_day.new.out) c.in_ok-is_broken.is_broken
+    c.printing-printing.ensures.style c.printing-printing.ensures.path c.printing-printing.ensures.is_json
+    (heard.heard ∙ ap (λ (d : DeskParts). lines_heard d heard.lines) c.new-unheard.ensures)
+    c.in_ok-is_broken.ensures.told c.in_ok-desk.ensures.printed c.in_ok-print_sweeps.ensures

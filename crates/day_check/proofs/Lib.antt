@@ -1,0 +1,4 @@
+pub mod Upto
+pub mod Judged
+pub mod LinesRead
+pub mod LogPrinted

@@ -1,0 +1,12 @@
+pub mod Judge
+pub mod Shown
+pub mod Json
+pub mod Lines
+pub mod Tallies
+pub mod Finding
+pub mod LogChecked
+pub mod LogText
+pub mod LogCheck
+pub mod SweepsLog
+pub mod DayText
+pub mod Exact

@@ -1,0 +1,75 @@
+-- What is printed of a venue's log.
+use Rattle.std.specs.Prelude.{◌≡◌, ℕ, suc, Bool, false, List, [], ◌∷◌, ◌++◌, length, codes, Option, Result, Ok, Err, if◌then◌else◌}
+use Rattle.std.specs.Io.KnownBytes.{Appends}
+use Rattle.log_legs.specs.LegLine.{legs_text}
+use Rattle.log_rules.specs.declared.entry.Entry.{Entry}
+use Rattle.log_text.specs.Line.{is_passed_over}
+use Rattle.log_text.specs.declared.fault.LineFault.{LineFault}
+use Rattle.day_rules.specs.VenueDay.{VenueParts}
+use Rattle.day_check.specs.Finding.{findings_upto, summary_upto}
+use Rattle.day_check.specs.Judge.{judged, line_entry}
+use Rattle.day_check.specs.Lines.{AreLines}
+use Rattle.day_check.specs.LogChecked.{LogParts, log_checked}
+use Rattle.day_check.specs.Tallies.{breaks_a_rule}
+use Rattle.day_check.specs.declared.finding.Printing.{Printing}
+use Rattle.day_check.specs.declared.form.Form.{Form}
+use Rattle.day_check.specs.declared.checked_log.CheckedLog.{CheckedLog}
+use Rattle.day_check.specs.declared.rule_words.RuleWords.{RuleWords}
+
+-- how a log is told: the words of the rules, how its lines are written, whether it is told what became of each leg, and
+-- whether orders are kept
+pub record Style : Type 0 where
+  pub words : List RuleWords
+  pub form : Form
+  pub tells_legs : Bool
+  pub keeps_legs : Bool
+
+abbrev pub style_of : Printing → Style
+style_of p = record {
+  words = p.words.now;
+  form = p.form.now;
+  tells_legs = p.tells_legs;
+  keeps_legs = p.keeps_legs;
+}
+
+-- the findings of the line of a number, of which this is judged
+abbrev pub entry_findings : Style → ℕ → List ℕ → Result (Option Entry) LineFault → VenueParts → List ℕ
+entry_findings s number line (Err fault) day = []
+entry_findings s number line (Ok entry) day = findings_upto s.words s.form number line (judged day entry) 14
+
+-- the findings of the line of a number
+abbrev pub line_findings : Style → ℕ → List ℕ → VenueParts → List ℕ
+line_findings s number line day =
+    if is_passed_over line then [] else entry_findings s number line (line_entry s.form line) day
+
+-- what is known behind these lines, of which the last one stands first
+abbrev pub checked : Style → List (List ℕ) → LogParts
+checked s lines = log_checked s.form s.keeps_legs lines
+
+-- the findings of these lines
+abbrev pub findings : Style → List (List ℕ) → List ℕ
+findings s [] = []
+findings s (line ∷ earlier) =
+    findings s earlier ++ line_findings s (suc (length earlier)) line (checked s earlier).day
+
+abbrev pub path_line : List ℕ → List ℕ
+path_line path = codes "log " ++ path ++ 10 ∷ []
+
+abbrev pub legs_if : Bool → VenueParts → List ℕ
+legs_if tells day = if tells then legs_text day.watch else []
+
+-- a line for each rule, and where it is asked for what became of the orders
+abbrev pub log_end : Style → LogParts → List ℕ
+log_end s log = summary_upto s.words log.tallies 14 ++ legs_if s.tells_legs log.day
+
+-- the log's path, its findings, a line for each rule, and what became of the orders
+abbrev pub log_text : Style → List ℕ → List (List ℕ) → List ℕ
+log_text s path lines = path_line path ++ findings s lines ++ log_end s (checked s lines)
+
+-- some lines were read of the log, and this is what they say; and where text is printed, it is theirs
+pub record ChecksLog (p : Printing) (input before after : Option (List ℕ)) (log : CheckedLog) : Type 0 where
+  pub lines : List (List ℕ)
+  pub read : AreLines input lines
+  pub day : log.day ≡ (checked (style_of p) lines).day
+  pub broken : log.is_broken ≡ breaks_a_rule (checked (style_of p) lines).tallies
+  pub printed : p.is_json ≡ false → Appends before after (log_text (style_of p) p.log.now lines)

@@ -1,0 +1,277 @@
+//! A log is held against what the session itself writes.
+
+ghost use Rattle.std.specs.Prelude.{◌≡◌, false, IfOk};
+ghost use Rattle.day_check.specs.Exact.{HoldsExactly, difference_line, difference_text, exact_tally, said_text};
+
+use crate::fault::LogFault;
+use crate::finding::{Printing, number, text};
+use crate::input::{read_text, without_end};
+use crate::json::{Member, Value, json_line};
+use command_line::print;
+use dialect::AnyDialect;
+use log_legs::append_logged;
+use log_text::{is_passed_over, read_line};
+use message_log::Direction;
+use session_trace::{Difference, Differs, Shown, explain};
+use std::alloc::{AllocError, Global};
+use std::io::{BufRead, Write};
+use std::str;
+
+/// The rule's name.
+const EXACT: &str = "exact";
+
+/// In which dialect a log's session spells its orders.
+#[derive(Clone, Copy, Debug)]
+pub enum DialectBy {
+    /// In this one.
+    Name(AnyDialect),
+    /// In the one that the line at the log's head names.
+    Head,
+}
+
+/// What the lines of a log show, each with its number, and the dialect that the line at its head names.
+#[derive(Drop)]
+struct ShownLog {
+    lines: Vec<Shown>,
+    numbers: Vec<u64>,
+    head: Option<AnyDialect>,
+}
+
+/// What the rule says of a log: how many frames were what the session writes, and the first line that isn't, with what
+/// the session writes there.
+#[derive(Drop)]
+struct Said {
+    held: u64,
+    broken: Option<(u64, Vec<u8>)>,
+}
+
+/// The first word of a line, and what follows behind the space.
+fn first_word(line: &[u8]) -> (&[u8], &[u8]) {
+    match line.iter().position(|byte| *byte == b' ') {
+        Some(end) => (&line[..end], &line[end + 1..]),
+        None => (line, &[]),
+    }
+}
+
+/// The word at a place of a line, of which the first is at 0.
+fn word_at(line: &[u8], place: usize) -> &[u8] {
+    let mut rest = line;
+    for _ in 0..place {
+        rest = first_word(rest).1;
+    }
+    first_word(rest).0
+}
+
+/// The dialect that the line at a log's head names, as
+/// `# venue NYSE address 10.0.0.1:9001 sender DESK target NYSE dialect plain heartbeat 30 next_expected no`.
+fn dialect_at_head(line: &[u8]) -> Option<AnyDialect> {
+    if word_at(line, 1) != b"venue".as_slice() || word_at(line, 9) != b"dialect".as_slice() {
+        return None;
+    }
+    AnyDialect::named(str::from_utf8(word_at(line, 10)).ok()?)
+}
+
+impl ShownLog {
+    /// One more line, of this number.
+    fn push(&mut self, line: Shown, number: u64) -> Result<(), AllocError> {
+        self.lines.push(line)?;
+        self.numbers.push(number)?;
+        Ok(())
+    }
+
+    /// Reads a line of this number.
+    fn read(&mut self, alloc: Global, number: u64, line: &[u8]) -> Result<(), LogFault> {
+        if is_passed_over(line) {
+            if number == 1 {
+                self.head = dialect_at_head(line);
+            }
+            return Ok(());
+        }
+        let mut message = Vec::new(alloc);
+        let shown = match read_line(line, &mut message) {
+            Ok(said) => match said.direction {
+                Direction::Sent => Shown::Sent(message),
+                Direction::Received => Shown::Received(message),
+            },
+            Err(fault) => return Err(LogFault::of_line(number, fault)),
+        };
+        self.push(shown, number)?;
+        Ok(())
+    }
+
+    /// The dialect of its orders.
+    fn dialect(&self, by: DialectBy) -> Result<AnyDialect, LogFault> {
+        match by {
+            DialectBy::Name(dialect) => Ok(dialect),
+            DialectBy::Head => match self.head {
+                Some(dialect) => Ok(dialect),
+                None => Err(LogFault::NoDialect),
+            },
+        }
+    }
+
+    /// How many of the first lines show what was sent.
+    fn sent_before(&self, place: usize) -> u64 {
+        let sent = self
+            .lines
+            .iter()
+            .take(place)
+            .filter(|line| matches!(line, Shown::Sent(_)))
+            .count();
+        sent as u64
+    }
+}
+
+/// Reads the lines of a log.
+fn read_shown<R: BufRead>(alloc: Global, input: &mut R) -> Result<ShownLog, LogFault> {
+    let mut log = ShownLog {
+        lines: Vec::new(alloc),
+        numbers: Vec::new(alloc),
+        head: None,
+    };
+    let mut line = Vec::new(alloc);
+    for number in 1..u64::MAX {
+        if !read_text(input, &mut line)? {
+            return Ok(log);
+        }
+        log.read(alloc, number, without_end(&line))?;
+    }
+    Err(LogFault::ReadFailed)
+}
+
+/// What is said of a log that differs.
+fn said_of(alloc: Global, log: &ShownLog, differs: Differs) -> Result<Said, LogFault> {
+    let Differs { place, why } = differs;
+    let held = log.sent_before(place);
+    let frame = match why {
+        Difference::Writes(frame) => frame,
+        Difference::Nothing => Vec::new(alloc),
+        Difference::NothingSent => return Ok(Said { held, broken: None }),
+        Difference::OutOfMemory => return Err(LogFault::OutOfMemory),
+    };
+    let number = match log.numbers.get(place) {
+        Some(number) => *number,
+        None => 0,
+    };
+    Ok(Said {
+        held,
+        broken: Some((number, frame)),
+    })
+}
+
+/// Explains a log.
+fn judge_exactly(alloc: Global, dialect: AnyDialect, log: &ShownLog) -> Result<Said, LogFault> {
+    match explain(alloc, &dialect, log.lines.as_slice()) {
+        Ok(()) => Ok(Said {
+            held: log.sent_before(log.lines.len()),
+            broken: None,
+        }),
+        Err(differs) => said_of(alloc, log, differs),
+    }
+}
+
+/// What the session writes in the place of a line, as it is logged; as an object of JSON.
+fn difference_json(
+    alloc: Global,
+    log: &str,
+    place: u64,
+    logged: &[u8],
+) -> Result<Vec<u8>, AllocError> {
+    let members = [
+        text("log", log),
+        number("line", place),
+        text("rule", EXACT),
+        Member {
+            name: "writes",
+            value: Value::Text(logged),
+        },
+    ];
+    json_line(alloc, &members)
+}
+
+/// What the session writes in the place of a line, as it is logged.
+fn difference_line(alloc: Global, place: u64, logged: &[u8]) -> Result<Vec<u8>, AllocError>
+    ensures { IfOk result (λ text. text.items ≡ difference_line place logged.now) }
+{
+    if logged.is_empty() {
+        let line = format!(in alloc; "line {place} exact: the session writes nothing\n")?;
+        return Ok(line.into_bytes());
+    }
+    let mut line = format!(in alloc; "line {place} exact: the session writes ")?.into_bytes();
+    line.extend_from_slice(logged)?;
+    line.push(b'\n')?;
+    Ok(line)
+}
+
+/// What the session writes in the place of a line.
+fn difference_text(
+    alloc: Global,
+    printing: &Printing<'_>,
+    place: u64,
+    frame: &[u8],
+) -> Result<Vec<u8>, AllocError>
+    ensures { IfOk result (λ text. printing.now.is_json ≡ false → text.items ≡ difference_text place frame.now) }
+{
+    let mut logged = Vec::new(alloc);
+    append_logged(&mut logged, frame)?;
+    if printing.is_json {
+        return difference_json(alloc, printing.log, place, &logged);
+    }
+    difference_line(alloc, place, &logged)
+}
+
+/// How many frames are what the session writes, and whether one isn't.
+fn tally_text(
+    alloc: Global,
+    printing: &Printing<'_>,
+    held: u64,
+    broken: u64,
+) -> Result<Vec<u8>, AllocError>
+    ensures { IfOk result (λ text. printing.now.is_json ≡ false → text.items ≡ exact_tally held broken) }
+{
+    if printing.is_json {
+        let members = [
+            text("log", printing.log),
+            text("rule", EXACT),
+            number("held", held),
+            number("broken", broken),
+        ];
+        return json_line(alloc, &members);
+    }
+    if held == 0 && broken == 0 {
+        return Ok(format!(in alloc; "rule exact not seen\n")?.into_bytes());
+    }
+    Ok(format!(in alloc; "rule exact held {held} broken {broken}\n")?.into_bytes())
+}
+
+/// What is printed of a log that was explained or not.
+fn said_text(alloc: Global, printing: &Printing<'_>, said: &Said) -> Result<Vec<u8>, AllocError>
+    ensures { IfOk result (λ text. printing.now.is_json ≡ false → text.items ≡ said_text said.now) }
+{
+    match &said.broken {
+        None => tally_text(alloc, printing, said.held, 0),
+        Some((place, frame)) => {
+            let mut text = difference_text(alloc, printing, *place, frame)?;
+            text.extend_from_slice(&tally_text(alloc, printing, said.held, 1)?)?;
+            Ok(text)
+        }
+    }
+}
+
+/// Prints the first line of a log that isn't what the session writes, if there is one, and how many are. The answer is
+/// whether there is one.
+pub fn print_exact<R: BufRead, W: Write>(
+    alloc: Global,
+    printing: &Printing<'_>,
+    by: DialectBy,
+    input: &mut R,
+    out: &mut W,
+) -> Result<bool, LogFault>
+    ensures { IfOk result (HoldsExactly printing.now (W.contents out.old) (W.contents out.new)) }
+{
+    let log = read_shown(alloc, input)?;
+    let said = judge_exactly(alloc, log.dialect(by)?, &log)?;
+    let text = said_text(alloc, printing, &said)?;
+    print(&text, out)?;
+    Ok(said.broken.is_some())
+}

@@ -1,0 +1,41 @@
+//! The logs of a day are checked: which rules the messages of a venue's log break, whether they are what the session
+//! writes, and what the desk's own log says; and the text of all that.
+//!
+//! Promises:
+//! - `print_log` says of the lines that it read exactly what the rules do (`ChecksLog`): what is known behind them,
+//!   whether a rule is broken, and, where text is printed, that it is the log's (`log_text`): a finding for each rule
+//!   that a line breaks, in the order of the lines and of the rules, a line for each rule, and where it is asked for
+//!   what became of its orders. The lines are those of the bytes that the reader tells (`AreLines`).
+//! - `print_exact` prints what `explain` of `session_trace` says of a log (`HoldsExactly`), and `read_sweeps` hears
+//!   each line of the desk's log exactly as the definition does (`HearsLog`). `print_sweeps` prints the sums of each
+//!   sweep (`sweeps_text`).
+//! - A line that isn't one of a log is named with its own fault (`NamesBadLine`, `NamesBad`).
+//! - Not said: which words stand for a rule (they are those that `Printing` has), and of JSON more than the form of
+//!   each line (`json_line`).
+#![tactic(auto)]
+
+mod checked_log;
+mod exact;
+mod fault;
+mod finding;
+mod form;
+mod input;
+mod json;
+mod judge;
+mod legs_json;
+mod log_check;
+mod print_day;
+mod rule_words;
+mod shown;
+mod sweeps_log;
+mod tallies;
+
+pub use checked_log::{CheckedLog, print_log};
+pub use exact::{DialectBy, print_exact};
+pub use fault::LogFault;
+pub use finding::Printing;
+pub use form::Form;
+pub use input::read_line_at;
+pub use print_day::{LinePlace, broken_sentence, print_sweeps, verdict_text};
+pub use rule_words::RuleWords;
+pub use sweeps_log::read_sweeps;

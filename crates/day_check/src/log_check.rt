@@ -1,0 +1,151 @@
+//! A log that is checked.
+ghost use Rattle.std.specs.Prelude.{◌≡◌, false, IfErr, IfOk, Ok, OnOk};
+ghost use Rattle.day_check.specs.Judge.{Checks, ChecksAs, Judges, NamesBadLine, line_entry};
+ghost use Rattle.day_check.specs.LogChecked.{entry_checked, line_checked, new_day, new_log};
+ghost use Rattle.day_check.specs.LogCheck.{log_parts};
+ghost use Rattle.day_check.specs.LogText.{entry_findings, legs_if, line_findings, log_end, style_of};
+ghost use Rattle.day_check.specs.Tallies.{breaks_a_rule};
+
+use crate::fault::LogFault;
+use crate::finding::{Printing, findings, summary};
+use crate::judge::judge_line;
+use crate::legs_json::legs_json;
+use crate::tallies::{breaks_a_rule, count};
+use day_rules::VenueDay;
+use log_legs::legs_text;
+use log_rules::{Tally, Verdict};
+use log_text::is_passed_over;
+use std::alloc::{AllocError, Global};
+
+/// A log that is checked: what is known behind the lines that were read, and how often each rule was held and broken.
+#[derive(Drop)]
+pub(crate) struct LogCheck {
+    pub day: VenueDay,
+    pub message: Vec<u8>,
+    pub tallies: [Tally; 14],
+}
+
+/// What is known before any line; the orders are kept where they are asked for.
+fn new_day(alloc: Global, keeps_legs: bool) -> VenueDay
+    ensures { result ≡ new_day keeps_legs }
+{
+    if keeps_legs {
+        VenueDay::of_legs(alloc)
+    } else {
+        VenueDay::of_rules(alloc)
+    }
+}
+
+impl LogCheck {
+    /// Nothing is read yet; the orders are kept where they are asked for.
+    pub(crate) fn new(alloc: Global, keeps_legs: bool) -> LogCheck
+        ensures { log_parts result ≡ new_log keeps_legs }
+    {
+        LogCheck {
+            day: new_day(alloc, keeps_legs),
+            message: Vec::new(alloc),
+            tallies: [Tally::new(); 14],
+        }
+    }
+
+    /// What the message of a line says of each rule.
+    fn judge(
+        &mut self,
+        alloc: Global,
+        printing: &Printing<'_>,
+        number: u64,
+        line: &[u8],
+    ) -> Result<[Verdict; 14], LogFault>
+        ensures judged { IfOk result (λ said.
+            Judges number (line_entry printing.now.form.now line.now) self.old.day self.new.day (Ok said)) }
+        ensures tallies { self.new.tallies ≡ self.old.tallies }
+        ensures named { IfErr result (NamesBadLine printing.now.form.now number line.now) }
+    {
+        match judge_line(
+            alloc,
+            printing.form,
+            line,
+            &mut self.message,
+            number,
+            &mut self.day,
+        ) {
+            Ok(verdicts) => Ok(verdicts),
+            Err(fault) => Err(LogFault::of_line(number, fault)),
+        }
+    }
+
+    /// Checks the message of the next line, of this number. The answer is what is printed of the rules that it breaks.
+    fn check_message(
+        &mut self,
+        alloc: Global,
+        printing: &Printing<'_>,
+        number: u64,
+        line: &[u8],
+    ) -> Result<Vec<u8>, LogFault>
+        ensures day { OnOk result
+            (ChecksAs number (line_entry printing.now.form.now line.now) self.old.day self.new.day) }
+        ensures checked { OnOk result (log_parts self.new
+            ≡ entry_checked number (line_entry printing.now.form.now line.now) (log_parts self.old)) }
+        ensures text { IfOk result (λ text. printing.now.is_json ≡ false → text.items
+            ≡ entry_findings (style_of printing.now) number line.now (line_entry printing.now.form.now line.now)
+            self.old.day) }
+        ensures named { IfErr result (NamesBadLine printing.now.form.now number line.now) }
+    {
+        let verdicts = self.judge(alloc, printing, number, line)?;
+        count(&mut self.tallies, &verdicts);
+        let text = findings(alloc, printing, &verdicts, number, line)?;
+        Ok(text)
+    }
+
+    /// Checks the next line, of this number. The answer is what is printed of the rules that it breaks.
+    pub(crate) fn check_line(
+        &mut self,
+        alloc: Global,
+        printing: &Printing<'_>,
+        number: u64,
+        line: &[u8],
+    ) -> Result<Vec<u8>, LogFault>
+        ensures day { OnOk result (Checks printing.now.form.now number line.now self.old.day self.new.day) }
+        ensures checked { OnOk result
+            (log_parts self.new ≡ line_checked printing.now.form.now number line.now (log_parts self.old)) }
+        ensures text { IfOk result (λ text. printing.now.is_json ≡ false → text.items
+            ≡ line_findings (style_of printing.now) number line.now self.old.day) }
+        ensures named { IfErr result (NamesBadLine printing.now.form.now number line.now) }
+    {
+        if is_passed_over(line) {
+            return Ok(Vec::new(alloc));
+        }
+        self.check_message(alloc, printing, number, line)
+    }
+
+    /// What became of the orders, where it is asked for.
+    fn legs(&self, alloc: Global, printing: &Printing<'_>) -> Result<Vec<u8>, AllocError>
+        ensures { IfOk result (λ text. printing.now.is_json ≡ false → text.items
+            ≡ legs_if printing.now.tells_legs self.now.day) }
+    {
+        if !printing.tells_legs {
+            return Ok(Vec::new(alloc));
+        }
+        if printing.is_json {
+            return legs_json(alloc, printing.log, self.day.watch());
+        }
+        legs_text(alloc, self.day.watch())
+    }
+
+    /// A line for each rule, and where it is asked for what became of the orders.
+    pub(crate) fn end(&self, alloc: Global, printing: &Printing<'_>) -> Result<Vec<u8>, AllocError>
+        ensures { IfOk result (λ text. printing.now.is_json ≡ false → text.items
+            ≡ log_end (style_of printing.now) (log_parts self.now)) }
+    {
+        let mut text = summary(alloc, printing, &self.tallies)?;
+        text.extend_from_slice(&self.legs(alloc, printing)?)?;
+        Ok(text)
+    }
+
+    /// Whether a rule is broken.
+    pub(crate) fn is_broken(&self) -> bool
+        ensures { result ≡ breaks_a_rule self.now.tallies }
+    {
+        breaks_a_rule(&self.tallies)
+    }
+}
