@@ -220,6 +220,18 @@ fn difference_text(
     difference_line(alloc, place, &logged)
 }
 
+/// How many frames are what the session writes, and whether one isn't, in a line of text.
+fn tally_line(alloc: Global, held: u64, broken: u64) -> Result<Vec<u8>, AllocError>
+    ensures { IfOk result (λ text. text.items ≡ exact_tally held broken) }
+{
+    let text = if held == 0 && broken == 0 {
+        format!(in alloc; "rule exact not seen\n")?
+    } else {
+        format!(in alloc; "rule exact held {held} broken {broken}\n")?
+    };
+    Ok(text.into_bytes())
+}
+
 /// How many frames are what the session writes, and whether one isn't.
 fn tally_text(
     alloc: Global,
@@ -238,10 +250,7 @@ fn tally_text(
         ];
         return json_line(alloc, &members);
     }
-    if held == 0 && broken == 0 {
-        return Ok(format!(in alloc; "rule exact not seen\n")?.into_bytes());
-    }
-    Ok(format!(in alloc; "rule exact held {held} broken {broken}\n")?.into_bytes())
+    tally_line(alloc, held, broken)
 }
 
 /// What is printed of a log that was explained or not.
