@@ -1,5 +1,5 @@
 -- A message that was judged is counted and told.
-use Rattle.std.proofs.Common.{◌≡◌, ℕ, List, Option, Result, Ok, Err, ap, sym, ◌∙◌}
+use Rattle.std.proofs.Common.{◌≡◌, ℕ, List, Option, Result, Ok, Err, ap}
 use Rattle.log_rules.specs.declared.entry.Entry.{Entry}
 use Rattle.log_rules.specs.declared.tally.Tally.{Tally}
 use Rattle.log_rules.specs.declared.verdict.Verdict.{Verdict}

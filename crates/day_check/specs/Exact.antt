@@ -1,9 +1,10 @@
 -- A log that is held against what the session itself writes.
-use Rattle.std.specs.Prelude.{◌≡◌, ℕ, Bool, ◌&&◌, false, List, [], ◌∷◌, ◌++◌, codes, decimal, Option, Some, None, is_some, option_map, ◌==◌, if◌then◌else◌}
+use Rattle.std.specs.Prelude.{◌≡◌, ℕ, Bool, false, List, [], ◌∷◌, ◌++◌, codes, decimal, Option, Some, None, is_some, option_map}
 use Rattle.std.specs.Io.KnownBytes.{Appends}
 use Rattle.message_log.specs.Line.{logged}
 use Rattle.day_check.specs.declared.exact.Said.{Said}
 use Rattle.day_check.specs.declared.finding.Printing.{Printing}
+use Rattle.day_check.specs.Finding.{tally_line}
 
 -- what the session writes in the place of a line, as it is logged, or nothing
 abbrev pub difference_line : ℕ → List ℕ → List ℕ
@@ -16,9 +17,7 @@ difference_text number frame = difference_line number (logged frame)
 
 -- how many frames are what the session writes, and whether one isn't
 abbrev pub exact_tally : ℕ → ℕ → List ℕ
-exact_tally held broken =
-    if held == 0 && broken == 0 then codes "rule exact not seen\n"
-    else codes "rule exact held " ++ decimal held ++ codes " broken " ++ decimal broken ++ 10 ∷ []
+exact_tally held broken = tally_line (codes "exact") (record { held = held; broken = broken })
 
 -- what is printed of that many frames, and of the first line that isn't what the session writes, if there is one
 abbrev pub exact_text : ℕ → Option (ℕ × List ℕ) → List ℕ

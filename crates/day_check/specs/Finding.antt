@@ -30,16 +30,16 @@ findings_upto words form number line said (suc n) =
     ++ finding_if form number line (slice_get words n) (breaks said n)
 
 -- how often a rule was held and broken
-abbrev pub tally_line : RuleWords → Tally → List ℕ
-tally_line words tally =
-    if tally.held == 0 && tally.broken == 0 then codes "rule " ++ words.name.now ++ codes " not seen\n"
-    else codes "rule " ++ words.name.now ++ codes " held " ++ decimal tally.held ++ codes " broken "
+abbrev pub tally_line : List ℕ → Tally → List ℕ
+tally_line name tally =
+    if tally.held == 0 && tally.broken == 0 then codes "rule " ++ name ++ codes " not seen\n"
+    else codes "rule " ++ name ++ codes " held " ++ decimal tally.held ++ codes " broken "
     ++ decimal tally.broken ++ 10 ∷ []
 
 abbrev pub tally_if : Option RuleWords → Option Tally → List ℕ
 tally_if None tally = []
 tally_if (Some words) None = []
-tally_if (Some words) (Some tally) = tally_line words tally
+tally_if (Some words) (Some tally) = tally_line words.name.now tally
 
 -- a line for each rule, of so many of the first rules
 abbrev pub summary_upto : List RuleWords → List Tally → ℕ → List ℕ

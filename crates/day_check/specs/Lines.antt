@@ -1,5 +1,5 @@
 -- The lines that were read of an input, the last one first.
-use Rattle.std.specs.Prelude.{◌≡◌, ℕ, ◌<◌, Bool, true, false, List, [], ◌∷◌, length, Option, Some, None, IfSome}
+use Rattle.std.specs.Prelude.{◌≡◌, ℕ, ◌<◌, Bool, true, false, List, [], ◌∷◌, length, Option, Some, IfSome}
 use Rattle.std.specs.Io.BufRead.{drop_through, first_piece, take_through}
 
 -- of all these bytes the lines were read, each without its end, and these bytes are left

@@ -1,7 +1,6 @@
 -- What is known behind the lines of a venue's log.
 use Rattle.std.specs.Prelude.{ℕ, Bool, List, [], ◌∷◌, length, suc, replicate, Option, Some, None, Result, Ok, Err, if◌then◌else◌}
 use Rattle.log_legs.specs.Legs.{no_legs}
-use Rattle.log_rules.specs.Entry.{entry_of}
 use Rattle.log_rules.specs.declared.entry.Entry.{Entry}
 use Rattle.log_rules.specs.declared.tally.Tally.{Tally}
 use Rattle.log_text.specs.Line.{is_passed_over}

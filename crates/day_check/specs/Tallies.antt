@@ -1,5 +1,5 @@
 -- How often each rule was held and broken.
-use Rattle.std.specs.Prelude.{ℕ, zero, suc, Bool, List, [], ◌∷◌, nat_lt}
+use Rattle.std.specs.Prelude.{ℕ, suc, Bool, List, ◌∷◌, nat_lt}
 use Rattle.std.specs.List.{list_any}
 use Rattle.log_rules.specs.Verdict.{tallied}
 use Rattle.log_rules.specs.declared.tally.Tally.{Tally}

@@ -4,12 +4,13 @@ ghost use Rattle.std.specs.Prelude.{◌≡◌, false, IfOk};
 ghost use Rattle.day_check.specs.Exact.{HoldsExactly, difference_line, difference_text, exact_tally, said_text};
 
 use crate::fault::LogFault;
-use crate::finding::{Printing, number, text};
+use crate::finding::{Printing, number, tally_line, text};
 use crate::input::{read_text, without_end};
 use crate::json::{Member, Value, json_line};
 use command_line::print;
 use dialect::AnyDialect;
 use log_legs::append_logged;
+use log_rules::Tally;
 use log_text::{is_passed_over, read_line};
 use message_log::Direction;
 use session_trace::{Difference, Differs, Shown, explain};
@@ -220,18 +221,6 @@ fn difference_text(
     difference_line(alloc, place, &logged)
 }
 
-/// How many frames are what the session writes, and whether one isn't, in a line of text.
-fn tally_line(alloc: Global, held: u64, broken: u64) -> Result<Vec<u8>, AllocError>
-    ensures { IfOk result (λ text. text.items ≡ exact_tally held broken) }
-{
-    let text = if held == 0 && broken == 0 {
-        format!(in alloc; "rule exact not seen\n")?
-    } else {
-        format!(in alloc; "rule exact held {held} broken {broken}\n")?
-    };
-    Ok(text.into_bytes())
-}
-
 /// How many frames are what the session writes, and whether one isn't.
 fn tally_text(
     alloc: Global,
@@ -250,7 +239,7 @@ fn tally_text(
         ];
         return json_line(alloc, &members);
     }
-    tally_line(alloc, held, broken)
+    tally_line(alloc, EXACT, Tally { held, broken })
 }
 
 /// What is printed of a log that was explained or not.

@@ -151,11 +151,11 @@ pub(crate) fn findings(
     Ok(text)
 }
 
-/// How often a rule was held and broken.
-fn tally_text(alloc: Global, words: &RuleWords, tally: Tally) -> Result<Vec<u8>, AllocError>
-    ensures { IfOk result (λ text. text.items ≡ tally_line words.now tally) }
+/// How often the rule of this name was held and broken.
+pub(crate) fn tally_line(alloc: Global, name: &str, tally: Tally) -> Result<Vec<u8>, AllocError>
+    ensures { IfOk result (λ text. text.items ≡ tally_line name.now tally) }
 {
-    let (name, Tally { held, broken }) = (words.name, tally);
+    let Tally { held, broken } = tally;
     let text = if held == 0 && broken == 0 {
         format!(in alloc; "rule {name} not seen\n")?
     } else {
@@ -199,7 +199,7 @@ fn tally_at(
     if printing.is_json {
         return tally_json(alloc, printing.log, words, *tally);
     }
-    tally_text(alloc, words, *tally)
+    tally_line(alloc, words.name, *tally)
 }
 
 /// A line for each rule.

@@ -1,4 +1,4 @@
-use Rattle.std.proofs.Common.{rules, refl, ◌≡◌, Bool, subst, ◌∙◌}
+use Rattle.std.proofs.Common.{rules, Bool, subst}
 use Rattle.std.specs.Prelude.{IfSome}
 use Rattle.day_check.specs.LogCheck.{log_parts}
 use Rattle.day_check.specs.LogText.{style_of}

@@ -1,4 +1,4 @@
-use Rattle.std.proofs.Common.{rules, refl, ◌≡◌, Option, Some, None, is_some, option_map, subst, ◌∙◌}
+use Rattle.std.proofs.Common.{refl, ◌≡◌, Option, Some, None, is_some, option_map, subst, ◌∙◌}
 use Rattle.std.specs.Io.KnownBytes.{Appends}
 use Rattle.day_check.proofs.exact.print_exact.Goals as goal
 

@@ -1,4 +1,4 @@
-use Rattle.std.proofs.Common.{rules, ◌∙◌}
+use Rattle.std.proofs.Common.{◌∙◌}
 use Rattle.day_check.specs.Judge.{line_entry}
 use Rattle.day_check.specs.LogCheck.{log_parts}
 use Rattle.day_check.specs.LogText.{style_of}
