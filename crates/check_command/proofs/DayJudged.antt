@@ -1,6 +1,6 @@
 -- A day that is judged sentence by sentence, behind its logs.
-use Rattle.std.proofs.Common.{◌≡◌, ℕ, Bool, true, false, List, [], ◌∷◌, ◌++◌, map, Option, refl, sym, ap, subst, ◌∙◌}
-use Rattle.std.specs.Prelude.{◌||◌}
+use Rattle.std.proofs.Common.{◌≡◌, ℕ, Bool, true, false, List, [], ◌∷◌, ◌++◌, map, Option, Ok, Err, refl, ap, subst, ◌∙◌}
+use Rattle.std.specs.Prelude.{◌||◌, IfErr, IfOk, Result}
 use Rattle.std.specs.Io.KnownBytes.{Appends}
 use Rattle.day_rules.specs.DeskDay.{DeskParts, new_desk}
 use Rattle.day_rules.specs.Judged.{judged}
@@ -14,12 +14,15 @@ use Rattle.day_check.specs.declared.finding.Printing.{Printing}
 use Rattle.day_check.specs.declared.form.Form.{Form}
 use Rattle.day_check.proofs.LinesRead.{behind, nothing}
 use Rattle.check_command.specs.DayRead.{DayRead, Told, all_sentences, any_broken_by, day_text, is_broken_by, told_before, told_text, verdict_text}
-use Rattle.check_command.specs.PathName.{AreNames}
-use Rattle.check_command.specs.Runs.{ChecksLogs, LogRead, any_broken, logs_text, paths_asked, paths_before, style_asked, venues_of}
-use Rattle.check_command.specs.Running.{ChecksDay, ChecksEach, day_of}
+use Rattle.clap.specs.declared.parser.matches.ArgMatches.{ArgMatches}
+use Rattle.check_command.specs.PathName.{AreNames, sweeps_paths}
+use Rattle.check_command.specs.Request.{IsRequest}
+use Rattle.check_command.specs.Runs.{ChecksLogs, any_broken, logs_text, paths_asked, paths_before, style_asked, venues_of}
+use Rattle.check_command.specs.Running.{ChecksAsked, ChecksDay, ChecksEach, EndsCheck, KeepsWhereRefused, day_of}
 use Rattle.check_command.specs.Sentences.{JudgesDay, TellsDay, asked_day, day_read, paths_of}
 use Rattle.check_command.specs.declared.command.Request.{Request}
 use Rattle.check_command.specs.declared.day.Day.{Day}
+use Rattle.check_command.specs.declared.fault.CommandFault.{CommandFault}
 
 -- the sentences that were told so far, and those that are left
 pub record ToldSoFar (is_json : Bool) (d : DayRead) (rest : List Sentence) (before after : Option (List ℕ)) (broken : Bool)
@@ -75,6 +78,7 @@ pub day_checked : (r : Request) (path : List ℕ) (names : List (List ℕ)) (bef
     (more : Bool) → ChecksLogs r true [] before between day
     → AreNames names (paths_asked r) → JudgesDay r day path names between after more
     → ChecksDay r path before after (day.is_broken || more)
+unfolding made
 day_checked r path names before between after day more checks are_names judges =
     let s = style_asked r true in
     let desk = lines_heard (new_desk names) judges.lines in
@@ -114,6 +118,7 @@ pub day_as_asked : (r : Request) (p : Printing) (day : Day) (path : List ℕ) (n
     → (p.is_json ≡ false → Appends a b (path_line p.log.now))
     → (p.is_json ≡ false → Appends b c (sweeps_text day.venues.items desk))
     → JudgesDay r day path names a e broken
+unfolding read_day
 day_as_asked r p day path names lines desk a b c e broken style is_path json heard tells first body =
     let same : day_read p day desk ≡ asked_day r day path (lines_heard (new_desk names) lines) =
     same_read day p.form.now r.form p.log.now path desk (lines_heard (new_desk names) lines)
@@ -126,3 +131,12 @@ day_as_asked r p day path names lines desk a b c e broken style is_path json hea
           subst (λ (d : DayRead). Appends a e (day_text d tells.told)) same
           (day_told (day_read p day desk) tells.told a b c e (first on) (body on) (tells.printed on));
     }
+
+-- how a run ends whose words were read
+pub ends_of : (matches : ArgMatches) (request : Request) → IsRequest matches request → (before after : Option (List ℕ))
+    (result : Result Bool CommandFault)
+    → IfOk result (ChecksAsked request (sweeps_paths (paths_asked request)) before after)
+    → IfErr result (KeepsWhereRefused before after) → EndsCheck before after result
+ends_of matches request asked before after (Ok broken) done kept =
+    record { matches = matches; request = request; asked = asked; checked = done }
+ends_of matches request asked before after (Err fault) done kept = kept

@@ -9,7 +9,7 @@ use Rattle.day_check.specs.declared.finding.Printing.{Printing}
 use Rattle.day_check.specs.declared.checked_log.CheckedLog.{CheckedLog}
 use Rattle.day_check.proofs.LinesRead.{behind, nothing}
 use Rattle.check_command.specs.PathName.{is_sweeps, venue_paths}
-use Rattle.check_command.specs.Runs.{AreRead, ChecksExactly, ChecksLogs, ChecksPath, LogRead, ReadsNext, any_broken, logs_text, paths_asked, paths_before, read_text, style_asked, text_of_exact, venues_of}
+use Rattle.check_command.specs.Runs.{ChecksExactly, ChecksLogs, ChecksPath, LogRead, ReadsNext, any_broken, logs_text, paths_asked, paths_before, read_text, style_asked, text_of_exact, venues_of}
 use Rattle.check_command.specs.declared.command.Request.{Request}
 use Rattle.check_command.specs.declared.day.Day.{Day}
 

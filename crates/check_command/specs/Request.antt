@@ -1,5 +1,6 @@
 -- What the words of `dispatch check` ask for.
 use Rattle.std.specs.Prelude.{◌≡◌, ℕ, Bool, true, false, List, [], length, map, Option, Some, None, codes, is_some}
+use Rattle.std.specs.Option.{option_map, unwrap_or}
 use Rattle.clap.specs.Matches.{first_value, found_of, matched_of, one_text, raw_values}
 use Rattle.clap.specs.declared.parser.matches.ArgMatches.{ArgMatches}
 use Rattle.clap.specs.declared.parser.matches.MatchedArg.{MatchedArg}
@@ -15,8 +16,7 @@ IsFlag matches name on =
     (given ≡ Some (codes "true") → on ≡ true) × (given ≡ Some (codes "false") → on ≡ false)
 
 abbrev pub values_of : Option MatchedArg → List (List ℕ)
-values_of None = []
-values_of (Some arg) = raw_values arg
+values_of matched = unwrap_or (option_map raw_values matched) []
 
 -- the logs are those of a desk of this name, or this program's where none is given
 abbrev pub IsForm : Option (List ℕ) → Form → Type 0
@@ -30,7 +30,7 @@ IsForm (Some text) (Quickfix desk) = comp_id_of text ≡ Some desk
 pub record IsRequest (matches : ArgMatches) (r : Request) : Type 0 where
   pub paths : map (λ path. path.now) r.paths.items ≡ values_of (matched_of (found_of matches) (codes "LOG"))
   pub form : IsForm (first_value (found_of matches) (codes "desk")) r.form
-  pub words : length r.words ≡ 14
+  pub words : length r.words.items ≡ 14
   pub is_json : IsFlag matches (codes "json") r.is_json
   pub tells_legs : IsFlag matches (codes "legs") r.tells_legs
   pub exact : is_some r.exact ≡ is_some (first_value (found_of matches) (codes "exact"))

@@ -3,7 +3,7 @@ use Rattle.std.specs.Prelude.{◌≡◌, ℕ, Bool, true, false, ◌||◌, List,
 use Rattle.std.specs.Io.KnownBytes.{Appends}
 use Rattle.day_rules.specs.VenueDay.{VenueParts}
 use Rattle.day_check.specs.Exact.{exact_text}
-use Rattle.day_check.specs.LogText.{Style, checked, log_text, style_of}
+use Rattle.day_check.specs.LogText.{Style, checked, log_text}
 use Rattle.day_check.specs.Tallies.{breaks_a_rule}
 use Rattle.day_check.specs.declared.finding.Printing.{Printing}
 use Rattle.day_check.specs.declared.checked_log.CheckedLog.{CheckedLog}
@@ -68,7 +68,7 @@ AreHeld asked (log ∷ earlier) = (is_some log.exact ≡ asked) × AreHeld asked
 -- how the logs are told that the words name, as those of a day where the day is judged
 abbrev pub style_asked : Request → Bool → Style
 style_asked r of_day = record {
-  words = r.words;
+  words = r.words.items;
   form = r.form;
   tells_legs = r.tells_legs;
   keeps_legs = r.tells_legs || of_day;

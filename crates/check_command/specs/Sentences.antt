@@ -2,7 +2,6 @@
 use Rattle.std.specs.Prelude.{◌≡◌, ℕ, Bool, false, List, [], map, Option}
 use Rattle.std.specs.Io.KnownBytes.{Appends}
 use Rattle.day_rules.specs.DeskDay.{DeskParts, new_desk}
-use Rattle.day_rules.specs.VenueDay.{VenueParts}
 use Rattle.day_check.specs.SweepsLog.{lines_heard}
 use Rattle.day_check.specs.declared.finding.Printing.{Printing}
 use Rattle.check_command.specs.DayRead.{DayRead, Told, all_sentences, any_broken_by, day_text, told_before, told_text}

@@ -1,11 +1,12 @@
 //! The words of `dispatch check`.
-ghost use Rattle.std.specs.Prelude.{◌≡◌, IfErr, IfOk, is_some, option_map};
+ghost use Rattle.std.specs.Prelude.{◌≡◌, IfErr, IfOk, map, is_some, option_map, codes};
+ghost use Rattle.clap.specs.Matches.{found_of, matched_of};
 ghost use Rattle.clap.specs.declared.parser.matches.ArgMatches.{ArgMatches};
 ghost use Rattle.check_command.specs.Fault.{IsOfCommandLine};
-ghost use Rattle.check_command.specs.Request.{IsForm, IsRequest};
+ghost use Rattle.check_command.specs.Request.{IsForm, IsRequest, values_of};
 
 use crate::fault::CommandFault;
-use clap::{Arg, ArgAction, Command};
+use clap::{Arg, ArgAction, ArgMatches, Command};
 use day_check::{DialectBy, Form, Printing, RuleWords};
 use dialect::AnyDialect;
 use fix_tags::CompId;
@@ -61,7 +62,7 @@ pub(crate) struct Request<'a> {
     pub paths: Vec<&'a str>,
     pub form: Form,
     /// The words of the rules.
-    pub words: [RuleWords; 14],
+    pub words: Vec<RuleWords>,
     /// Whether JSON is printed in place of text.
     pub is_json: bool,
     /// Whether it is told what became of each leg.
@@ -83,7 +84,7 @@ impl<'a> Request<'a> {
         Printing {
             log,
             form: &self.form,
-            words: &self.words,
+            words: self.words.as_slice(),
             is_json: self.is_json,
             tells_legs: self.tells_legs,
             keeps_legs: self.tells_legs || is_of_day,
@@ -166,11 +167,22 @@ fn form_of(desk: Option<&str>) -> Result<Form, CommandFault>
 
 /// The dialect of a name; `auto` stands for the one that a log's head names.
 fn dialect_of(name: Option<&str>) -> Option<DialectBy>
-    ensures { is_some result ≡ is_some name }
+    ensures { is_some result ≡ is_some (option_map (λ text. text.now) name.entry) }
 {
     match AnyDialect::named(name?) {
         Some(dialect) => Some(DialectBy::Name(dialect)),
         None => Some(DialectBy::Head),
+    }
+}
+
+/// The logs that were named, in their order.
+fn paths_in<'a>(alloc: Global, matches: &ArgMatches<'a>) -> Result<Vec<&'a str>, AllocError>
+    ensures { IfOk result (λ paths. map (λ path. path.now) paths.items ≡ values_of
+        (matched_of (found_of matches.now) (codes "LOG"))) }
+{
+    match matches.get_strs(LOG) {
+        Some(paths) => Ok(Vec::from_slice(alloc, paths)?),
+        None => Ok(Vec::new(alloc)),
     }
 }
 
@@ -185,17 +197,14 @@ pub(crate) fn read_words<'a, S: AsStr>(
     let command = check_command(alloc)?.bin_name("dispatch check")?;
     let matches = command.try_get_matches_from(words)?;
     let form = form_of(matches.get_str(DESK))?;
-    let paths = match matches.get_strs(LOG) {
-        Some(paths) => Vec::from_slice(alloc, paths)?,
-        None => Vec::new(alloc),
-    };
+    let paths = paths_in(alloc, &matches)?;
     let is_json = matches.get_flag(JSON);
     let tells_legs = matches.get_flag(LEGS);
     let exact = dialect_of(matches.get_str(EXACT));
     Ok(Request {
         paths,
         form,
-        words: RuleWords::of_all(),
+        words: Vec::from_slice(alloc, &RuleWords::of_all())?,
         is_json,
         tells_legs,
         exact,

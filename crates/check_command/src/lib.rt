@@ -97,7 +97,7 @@ fn check_whole<F: Files, W: Write>(
     let names = venue_names(alloc, &request.paths)?;
     let day = check_logs(files, alloc, request, true, out)?;
     let is_day_broken = check_day(files, alloc, request, &day, path, names, out)?;
-    Ok(day.is_broken || is_day_broken)
+    Ok(day.is_broken | is_day_broken)
 }
 
 /// Whether something is broken of what the words ask for.

@@ -53,7 +53,7 @@ fn check_log<F: Files, W: Write>(
     let first = print_log(alloc, &printing, &mut input, out)?;
     let is_other = check_exactly(files, alloc, request, &printing, out)?;
     Ok(CheckedLog {
-        is_broken: first.is_broken || is_other,
+        is_broken: first.is_broken | is_other,
         day: first.day,
     })
 }

@@ -68,7 +68,7 @@ fn judge_day<F: Files, W: Write>(
         let text = sentence_said(files, alloc, printing, day, sentence, said)?;
         print(&text, out)?;
         let is_by = is_broken_by(said);
-        is_broken = is_broken || is_by;
+        is_broken |= is_by;
     }
     Ok(is_broken)
 }

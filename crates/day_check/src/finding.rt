@@ -21,7 +21,7 @@ pub struct Printing<'a> {
     /// How its lines are written.
     pub form: &'a Form,
     /// The words of the rules.
-    pub words: &'a [RuleWords; 14],
+    pub words: &'a [RuleWords],
     /// Whether JSON is printed in place of text.
     pub is_json: bool,
     /// Whether it is told what became of each leg.

@@ -10,9 +10,9 @@ returns-in-None-clause-held g c = record {
   printed = λ off. nothing (g.W.Write.contents c.args.out.now);
 }
 
-pub returns-in-Some-clause-held : goal.returns-in-Some-clause-held
-returns-in-Some-clause-held g c =
-    let said = c.in_ok-is_broken.ensures in record {
+pub returns-in_ok-is_broken-in-Some-clause-held : goal.returns-in_ok-is_broken-in-Some-clause-held
+returns-in_ok-is_broken-in-Some-clause-held g c =
+    let said = c.in_ok-is_broken-in-Some.ensures in record {
       said = Some (record { held = said.held; broken = said.broken });
       held = search rules;
       is_so = said.is_so;

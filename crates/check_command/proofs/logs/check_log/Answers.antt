@@ -1,4 +1,3 @@
-use Rattle.std.proofs.Common.{rules}
 use Rattle.check_command.proofs.LogsRead.{log_read}
 use Rattle.check_command.proofs.logs.check_log.Goals as goal
 

@@ -1,4 +1,7 @@
-use Rattle.std.proofs.Common.{ap, ◌∙◌}
+use Rattle.std.proofs.Common.{◌≡◌, false, List, ap, subst, ◌∙◌}
+use Rattle.std.specs.Io.KnownBytes.{Appends}
+use Rattle.day_rules.specs.VenueDay.{VenueParts}
+use Rattle.day_check.specs.DayText.{sweeps_text}
 use Rattle.day_rules.specs.DeskDay.{DeskParts}
 use Rattle.day_check.specs.SweepsLog.{lines_heard}
 use Rattle.check_command.proofs.DayJudged.{day_as_asked}
@@ -12,4 +15,7 @@ returns-clause-judged g c =
     (g.W.Write.contents c.print_sweeps.new.out) (g.W.Write.contents c.judge_day.new.out) c.in_ok-is_broken.is_broken
     c.printing-printing.ensures.style c.printing-printing.ensures.path c.printing-printing.ensures.is_json
     (heard.heard ∙ ap (λ (d : DeskParts). lines_heard d heard.lines) c.new-unheard.ensures)
-    c.in_ok-is_broken.ensures.told c.in_ok-desk.ensures.printed c.in_ok-print_sweeps.ensures
+    c.in_ok-is_broken.ensures.told c.in_ok-desk.ensures.printed
+    (subst (λ (venues : List VenueParts). c.printing-printing.result.is_json ≡ false
+    → Appends (g.W.Write.contents c.read_sweeps.new.out) (g.W.Write.contents c.print_sweeps.new.out)
+    (sweeps_text venues c.in_ok-desk.desk)) c.deref.ensures.value c.in_ok-print_sweeps.ensures)

@@ -1,4 +1,4 @@
-use Rattle.std.proofs.Common.{rules, ◌≡◌, ℕ, ◌+◌, List, drop, ◌∷◌, subst}
+use Rattle.std.proofs.Common.{rules, ◌+◌, List, drop, subst}
 use Rattle.std.specs.Io.KnownBytes.{Appends}
 use Rattle.std.proofs.lemmas.List.{at_drop_more}
 use Rattle.day_rules.specs.declared.sentence.Sentence.{Sentence}
@@ -22,6 +22,6 @@ loop-place-preserved g c =
     let told = c.in_ok-text.ensures.told in
     one_told p.is_json d _ (drop (here.place + 1) all_sentences) start out (g.W.Write.contents c.print.new.out) here.is_broken
     c.is_broken_by-is_by.result c.in_ok-said.said told.0 c.in_ok-text.text.items (search rules) c.is_broken_by-is_by.ensures told.1
-    (subst (Appends out (g.W.Write.contents c.print.new.out)) c.deref.ensures.value c.in_ok-print.ensures.ok)
+    (subst (Appends out (g.W.Write.contents c.print.new.out)) c.deref-in-loop-place.ensures.value c.in_ok-print.ensures.ok)
     (subst (λ (rest : List Sentence). ToldSoFar p.is_json d rest start out here.is_broken)
     (at_drop_more (λ (rest : List Sentence). rest) all_sentences here.place _ (search rules)) here.invariant)
