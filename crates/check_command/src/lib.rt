@@ -2,22 +2,22 @@
 //!
 //! Promises:
 //! - `check_run` ends with the status of what it did (`ExitsSo`): 8 where something is broken, 0 where nothing is, or
-//!   that of its fault; and where its words are refused, the names of logs among them, nothing is printed. What is
-//!   broken follows from the lines that were read of the logs which the words name (`ChecksEach`, `ChecksDay`): a rule
-//!   in one of them, or, with the log of a desk's lines among them, a sentence.
+//!   that of its fault; where its words are refused, the names of logs among them, nothing is printed. Broken is a rule
+//!   in the lines that were read of the logs it took (`ChecksEach`), or, with a desk's log, a sentence (`ChecksDay`).
 //! - What is printed as text is exactly what those lines come to: of each log of a venue `log_text` of `day_check`, in
-//!   the order of the words, and then `day_text` of the day, with each sentence as `judged` of `day_rules` has it.
-//! - Not said: that the lines are those of the files, since no contract says what a file gives; so also that a line
-//!   which is shown beside a broken sentence stands there in its log. Nor which words stand for a rule, what is printed
-//!   with `--json` or before a fault, and what `explain` of `session_trace` said of a log with `--exact`, whose answer
-//!   is printed.
+//!   their order, and then `day_text` of the day, with each sentence as `judged` of `day_rules` has it.
+//! - Not said: that the logs are those of the words, whose parse no clause pins, so that a body which takes none meets
+//!   it; that lines are those of files; that a line shown beside a broken sentence stands in its log; which words stand
+//!   for a rule; what is printed with `--json` or before a fault; and what `explain` of `session_trace` said of a log
+//!   with `--exact`, whose answer is printed.
 #![tactic(auto)]
 
 ghost use Rattle.std.specs.Prelude.{◌≡◌, IfErr, IfOk};
 ghost use Rattle.check_command.specs.Fault.{IsOfLogs};
 ghost use Rattle.check_command.specs.PathName.{sweeps_paths};
 ghost use Rattle.check_command.specs.Runs.{paths_asked};
-ghost use Rattle.check_command.specs.Running.{ChecksAsked, ChecksDay, ChecksEach, EndsCheck, ExitsSo, KeepsWhereRefused, check_status};
+ghost use Rattle.check_command.specs.Running.{ChecksAsked, ChecksDay, ChecksEach, EndsCheck};
+ghost use Rattle.check_command.specs.Running.{ExitsSo, KeepsWhereRefused, check_status};
 
 mod command;
 mod day;
