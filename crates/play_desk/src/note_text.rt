@@ -1,33 +1,8 @@
 //! Notes of a venue, as text.
 
-use case_text::shown;
-use dialect::{Note, Report, ReportKind};
+use case_words::report_text;
+use dialect::Note;
 use std::alloc::{AllocError, Global};
-
-fn kind_text(alloc: Global, kind: &ReportKind) -> Result<String, AllocError> {
-    match kind {
-        ReportKind::New => String::from_str(alloc, "new"),
-        ReportKind::Trade(fill) => {
-            let shares = fill.shares();
-            let px = shown(alloc, fill.px().as_bytes())?;
-            format!(in alloc; "trade {shares} at {px}")
-        }
-        ReportKind::Canceled => String::from_str(alloc, "canceled"),
-        ReportKind::Rejected => String::from_str(alloc, "rejected"),
-        ReportKind::Expired => String::from_str(alloc, "expired"),
-        ReportKind::Bust { cancelled_id } => {
-            let id = shown(alloc, cancelled_id.as_bytes())?;
-            format!(in alloc; "bust {id}")
-        }
-    }
-}
-
-fn report_text(alloc: Global, report: &Report) -> Result<String, AllocError> {
-    let id = report.id;
-    let exec = shown(alloc, report.exec.as_bytes())?;
-    let kind = kind_text(alloc, &report.kind)?;
-    format!(in alloc; "report {id} {exec} {kind}")
-}
 
 /// What a note says, as `report S1L1 E2 trade 60 at 10.25`.
 pub fn note_text(alloc: Global, note: &Note) -> Result<String, AllocError> {

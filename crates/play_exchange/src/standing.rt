@@ -1,28 +1,10 @@
 //! How an exchange stands.
 
-use case_text::{Answers, PlayFault, shown};
-use dialect::{Report, ReportKind};
+use case_text::{Answers, PlayFault};
+use case_words::report_text;
 use exchange_core::Exchange;
 use leg::Leg;
 use std::alloc::{AllocError, Global};
-
-fn kind_text(alloc: Global, kind: &ReportKind) -> Result<String, AllocError> {
-    match kind {
-        ReportKind::New => String::from_str(alloc, "new"),
-        ReportKind::Trade(fill) => {
-            let shares = fill.shares();
-            let px = shown(alloc, fill.px().as_bytes())?;
-            format!(in alloc; "trade {shares} at {px}")
-        }
-        ReportKind::Canceled => String::from_str(alloc, "canceled"),
-        ReportKind::Rejected => String::from_str(alloc, "rejected"),
-        ReportKind::Expired => String::from_str(alloc, "expired"),
-        ReportKind::Bust { cancelled_id } => {
-            let id = shown(alloc, cancelled_id.as_bytes())?;
-            format!(in alloc; "bust {id}")
-        }
-    }
-}
 
 fn tell_orders(alloc: Global, legs: &[Leg], answers: &mut Answers) -> Result<(), PlayFault> {
     let mut place = 0u64;
@@ -32,14 +14,6 @@ fn tell_orders(alloc: Global, legs: &[Leg], answers: &mut Answers) -> Result<(),
         answers.say(&text)?;
     }
     Ok(())
-}
-
-fn tell_report(alloc: Global, report: &Report, answers: &mut Answers) -> Result<(), PlayFault> {
-    let id = report.id;
-    let exec = shown(alloc, report.exec.as_bytes())?;
-    let kind = kind_text(alloc, &report.kind)?;
-    let text = format!(in alloc; "report {id} {exec} {kind}")?;
-    answers.say(&text)
 }
 
 fn tell_close(
@@ -67,7 +41,7 @@ pub fn tell_standing(
     answers.say(&text)?;
     tell_orders(alloc, exchange.accepted(), answers)?;
     for report in exchange.reports() {
-        tell_report(alloc, report, answers)?;
+        answers.say(&report_text(alloc, report)?)?;
     }
     tell_close(alloc, exchange.closed_at(), answers)
 }

@@ -1,8 +1,8 @@
 //! A body in the words that `body_in` reads.
 
-use case_fields::flag_text;
 use case_text::{PlayFault, shown};
-use fix_tags::{AppFields, Body, BodyRef, SessionBody};
+use case_words::session_text;
+use fix_tags::{AppFields, Body, BodyRef};
 use fix_text::Frame;
 use std::alloc::{AllocError, Global};
 
@@ -25,45 +25,6 @@ fn app_text(
         format!(in alloc; "app kind={kind}")
     } else {
         format!(in alloc; "app kind={kind} {own}")
-    }
-}
-
-/// The words of a message about numbers, or of one that says no more than its kind.
-fn number_text(alloc: Global, says: &SessionBody<'_>) -> Result<String, AllocError> {
-    match says {
-        SessionBody::ResendRequest { begin, last } => {
-            format!(in alloc; "resend_request begin={begin} last={last}")
-        }
-        SessionBody::GapFill { new_number } => format!(in alloc; "gap_fill new={new_number}"),
-        SessionBody::Reset { new_number } => format!(in alloc; "reset new={new_number}"),
-        SessionBody::Reject { number } => format!(in alloc; "reject number={number}"),
-        SessionBody::BusinessReject { number: None } => format!(in alloc; "business_reject"),
-        SessionBody::BusinessReject {
-            number: Some(number),
-        } => format!(in alloc; "business_reject number={number}"),
-        _ => format!(in alloc; "logout"),
-    }
-}
-
-/// The words of a message of the session.
-fn session_text(alloc: Global, says: &SessionBody<'_>) -> Result<String, AllocError> {
-    match says {
-        SessionBody::Logon { heart, reset, next } => {
-            let reset = flag_text(*reset);
-            let mut text = format!(in alloc; "logon heart={heart} reset={reset}")?;
-            if let Some(next) = next {
-                write!(text, " next={next}")?;
-            }
-            Ok(text)
-        }
-        SessionBody::Heartbeat { id: None } => format!(in alloc; "heartbeat"),
-        SessionBody::Heartbeat { id: Some(id) } => {
-            format!(in alloc; "heartbeat id={}", shown(alloc, id.as_bytes())?)
-        }
-        SessionBody::TestRequest { id } => {
-            format!(in alloc; "test_request id={}", shown(alloc, id.as_bytes())?)
-        }
-        _ => number_text(alloc, says),
     }
 }
 
