@@ -9,3 +9,4 @@ pub mod ExchangeTakes
 pub mod SessionHears
 pub mod NoFrames
 pub mod Endings
+pub mod StepCalls

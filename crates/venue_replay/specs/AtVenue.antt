@@ -3,11 +3,14 @@ use Rattle.std.specs.Prelude.{ℕ, List, [], ◌∷◌, map, Ok, Err}
 use Rattle.std.specs.Global.{Vec}
 use Rattle.dialect.specs.FreeText.{IsFreeText}
 use Rattle.dialect.specs.declared.message.Message.{Message}
+use Rattle.session_core.specs.Session.{SessionParts}
 use Rattle.session_core.specs.Turn.{StepParts}
-use Rattle.session_core.specs.Calling.{SessionAnswer}
+use Rattle.session_core.specs.Calling.{SessionAnswer, quiet, silent, close}
 use Rattle.exchange_core.specs.Acts.{ActAnswer}
 use Rattle.exchange_core.specs.Exchange.{live_connection}
 use Rattle.venue_replay.specs.declared.frame.Frame.{Frame}
+use Rattle.venue_replay.specs.declared.step_call.StepCall.{StepCall}
+use Rattle.venue_replay.specs.declared.step_call.StepCall.TheVariants.{Quiet, Silent, Close}
 use Rattle.schedule.specs.declared.act.Act.{Act}
 use Rattle.schedule.specs.declared.act.Act.TheVariants as act
 use Rattle.schedule.specs.World.{VenueParts}
@@ -21,6 +24,12 @@ written_in connection written = map (λ bytes. record { connection = connection;
 abbrev pub sent : VenueParts → SessionAnswer Message → VenueParts
 sent venue (Ok message, session) = session_wrote session (message ∷ []) venue
 sent venue (Err fault, session) = record venue { session = session }
+
+-- what a session gives that is called so, and the session after it
+abbrev pub answer_of : StepCall → SessionParts → SessionAnswer StepParts
+answer_of Quiet s = quiet s
+answer_of Silent s = silent s
+answer_of Close s = close s
 
 -- a call of the session that gives a step
 abbrev pub called : VenueParts → SessionAnswer StepParts → VenueParts

@@ -9,6 +9,7 @@ mod keep;
 mod moment;
 mod network;
 mod sending;
+mod step_call;
 mod venue;
 
 pub use frame::Frame;
