@@ -46,30 +46,18 @@ struct Said {
     broken: Option<(u64, Vec<u8>)>,
 }
 
-/// The first word of a line, and what follows behind the space.
-fn first_word(line: &[u8]) -> (&[u8], &[u8]) {
-    match line.iter().position(|byte| *byte == b' ') {
-        Some(end) => (&line[..end], &line[end + 1..]),
-        None => (line, &[]),
-    }
-}
-
-/// The word at a place of a line, of which the first is at 0.
-fn word_at(line: &[u8], place: usize) -> &[u8] {
-    let mut rest = line;
-    for _ in 0..place {
-        rest = first_word(rest).1;
-    }
-    first_word(rest).0
+/// The word at a place of a line, of which the first is at 0, if it has so many.
+fn word_at(line: &[u8], place: usize) -> Option<&[u8]> {
+    line.split(|byte| *byte == b' ').nth(place)
 }
 
 /// The dialect that the line at a log's head names, as
 /// `# venue NYSE address 10.0.0.1:9001 sender DESK target NYSE dialect plain heartbeat 30 next_expected no`.
 fn dialect_at_head(line: &[u8]) -> Option<AnyDialect> {
-    if word_at(line, 1) != b"venue".as_slice() || word_at(line, 9) != b"dialect".as_slice() {
+    if word_at(line, 1)? != b"venue".as_slice() || word_at(line, 9)? != b"dialect".as_slice() {
         return None;
     }
-    AnyDialect::named(str::from_utf8(word_at(line, 10)).ok()?)
+    AnyDialect::named(str::from_utf8(word_at(line, 10)?).ok()?)
 }
 
 impl ShownLog {
