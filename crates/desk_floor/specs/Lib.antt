@@ -1,4 +1,3 @@
-pub mod Sweeps
 pub mod Release
 pub mod Standing
 pub mod Changes

@@ -86,7 +86,7 @@ fn note_entries(
 }
 
 /// The end of a book's history.
-#[tactic(auto, using(crate::proofs::Booked::opened_few))]
+#[tactic(auto, using(day_sweeps::proofs::Booked::opened_few))]
 fn end_of(book: &Book) -> Cursor {
     Cursor {
         entries: book.history().len(),

@@ -9,7 +9,7 @@
 //!   definition, and so does what is told of it (`standing_of`, `Standing::state`). How a leg stands follows from the
 //!   book and from how far its venue's worker is (`state_of`). What a look finds there isn't said, as other threads
 //!   write it.
-//! - A sweep and a leg are told as a book has them that its own history leads to (`sweep_now`, `leg_now`).
+//! - A leg is told as a book has it that its own history leads to (`leg_now`). So is a sweep, by crate `day_sweeps`.
 //! - The entries of the book's history that a look goes through give exactly the sweeps that they are about
 //!   (`note_entries`, private). That each entry is gone through once is only tested.
 //! - The count of refused sweeps by their reasons, and the last of them, are only tested.
@@ -27,7 +27,6 @@ mod refusals;
 mod signals;
 mod standing;
 mod status;
-mod sweeps;
 mod talk_fault;
 mod venue_view;
 mod voice;
@@ -41,7 +40,6 @@ pub use refusals::{Refusals, RefusedCounts, RefusedSince};
 pub use signals::{Begun, Manner, Signals};
 pub use standing::Standing;
 pub use status::venue_status;
-pub use sweeps::{booked_sweeps, sweep_now};
 pub use talk_fault::TalkFault;
 pub use venue_view::{Seen, VenueView};
 pub use voice::Voice;

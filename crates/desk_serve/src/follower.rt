@@ -2,7 +2,8 @@
 
 use crate::rows::venue_row;
 use clock::Clock;
-use desk_floor::{Changes, Floor, Standing, sweep_now};
+use day_sweeps::sweep_now;
+use desk_floor::{Changes, Floor, Standing};
 use desk_json::{Audit, Event, event_text};
 use desk_news::DayTotals;
 use exec_collector::Accounts;

@@ -1,6 +1,7 @@
 //! What became of the shares of all sweeps.
 
-use desk_floor::{Changes, sweep_now};
+use day_sweeps::sweep_now;
+use desk_floor::Changes;
 use exec_collector::{Accounts, Collector};
 use leg::Totals;
 use std::alloc::{AllocError, Global};

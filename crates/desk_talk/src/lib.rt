@@ -3,7 +3,7 @@
 //!
 //! Promises:
 //! - All that is done here is proved to be safe. What is answered and told is the work of the crates below, and said
-//!   there: `desk_floor` (`Floor::hand_in`, `sweep_now`), `sweep_text` and `desk_news`.
+//!   there: `desk_floor` (`Floor::hand_in`), `day_sweeps` (`sweep_now`), `sweep_text` and `desk_news`.
 //! - That lines are answered in their order, that a venue and a sweep are told when they change, that a second `close`
 //!   gives the day up, and that a day closes once no share is open or its patience is over, is only tested.
 //!

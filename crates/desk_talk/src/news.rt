@@ -4,7 +4,8 @@ ghost use Rattle.std.specs.Prelude.{◌≡◌};
 ghost use Rattle.desk_news.specs.declared.news.News.TheVariants as news;
 ghost use Rattle.desk_floor.specs.Standing.{state_of};
 
-use desk_floor::{Changes, Floor, Standing, TalkFault, sweep_now};
+use day_sweeps::sweep_now;
+use desk_floor::{Changes, Floor, Standing, TalkFault};
 use desk_news::News;
 use desk_words::VenueName;
 use exec_collector::Accounts;

@@ -1,6 +1,7 @@
 //! The sweeps of a day that have open shares.
 
-use desk_floor::{Changes, sweep_now};
+use day_sweeps::sweep_now;
+use desk_floor::Changes;
 use exec_collector::{Accounts, Collector};
 use std::alloc::{AllocError, Global};
 use std::collections::BTreeSet;

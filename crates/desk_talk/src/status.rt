@@ -3,7 +3,8 @@
 use crate::open_sweeps::OpenSweeps;
 use clock::Clock;
 use day_log::LineLog;
-use desk_floor::{Floor, TalkFault, sweep_now, venue_status};
+use day_sweeps::sweep_now;
+use desk_floor::{Floor, TalkFault, venue_status};
 use desk_news::Status;
 use exec_collector::Accounts;
 use release_lock::Run;

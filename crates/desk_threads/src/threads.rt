@@ -2,7 +2,7 @@
 
 ghost use Rattle.std.specs.Prelude.{◌≡◌, map, IfOk, IfErr};
 ghost use Rattle.desk_venues.specs.Faults.{IsNoMismatch};
-ghost use Rattle.desk_venues.specs.Places.{place};
+ghost use Rattle.session_worker.specs.Places.{place};
 
 use clock::Clock;
 use day_log::{FileWriter, write_until};

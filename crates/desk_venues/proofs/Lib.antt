@@ -1,2 +1,1 @@
 mod NoMismatch
-pub mod Places

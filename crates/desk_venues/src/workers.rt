@@ -4,7 +4,7 @@ ghost use Rattle.std.specs.Prelude.{◌≡◌, [], length, Some, IfOk, IfErr, ma
 ghost use Rattle.exec_collector.specs.Seats.{worker_seats};
 ghost use Rattle.release_lock.specs.Queues.{new_drains};
 ghost use Rattle.desk_venues.specs.Faults.{IsNoMismatch};
-ghost use Rattle.desk_venues.specs.Places.{place, place_of, new_places};
+ghost use Rattle.session_worker.specs.Places.{place, place_of, new_places};
 
 use crate::day_fault::DayFault;
 use crate::session::desk_end;

@@ -2,7 +2,8 @@
 ghost use Rattle.std.specs.Prelude.{◌≡◌, ◌++◌, IfOk, OnOk, string_bytes};
 ghost use Rattle.live_command.specs.LiveText.{day_text, report_line, sweep_lines, venue_line, venue_lines};
 
-use live_day::{LiveDay, LiveSweep, LiveVenue};
+use desk_news::SweepParts;
+use live_day::{LiveDay, LiveVenue};
 use session_worker::DayReport;
 use std::alloc::{AllocError, Global};
 use world_text::write_sweep_line;
@@ -23,11 +24,11 @@ pub fn day_text(alloc: Global, day: &LiveDay) -> Result<Vec<u8>, AllocError>
 }
 
 /// Appends the lines of sweeps.
-fn write_sweeps(text: &mut String, sweeps: &[LiveSweep]) -> Result<(), AllocError>
+fn write_sweeps(text: &mut String, sweeps: &[SweepParts]) -> Result<(), AllocError>
     ensures { OnOk result (string_bytes text.new ≡ string_bytes text.old ++ sweep_lines sweeps.now) }
 {
     for sweep in sweeps {
-        write_sweep_line(text, sweep.number, sweep.shares, Some(sweep.totals))?;
+        write_sweep_line(text, sweep.sweep, sweep.shares, Some(sweep.totals))?;
     }
     Ok(())
 }

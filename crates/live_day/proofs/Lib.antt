@@ -1,5 +1,4 @@
-mod Booked
 mod Callers
 mod Exchanges
 mod Orders
-mod Places
+mod NewWorkers

@@ -49,17 +49,6 @@ worker_of drain = new_worker (new_session dispatcher) drain.venue (worker_seat d
 abbrev pub new_workers : ℕ → List WorkerParts
 new_workers venues = map worker_of (new_drains venues)
 
--- a worker before its turns and after them: it is still that of its venue, and its seat has as many parts
-abbrev pub KeepsPlace : WorkerParts → WorkerParts → Type 0
-KeepsPlace before after = (after.took.venue ≡ before.took.venue) × (after.seat.parts ≡ before.seat.parts)
-
--- and so does each of these, in order
-abbrev pub AllKeepPlace : List WorkerParts → List WorkerParts → Type 0
-AllKeepPlace [] [] = Unit {0}
-AllKeepPlace [] (after ∷ ends) = ⊥
-AllKeepPlace (before ∷ starts) [] = ⊥
-AllKeepPlace (before ∷ starts) (after ∷ ends) = KeepsPlace before after × AllKeepPlace starts ends
-
 -- a caller before its first sweep: the day's plan, and its seat
 pub record Caller : Type 0 where
   pub plan : LivePlan

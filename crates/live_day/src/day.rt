@@ -1,18 +1,7 @@
 //! What became of a day.
 
-use leg::Totals;
+use desk_news::SweepParts;
 use session_worker::DayReport;
-
-/// A sweep as the book has it at the end of a day.
-#[derive(Clone, Copy, Debug, PartialEq, Eq)]
-pub struct LiveSweep {
-    /// Its number, from 1.
-    pub number: u64,
-    /// The shares of all its legs.
-    pub shares: u64,
-    /// What became of them.
-    pub totals: Totals,
-}
 
 /// A venue at the end of a day.
 #[derive(Clone, Copy, Debug, PartialEq, Eq)]
@@ -31,7 +20,7 @@ pub struct LiveVenue {
 #[derive(Debug, Drop)]
 pub struct LiveDay {
     /// The sweeps, in the order of their numbers.
-    pub sweeps: Vec<LiveSweep>,
+    pub sweeps: Vec<SweepParts>,
     /// The venues, in the order of their numbers.
     pub venues: Vec<LiveVenue>,
     /// How many sweeps were given up, since each try of them was refused.

@@ -4,8 +4,7 @@
 //! Promises:
 //! - `run_live` is refused for want of a socket, a thread or memory alone, since the audit finds no mismatch,
 //!   whatever the threads do.
-//! - The sweeps that it tells are all those of a book that its own history leads to. That the parts of each add up
-//!   to its shares is a clause of the private function that lists them.
+//! - The sweeps that it tells are all those of a book that its own history leads to, by crate `day_sweeps`.
 //! - The shares placed, as the audit found them, are those of the sweeps that weren't given up, 10 for each venue.
 //! - That the book's sweeps are those that callers placed, and that a day ends, is only tested.
 //!
@@ -25,12 +24,11 @@ mod progress;
 mod promise;
 mod running;
 mod signals;
-mod sweeps;
 mod threads;
 mod venues;
 mod workers;
 
-pub use day::{LiveDay, LiveSweep, LiveVenue};
+pub use day::{LiveDay, LiveVenue};
 pub use live_fault::LiveFault;
 pub use live_plan::LivePlan;
 pub use progress::{Progress, SoFar};

@@ -2,7 +2,8 @@
 
 ghost use Rattle.std.specs.Prelude.{◌≡◌, map, IfOk, IfErr};
 ghost use Rattle.live_day.specs.Faults.{IsNoMismatch};
-ghost use Rattle.live_day.specs.Day.{caller_of, left_of, AllCalled, AllKeepPlace};
+ghost use Rattle.session_worker.specs.Places.{place};
+ghost use Rattle.live_day.specs.Day.{caller_of, left_of, AllCalled};
 
 use crate::caller::{CallerEnd, call};
 use crate::exchange::Serve;
@@ -56,8 +57,8 @@ where
     M: Accounts + Send + Sync,
     R: Threads + Wait + time::Clock + Sync,
     P: Progress + Drop + Send,
-    ensures workers { IfOk result (λ ended. AllKeepPlace
-        (map (λ w. w.parts) cast.workers.items) (map (λ e. e.parts) ended.workers.items)) }
+    ensures workers { IfOk result (λ ended. map (λ e. place e.parts) ended.workers.items
+        ≡ map (λ w. place w.parts) cast.workers.items) }
     ensures callers { IfOk result (λ ended. AllCalled (map (λ s. caller_of floor.now.plan s) cast.callers.items)
         (map (λ e. left_of e.seat e.unplaced) ended.callers.items)) }
     ensures only { IfErr result IsNoMismatch }
@@ -71,8 +72,8 @@ where
         rt,
         || run_exchanges(rt, alloc, floor, exchanges),
         || -> Result<Ended<K, L, M>, LiveFault>
-            ensures workers { IfOk result (λ ended. AllKeepPlace
-                (map (λ w. w.parts) workers.items) (map (λ e. e.parts) ended.workers.items)) }
+            ensures workers { IfOk result (λ ended. map (λ e. place e.parts) ended.workers.items
+                ≡ map (λ w. place w.parts) workers.items) }
             ensures callers { IfOk result (λ ended. AllCalled
                 (map (λ s. caller_of floor.entry.now.plan s) callers.items)
                 (map (λ e. left_of e.seat e.unplaced) ended.callers.items)) }
@@ -142,8 +143,8 @@ where
     M: Accounts + Send + Sync,
     R: Threads + Wait + time::Clock + Sync,
     P: Progress + Drop + Send,
-    ensures workers { IfOk result (λ ended. AllKeepPlace
-        (map (λ w. w.parts) workers.items) (map (λ e. e.parts) ended.workers.items)) }
+    ensures workers { IfOk result (λ ended. map (λ e. place e.parts) ended.workers.items
+        ≡ map (λ w. place w.parts) workers.items) }
     ensures callers { IfOk result (λ ended. AllCalled (map (λ s. caller_of floor.now.plan s) callers.items)
         (map (λ e. left_of e.seat e.unplaced) ended.callers.items)) }
     ensures only { IfErr result IsNoMismatch }
@@ -225,8 +226,8 @@ where
     L: Run + Send + Sync,
     M: Accounts + Send + Sync,
     R: Threads + Wait + time::Clock + Sync,
-    ensures kept { IfOk result (λ ends. AllKeepPlace
-        (map (λ w. w.parts) workers.items) (map (λ e. e.parts) ends.items)) }
+    ensures kept { IfOk result (λ ends. map (λ e. place e.parts) ends.items
+        ≡ map (λ w. place w.parts) workers.items) }
     ensures only { IfErr result IsNoMismatch }
 {
     if !floor.signals.awaits(rt, &floor.signals.dispatcher) {

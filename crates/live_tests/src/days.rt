@@ -1,7 +1,8 @@
 //! Small days over loopback.
 
+use desk_news::SweepParts;
 use leg::Totals;
-use live_day::{LiveDay, LivePlan, LiveSweep, Progress, SoFar, run_live};
+use live_day::{LiveDay, LivePlan, Progress, SoFar, run_live};
 use session_worker::DayReport;
 use std::process::Abort;
 use std::test::Fail;
@@ -32,8 +33,8 @@ fn is_whole(rt: &impl Abort, plan: LivePlan, day: &LiveDay) {
     let all = u64::from(plan.callers).saturating_mul(plan.sweeps);
     let shares = u64::from(plan.venues) * 10;
     for (number, sweep) in (1..).zip(day.sweeps.iter()) {
-        let LiveSweep {
-            number: told,
+        let SweepParts {
+            sweep: told,
             shares: of_legs,
             totals,
         } = *sweep;

@@ -10,3 +10,4 @@ pub mod Doubts
 mod Withdrawals
 pub mod Shares
 pub mod Ran
+pub mod Places

@@ -7,5 +7,6 @@ pub mod Events
 pub mod Linking
 pub mod Withdrawing
 pub mod Ends
+pub mod Places
 pub mod Doubt
 pub mod Audit

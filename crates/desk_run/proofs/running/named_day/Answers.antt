@@ -1,5 +1,5 @@
 use Rattle.std.proofs.Common.{◌∙◌, sym, ap}
-use Rattle.desk_venues.specs.Places.{new_places}
+use Rattle.session_worker.specs.Places.{new_places}
 use Rattle.desk_run.proofs.running.named_day.Goals as goal
 
 pub told-requires-clause-workers : goal.told-requires-clause-workers

@@ -1,4 +1,4 @@
-use Rattle.desk_venues.proofs.Places.{in_order, all_parts}
+use Rattle.session_worker.proofs.Places.{in_order, all_parts}
 use Rattle.desk_run.proofs.running.told.Goals as goal
 
 pub audited-report-requires-clause-order : goal.audited-report-requires-clause-order

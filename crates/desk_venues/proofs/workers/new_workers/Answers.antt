@@ -2,7 +2,7 @@ use Rattle.std.proofs.Common.{rules, ◌≡◌, [], ◌∷◌, length, refl, sym
 use Rattle.std.proofs.lemmas.List.Elements.{All-head, All-same, All-rest}
 use Rattle.exec_collector.specs.Seats.{Seat, worker_seats}
 use Rattle.release_lock.specs.Queues.{DrainParts, new_drains}
-use Rattle.desk_venues.proofs.Places.{none_popped, all_seats, first_seat, seats_length, drains_length, is_new, one_made, all_made}
+use Rattle.session_worker.proofs.Places.{none_popped, all_seats, first_seat, seats_length, drains_length, is_new, one_made, all_made}
 use Rattle.desk_venues.proofs.workers.new_workers.Goals as goal
 
 pub loop-venue-init : goal.loop-venue-init
@@ -56,7 +56,7 @@ loop-venue-preserved g c =
     let made = is_new c.in_ok-new_worker.field-0.parts drain seat c.in_ok-new_worker.ensures first.0 in
     record {
       made_are = rw c.in_ok-push.ensures.items
-          (one_made _ c.loop-venue.workers.items c.in_ok-new_worker.field-0 drain c.loop-venue.drains.items drains _ made first_drain so_far.made_are);
+          (one_made _ _ c.loop-venue.workers.items c.in_ok-new_worker.field-0 drain c.loop-venue.drains.items drains _ made first_drain so_far.made_are);
       none_popped = All-rest (λ (d : DrainParts). d.popped ≡ []) drain drains c.loop-venue.drains.items first_drain so_far.none_popped;
       their_seats = first.1;
       made = search rules;
@@ -72,4 +72,4 @@ returns-clause-new g c =
     let left = so_far.as_many in
     let over = c.loop-venue-test.false in
     let none : length c.loop-venue.drains.items ≡ 0 = omega (arith, left, over) in
-    all_made _ c.loop-venue.workers.items c.loop-venue.drains.items c.from-drains.result.items venues none drains so_far.made_are
+    all_made _ _ c.loop-venue.workers.items c.loop-venue.drains.items c.from-drains.result.items venues none drains so_far.made_are

@@ -1,7 +1,7 @@
 use Rattle.std.proofs.Common.{◌≡◌, ◌+◌, ◌++◌, [], List, length, map, All}
 use Rattle.release_lock.specs.Queues.{DrainParts}
-use Rattle.desk_venues.specs.Places.{Place, place, new_place}
-use Rattle.desk_venues.proofs.Places.{seat_of}
+use Rattle.session_worker.specs.Places.{Place, place, new_place}
+use Rattle.session_worker.proofs.Places.{seat_of}
 use Rattle.desk_venues.proofs.workers.new_workers.Given as goal
 
 abbrev pub invariant-loop-venue : goal.invariant-loop-venue

@@ -1,4 +1,4 @@
-use Rattle.desk_venues.proofs.Places.{kept_places}
+use Rattle.session_worker.proofs.Places.{kept_places}
 use Rattle.desk_venues.proofs.NoMismatch.{no_mismatches}
 use Rattle.desk_venues.proofs.workers.run_workers.Goals as goal
 

@@ -1,9 +1,9 @@
-use Rattle.std.proofs.Common.{◌∙◌, List, length, map, refl, sym, ap, subst}
+use Rattle.std.proofs.Common.{◌∙◌, length, sym, ap}
 use Rattle.exec_collector.specs.Seats.{worker_seats}
 use Rattle.release_lock.specs.Queues.{new_drains}
-use Rattle.session_worker.specs.Events.{WorkerParts}
-use Rattle.live_day.specs.Day.{new_workers, AllKeepPlace}
-use Rattle.live_day.proofs.Places.{in_order, all_parts}
+use Rattle.live_day.specs.Day.{new_workers}
+use Rattle.session_worker.proofs.Places.{in_order, all_parts}
+use Rattle.live_day.proofs.NewWorkers.{places_of}
 use Rattle.live_day.proofs.Exchanges.{as_many}
 use Rattle.live_day.proofs.Callers.{are_called}
 use Rattle.live_day.proofs.running.named_day.Goals as goal
@@ -23,16 +23,14 @@ told-requires-clause-order g c =
     let many = as_many _ c.in_ok-exchanges.exchanges.items c.args.plan.cut c.args.plan.venues c.in_ok-exchanges.ensures.plans in
     let begun = c.in_ok-workers.ensures.new ∙ ap new_workers (ap length c.deref.ensures.value ∙ many) in
     in_order c.args.plan.venues c.in_ok-ended.ended.workers.items
-    (subst (λ (starts : List WorkerParts). AllKeepPlace starts (map (λ e. e.parts) c.in_ok-ended.ended.workers.items))
-    begun c.in_ok-ended.ensures.workers)
+    (c.in_ok-ended.ensures.workers ∙ places_of c.args.plan.venues _ c.in_ok-workers.workers.items begun)
 
 pub told-requires-clause-shared : goal.told-requires-clause-shared
 told-requires-clause-shared g c =
     let many = as_many _ c.in_ok-exchanges.exchanges.items c.args.plan.cut c.args.plan.venues c.in_ok-exchanges.ensures.plans in
     let begun = c.in_ok-workers.ensures.new ∙ ap new_workers (ap length c.deref.ensures.value ∙ many) in
     all_parts c.args.plan.venues c.in_ok-ended.ended.workers.items
-    (subst (λ (starts : List WorkerParts). AllKeepPlace starts (map (λ e. e.parts) c.in_ok-ended.ended.workers.items))
-    begun c.in_ok-ended.ensures.workers)
+    (c.in_ok-ended.ensures.workers ∙ places_of c.args.plan.venues _ c.in_ok-workers.workers.items begun)
     ∙ sym c.requires.workers.2
 
 pub told-requires-clause-callers : goal.told-requires-clause-callers

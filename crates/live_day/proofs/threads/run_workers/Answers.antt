@@ -1,4 +1,4 @@
-use Rattle.live_day.proofs.Places.{kept_places}
+use Rattle.session_worker.proofs.Places.{kept_places}
 use Rattle.live_day.proofs.threads.run_workers.Goals as goal
 
 pub returns-clause-kept : goal.returns-clause-kept

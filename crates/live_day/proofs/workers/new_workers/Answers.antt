@@ -2,7 +2,8 @@ use Rattle.std.proofs.Common.{rules, ◌≡◌, [], ◌∷◌, length, refl, sym
 use Rattle.std.proofs.lemmas.List.Elements.{All-head, All-same, All-rest}
 use Rattle.exec_collector.specs.Seats.{Seat, worker_seats}
 use Rattle.release_lock.specs.Queues.{DrainParts, new_drains}
-use Rattle.live_day.proofs.Places.{none_popped, all_seats, first_seat, seats_length, drains_length, is_new, one_made, all_made}
+use Rattle.session_worker.proofs.Places.{none_popped, all_seats, first_seat, seats_length, drains_length, one_made, all_made}
+use Rattle.live_day.proofs.NewWorkers.{is_new}
 use Rattle.live_day.proofs.workers.new_workers.Goals as goal
 
 pub loop-exchange-init : goal.loop-exchange-init
@@ -40,7 +41,7 @@ loop-exchange-preserved g c =
     let made = c.new.ensures.parts ∙ is_new _ drain seat c.dispatcher_end-end.ensures first.0 in
     record {
       made_are = rw c.in_ok-push.ensures.items
-          (one_made _ c.loop-exchange.workers.items c.new.result drain c.loop-exchange.drains.items drains _ made first_drain so_far.made_are);
+          (one_made _ _ c.loop-exchange.workers.items c.new.result drain c.loop-exchange.drains.items drains _ made first_drain so_far.made_are);
       none_popped = All-rest (λ (d : DrainParts). d.popped ≡ []) drain drains c.loop-exchange.drains.items first_drain so_far.none_popped;
       their_seats = first.1;
       as_many = omega (arith, drains_were, drains_left);
@@ -55,4 +56,4 @@ returns-clause-new g c =
     let left = so_far.as_many in
     let over = c.loop-exchange-test.false in
     let none : length c.loop-exchange.drains.items ≡ 0 = omega (arith, left, over) in
-    all_made _ c.loop-exchange.workers.items c.loop-exchange.drains.items c.from-drains.result.items venues none drains so_far.made_are
+    all_made _ _ c.loop-exchange.workers.items c.loop-exchange.drains.items c.from-drains.result.items venues none drains so_far.made_are

@@ -2,7 +2,7 @@ use Rattle.std.proofs.Common.{◌≡◌, ◌+◌, ◌++◌, [], List, length, ma
 use Rattle.release_lock.specs.Queues.{DrainParts}
 use Rattle.session_worker.specs.Events.{WorkerParts}
 use Rattle.live_day.specs.Day.{worker_of}
-use Rattle.live_day.proofs.Places.{seat_of}
+use Rattle.session_worker.proofs.Places.{seat_of}
 use Rattle.live_day.proofs.workers.new_workers.Given as goal
 
 abbrev pub invariant-loop-exchange : goal.invariant-loop-exchange

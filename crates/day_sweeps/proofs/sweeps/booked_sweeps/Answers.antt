@@ -1,8 +1,8 @@
 use Rattle.std.proofs.Common.{◌+◌, ◌≤◌, length, refl, sym, ap, ◌∙◌, arith}
 use Rattle.std.proofs.lemmas.List.Elements.{All-push}
-use Rattle.desk_floor.specs.Sweeps.{AddsUp}
-use Rattle.desk_floor.proofs.Booked.{few_shares, one_more, none_more, all_told}
-use Rattle.desk_floor.proofs.sweeps.booked_sweeps.Goals as goal
+use Rattle.day_sweeps.specs.Sweeps.{AddsUp}
+use Rattle.day_sweeps.proofs.Booked.{few_shares, one_more, none_more, all_told}
+use Rattle.day_sweeps.proofs.sweeps.booked_sweeps.Goals as goal
 
 pub returns-in-None-clause-value : goal.returns-in-None-clause-value
 returns-in-None-clause-value c =

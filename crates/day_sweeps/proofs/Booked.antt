@@ -14,7 +14,7 @@ use Rattle.share_ledger.proofs.Adding.{totals_add_up}
 use Rattle.exec_collector.specs.Resolved.{Replays}
 use Rattle.exec_collector.proofs.Bounded.{bounded_book}
 use Rattle.desk_news.specs.declared.sweep_parts.SweepParts.{SweepParts}
-use Rattle.desk_floor.specs.Sweeps.{sweeps_from, sweeps_in, sum_of}
+use Rattle.day_sweeps.specs.Sweeps.{sweeps_from, sweeps_in, sum_of}
 
 -- what is left of a list at a place
 next_at : {A : Type 0} (xs : List A) (at : ℕ) (x : A) → slice_get xs at ≡ Some x → drop at xs ≡ x ∷ drop (suc at) xs

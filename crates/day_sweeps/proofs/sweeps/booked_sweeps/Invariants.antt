@@ -1,7 +1,7 @@
 use Rattle.std.proofs.Common.{◌≡◌, ◌++◌, suc, drop, All}
 use Rattle.share_ledger.specs.Entries.{opened}
-use Rattle.desk_floor.specs.Sweeps.{sweeps_from, sweeps_in, AddsUp}
-use Rattle.desk_floor.proofs.sweeps.booked_sweeps.Given as goal
+use Rattle.day_sweeps.specs.Sweeps.{sweeps_from, sweeps_in, AddsUp}
+use Rattle.day_sweeps.proofs.sweeps.booked_sweeps.Given as goal
 
 abbrev pub invariant-loop-place : goal.invariant-loop-place
 invariant-loop-place l =

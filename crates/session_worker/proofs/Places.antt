@@ -7,21 +7,23 @@ use Rattle.std.proofs.lemmas.List.Sums.{sum_by-cons}
 use Rattle.exec_collector.specs.Seats.{Seat, worker_seat, worker_seats, parts_of as seat_parts}
 use Rattle.release_lock.specs.Queues.{DrainParts, new_drains, Took, AreInOrder}
 use Rattle.dialect.specs.Wording.{Wording}
-use Rattle.fix_tags.specs.Config.{ConfigParts}
-use Rattle.session_core.specs.Session.{new_session}
-use Rattle.session_worker.specs.Events.{Lasting, WorkerParts, new_worker}
+use Rattle.session_worker.specs.Events.{WorkerParts, Lasting}
 use Rattle.session_worker.specs.Ends.{WorkerStart, WorkerLeft, queues_of, seats_of, AllRan}
-use Rattle.live_day.specs.Day.{dispatcher, worker_of, new_workers, KeepsPlace, AllKeepPlace}
+use Rattle.session_worker.specs.Places.{Place, place, place_of, new_place, new_places}
 
 -- each worker that ran keeps its place
 pub kept_places : {D : Type 0} (wording : D → Wording) (workers : List (WorkerStart D)) (ends : List WorkerLeft)
-    → AllRan wording workers ends → AllKeepPlace (map (λ w. w.parts) workers) (map (λ e. e.parts) ends)
-kept_places wording [] [] ran = tt
+    → AllRan wording workers ends → map (λ e. place e.parts) ends ≡ map (λ w. place w.parts) workers
+kept_places wording [] [] ran = refl
 kept_places wording [] (end ∷ ends) ran = absurd ran
 kept_places wording (worker ∷ workers) [] ran = absurd ran
 kept_places wording (worker ∷ workers) (end ∷ ends) ran =
     let runs = ran.0 in
-    ((runs.last.venue ∙ runs.goes.venue, ap (λ (l : Lasting). l.parts) (runs.last.seat ∙ runs.goes.seat)), kept_places wording workers ends ran.1)
+    let venue : end.parts.took.venue ≡ worker.parts.took.venue = runs.last.venue ∙ runs.goes.venue in
+    let seat : end.parts.seat.parts ≡ worker.parts.seat.parts = ap (λ (l : Lasting). l.parts) (runs.last.seat ∙ runs.goes.seat) in
+    let rest = kept_places wording workers ends ran.1 in
+    let first : place end.parts ≡ place worker.parts = (λ k. record { venue = venue k; parts = seat k }) in
+    (λ k. first k ∷ rest k)
 
 -- what stands at a place of a list with one element more
 snoc_at : {A : Type 0} (xs : List A) (y : A) (at : ℕ) (x : A) → slice_get (xs ++ y ∷ []) at ≡ Some x
@@ -95,74 +97,63 @@ at_map f [] at x e = absurd cc
 at_map f (first ∷ xs) zero x e = (let same : first ≡ x = cc in ap (λ y. Some (f y)) same)
 at_map f (first ∷ xs) (suc at) x e = at_map f xs at x e
 
-kept_at : (starts ends : List WorkerParts) (at : ℕ) (end : WorkerParts) → AllKeepPlace starts ends
-    → slice_get ends at ≡ Some end
-    → (start : WorkerParts) × (slice_get starts at ≡ Some start) × KeepsPlace start end
-kept_at [] [] at end kept e = absurd cc
-kept_at [] (after ∷ ends) at end kept e = absurd kept
-kept_at (before ∷ starts) [] at end kept e = absurd kept
-kept_at (before ∷ starts) (after ∷ ends) zero end kept e =
-    (let same : after ≡ end = cc in (before, refl, subst (KeepsPlace before) same kept.0))
-kept_at (before ∷ starts) (after ∷ ends) (suc at) end kept e = kept_at starts ends at end kept.1 e
-
--- workers that were new, one for each venue, are in the order of the venues
-pub in_order : (venues : ℕ) (ends : List WorkerLeft) → AllKeepPlace (new_workers venues) (map (λ e. e.parts) ends)
+-- workers that have the places of new ones, one for each venue, are in the order of the venues
+pub in_order : (venues : ℕ) (ends : List WorkerLeft) → map (λ e. place e.parts) ends ≡ new_places venues
     → AreInOrder (queues_of ends)
-in_order venues ends kept at took e =
-    let end = source_at (λ (e : WorkerLeft). e.parts.took) ends at took e in
-    let there = at_map (λ (e : WorkerLeft). e.parts) ends at end.0 end.1 in
-    let start = kept_at (new_workers venues) (map (λ e. e.parts) ends) at end.0.parts kept there in
-    let drain = source_at worker_of (new_drains venues) at start.0 start.1 in
-    let is_drain : start.0.took.venue ≡ drain.0.venue = sym (ap (λ (w : WorkerParts). w.took.venue) drain.2) in
-    sym (ap (λ (t : Took). t.venue) end.2) ∙ (start.2.0 ∙ (is_drain ∙ drain_at venues at drain.0 drain.1))
+in_order venues ends kept at t e =
+    let end = source_at (λ (e : WorkerLeft). e.parts.took) ends at t e in
+    let there = at_map (λ (e : WorkerLeft). place e.parts) ends at end.0 end.1 in
+    let here : slice_get (new_places venues) at ≡ Some (place end.0.parts) =
+    ap (λ (ps : List Place). slice_get ps at) (sym kept) ∙ there in
+    let drain = source_at new_place (new_drains venues) at (place end.0.parts) here in
+    let venue_is : end.0.parts.took.venue ≡ drain.0.venue = sym (ap (λ (p : Place). p.venue) drain.2) in
+    sym (ap (λ (t : Took). t.venue) end.2) ∙ (venue_is ∙ drain_at venues at drain.0 drain.1)
 
-parts_kept : (starts : List WorkerParts) (ends : List WorkerLeft) → AllKeepPlace starts (map (λ e. e.parts) ends)
-    → seat_parts (seats_of ends) ≡ sum_by (λ (w : WorkerParts). w.seat.parts) starts
-parts_kept [] [] kept = refl
-parts_kept [] (end ∷ ends) kept = absurd kept
-parts_kept (start ∷ starts) [] kept = absurd kept
-parts_kept (start ∷ starts) (end ∷ ends) kept =
-    let first : end.parts.seat.parts ≡ start.seat.parts = kept.0.1 in
-    let rest = parts_kept starts ends kept.1 in
+parts_in : (ends : List WorkerLeft)
+    → seat_parts (seats_of ends) ≡ sum_by (λ (p : Place). p.parts) (map (λ e. place e.parts) ends)
+parts_in [] = refl
+parts_in (end ∷ ends) =
+    let rest = parts_in ends in
     let seats = sum_by-cons (λ (s : Seat). s.parts) end.parts.seat (seats_of ends) in
-    let befores = sum_by-cons (λ (w : WorkerParts). w.seat.parts) start starts in
-    omega (arith, first, rest, seats, befores)
+    let places = sum_by-cons (λ (p : Place). p.parts) (place end.parts) (map (λ e. place e.parts) ends) in
+    omega (arith, rest, seats, places)
 
-one_each : (drains : List DrainParts) → sum_by (λ (w : WorkerParts). w.seat.parts) (map worker_of drains) ≡ length drains
+one_each : (drains : List DrainParts) → sum_by (λ (p : Place). p.parts) (map new_place drains) ≡ length drains
 one_each [] = refl
 one_each (drain ∷ drains) =
     let rest = one_each drains in
-    let all = sum_by-cons (λ (w : WorkerParts). w.seat.parts) (worker_of drain) (map worker_of drains) in
+    let all = sum_by-cons (λ (p : Place). p.parts) (new_place drain) (map new_place drains) in
     omega (arith, rest, all)
 
 -- and their seats have one part for each venue
-pub all_parts : (venues : ℕ) (ends : List WorkerLeft) → AllKeepPlace (new_workers venues) (map (λ e. e.parts) ends)
+pub all_parts : (venues : ℕ) (ends : List WorkerLeft) → map (λ e. place e.parts) ends ≡ new_places venues
     → seat_parts (seats_of ends) ≡ venues
 all_parts venues ends kept =
-    parts_kept (new_workers venues) ends kept ∙ (one_each (new_drains venues) ∙ drains_length venues)
+    parts_in ends
+    ∙ (ap (λ (ps : List Place). sum_by (λ (p : Place). p.parts) ps) kept
+    ∙ (one_each (new_drains venues) ∙ drains_length venues))
 
--- a worker that was made of a new seat is the new one of its drain's venue
-pub is_new : (config : ConfigParts) (drain : DrainParts) (seat : Seat) → config ≡ dispatcher → seat ≡ seat_of drain
-    → new_worker (new_session config) drain.venue seat None ≡ worker_of drain
-is_new config drain seat is same =
-    ap (λ (c : ConfigParts). new_worker (new_session c) drain.venue seat None) is
-    ∙ ap (λ (s : Seat). new_worker (new_session dispatcher) drain.venue s None) same
+-- a worker that was made of a new seat has the place of its drain
+pub is_new : (made : WorkerParts) (drain : DrainParts) (seat : Seat) → place made ≡ place_of drain.venue seat.parts
+    → seat ≡ seat_of drain → place made ≡ new_place drain
+is_new made drain seat is same = is ∙ ap (λ (s : Seat). place_of drain.venue s.parts) same
 
 -- one worker more was made, of the first drain left
-pub one_made : {A : Type 0} (parts : A → WorkerParts) (made : List A) (worker : A) (drain : DrainParts)
-    (before rest all : List DrainParts) → parts worker ≡ worker_of drain → before ≡ drain ∷ rest
-    → map parts made ++ map worker_of before ≡ map worker_of all
-    → map parts (made ++ worker ∷ []) ++ map worker_of rest ≡ map worker_of all
-one_made parts made worker drain before rest all is here so_far =
-    ap (λ ws. ws ++ map worker_of rest) (map-append parts made (worker ∷ []))
-    ∙ (append_assoc (map parts made) (parts worker ∷ []) (map worker_of rest)
-    ∙ (ap (λ w. map parts made ++ w ∷ map worker_of rest) is
-    ∙ (sym (ap (λ ds. map parts made ++ map worker_of ds) here) ∙ so_far)))
+pub one_made : {A B : Type 0} (parts : A → B) (begun : DrainParts → B) (made : List A) (worker : A) (drain : DrainParts)
+    (before rest all : List DrainParts) → parts worker ≡ begun drain → before ≡ drain ∷ rest
+    → map parts made ++ map begun before ≡ map begun all
+    → map parts (made ++ worker ∷ []) ++ map begun rest ≡ map begun all
+one_made parts begun made worker drain before rest all is here so_far =
+    ap (λ ws. ws ++ map begun rest) (map-append parts made (worker ∷ []))
+    ∙ (append_assoc (map parts made) (parts worker ∷ []) (map begun rest)
+    ∙ (ap (λ w. map parts made ++ w ∷ map begun rest) is
+    ∙ (sym (ap (λ ds. map parts made ++ map begun ds) here) ∙ so_far)))
 
 -- where no drain is left, all were made
-pub all_made : {A : Type 0} (parts : A → WorkerParts) (made : List A) (left all : List DrainParts) (venues : ℕ)
-    → length left ≡ 0 → all ≡ new_drains venues → map parts made ++ map worker_of left ≡ map worker_of all
-    → map parts made ≡ new_workers venues
-all_made parts made [] all venues none is so_far =
-    sym (append-nil (map parts made)) ∙ (so_far ∙ ap (map worker_of) is)
-all_made parts made (drain ∷ drains) all venues none is so_far = absurd (omega (arith, none))
+pub all_made : {A B : Type 0} (parts : A → B) (begun : DrainParts → B) (made : List A) (left all : List DrainParts)
+    (venues : ℕ) → length left ≡ 0 → all ≡ new_drains venues
+    → map parts made ++ map begun left ≡ map begun all
+    → map parts made ≡ map begun (new_drains venues)
+all_made parts begun made [] all venues none is so_far =
+    sym (append-nil (map parts made)) ∙ (so_far ∙ ap (map begun) is)
+all_made parts begun made (drain ∷ drains) all venues none is so_far = absurd (omega (arith, none))

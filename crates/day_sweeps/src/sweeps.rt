@@ -4,7 +4,7 @@ ghost use Rattle.std.specs.Prelude.{◌≡◌, ◌≤◌, ◌+◌, IfOk, IfSome,
 ghost use Rattle.std.specs.List.{All};
 ghost use Rattle.share_ledger.specs.Book.{BookParts, totals};
 ghost use Rattle.exec_collector.specs.Resolved.{Replays};
-ghost use Rattle.desk_floor.specs.Sweeps.{sweeps_in, sum_of, AddsUp};
+ghost use Rattle.day_sweeps.specs.Sweeps.{sweeps_in, sum_of, AddsUp};
 
 use desk_news::SweepParts;
 use exec_collector::{Accounts, Collector};

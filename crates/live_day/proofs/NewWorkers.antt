@@ -1,0 +1,31 @@
+-- The workers of a day before their first turns.
+use Rattle.std.proofs.Common.{◌≡◌, ℕ, List, [], ◌∷◌, map, None, refl, ap, ◌∙◌}
+use Rattle.fix_tags.specs.Config.{ConfigParts}
+use Rattle.session_core.specs.Session.{new_session}
+use Rattle.exec_collector.specs.Seats.{Seat}
+use Rattle.release_lock.specs.Queues.{DrainParts, new_drains}
+use Rattle.session_worker.specs.Events.{WorkerParts, new_worker}
+use Rattle.session_worker.specs.Places.{place, new_place, new_places}
+use Rattle.session_worker.proofs.Places.{seat_of}
+use Rattle.live_day.specs.Day.{dispatcher, worker_of, new_workers}
+
+-- a worker that was made of a new seat is the new one of its drain's venue
+pub is_new : (config : ConfigParts) (drain : DrainParts) (seat : Seat) → config ≡ dispatcher → seat ≡ seat_of drain
+    → new_worker (new_session config) drain.venue seat None ≡ worker_of drain
+is_new config drain seat is same =
+    ap (λ (c : ConfigParts). new_worker (new_session c) drain.venue seat None) is
+    ∙ ap (λ (s : Seat). new_worker (new_session dispatcher) drain.venue s None) same
+
+placed : (drains : List DrainParts) → map place (map worker_of drains) ≡ map new_place drains
+placed [] = refl
+placed (drain ∷ drains) = ap (λ places. new_place drain ∷ places) (placed drains)
+
+each_place : {A : Type 0} (parts : A → WorkerParts) (workers : List A)
+    → map (λ w. place (parts w)) workers ≡ map place (map parts workers)
+each_place parts [] = refl
+each_place parts (worker ∷ workers) = ap (λ places. place (parts worker) ∷ places) (each_place parts workers)
+
+-- new workers have the places of their drains
+pub places_of : {A : Type 0} (venues : ℕ) (parts : A → WorkerParts) (workers : List A)
+    → map parts workers ≡ new_workers venues → map (λ w. place (parts w)) workers ≡ new_places venues
+places_of venues parts workers are = each_place parts workers ∙ (ap (map place) are ∙ placed (new_drains venues))
