@@ -1,6 +1,6 @@
 -- What each call makes of a book that its history leads to, and of what it has resolved.
 use Rattle.std.proofs.Common.{◌≡◌, ℕ, zero, suc, ◌+◌, ◌-◌, ◌≤◌, Bool, true, false, List, [], ◌∷◌, map, Option, Some, None, Result, Ok, Err, IsOk, inl, inr, refl, ap, sym, ◌∙◌, subst, arith, if◌then◌else◌}
-use Rattle.std.specs.Prelude.{◌==◌, nat_le}
+use Rattle.std.specs.Prelude.{◌==◌, nat_le, MatchResult}
 use Rattle.std.proofs.lemmas.Bool.{eqb-true, leb-true}
 use Rattle.leg.specs.Answering.{Answers}
 use Rattle.leg.specs.LegId.{LegIdParts}
@@ -26,7 +26,9 @@ use Rattle.share_ledger.proofs.Outcomes.{open_outcome, others-withdraw, others-a
 use Rattle.share_ledger.proofs.Sound.{let_in}
 use Rattle.share_ledger.proofs.LegSteps.{steps-apply, steps-withdraw}
 use Rattle.share_ledger.proofs.Adding.{leg_adds_up}
-use Rattle.exec_collector.specs.Resolved.{sum_below, resolved, Replays, OnlyOpens, Gains, GainsBy}
+use Rattle.exec_collector.specs.Resolved.{sum_below, resolved, Replays, OnlyOpens, Gains, GainsBy, GainsLeg}
+use Rattle.exec_collector.specs.Booked.{withdraw_of}
+use Rattle.exec_collector.proofs.Asking.{asked_cases}
 use Rattle.exec_collector.proofs.Bounded.{bounded_book, sound_book, few_below}
 use Rattle.exec_collector.proofs.Resolving.{this_venue, all_venues, opened_all}
 
@@ -244,7 +246,7 @@ opened_venues book number legs =
       | inr same ↦ ap (λ b. b.venues) same
     ]
 
-opened_one : (book : BookParts) → Replays book → (sweep : Sweep) → IsOpened book (again book (Opened sweep))
+pub opened_one : (book : BookParts) → Replays book → (sweep : Sweep) → IsOpened book (again book (Opened sweep))
 opened_one book replays sweep =
     let after = again book (Opened sweep) in
     let venues : after.venues ≡ book.venues = opened_venues book (next_sweep book) sweep.legs in
@@ -280,6 +282,44 @@ pub gone : (book after : BookParts) (id : LegIdParts) → Replays book
 gone book after id replays e =
     let ok : IsOk (withdraw book id).0 = subst (λ (r : BookAnswer). IsOk r.0) e refl in
     subst (λ b. IsWithdrawn book b id) (sym (ap (λ (r : BookAnswer). r.1) e)) (withdrawn book replays id ok)
+
+-- what a withdrawal makes of a book, by its answer
+pub record IsAskedOf (book after : BookParts) (id : LegIdParts) (result : Result (Unit {0}) BookFault) : Type 0 where
+  pub venues : after.venues ≡ book.venues
+  pub replays : Replays after
+  pub rises : resolved book ≤ resolved after
+  pub few : resolved after ≤ 1000000000000000000
+  pub gains : (before now : ℕ) → now + resolved book ≡ before + resolved after
+      → MatchResult result (λ _. GainsLeg id before now) (λ why. (why ≡ fault.AlreadyMoved) × (now ≡ before))
+
+pub asked : (book after : BookParts) (venue : ℕ) (id : LegIdParts) (result : Result (Unit {0}) BookFault) → Replays book
+    → (let r : BookAnswer = (result, after) in r ≡ withdraw_of venue book id) → IsAskedOf book after id result
+asked book after venue id result replays e =
+    subst (λ (r : BookAnswer). IsAskedOf book r.1 id r.0) (sym e)
+    (asked_cases (λ (r : BookAnswer). IsAskedOf book r.1 id r.0) venue book id
+    (record {
+      venues = refl;
+      replays = replays;
+      rises = omega arith;
+      few = few_below book replays book.venues;
+      gains = λ before now same. (refl, omega (arith, same));
+    })
+    (λ here done.
+    let it = gone book (written (Withdrawn id) book) id replays (sym done) in
+    let counts = it.counts in
+    record {
+      venues = refl;
+      replays = it.replays;
+      rises = omega (arith, counts);
+      few = it.few;
+      gains = λ before now same. record {
+        book = book;
+        replays = replays;
+        order = it.order;
+        found = it.found;
+        gained = omega (arith, counts, same);
+      };
+    }))
 
 venue_by : (b : Bool) (n v : ℕ) → (let r : Result ℕ LegFault = if b then Ok n else Err BadVenue in r ≡ Ok v) → v ≡ n
 venue_by true n v e = cc

@@ -2,6 +2,7 @@ pub mod Below
 pub mod Weighed
 pub mod Bounded
 pub mod Resolving
+pub mod Asking
 pub mod Counts
 pub mod Booked
 pub mod Blank

@@ -1,22 +1,24 @@
 -- The seats of a count.
 use Rattle.std.specs.Prelude.{ℕ, zero, suc, List, [], ◌∷◌, ◌++◌, Option, Some, None, sum_by}
+use Rattle.leg.specs.LegId.{LegIdParts}
 use Rattle.dialect.specs.declared.note.Note.{Note}
 use Rattle.exec_collector.specs.declared.booking.Booking.{Booking}
 
 -- a seat: its parts of the count, the shares counted on it, the venue whose worker has it, if one has, the notes booked
--- on it, in order, and each with what the book made of it
+-- and the legs asked to be withdrawn on it, in order, and all of these with what the book made of them
 pub record Seat : Type 0 where
   pub parts : ℕ
   pub shares : ℕ
   pub venue : Option ℕ
   pub booked : List Note
+  pub asked : List LegIdParts
   pub bookings : List Booking
 
 -- a seat of one part on which nothing was counted yet
 abbrev pub new_seat : Seat
-new_seat = record { parts = 1; shares = 0; venue = None; booked = []; bookings = [] }
+new_seat = record { parts = 1; shares = 0; venue = None; booked = []; asked = []; bookings = [] }
 
--- such a seat for the worker of a venue, on which nothing was booked yet
+-- such a seat for the worker of a venue, on which nothing was asked of the book yet
 abbrev pub worker_seat : ℕ → Seat
 worker_seat venue = record new_seat { venue = Some venue }
 

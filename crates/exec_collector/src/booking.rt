@@ -1,13 +1,15 @@
-//! What the book made of a note.
+//! What the book made of what a worker asked of it.
 
 use dialect::Note;
+use leg::LegId;
 use share_ledger::Applied;
 
-/// A note that a worker gave the book: what was answered, and how many entries the book had before. No value of it is
+/// What a worker asked of the book, what was answered, and how many entries the book had before. No value of it is
 /// made: contracts alone tell of bookings.
 #[derive(Drop)]
-pub struct Booking {
-    pub note: Note,
-    pub answer: Applied,
-    pub entries: u64,
+pub enum Booking {
+    /// A note was given.
+    Given(Note, Applied, u64),
+    /// A leg was to be withdrawn, and whether the book withdrew it.
+    Asked(LegId, bool, u64),
 }

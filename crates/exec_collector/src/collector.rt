@@ -75,11 +75,14 @@ impl<M: Accounts> Collector<M> {
             (λ fault. (fault ≡ BookFault.OutOfMemory) × (seat.new ≡ seat.old)) }
         ensures parts { (seat.new.parts ≡ seat.old.parts) × (seat.new.venue ≡ seat.old.venue) }
         ensures booked { OnOk result (seat.new.booked ≡ seat.old.booked ++ note.now ∷ []) }
+        ensures asked { seat.new.asked ≡ seat.old.asked }
     {
         self.counted.lock(rt).apply(note, seat)
     }
 
-    /// Withdraws a leg; the seat gains its shares. B03. It takes no memory.
+    /// Withdraws a leg of the seat's venue; the seat gains its shares, and the leg as one that was asked for, whatever
+    /// the book answers. No other call asks for one. B03, also where the leg is none of the venue's. It takes no
+    /// memory.
     pub fn withdraw(
         &self,
         rt: &impl Wait,
@@ -87,9 +90,10 @@ impl<M: Accounts> Collector<M> {
         seat: &mut WorkerSeat<M>,
     ) -> Result<(), BookFault>
         ensures gains { MatchResult result (λ _. GainsLeg id seat.old.shares seat.new.shares)
-            (λ fault. (fault ≡ BookFault.AlreadyMoved) × (seat.new ≡ seat.old)) }
+            (λ fault. (fault ≡ BookFault.AlreadyMoved) × (seat.new.shares ≡ seat.old.shares)) }
         ensures parts { (seat.new.parts ≡ seat.old.parts) × (seat.new.venue ≡ seat.old.venue) }
         ensures booked { seat.new.booked ≡ seat.old.booked }
+        ensures asked { seat.new.asked ≡ seat.old.asked ++ id ∷ [] }
     {
         self.counted.lock(rt).withdraw(id, seat)
     }

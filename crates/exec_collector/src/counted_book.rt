@@ -3,12 +3,12 @@
 ghost use Rattle.std.specs.Prelude.{◌≡◌, ◌+◌, ◌≤◌, ◌++◌, ◌∷◌, [], IfSome, IsOkUnless, MatchResult, OnErr, OnOk};
 ghost use Rattle.std.specs.Fn.{FnOnceReturnsAt, FnOnceReturnsAtMut};
 ghost use Rattle.leg.specs.Answering.{Answers};
-ghost use Rattle.share_ledger.specs.Book.{BookParts, apply, answer_to, withdraw, totals};
-ghost use Rattle.exec_collector.specs.Booked.{IsKept};
+ghost use Rattle.share_ledger.specs.Book.{BookParts, apply, answer_to};
+ghost use Rattle.exec_collector.specs.Booked.{IsKept, withdraw_of};
 ghost use Rattle.exec_collector.specs.Calls.{CallGives};
 ghost use Rattle.exec_collector.specs.Resolved.{Replays, OnlyOpens, GainsBy, GainsLeg, resolved, sum_below};
 
-use crate::venue_bookings::{VenueBookings, add_booking};
+use crate::venue_bookings::{VenueBookings, add_note, add_withdrawal};
 use crate::{Accounts, WorkerSeat};
 use dialect::Note;
 use leg::{LegId, Totals, VenueId};
@@ -17,7 +17,8 @@ use std::marker::Model;
 use std::sync::ledger::Book as Total;
 
 /// What lies under the collector's lock. Contracts see the book. It replays from its own history, the seats add up to
-/// the shares that its venues have resolved, and each venue's notes in it are those booked on the seat of the venue.
+/// the shares that its venues have resolved, and each venue's notes and withdrawals in it are those that the book took
+/// on the seat of the venue.
 #[derive(Drop)]
 pub struct CountedBook<M: Accounts> {
     pub(crate) venues: u8,
@@ -73,6 +74,7 @@ impl<M: Accounts> CountedBook<M> {
             (λ _. seat.new ≡ seat.old) }
         ensures parts { (seat.new.parts ≡ seat.old.parts) × (seat.new.venue ≡ seat.old.venue) }
         ensures booked { OnOk result (seat.new.booked ≡ seat.old.booked ++ note.now ∷ []) }
+        ensures asked { seat.new.asked ≡ seat.old.asked }
     {
         let venue = seat.venue;
         let entries = self.book.history().len();
@@ -80,24 +82,28 @@ impl<M: Accounts> CountedBook<M> {
         let applied = self.book.apply(venue, note)?;
         let gained = self.book.venue_resolved(venue) - before;
         seat.count(&mut self.total, gained);
-        add_booking(&mut self.bookings, seat, note, applied, entries);
+        add_note(&mut self.bookings, seat, note, applied, entries);
         Ok(applied)
     }
 
-    /// Withdraws a leg; the seat gains its shares. B03. It takes no memory.
+    /// Withdraws a leg of the seat's venue; the seat gains its shares, and the leg as one that was asked for. B03, also
+    /// where the leg is none of the venue's. It takes no memory.
     pub fn withdraw(&mut self, id: LegId, seat: &mut WorkerSeat<M>) -> Result<(), BookFault>
-        ensures book { (result, self.new) ≡ withdraw self.old id }
+        ensures book { IfSome seat.old.venue (λ venue. (result, self.new) ≡ withdraw_of venue self.old id) }
         ensures seat { seat.new.shares + resolved self.old ≡ seat.old.shares + resolved self.new }
         ensures gains { MatchResult result (λ _. GainsLeg id seat.old.shares seat.new.shares)
-            (λ _. seat.new ≡ seat.old) }
+            (λ fault. (fault ≡ BookFault.AlreadyMoved) × (seat.new.shares ≡ seat.old.shares)) }
         ensures parts { (seat.new.parts ≡ seat.old.parts) × (seat.new.venue ≡ seat.old.venue) }
         ensures booked { seat.new.booked ≡ seat.old.booked }
+        ensures asked { seat.new.asked ≡ seat.old.asked ++ id ∷ [] }
     {
+        let entries = self.book.history().len();
         let before = resolved_in(&self.book, self.venues);
-        self.book.withdraw(id)?;
+        let result = withdraw_leg(&mut self.book, seat.venue, id);
         let gained = resolved_in(&self.book, self.venues) - before;
         seat.count(&mut self.total, gained);
-        Ok(())
+        add_withdrawal(&mut self.bookings, seat, id, result.is_ok(), entries);
+        result
     }
 
     /// Changes nothing, and tells that on a seat stands what the book took of its venue.
@@ -142,6 +148,19 @@ impl<M: Accounts> CountedBook<M> {
     {
         f(beside, &mut self.book)
     }
+}
+
+/// Withdraws a leg of this venue in a book. B03, also where the leg is of another, or none.
+fn withdraw_leg(book: &mut Book, venue: VenueId, id: LegId) -> Result<(), BookFault>
+    ensures { (result, book.new) ≡ withdraw_of venue book.old id }
+{
+    let Some(leg) = book.leg(id) else {
+        return Err(BookFault::AlreadyMoved);
+    };
+    if leg.venue != venue {
+        return Err(BookFault::AlreadyMoved);
+    }
+    book.withdraw(id)
 }
 
 /// The shares that so many venues of a book have resolved.

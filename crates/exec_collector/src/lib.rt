@@ -3,18 +3,20 @@
 //! Promises:
 //! - What lies under the lock, `CountedBook`, replays from its own history, its seats add up to what all its venues
 //!   have resolved, and its side of each venue's bookings is what it took of the venue, each time the lock is got (its
-//!   invariant). Its `apply` and `withdraw` answer as the book does, and the seat gains exactly what ceased to be
-//!   open. Those of `Collector` take the lock and promise what the seat gains: by a trade that moves its own shares,
-//!   by a first report or a bust none, by a withdrawal all the leg's shares; any other answer gains none, and a
-//!   refusal leaves the seat unchanged. A seat says which notes were booked on it, in order: the clause `booked` of
-//!   `apply` adds the note that it took, and no other call adds one. Of a note that ends a leg (cancel, reject,
-//!   expire, refuse) the clause says only that the seat's amount doesn't fall, and not by how much it rises: the exact
-//!   amount is promised of `CountedBook`, under the lock.
+//!   invariant). Its `apply` answers as the book does, and its `withdraw` too, of a leg of the seat's venue; one of
+//!   another venue it refuses. The seat gains exactly what ceased to be open. Those of `Collector` take the lock and
+//!   promise what the seat gains: by a trade that moves its own shares, by a first report or a bust none, by a
+//!   withdrawal all the leg's shares; any other answer gains none. A seat says which notes were booked on it, in order:
+//!   the clause `booked` of `apply` adds the note that it took, and no other call adds one. And it says which legs the
+//!   book was asked to withdraw: the clause `asked` of `withdraw` adds the leg, whatever the book answers, and no other
+//!   call adds one. Of a note that ends a leg (cancel, reject, expire, refuse) the clause says only that the seat's
+//!   amount doesn't fall, and not by how much it rises: the exact amount is promised of `CountedBook`, under the lock.
 //! - `totals` is that of a book that replays.
 //! - `lend` and `lend_beside` take closures that only open sweeps.
 //! - `check_count` is `Ok` exactly where the seats add up to what is resolved, and always is with every part of the
 //!   ledger. Whatever it answers, what stands on each seat is what the book took of its venue (clause `kept`): each
-//!   note was answered by the book's rule, and the venue's notes in the history are just those that moved.
+//!   note and each withdrawal was answered by the book's rule, and what the history has of the venue are just the notes
+//!   that moved and the legs that the book withdrew.
 //! - That a lock is ever got is claimed nowhere.
 //!
 //! See `docs/locks.md`.

@@ -1,19 +1,18 @@
 //! What the worker of a venue resolved and booked.
 
 ghost use Rattle.std.specs.Prelude.{◌≡◌, ◌+◌, ◌<◌, ◌≤◌, ◌++◌, ◌∷◌, [], Some, min, slice_get, IfSome};
+ghost use Rattle.exec_collector.specs.Booked.{notes_of, asked_of};
 ghost use Rattle.exec_collector.specs.Seats.{worker_seat};
 ghost use Rattle.exec_collector.specs.declared.booking.Booking.{Booking};
 
 use crate::{Accounts, Booking};
 use agreed_list::{BookSide, SeatSide};
-use dialect::Note;
 use leg::VenueId;
-use share_ledger::Applied;
 use std::marker::Model;
 use std::sync::ledger::{Book as Total, Share};
 
 /// A worker's part of the count: the shares that ceased to be open by its calls. Contracts see its parts of the ledger,
-/// its shares, its venue, and what was booked on it.
+/// its shares, its venue, and what was asked of the book on it.
 #[derive(Drop)]
 pub struct WorkerSeat<M: Accounts> {
     pub(crate) venue: VenueId,
@@ -24,7 +23,7 @@ pub struct WorkerSeat<M: Accounts> {
 
 impl<M: Accounts> Model for WorkerSeat<M> {
     ghost use Rattle.std.specs.Prelude.{◌≡◌, ◌<◌, Some, min, slice_get};
-    ghost use Rattle.exec_collector.specs.Booked.{notes_of};
+    ghost use Rattle.exec_collector.specs.Booked.{notes_of, asked_of};
     ghost use Rattle.exec_collector.specs.Seats.{Seat};
 
     ghost Value = { Seat };
@@ -34,6 +33,7 @@ impl<M: Accounts> Model for WorkerSeat<M> {
       shares = seat.share.amount;
       venue = Some seat.venue;
       booked = notes_of seat.bookings.items;
+      asked = asked_of seat.bookings.items;
       bookings = seat.bookings.items;
     } };
 
@@ -42,7 +42,7 @@ impl<M: Accounts> Model for WorkerSeat<M> {
 }
 
 impl<M: Accounts> WorkerSeat<M> {
-    /// A seat of one part of the ledger, on which nothing was counted or booked yet.
+    /// A seat of one part of the ledger, on which nothing was counted or asked yet.
     pub(crate) fn new(venue: VenueId, share: Share<M>, bookings: SeatSide<Booking>) -> WorkerSeat<M>
         requires share { (share.parts ≡ 1) × (share.amount ≡ 0) }
         requires list { (slice_get M.lists venue ≡ Some bookings.name) × (bookings.items ≡ []) }
@@ -63,11 +63,12 @@ impl<M: Accounts> WorkerSeat<M> {
         self.venue
     }
 
-    /// Takes in another worker's seat, but none of the notes booked on that.
+    /// Takes in another worker's seat, but nothing of what was asked on that.
     pub fn join(&mut self, other: WorkerSeat<M>)
         ensures parts { self.new.parts ≡ self.old.parts + other.parts }
         ensures shares { self.new.shares ≡ self.old.shares + other.shares }
-        ensures booked { (self.new.booked ≡ self.old.booked) × (self.new.bookings ≡ self.old.bookings) }
+        ensures booked { (self.new.booked ≡ self.old.booked) × (self.new.asked ≡ self.old.asked)
+            × (self.new.bookings ≡ self.old.bookings) }
         ensures venue { self.new.venue ≡ self.old.venue }
     {
         let WorkerSeat {
@@ -92,7 +93,8 @@ impl<M: Accounts> WorkerSeat<M> {
         requires { total.old.total + shares ≤ 1000000000000000000 }
         ensures seat { self.new.shares ≡ self.old.shares + shares }
         ensures parts { self.new.parts ≡ self.old.parts }
-        ensures booked { (self.new.booked ≡ self.old.booked) × (self.new.bookings ≡ self.old.bookings) }
+        ensures booked { (self.new.booked ≡ self.old.booked) × (self.new.asked ≡ self.old.asked)
+            × (self.new.bookings ≡ self.old.bookings) }
         ensures venue { self.new.venue ≡ self.old.venue }
         ensures total { total.new.total ≡ total.old.total + shares }
     {
@@ -100,24 +102,18 @@ impl<M: Accounts> WorkerSeat<M> {
         total.audit(&mut self.share);
         self.shares += shares;
     }
-    /// A note of its venue was booked, to which the book, of so many entries, answered this.
-    pub(crate) fn book(
-        &mut self,
-        side: &mut BookSide<Booking>,
-        note: &Note,
-        answer: Applied,
-        entries: usize,
-    )
+
+    /// One booking more is on it, and on the book's side.
+    pub(crate) fn book(&mut self, side: &mut BookSide<Booking>)
         ghost booking: { Booking }
         requires list { IfSome self.old.venue (λ venue. slice_get M.lists venue ≡ Some side.old.name) }
-        requires booking { booking ≡ record { note = note.now; answer = answer; entries = entries } }
         ensures agreed { side.old.items ≡ self.old.bookings }
         ensures side { (side.new.name ≡ side.old.name) × (side.new.items ≡ side.old.items ++ booking ∷ []) }
-        ensures bookings { self.new.bookings ≡ self.old.bookings ++ booking ∷ [] }
-        ensures booked { self.new.booked ≡ self.old.booked ++ note.now ∷ [] }
-        ensures shares { self.new.shares ≡ self.old.shares }
-        ensures parts { self.new.parts ≡ self.old.parts }
-        ensures venue { self.new.venue ≡ self.old.venue }
+        ensures seat { self.new ≡ record self.old {
+          booked = self.old.booked ++ notes_of (booking ∷ []);
+          asked = self.old.asked ++ asked_of (booking ∷ []);
+          bookings = self.old.bookings ++ booking ∷ [];
+        } }
     {
         side.push(&mut self.bookings);
     }

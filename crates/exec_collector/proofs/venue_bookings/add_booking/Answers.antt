@@ -8,4 +8,4 @@ returns-clause-lists g c =
     let old = c.in-Some.venue.now in
     map-set_same (λ (v : VenueBookings). v.side.name) c.args.bookings.now.items c.from.result
     (record { venue = old.venue; side = c.book.new.side }) old
-    (c.book.ensures.side.0 ∙ ap (λ (v : VenueBookings). v.side.name) c.in-Some.ensures.value) ∙ c.requires.1.0
+    (c.book.ensures.side.0 ∙ ap (λ (v : VenueBookings). v.side.name) c.in-Some.ensures.value) ∙ c.requires.1

@@ -2,7 +2,8 @@ use Rattle.std.proofs.Common.{ℕ, Option, length, ap, sym, subst, ◌∙◌, ar
 use Rattle.std.specs.Prelude.{IfSome}
 use Rattle.exec_collector.specs.Seats.{Seat}
 use Rattle.exec_collector.specs.Sides.{IsOneMore}
-use Rattle.exec_collector.proofs.Booked.{written-one}
+use Rattle.exec_collector.specs.declared.booking.Booking.TheVariants.{Given}
+use Rattle.exec_collector.proofs.Booked.{written-noted}
 use Rattle.exec_collector.specs.Resolved.{resolved}
 use Rattle.exec_collector.proofs.Counts.{noted}
 use Rattle.exec_collector.proofs.counted_book.CountedBook.apply.Goals as goal
@@ -45,16 +46,15 @@ invariant_of-self-2 g c =
       c.self.invariant.1,
       it.replays,
       omega (arith, before, now, counts, total, rises, sum),
-      c.add_booking.ensures.lists,
-      written-one c.self.inside.book c.apply.new.self c.seat.inside.venue c.args.note.now c.in_ok-applied.applied _
-          c.self.inside.bookings.items c.add_booking.new.bookings.items done.0 done.1
+      c.add_note.ensures.lists,
+      written-noted c.self.inside.book c.apply.new.self c.seat.inside.venue c.args.note.now c.in_ok-applied.applied _
+          c.self.inside.bookings.items c.add_note.new.bookings.items done.0 done.1
           (ap length c.history-entries.ensures)
-          (subst (λ (v : Option ℕ). IfSome v (λ venue. IsOneMore venue (record {
-            note = c.args.note.now;
-            answer = c.in_ok-applied.applied;
-            entries = length c.history-entries.result.now;
-          }) c.self.inside.bookings.items
-          c.add_booking.new.bookings.items)) (c.count.ensures.venue ∙ sym (ap (λ (s : Seat). s.venue) c.seat.view_is)) c.add_booking.ensures.side) c.self.invariant.5,
+          (subst (λ (v : Option ℕ). IfSome v (λ venue. IsOneMore venue
+          (Given c.args.note.now c.in_ok-applied.applied (length c.history-entries.result.now))
+          c.self.inside.bookings.items c.add_note.new.bookings.items))
+          (c.count.ensures.venue ∙ sym (ap (λ (s : Seat). s.venue) c.seat.view_is)) c.add_note.ensures.side)
+          c.self.invariant.5,
     )
 
 pub returns-clause-seat : goal.returns-clause-seat
@@ -67,7 +67,7 @@ returns-clause-seat g c =
     let counts = it.counts in
     let rises = it.rises in
     let seat = c.count.ensures.seat in
-    let same = c.add_booking.ensures.shares in
+    let same = ap (λ (s : Seat). s.shares) c.add_note.ensures.seat in
     let view = ap resolved c.self.view_is in
     omega (arith, before, now, counts, rises, seat, same, view)
 
@@ -81,5 +81,5 @@ returns-clause-gains g c =
     let counts = it.counts in
     let rises = it.rises in
     let seat = c.count.ensures.seat in
-    let same = c.add_booking.ensures.shares in
-    it.gains c.args.seat.now.shares c.add_booking.new.seat.shares (omega (arith, before, now, counts, rises, seat, same))
+    let same = ap (λ (s : Seat). s.shares) c.add_note.ensures.seat in
+    it.gains c.args.seat.now.shares c.add_note.new.seat.shares (omega (arith, before, now, counts, rises, seat, same))

@@ -1,4 +1,5 @@
+use Rattle.exec_collector.specs.declared.booking.Booking.TheVariants.{Given}
 use Rattle.exec_collector.proofs.counted_book.CountedBook.apply.Given as goal
 
-abbrev pub ghost-add_booking : goal.ghost-add_booking
-ghost-add_booking g a = record { note = a.note.now; answer = a.answer; entries = a.entries }
+abbrev pub ghost-add_note : goal.ghost-add_note
+ghost-add_note g a = Given a.note.now a.answer a.entries

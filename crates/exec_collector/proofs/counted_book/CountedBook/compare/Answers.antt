@@ -2,7 +2,7 @@ use Rattle.std.proofs.Common.{◌≡◌, refl, ap, sym, subst, ◌∙◌}
 use Rattle.std.proofs.Math.Seq.{map-set_same}
 use Rattle.std.proofs.lemmas.Option.{slice_get_read}
 use Rattle.share_ledger.specs.Book.{BookParts}
-use Rattle.exec_collector.specs.Booked.{AreBooked, notes_of}
+use Rattle.exec_collector.specs.Booked.{AreBooked, notes_of, asked_of}
 use Rattle.exec_collector.specs.Seats.{Seat}
 use Rattle.exec_collector.specs.declared.venue_bookings.VenueBookings.{VenueBookings}
 use Rattle.exec_collector.proofs.Booked.{written-kept, written-at}
@@ -45,4 +45,5 @@ returns-clause-kept g c =
           (subst (λ v. AreBooked v c.self.inside.book c.args.seat.now.bookings) at
           (subst (AreBooked c.from.result c.self.inside.book) c.compare.ensures.agreed booked));
       notes = subst (λ (s : Seat). s.booked ≡ notes_of s.bookings) seen refl;
+      legs = subst (λ (s : Seat). s.asked ≡ asked_of s.bookings) seen refl;
     }

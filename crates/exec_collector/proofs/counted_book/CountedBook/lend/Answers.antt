@@ -17,5 +17,5 @@ invariant_of-self g c =
       after.replays,
       kept.3 ∙ sym after.counts,
       kept.4,
-      written-opened c.self.inside.book c.f.new.arg2 c.self.inside.bookings.items only kept.5,
+      written-opened c.self.inside.book c.f.new.arg2 c.self.inside.bookings.items kept.2 only kept.5,
     )

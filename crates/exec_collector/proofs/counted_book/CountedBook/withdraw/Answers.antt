@@ -1,61 +1,75 @@
-use Rattle.std.proofs.Common.{ap, sym, subst, ◌∙◌, arith}
-use Rattle.share_ledger.specs.Book.{BookAnswer}
+use Rattle.std.proofs.Common.{ℕ, Option, length, ap, sym, subst, ◌∙◌, arith}
+use Rattle.std.specs.Prelude.{IfSome}
+use Rattle.std.specs.Result.{is_ok}
 use Rattle.exec_collector.specs.Resolved.{resolved}
-use Rattle.exec_collector.specs.Sides.{AreWritten}
-use Rattle.exec_collector.proofs.Booked.{written-withdrawn}
-use Rattle.exec_collector.proofs.Counts.{gone}
+use Rattle.exec_collector.specs.Seats.{Seat}
+use Rattle.exec_collector.specs.Sides.{IsOneMore}
+use Rattle.exec_collector.specs.declared.booking.Booking.TheVariants.{Asked}
+use Rattle.exec_collector.proofs.Booked.{written-asked}
+use Rattle.exec_collector.proofs.Counts.{asked}
 use Rattle.exec_collector.proofs.counted_book.CountedBook.withdraw.Goals as goal
 
 pub resolved_in-requires-clause-replays : goal.resolved_in-requires-clause-replays
 resolved_in-requires-clause-replays g c =
-    (gone c.self.inside.book c.withdraw.new.self c.args.id c.self.invariant.2 c.in_ok-withdraw.ensures).replays
+    (asked c.self.inside.book c.withdraw_leg-result.new.book c.seat.inside.venue c.args.id c.withdraw_leg-result.result
+    c.self.invariant.2 c.withdraw_leg-result.ensures).replays
 
 pub overflow_sub-gained : goal.overflow_sub-gained
 overflow_sub-gained g c =
-    let it = gone c.self.inside.book c.withdraw.new.self c.args.id c.self.invariant.2 c.in_ok-withdraw.ensures in
+    let it = asked c.self.inside.book c.withdraw_leg-result.new.book c.seat.inside.venue c.args.id
+    c.withdraw_leg-result.result c.self.invariant.2 c.withdraw_leg-result.ensures in
     let before = c.resolved_in-before.ensures.value in
     let now = c.resolved_in.ensures.value in
-    let counts = it.counts in
-    omega (arith, before, now, counts)
+    let rises = it.rises in
+    omega (arith, before, now, rises)
 
-pub invariant_of-self-2 : goal.invariant_of-self-2
-invariant_of-self-2 g c =
-    let it = gone c.self.inside.book c.withdraw.new.self c.args.id c.self.invariant.2 c.in_ok-withdraw.ensures in
+pub invariant_of-self : goal.invariant_of-self
+invariant_of-self g c =
+    let book = c.self.inside.book in
+    let after = c.withdraw_leg-result.new.book in
+    let result = c.withdraw_leg-result.result in
+    let is = c.withdraw_leg-result.ensures in
+    let it = asked book after c.seat.inside.venue c.args.id result c.self.invariant.2 is in
     let before = c.resolved_in-before.ensures.value in
     let now = c.resolved_in.ensures.value in
-    let counts = it.counts in
+    let rises = it.rises in
     let total = c.self.invariant.3 in
-    let sum = c.count.ensures.total in
-    let written = written-withdrawn c.self.inside.book c.args.id c.self.inside.bookings.items c.self.invariant.5 in (
+    let sum = c.count.ensures.total in (
       c.self.invariant.0 ∙ sym it.venues,
       c.self.invariant.1,
       it.replays,
-      omega (arith, before, now, counts, total, sum),
-      c.self.invariant.4,
-      subst (λ (r : BookAnswer). AreWritten r.1 0 c.self.inside.bookings.items) (sym c.in_ok-withdraw.ensures) written,
+      omega (arith, before, now, rises, total, sum),
+      c.add_withdrawal.ensures.lists,
+      written-asked book after c.seat.inside.venue c.args.id result _ c.self.inside.bookings.items
+          c.add_withdrawal.new.bookings.items is (ap length c.history-entries.ensures)
+          (subst (λ ok. IsOneMore c.seat.inside.venue (Asked c.args.id ok (length c.history-entries.result.now))
+          c.self.inside.bookings.items c.add_withdrawal.new.bookings.items) c.is_ok.ensures.value
+          (subst (λ (v : Option ℕ). IfSome v (λ venue. IsOneMore venue
+          (Asked c.args.id c.is_ok.result (length c.history-entries.result.now))
+          c.self.inside.bookings.items c.add_withdrawal.new.bookings.items))
+          (c.count.ensures.venue ∙ sym (ap (λ (s : Seat). s.venue) c.seat.view_is)) c.add_withdrawal.ensures.side))
+          c.self.invariant.5,
     )
 
 pub returns-clause-seat : goal.returns-clause-seat
 returns-clause-seat g c =
-    let it = gone c.self.inside.book c.withdraw.new.self c.args.id c.self.invariant.2 c.in_ok-withdraw.ensures in
+    let it = asked c.self.inside.book c.withdraw_leg-result.new.book c.seat.inside.venue c.args.id
+    c.withdraw_leg-result.result c.self.invariant.2 c.withdraw_leg-result.ensures in
     let before = c.resolved_in-before.ensures.value in
     let now = c.resolved_in.ensures.value in
-    let counts = it.counts in
+    let rises = it.rises in
     let seat = c.count.ensures.seat in
+    let same = ap (λ (s : Seat). s.shares) c.add_withdrawal.ensures.seat in
     let view = ap resolved c.self.view_is in
-    omega (arith, before, now, counts, seat, view)
+    omega (arith, before, now, rises, seat, same, view)
 
 pub returns-clause-gains : goal.returns-clause-gains
 returns-clause-gains g c =
-    let it = gone c.self.inside.book c.withdraw.new.self c.args.id c.self.invariant.2 c.in_ok-withdraw.ensures in
+    let it = asked c.self.inside.book c.withdraw_leg-result.new.book c.seat.inside.venue c.args.id
+    c.withdraw_leg-result.result c.self.invariant.2 c.withdraw_leg-result.ensures in
     let before = c.resolved_in-before.ensures.value in
     let now = c.resolved_in.ensures.value in
-    let counts = it.counts in
+    let rises = it.rises in
     let seat = c.count.ensures.seat in
-    record {
-      book = c.self.inside.book;
-      replays = c.self.invariant.2;
-      order = it.order;
-      found = it.found;
-      gained = omega (arith, before, now, counts, seat);
-    }
+    let same = ap (λ (s : Seat). s.shares) c.add_withdrawal.ensures.seat in
+    it.gains c.args.seat.now.shares c.add_withdrawal.new.seat.shares (omega (arith, before, now, rises, seat, same))

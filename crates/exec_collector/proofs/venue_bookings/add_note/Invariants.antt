@@ -1,0 +1,4 @@
+use Rattle.exec_collector.proofs.venue_bookings.add_note.Given as goal
+
+abbrev pub ghost-add_booking : goal.ghost-add_booking
+ghost-add_booking g a = g.booking
