@@ -8,7 +8,7 @@ use std::marker::Model;
 use std::sync::ledger::{Book as Total, Share};
 
 /// A caller's part of the count: the shares of the sweeps that it released. The seats of a run have 1,024 parts in all.
-/// Contracts see a seat's parts and its shares; no note is booked on it.
+/// Contracts see a seat's parts and its shares; nothing is asked of the book on it.
 #[derive(Drop)]
 pub struct CallerSeat<L: Run> {
     pub(crate) parts: u64,
@@ -27,6 +27,7 @@ impl<L: Run> Model for CallerSeat<L> {
       shares = seat.share.amount;
       venue = None;
       booked = [];
+      asked = [];
       bookings = [];
     } };
 
