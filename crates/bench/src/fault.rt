@@ -7,12 +7,8 @@ use trial::{EndFault, TrialFault};
 /// What the words of the command line were expected to be.
 #[derive(Clone, Copy, Debug, PartialEq, Eq, Error)]
 pub enum Expected {
-    #[error("codec COUNT PART, day PART BEFORE COUNT, replay PART EVENTS, threads PART CALLERS SWEEPS, turn TURNS or wire PORT VENUES SWEEPS PAUSE REST")]
+    #[error("day PART BEFORE COUNT, replay PART EVENTS, threads PART CALLERS SWEEPS, turn TURNS or wire PORT VENUES SWEEPS PAUSE REST")]
     Request,
-    #[error("write, read, report, stream1, stream64, stream4096 or all")]
-    CodecPart,
-    #[error("a number of messages from 1 to 1000000")]
-    Messages,
     #[error("place, apply, send or receive")]
     DayPart,
     #[error("1 to 1000000 sweeps or legs before")]

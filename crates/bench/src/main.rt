@@ -1,10 +1,9 @@
 //! The program `bench`: it does the work that the scripts of `bench/` count or time, as often as it is asked to, and
-//! prints what shows that it was done. Its first word says which part of it: `codec`, `day`, `replay`, `threads`,
-//! `turn` or `wire`; with no word each of them but `wire` does a little.
+//! prints what shows that it was done. Its first word says which part of it: `day`, `replay`, `threads`, `turn` or
+//! `wire`; with no word each of them but `wire` does a little. The codec's part is a program of its own, `bench_codec`.
 #![tactic(auto)]
 
 mod fault;
-mod number;
 mod request;
 
 use crate::fault::BenchFault;

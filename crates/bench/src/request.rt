@@ -3,8 +3,7 @@
 ghost use Rattle.std.specs.Prelude.{◌≤◌, IfOk};
 
 use crate::fault::{BenchFault, Expected};
-use crate::number::number_to;
-use bench_core::{CodecPart, DayPart, MAX_DAY, ReplayPart, run_codec, run_day, run_replay};
+use bench_core::{DayPart, MAX_DAY, ReplayPart, run_day, run_replay};
 use bench_threads::{Load, ThreadsPart, run_threads, run_turns};
 use bench_wire::{WireLoad, run_wire};
 use link::Rest;
@@ -14,9 +13,9 @@ use std::net::{Net, TcpListener, TcpStream};
 use std::sync::Wait;
 use std::thread::Threads;
 use std::time::Clock;
-use trial::TrialFault;
+use trial::{TrialFault, number_to};
 
-/// The most messages that the codec works on, the most turns of a worker, and the most sweeps or legs that go before.
+/// The most turns of a worker, and the most sweeps or legs that go before.
 const MILLION: u64 = 1_000_000;
 
 /// The most events of a script.
@@ -36,12 +35,6 @@ fn count_of(most: u64, text: &str, expected: Expected) -> Result<u64, BenchFault
     ensures { IfOk result (λ number. number ≤ most) }
 {
     number_to(most, text).ok_or(BenchFault::Usage(expected))
-}
-
-fn codec<W: Write>(alloc: Global, count: &str, part: &str, out: &mut W) -> Result<(), BenchFault> {
-    let count = count_of(MILLION, count, Expected::Messages)?;
-    let part = CodecPart::named(part).ok_or(BenchFault::Usage(Expected::CodecPart))?;
-    Ok(run_codec(alloc, count, part, out)?)
 }
 
 fn day<W: Write>(
@@ -128,7 +121,6 @@ fn run_each<R: Threads + Wait + Clock + Sync, W: Write>(
     alloc: Global,
     out: &mut W,
 ) -> Result<(), TrialFault> {
-    run_codec(alloc, 3, CodecPart::All, out)?;
     run_day(alloc, DayPart::Place, 3, 2, out)?;
     run_replay(alloc, ReplayPart::Run, 7_000, out)?;
     let load = Load {
@@ -147,7 +139,6 @@ pub fn run<
     match words {
         [_] => Ok(run_each(rt, alloc, out)?),
         [_, name, a] if name.as_str() == "turn" => turns(rt, alloc, a.as_str(), out),
-        [_, name, a, b] if name.as_str() == "codec" => codec(alloc, a.as_str(), b.as_str(), out),
         [_, name, a, b] if name.as_str() == "replay" => replay(alloc, a.as_str(), b.as_str(), out),
         [_, name, a, b, c] if name.as_str() == "day" => {
             day(alloc, a.as_str(), b.as_str(), c.as_str(), out)

@@ -1,4 +1,4 @@
-use Rattle.bench_core.proofs.codec_part.stream.read_stream.Given as goal
+use Rattle.bench_codec.proofs.stream.read_stream.Given as goal
 
 abbrev pub decreases-loop-left : goal.decreases-loop-left
 decreases-loop-left l = l.left

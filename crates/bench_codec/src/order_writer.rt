@@ -1,7 +1,7 @@
 //! Orders are written, with the room of one for the next.
 ghost use Rattle.std.specs.Prelude.{◌≤◌};
 
-use super::worked::{FIRST_NUMBER, order_leg};
+use crate::worked::{FIRST_NUMBER, order_leg};
 use dialect::{Content, Message, Outgoing, Plain, append_message};
 use fix_tags::{Config, MAX_MESSAGE_NUMBER, Stamp};
 use leg::Leg;

@@ -1,25 +1,19 @@
 //! What a message costs: the worked messages are written and read as often as is asked for.
 
-mod order_writer;
-mod reading;
-mod stream;
-mod stretch;
-mod worked;
-
+use crate::order_writer::OrderWriter;
+use crate::reading::{read_leg, read_report};
+use crate::stream::read_stream;
+use crate::worked::TRADE_REPORT;
 use dialect::{Report, ReportKind};
 use fix_tags::read_number;
 use fix_text::FrameReader;
-use order_writer::OrderWriter;
-use reading::{read_leg, read_report};
 use std::alloc::Global;
 use std::io::Write;
-use stream::read_stream;
 use trial::TrialFault;
-use worked::TRADE_REPORT;
 
 /// What is done as often as there are messages, or all of it.
 #[derive(Clone, Copy, Debug, PartialEq, Eq)]
-pub enum CodecPart {
+pub enum Part {
     Write,
     Read,
     Report,
@@ -29,32 +23,32 @@ pub enum CodecPart {
     All,
 }
 
-impl CodecPart {
+impl Part {
     /// The part of this name.
-    pub fn named(name: &str) -> Option<CodecPart> {
+    pub fn named(name: &str) -> Option<Part> {
         match name {
-            "write" => Some(CodecPart::Write),
-            "read" => Some(CodecPart::Read),
-            "report" => Some(CodecPart::Report),
-            "stream1" => Some(CodecPart::Stream1),
-            "stream64" => Some(CodecPart::Stream64),
-            "stream4096" => Some(CodecPart::Stream4096),
-            "all" => Some(CodecPart::All),
+            "write" => Some(Part::Write),
+            "read" => Some(Part::Read),
+            "report" => Some(Part::Report),
+            "stream1" => Some(Part::Stream1),
+            "stream64" => Some(Part::Stream64),
+            "stream4096" => Some(Part::Stream4096),
+            "all" => Some(Part::All),
             _ => None,
         }
     }
 
     /// Whether the other part runs where this one is asked for.
-    fn has(self, other: CodecPart) -> bool {
-        self == CodecPart::All || self == other
+    fn has(self, other: Part) -> bool {
+        self == Part::All || self == other
     }
 }
 
 /// The parts that read a stream, each with the length of its pieces.
-const STREAMS: [(CodecPart, usize); 3] = [
-    (CodecPart::Stream1, 1),
-    (CodecPart::Stream64, 64),
-    (CodecPart::Stream4096, 4096),
+const STREAMS: [(Part, usize); 3] = [
+    (Part::Stream1, 1),
+    (Part::Stream64, 64),
+    (Part::Stream4096, 4096),
 ];
 
 /// CheckSum (10) of a written frame.
@@ -134,16 +128,16 @@ fn read_pieces<W: Write>(
 pub fn run_codec<W: Write>(
     alloc: Global,
     count: u64,
-    part: CodecPart,
+    part: Part,
     out: &mut W,
 ) -> Result<(), TrialFault> {
-    if part.has(CodecPart::Write) {
+    if part.has(Part::Write) {
         write_orders(alloc, count, out)?;
     }
-    if part.has(CodecPart::Read) {
+    if part.has(Part::Read) {
         read_orders(alloc, count, out)?;
     }
-    if part.has(CodecPart::Report) {
+    if part.has(Part::Report) {
         read_reports(alloc, count, out)?;
     }
     for (stream, piece_len) in STREAMS {

@@ -1,6 +1,6 @@
 //! A stream is read, as it comes in pieces.
 
-use super::stretch::Stretch;
+use crate::stretch::Stretch;
 use fix_text::FrameReader;
 use std::alloc::Global;
 use trial::TrialFault;
