@@ -3,6 +3,8 @@ use Rattle.std.proofs.Common.{◌≡◌, ℕ, Bool, true, false, List, [], ◌�
 use Rattle.std.specs.List.{concat}
 use Rattle.std.specs.Prelude.{Option, Some, None, Result, Ok, Err}
 use Rattle.std.specs.Global.{Vec}
+use Rattle.std.proofs.lemmas.List.{append-nil}
+use Rattle.leg.specs.LegId.{LegIdParts}
 use Rattle.leg.specs.declared.placed_leg.PlacedLeg.{PlacedLeg}
 use Rattle.fix_text.specs.Tagged.{Tagged}
 use Rattle.fix_text.specs.Reading.{Stream, next_read}
@@ -14,7 +16,7 @@ use Rattle.fix_tags.specs.declared.tag_fault.TagFault.{TagFault}
 use Rattle.dialect.specs.declared.message.Message.{Message}
 use Rattle.dialect.specs.declared.note.Note.{Note}
 use Rattle.dialect.specs.Framed.{IsFramed, AreFramed}
-use Rattle.dialect.specs.Wording.{Decoding, Wording}
+use Rattle.dialect.specs.Wording.{Encoding, Decoding, Wording}
 use Rattle.dialect.specs.Outgoing.{alone}
 use Rattle.link.specs.Traffic.{Tells, Dials, Takes, Stays}
 use Rattle.session_core.specs.declared.phase.Phase.{Phase}
@@ -33,11 +35,11 @@ use Rattle.session_core.specs.Onward.{OrUnchanged, IsConnection, SendsLeg}
 use Rattle.session_core.proofs.Adding.{chosen}
 use Rattle.session_core.proofs.Called.{connect_keeps, send_leg_keeps}
 use Rattle.session_core.proofs.CallsMade.{after-append}
-use Rattle.session_worker.specs.Booking.{waiting_in, booked_by}
+use Rattle.session_worker.specs.Booking.{waiting_in, booked_by, named_in, unless_sent, withdrawn_at}
 use Rattle.session_worker.specs.Hearing.{Said, said_with, said_after, Hears, ReaderOn}
 use Rattle.session_worker.specs.Speaking.{Wire, Reads, TakesFirst, Puts, Begins, messages_in, Speak}
-use Rattle.session_worker.specs.Linking.{SessionIoParts, io_of, IsHearing, SpeaksOn, MayBreak, Writes, Moves, Hands, IsPlain, Gave, Asks, Receives}
-use Rattle.session_worker.specs.Events.{leg_in, legs_in, IsIdle}
+use Rattle.session_worker.specs.Linking.{SessionIoParts, io_of, IsHearing, SpeaksOn, MayBreak, calling, Writes, Moves, Hands, IsPlain, Gave, Asks, Receives}
+use Rattle.session_worker.specs.Events.{leg_in, legs_in, withdrawn_by, IsIdle}
 use Rattle.session_worker.specs.Events.WorkerEvent.{Calls, Fails}
 use Rattle.session_worker.proofs.Booking.{waiting_after, booked-append, plain_books}
 use Rattle.session_worker.proofs.Spoken.{stays_last, stays_here}
@@ -68,6 +70,7 @@ moves_same w x y same stays stream = record {
   session = same;
   no_leg = refl;
   no_note = λ waiting. refl;
+  no_withdrawal = refl;
   speaks = speaks_same w x y same stays stream;
 }
 
@@ -89,6 +92,17 @@ speaks_then w x y z first more session one next = λ (said : Said) (hearing : Is
       subst (λ (l : Said). IsHearing l z) (sym (said-append said first more)) later.1,
     )
 
+-- what calls withdraw, one after the other
+calls_withdraw-append : (read : Decoding) (s : SessionParts) (first more : List SessionCall)
+    → withdrawn_by read s (calling (first ++ more))
+    ≡ withdrawn_by read s (calling first) ++ withdrawn_by read (after_calls read s first) (calling more)
+calls_withdraw-append read s [] more = refl
+calls_withdraw-append read s (made ∷ first) more =
+    let t = (called read s made).1 in
+    ap (λ l. withdrawn_at read s made ++ l) (calls_withdraw-append read t first more)
+    ∙ sym (append_assoc (withdrawn_at read s made) (withdrawn_by read t (calling first))
+    (withdrawn_by read (after_calls read t first) (calling more)))
+
 pub moves_on : (w : Wording) (x y z : SessionIoParts) → Moves w x y → Moves w y z → Moves w x z
 moves_on w x y z first next = record {
   calls = first.calls ++ next.calls;
@@ -102,22 +116,30 @@ moves_on w x y z first next = record {
       booked-append w.decoding x.session waiting first.calls next.calls
       ∙ (ap (λ l. l ++ booked_by w.decoding (after_calls w.decoding x.session first.calls) later next.calls)
       (first.no_note waiting) ∙ none);
+  no_withdrawal =
+      let rest : withdrawn_by w.decoding (after_calls w.decoding x.session first.calls) (calling next.calls) ≡ [] =
+      subst (λ (s : SessionParts). withdrawn_by w.decoding s (calling next.calls) ≡ []) first.session next.no_withdrawal in
+      calls_withdraw-append w.decoding x.session first.calls next.calls
+      ∙ (ap (λ l. l ++ withdrawn_by w.decoding (after_calls w.decoding x.session first.calls) (calling next.calls))
+      first.no_withdrawal ∙ rest);
   speaks = speaks_then w x y z first.calls next.calls first.session first.speaks next.speaks;
 }
 
 -- ---- one call
 
--- it has no message, isn't to send a leg, and books no note
+-- it has no message, isn't to send a leg, books no note and withdraws no leg
 moves_call : (w : Wording) (x y : SessionIoParts) (made : SessionCall) → leg_in made ≡ []
     → ((waiting : Option Note) → booked_by w.decoding x.session waiting (made ∷ []) ≡ [])
+    → withdrawn_at w.decoding x.session made ≡ []
     → messages_in (called w.decoding x.session made).0 ≡ [] → ((said : Said) → IsHearing said x → Hears said made x.wire)
     → Begins x.session made x.wire y.wire → y.session ≡ (called w.decoding x.session made).1
     → ((said : Said) → IsHearing said x → IsHearing (said_with said made) y) → Moves w x y
-moves_call w x y made no_leg no_note none hears begins is next = record {
+moves_call w x y made no_leg no_note stay none hears begins is next = record {
   calls = made ∷ [];
   session = is;
   no_leg = ap (λ l. l ++ []) no_leg;
   no_note = no_note;
+  no_withdrawal = ap (λ l. l ++ []) stay;
   speaks = λ (said : Said) (hearing : IsHearing said x). (
     speak_silent w x.session said made [] x.wire y.wire y.wire (hears said hearing) begins none
         (speak_none w (called w.decoding x.session made).1 (said_with said made) y.wire y.wire (stays_here y.wire)),
@@ -128,19 +150,19 @@ moves_call w x y made no_leg no_note none hears begins is next = record {
 pub moves_broken : (w : Wording) (x y : SessionIoParts) → y.session ≡ broken x.session
     → Tells x.wire y.wire Stays → Moves w x y
 moves_broken w x y is stays =
-    moves_call w x y call.Broken refl (λ waiting. refl) refl (λ said hearing. tt) (inl stays) is
+    moves_call w x y call.Broken refl (λ waiting. refl) refl refl (λ said hearing. tt) (inl stays) is
     (λ said hearing. hearing_gone said y (gone x.session y.session is))
 
 pub moves_malformed : (w : Wording) (x y : SessionIoParts) → y.session ≡ (malformed x.session).1
     → Tells x.wire y.wire Stays → ((said : Said) → IsHearing said x → Hears said call.Malformed x.wire) → Moves w x y
 moves_malformed w x y is stays hears =
-    moves_call w x y call.Malformed refl (λ waiting. refl) refl hears stays is
+    moves_call w x y call.Malformed refl (λ waiting. refl) refl refl hears stays is
     (λ said hearing. hearing_gone said y (gone_malformed x.session y.session is))
 
 pub moves_abandon : (w : Wording) (x y : SessionIoParts) → y.session ≡ abandon x.session
     → Tells x.wire y.wire Stays → Moves w x y
 moves_abandon w x y is stays =
-    moves_call w x y call.Abandon refl (λ waiting. refl) refl (λ said hearing. tt) stays is
+    moves_call w x y call.Abandon refl (λ waiting. refl) refl refl (λ said hearing. tt) stays is
     (λ said hearing. hearing_gone said y (gone_abandoned x.session y.session is))
 
 -- bytes were read, and then the connection may have been given up
@@ -151,6 +173,7 @@ moves_read w x y (inl same) reads hears = record {
   session = same;
   no_leg = refl;
   no_note = λ waiting. refl;
+  no_withdrawal = refl;
   speaks = λ (said : Said) (hearing : IsHearing said x). (reads, hears said hearing);
 }
 moves_read w x y (inr is) reads hears = record {
@@ -158,6 +181,7 @@ moves_read w x y (inr is) reads hears = record {
   session = is;
   no_leg = refl;
   no_note = λ waiting. refl;
+  no_withdrawal = refl;
   speaks = λ (said : Said) (hearing : IsHearing said x). (
     speak_read w x.session said (call.Broken ∷ []) x.wire y.wire y.wire reads
         (speak_broken w x.session said y.wire y.wire (stays_here y.wire)),
@@ -182,6 +206,25 @@ plain_no_leg call.Abandon plain = refl
 plain_no_note : (read : Decoding) (s : SessionParts) (made : SessionCall) → IsPlain made → (waiting : Option Note)
     → booked_by read s waiting (made ∷ []) ≡ []
 plain_no_note read s made plain waiting = ap (λ l. l ++ []) (plain_books s waiting made plain)
+
+-- such a call withdraws the legs that its step names
+pub plain_named : (read : Decoding) (s : SessionParts) (made : SessionCall) → IsPlain made
+    → withdrawn_at read s made ≡ named_in (called read s made).0
+plain_named read s call.Connect plain = absurd plain
+plain_named read s (call.SendLeg ordinal leg) plain = absurd plain
+plain_named read s call.Broken plain = absurd plain
+plain_named read s (call.Receive envelope) plain = refl
+plain_named read s call.Confirm plain = absurd plain
+plain_named read s call.Quiet plain = refl
+plain_named read s call.Silent plain = refl
+plain_named read s call.Close plain = refl
+plain_named read s call.Malformed plain = refl
+plain_named read s call.Abandon plain = refl
+
+-- a call that gives a message names none
+message_named : (answer : SessionAnswer Message) → named_in (added_message answer).0 ≡ []
+message_named (Ok message, after) = refl
+message_named (Err why, after) = refl
 
 -- the state after a call is that of its answer
 took_answer : {X Y : Type 0} (Is : X → Y → Type 0) (s now : SessionParts) (answer : SessionAnswer X) (y : Y)
@@ -231,6 +274,7 @@ moves_refused Is w x y made (Ok said, after) why plain is hears same back gives 
     moves_same w x y gives.1 stays stream
 moves_refused Is w x y made (Err refused, after) why plain is hears same back gives stays stream =
     moves_call w x y made (plain_no_leg made plain) (plain_no_note w.decoding x.session made plain)
+    (plain_named w.decoding x.session made plain ∙ ap (λ (a : Addition). named_in a.0) is)
     (ap (λ (a : Addition). messages_in a.0) is) (λ said hearing. hears said)
     (begins_plain x.session made x.wire y.wire plain stays) (gives.1 ∙ sym (ap (λ (a : Addition). a.1) is))
     (λ said hearing. subst (λ (l : Said). IsHearing l y) (sym (same said))
@@ -247,22 +291,23 @@ speak_gave w s now made step gave said later a b c hears puts rest =
     (sym (ap (λ (a : Addition). a.0) gave.adds)) gave.is_step.out) puts
     (subst (λ (t : SessionParts). Speak w t (said_with said made) later b c) (sym (ap (λ (a : Addition). a.1) gave.adds)) rest)
 
--- calls that book these notes, and none of which is to send a leg
-pub record Books (w : Wording) (notes : List Note) (x y : SessionIoParts) : Type 0 where
+-- calls that book these notes and withdraw these legs, and none of which is to send a leg
+pub record Books (w : Wording) (notes : List Note) (ids : List LegIdParts) (x y : SessionIoParts) : Type 0 where
   pub calls : List SessionCall
   pub session : y.session ≡ after_calls w.decoding x.session calls
   pub no_leg : legs_in calls ≡ []
   pub booked : (waiting : Option Note) → booked_by w.decoding x.session waiting calls ≡ notes
+  pub withdraws : withdrawn_by w.decoding x.session (calling calls) ≡ ids
   pub speaks : SpeaksOn w x calls y
 
 pub books_gave : (w : Wording) (x m y : SessionIoParts) (step : Step) (asks : Asks w x step m) (notes : List Note)
     (later : List SessionCall) (b : Wire) → y.session ≡ after_calls w.decoding m.session later → legs_in later ≡ []
     → ((waiting : Option Note)
     → booked_by w.decoding m.session (waiting_in w.decoding x.session waiting asks.made) later ≡ notes)
-    → Puts (concat step.out) later x.wire b
+    → withdrawn_by w.decoding m.session (calling later) ≡ [] → Puts (concat step.out) later x.wire b
     → ((said : Said) → IsHearing said m → Speak w m.session said later b y.wire × IsHearing (said_after said later) y)
-    → Books w notes x y
-books_gave w x m y step asks notes later b is no_leg booked puts rest = record {
+    → Books w notes step.withdrawn x y
+books_gave w x m y step asks notes later b is no_leg booked stay puts rest = record {
   calls = asks.made ∷ later;
   session = is ∙ ap (λ (t : SessionParts). after_calls w.decoding t later) (sym (ap (λ (a : Addition). a.1) asks.gave.adds));
   no_leg = ap (λ l. l ++ legs_in later) (plain_no_leg asks.made asks.gave.plain) ∙ no_leg;
@@ -272,6 +317,12 @@ books_gave w x m y step asks notes later b is no_leg booked puts rest = record {
       (plain_books x.session waiting asks.made asks.gave.plain)
       ∙ (ap (λ (t : SessionParts). booked_by w.decoding t waits later) (ap (λ (a : Addition). a.1) asks.gave.adds)
       ∙ booked waiting);
+  withdraws = ap (λ l. l ++ withdrawn_by w.decoding (called w.decoding x.session asks.made).1 (calling later))
+      (plain_named w.decoding x.session asks.made asks.gave.plain
+      ∙ (ap (λ (a : Addition). named_in a.0) asks.gave.adds ∙ sym asks.gave.is_step.withdrawn))
+      ∙ (ap (λ (t : SessionParts). step.withdrawn ++ withdrawn_by w.decoding t (calling later))
+      (ap (λ (a : Addition). a.1) asks.gave.adds)
+      ∙ (ap (λ l. step.withdrawn ++ l) stay ∙ append-nil step.withdrawn));
   speaks = λ (said : Said) (hearing : IsHearing said x).
       let heard = asks.hears said hearing in
       let done = rest (said_with said asks.made) heard.1 in (
@@ -280,32 +331,33 @@ books_gave w x m y step asks notes later b is no_leg booked puts rest = record {
       );
 }
 
-moves_gave : (w : Wording) (x y : SessionIoParts) → Books w [] x y → Moves w x y
-moves_gave w x y books = record {
+moves_gave : (w : Wording) (x y : SessionIoParts) (ids : List LegIdParts) → Books w [] ids x y → ids ≡ [] → Moves w x y
+moves_gave w x y ids books none = record {
   calls = books.calls;
   session = books.session;
   no_leg = books.no_leg;
   no_note = books.booked;
+  no_withdrawal = books.withdraws ∙ none;
   speaks = books.speaks;
 }
 
-pub moves_written : (w : Wording) (x m y : SessionIoParts) (step : Step) → Asks w x step m
+pub moves_written : (w : Wording) (x m y : SessionIoParts) (step : Step) → Asks w x step m → step.withdrawn ≡ []
     → Writes (concat step.out) m y → y.stream ≡ m.stream → Moves w x y
-moves_written w x m y step asks (inl all) stream =
-    moves_gave w x y (books_gave w x m y step asks [] [] y.wire all.0 refl (λ waiting. refl)
+moves_written w x m y step asks none (inl all) stream =
+    moves_gave w x y step.withdrawn (books_gave w x m y step asks [] [] y.wire all.0 refl (λ waiting. refl) refl
     (inl (stays_first (Takes (concat step.out)) x.wire m.wire y.wire asks.wire all.1))
     (λ said hearing. (
       speak_none w m.session said y.wire y.wire (stays_here y.wire),
       hearing_takes said (concat step.out) m y (λ on. subst (λ (s : SessionParts). is_connected s.phase ≡ true) all.0 on) all.1
           stream hearing,
-    )))
-moves_written w x m y step asks (inr part) stream =
-    moves_gave w x y (books_gave w x m y step asks [] (call.Broken ∷ []) y.wire part.0 refl (λ waiting. refl)
+    ))) none
+moves_written w x m y step asks none (inr part) stream =
+    moves_gave w x y step.withdrawn (books_gave w x m y step asks [] (call.Broken ∷ []) y.wire part.0 refl (λ waiting. refl) refl
     (inr (tt, stays_first (TakesFirst (concat step.out)) x.wire m.wire y.wire asks.wire (takes_first (concat step.out) m.wire y.wire part.1)))
     (λ said hearing. (
       speak_broken w m.session said y.wire y.wire (stays_here y.wire),
       hearing_gone said y (gone m.session y.session part.0),
-    )))
+    ))) none
 
 -- ---- what comes of the next message
 
@@ -316,6 +368,7 @@ heard_nothing w x y same stays found is = record {
   session = same;
   no_leg = refl;
   no_note = λ waiting. refl;
+  no_withdrawal = refl;
   speaks = λ (said : Said) (hearing : IsHearing said x). (
     speak_none w x.session said x.wire y.wire stays,
     (λ on. on_stays said x.wire y.wire y.stream
@@ -379,6 +432,7 @@ moves_connected w s now stamp frame a b x z y gives dials (inl all) fresh = reco
   session = all.0 ∙ (took_answer (λ (m : Message) (bytes : Vec ℕ). IsFramed w.encoding stamp (alone m) bytes.items) s now (connect s) frame gives ∙ sym (after_message (connect s)));
   no_leg = refl;
   no_note = λ waiting. refl;
+  no_withdrawal = ap (λ l. l ++ []) (message_named (connect s));
   speaks = λ (said : Said) (hearing : IsHearing said (io_of s a x)). (
     speak_message w s now said call.Connect (connect s) stamp frame [] a b y.wire y.wire refl gives tt dials (inl all.1)
         (speak_none w now [] y.wire y.wire (stays_here y.wire)),
@@ -391,6 +445,7 @@ moves_connected w s now stamp frame a b x z y gives dials (inr part) fresh = rec
   session = part.0 ∙ ap broken (took_answer (λ (m : Message) (bytes : Vec ℕ). IsFramed w.encoding stamp (alone m) bytes.items) s now (connect s) frame gives ∙ sym (after_message (connect s)));
   no_leg = refl;
   no_note = λ waiting. refl;
+  no_withdrawal = ap (λ l. l ++ []) (message_named (connect s));
   speaks = λ (said : Said) (hearing : IsHearing said (io_of s a x)). (
     speak_message w s now said call.Connect (connect s) stamp frame (call.Broken ∷ []) a b y.wire y.wire refl gives tt dials
         (inr (tt, takes_first frame.items b y.wire part.1)) (speak_broken w now [] y.wire y.wire (stays_here y.wire)),
@@ -412,7 +467,7 @@ moves_not_connected Is w s now why a b x y other gives dials same stays fresh =
           → Moves w (io_of s a x) y
       not_connected (Ok m, after) is gave = absurd (other gave.0)
       not_connected (Err refused, after) is gave =
-          moves_call w (io_of s a x) y call.Connect refl (λ waiting. refl)
+          moves_call w (io_of s a x) y call.Connect refl (λ waiting. refl) (message_named (connect s))
           (ap (λ (t : SessionAnswer Message). messages_in (added_message t).0) is) (λ said hearing. tt) to
           (same ∙ (gave.1 ∙ sym (ap (λ (t : SessionAnswer Message). (added_message t).1) is)))
           (λ said hearing. λ on. subst (λ (t : Stream). ReaderOn [] y.wire t) (sym fresh) (on_dials a y.wire to))
@@ -436,13 +491,13 @@ moves_gone Is w s now why a b x y gives dials over stays = gone_from (connect s)
   gone_from : (answer : SessionAnswer Message) → connect s ≡ answer → Gives Is s answer (Err why) now
       → Moves w (io_of s a x) y
   gone_from (Ok m, after) is gave =
-      moves_call w (io_of s a x) y call.Broken refl (λ waiting. refl) refl (λ said hearing. tt)
+      moves_call w (io_of s a x) y call.Broken refl (λ waiting. refl) refl refl (λ said hearing. tt)
       (inr (down_connects s s.phase m after is, stays_last Dials a b y.wire dials stays)) (over ∙ ap broken gave.1)
       (λ said hearing. hearing_gone said y (gone now y.session over))
   gone_from (Err refused, after) is gave =
       let between : SessionIoParts = io_of now b new_stream in
       moves_on w (io_of s a x) between y
-      (moves_call w (io_of s a x) between call.Connect refl (λ waiting. refl)
+      (moves_call w (io_of s a x) between call.Connect refl (λ waiting. refl) (message_named (connect s))
       (ap (λ (t : SessionAnswer Message). messages_in (added_message t).0) is) (λ said hearing. tt) dials
       (gave.1 ∙ sym (ap (λ (t : SessionAnswer Message). (added_message t).1) is)) (λ said hearing. λ on. on_dials a b dials))
       (moves_broken w between y over stays)
@@ -469,10 +524,16 @@ answered : {X Y : Type 0} (Is : X → Y → Type 0) (s now : SessionParts) (answ
 answered Is s now (Ok said, after) why other gives = absurd (other gives.0)
 answered Is s now (Err refused, after) why other gives = gives.1
 
+-- a leg that was sent isn't withdrawn
+none_unsent : {Y : Type 0} (Is : Message → Y → Type 0) (s now : SessionParts) (id : LegIdParts)
+    (answer : SessionAnswer Message) (y : Y) → Gives Is s answer (Ok y) now → unless_sent id (added_message answer).0 ≡ []
+none_unsent Is s now id (Ok m, after) y gives = refl
+none_unsent Is s now id (Err refused, after) y gives = absurd (let e = gives.0 in cc)
+
 -- a leg that was sent
 pub hands_sent : (w : Wording) (leg : PlacedLeg) (s now : SessionParts) (stamp : StampParts) (frame : Vec ℕ)
     (a : Wire) (x : Stream) (y : SessionIoParts) → Gives (λ (m : Message) (bytes : Vec ℕ). IsFramed w.encoding stamp (alone m) bytes.items) s (send_leg s leg.ordinal leg.leg) (Ok frame) now
-    → Writes frame.items (io_of now a x) y → y.stream ≡ x → Hands w leg (io_of s a x) y
+    → Writes frame.items (io_of now a x) y → y.stream ≡ x → Hands w leg true (io_of s a x) y
 hands_sent w leg s now stamp frame a x y gives (inl all) stream =
     let is : y.session ≡ (send_leg s leg.ordinal leg.leg).1 = all.0 ∙ took_answer (λ (m : Message) (bytes : Vec ℕ). IsFramed w.encoding stamp (alone m) bytes.items) s now (send_leg s leg.ordinal leg.leg) frame gives in
     record {
@@ -482,6 +543,8 @@ hands_sent w leg s now stamp frame a x y gives (inl all) stream =
       session = is ∙ sym (after_message (send_leg s leg.ordinal leg.leg));
       no_leg = refl;
       no_note = λ waiting. refl;
+      withdraws = ap (λ l. l ++ []) (none_unsent (λ (m : Message) (bytes : Vec ℕ). IsFramed w.encoding stamp (alone m) bytes.items)
+          s now leg.leg.id (send_leg s leg.ordinal leg.leg) frame gives);
       speaks = λ (said : Said) (hearing : IsHearing said (io_of s a x)). (
         speak_message w s now said (call.SendLeg leg.ordinal leg.leg) (send_leg s leg.ordinal leg.leg) stamp frame [] a a y.wire y.wire
             refl gives tt (stays_here a) (inl all.1) (speak_none w now said y.wire y.wire (stays_here y.wire)),
@@ -496,6 +559,8 @@ hands_sent w leg s now stamp frame a x y gives (inr part) stream = record {
   session = part.0 ∙ ap broken (took_answer (λ (m : Message) (bytes : Vec ℕ). IsFramed w.encoding stamp (alone m) bytes.items) s now (send_leg s leg.ordinal leg.leg) frame gives ∙ sym (after_message (send_leg s leg.ordinal leg.leg)));
   no_leg = refl;
   no_note = λ waiting. refl;
+  withdraws = ap (λ l. l ++ []) (none_unsent (λ (m : Message) (bytes : Vec ℕ). IsFramed w.encoding stamp (alone m) bytes.items)
+      s now leg.leg.id (send_leg s leg.ordinal leg.leg) frame gives);
   speaks = λ (said : Said) (hearing : IsHearing said (io_of s a x)). (
     speak_message w s now said (call.SendLeg leg.ordinal leg.leg) (send_leg s leg.ordinal leg.leg) stamp frame (call.Broken ∷ []) a a
         y.wire y.wire refl gives tt (stays_here a) (inr (tt, takes_first frame.items a y.wire part.1))
@@ -507,10 +572,10 @@ hands_sent w leg s now stamp frame a x y gives (inr part) stream = record {
 -- one that the session refused
 pub hands_refused : {Y : Type 0} (Is : Message → Y → Type 0) (w : Wording) (leg : PlacedLeg)
     (s now : SessionParts) (why : SessionFault) (a : Wire) (x : Stream) → (why ≡ fault.OutOfMemory → ⊥)
-    → Gives Is s (send_leg s leg.ordinal leg.leg) (Err why) now → Hands w leg (io_of s a x) (io_of now a x)
+    → Gives Is s (send_leg s leg.ordinal leg.leg) (Err why) now → Hands w leg false (io_of s a x) (io_of now a x)
 hands_refused Is w leg s now why a x other gives = was_refused (send_leg s leg.ordinal leg.leg) refl gives where
   was_refused : (answer : SessionAnswer Message) → send_leg s leg.ordinal leg.leg ≡ answer → Gives Is s answer (Err why) now
-      → Hands w leg (io_of s a x) (io_of now a x)
+      → Hands w leg false (io_of s a x) (io_of now a x)
   was_refused (Ok m, after) is gave = absurd (other gave.0)
   was_refused (Err refused, after) is gave =
       let same : now ≡ (send_leg s leg.ordinal leg.leg).1 = gave.1 ∙ sym (ap (λ (t : SessionAnswer Message). t.1) is) in
@@ -521,6 +586,7 @@ hands_refused Is w leg s now why a x other gives = was_refused (send_leg s leg.o
         session = gave.1 ∙ sym (ap (λ (t : SessionAnswer Message). (added_message t).1) is);
         no_leg = refl;
         no_note = λ waiting. refl;
+        withdraws = ap (λ (t : SessionAnswer Message). unless_sent leg.leg.id (added_message t).0 ++ []) is;
         speaks = λ (said : Said) (hearing : IsHearing said (io_of s a x)). (
           speak_silent w s said (call.SendLeg leg.ordinal leg.leg) [] a a a tt (stays_here a)
               (ap (λ (t : SessionAnswer Message). messages_in (added_message t).0) is)
@@ -534,7 +600,7 @@ hands_refused Is w leg s now why a x other gives = was_refused (send_leg s leg.o
 -- one for which it wanted memory
 pub hands_failed : {Y : Type 0} (Is : Message → Y → Type 0) (w : Wording) (leg : PlacedLeg)
     (s now : SessionParts) (why : SessionFault) (a : Wire) (x : Stream) (y : SessionIoParts)
-    → Gives Is s (send_leg s leg.ordinal leg.leg) (Err why) now → y.session ≡ broken now → Tells a y.wire Stays → Hands w leg (io_of s a x) y
+    → Gives Is s (send_leg s leg.ordinal leg.leg) (Err why) now → y.session ≡ broken now → Tells a y.wire Stays → Hands w leg false (io_of s a x) y
 hands_failed Is w leg s now why a x y gives e stays = record {
   event = Fails leg;
   of_leg = inr refl;
@@ -542,6 +608,7 @@ hands_failed Is w leg s now why a x y gives e stays = record {
   session = e ∙ ap broken (refused_send Is s now leg why gives);
   no_leg = refl;
   no_note = λ waiting. refl;
+  withdraws = refl;
   speaks = λ (said : Said) (hearing : IsHearing said (io_of s a x)).
       (speak_broken w s said a y.wire stays, hearing_gone said y (gone now y.session e));
 }
@@ -587,3 +654,25 @@ pub idle_refused : {Y : Type 0} (Is : StepParts → Y → Type 0) (s now : Sessi
     → (why ≡ fault.OutOfMemory → ⊥) → Gives Is s (close s) (Err why) now → IsIdle now
 idle_refused Is s now why other gives =
     subst IsIdle (sym (answered Is s now (close s) why other gives)) (closes_idle s s.phase refl)
+
+-- the legs that a close withdraws
+closes_none : (s : SessionParts) (phase : Phase) → named_in (added (close_in phase s)).0 ≡ []
+closes_none s Down = refl
+closes_none s Closed = refl
+closes_none s Up =
+    chosen (λ (answer : SessionAnswer StepParts). named_in (added answer).0 ≡ []) (may_write s)
+    (answers (puts_fence (quietly (closing_up s)))) (refuses fault.NumbersSpent s) (λ on. refl) (λ off. refl)
+closes_none s LoggingOn = refl
+closes_none s Settling = refl
+closes_none s Closing = refl
+closes_none s LoggedOut = refl
+
+none_closed_in : (w : Encoding) (s now : SessionParts) (answer : SessionAnswer StepParts) (stamp : StampParts) (step : Step)
+    → named_in (added answer).0 ≡ [] → Gives (IsStep w stamp) s answer (Ok step) now → step.withdrawn ≡ []
+none_closed_in w s now (Ok said, after) stamp step none gives = gives.0.withdrawn ∙ none
+none_closed_in w s now (Err refused, after) stamp step none gives = absurd (let e = gives.0 in cc)
+
+-- its step names none
+pub none_closed : (w : Encoding) (s now : SessionParts) (stamp : StampParts) (step : Step)
+    → Gives (IsStep w stamp) s (close s) (Ok step) now → step.withdrawn ≡ []
+none_closed w s now stamp step gives = none_closed_in w s now (close s) stamp step (closes_none s s.phase) gives

@@ -1,8 +1,9 @@
 -- What a worker's events do, one after the other.
-use Rattle.std.proofs.Common.{◌≡◌, ◌⊎◌, ℕ, true, false, List, [], ◌∷◌, ◌++◌, map, refl, sym, ap, subst, ◌∙◌, inl, inr, append_assoc}
+use Rattle.std.proofs.Common.{◌≡◌, ◌⊎◌, ℕ, Bool, true, false, List, [], ◌∷◌, ◌++◌, map, refl, sym, ap, subst, ◌∙◌, inl, inr, append_assoc}
 use Rattle.std.specs.List.{concat}
 use Rattle.std.specs.Prelude.{Option, Some, None, MatchOption}
-use Rattle.std.proofs.lemmas.List.{append-nil}
+use Rattle.std.proofs.lemmas.List.{append-nil, map-append}
+use Rattle.leg.specs.LegId.{LegIdParts}
 use Rattle.leg.specs.declared.placed_leg.PlacedLeg.{PlacedLeg}
 use Rattle.dialect.specs.declared.note.Note.{Note}
 use Rattle.dialect.specs.Wording.{Decoding, Wording}
@@ -24,11 +25,12 @@ use Rattle.session_worker.specs.Taking.{with_taken}
 use Rattle.session_worker.specs.Booking.{waiting_in, booked_in, booked_by}
 use Rattle.session_worker.specs.Hearing.{Said, said_after}
 use Rattle.session_worker.specs.Speaking.{Wire, TakesFirst, Speak}
-use Rattle.session_worker.specs.Linking.{SessionIoParts, SpeaksOn, WorkerStateParts, worker_in, BesideShares, beside_shares, MayBook, Moves, Hands, Asks, CarriesOut, Does, Drains}
-use Rattle.session_worker.specs.Events.{WorkerEvent, calls_in, calls_of, leg_in, legs_in, taken_in, taken_of, IsIdle, IsAllowedCall, IsAllowed, AreAllowed, WorkerParts, lasting, Goes}
+use Rattle.session_worker.specs.Linking.{SessionIoParts, SpeaksOn, WorkerStateParts, worker_in, BesideShares, beside_shares, asked_too, unsent, calling, MayBook, Moves, Hands, Sends, Asks, CarriesOut, Does, Drains}
+use Rattle.session_worker.specs.Events.{WorkerEvent, calls_in, calls_of, leg_in, legs_in, taken_in, taken_of, withdrawn_in, withdrawn_by, IsIdle, IsAllowedCall, IsAllowed, AreAllowed, WorkerParts, lasting, Goes}
 use Rattle.session_worker.specs.Events.WorkerEvent.{Calls, Drops, Fails}
 use Rattle.session_worker.proofs.Booking.{waiting_after, booked-append, note_waits, waiting_booked}
 use Rattle.session_worker.proofs.Spoken.{stays_here}
+use Rattle.session_worker.proofs.Withdrawals.{asks_none, asked_both}
 use Rattle.session_worker.proofs.Speech.{stays_first, stays_same, speak_on, speak_none, speak_silent, speak_broken}
 use Rattle.session_worker.proofs.Connected.{gone, confirm_on, hearing_takes, hearing_gone}
 use Rattle.session_worker.proofs.Calling.{Books, books_gave, speaks_same, moves_same, speaks_then}
@@ -55,6 +57,19 @@ allowed-append read s (event ∷ first) more all rest = (
       (subst (λ (t : SessionParts). AreAllowed read t more) (after-append read s (calls_in event) (calls_of first)) rest),
 )
 
+withdrawn-append : (read : Decoding) (s : SessionParts) (first more : List WorkerEvent)
+    → withdrawn_by read s (first ++ more)
+    ≡ withdrawn_by read s first ++ withdrawn_by read (after_calls read s (calls_of first)) more
+withdrawn-append read s [] more = refl
+withdrawn-append read s (event ∷ first) more =
+    let t = after_calls read s (calls_in event) in
+    let later : after_calls read t (calls_of first) ≡ after_calls read s (calls_in event ++ calls_of first) =
+    sym (after-append read s (calls_in event) (calls_of first)) in
+    ap (λ l. withdrawn_in read s event ++ l) (withdrawn-append read t first more
+    ∙ ap (λ (u : SessionParts). withdrawn_by read t first ++ withdrawn_by read u more) later)
+    ∙ sym (append_assoc (withdrawn_in read s event) (withdrawn_by read t first)
+    (withdrawn_by read (after_calls read s (calls_in event ++ calls_of first)) more))
+
 pub speak_events : (w : Wording) (s : SessionParts) (said : Said) (first more : List WorkerEvent) (a b c : Wire)
     → Speak w s said (calls_of first) a b
     → Speak w (after_calls w.decoding s (calls_of first)) (said_after said (calls_of first)) (calls_of more) b c
@@ -78,6 +93,18 @@ booked_on read a b c first more one next waiting =
     ∙ (ap (λ l. l ++ then) (one.booked waiting)
     ∙ (append_assoc a.seat.booked now then ∙ ap (λ l. a.seat.booked ++ l) all))
 
+asked_on : (read : Decoding) (a b c : WorkerParts) (first more : List WorkerEvent) → Goes read a first b
+    → Goes read b more c → c.seat.asked ≡ a.seat.asked ++ withdrawn_by read a.session (first ++ more)
+asked_on read a b c first more one next =
+    let now = withdrawn_by read a.session first in
+    let then = withdrawn_by read b.session more in
+    let all : now ++ then ≡ withdrawn_by read a.session (first ++ more) =
+    ap (λ (s : SessionParts). now ++ withdrawn_by read s more) one.session
+    ∙ sym (withdrawn-append read a.session first more) in
+    next.asked
+    ∙ (ap (λ l. l ++ then) one.asked
+    ∙ (append_assoc a.seat.asked now then ∙ ap (λ l. a.seat.asked ++ l) all))
+
 pub goes_on : (read : Decoding) (a b c : WorkerParts) (first more : List WorkerEvent) → Goes read a first b
     → Goes read b more c → Goes read a (first ++ more) c
 goes_on read a b c first more one next = record {
@@ -92,6 +119,7 @@ goes_on read a b c first more one next = record {
   venue = next.venue ∙ one.venue;
   seat = next.seat ∙ one.seat;
   booked = booked_on read a b c first more one next;
+  asked = asked_on read a b c first more one next;
 }
 
 pub does_on : (w : Wording) (a b c : WorkerStateParts) → Does w a b → Does w b c → Does w a c
@@ -115,6 +143,13 @@ same_booked a b notes same none =
     ap (λ (seat : BesideShares). seat.booked) same
     ∙ (sym (append-nil a.booked) ∙ ap (λ l. a.booked ++ l) (sym none))
 
+-- no leg was asked for
+same_asked : (a b : Seat) (ids : List LegIdParts) → beside_shares b ≡ beside_shares a → ids ≡ []
+    → b.asked ≡ a.asked ++ ids
+same_asked a b ids same none =
+    ap (λ (seat : BesideShares). seat.asked) same
+    ∙ (sym (append-nil a.asked) ∙ ap (λ l. a.asked ++ l) (sym none))
+
 still_lasts : (a b : Seat) → beside_shares b ≡ beside_shares a → lasting b ≡ lasting a
 still_lasts a b same = ap (λ (seat : BesideShares). seat.lasts) same
 
@@ -128,12 +163,10 @@ goes_none read a b session took seat = record {
   venue = ap (λ t. t.venue) took;
   seat = still_lasts a.seat b.seat seat;
   booked = λ waiting. same_booked a.seat b.seat [] seat refl;
+  asked = same_asked a.seat b.seat [] seat refl;
 }
 
 -- calls of the session, none of which is to send a leg
-abbrev pub calling : List SessionCall → List WorkerEvent
-calling calls = map (λ made. Calls made) calls
-
 calling-calls : (calls : List SessionCall) → calls_of (calling calls) ≡ calls
 calling-calls [] = refl
 calling-calls (made ∷ calls) = ap (λ l. made ∷ l) (calling-calls calls)
@@ -165,12 +198,14 @@ allowed_calls read s (made ∷ calls) e =
     let none = both_empty (leg_in made) (legs_in calls) e in
     (allowed_call s made none.0, allowed_calls read (called read s made).1 calls none.1)
 
--- ones that book these notes
-goes_books : (read : Decoding) (a b : WorkerParts) (notes : List Note) (calls : List SessionCall)
+-- ones that book these notes, and withdraw these legs
+goes_books : (read : Decoding) (a b : WorkerParts) (notes : List Note) (ids : List LegIdParts) (calls : List SessionCall)
     → b.session ≡ after_calls read a.session calls → legs_in calls ≡ []
-    → ((waiting : Option Note) → booked_by read a.session waiting calls ≡ notes) → b.took ≡ a.took
-    → lasting b.seat ≡ lasting a.seat → b.seat.booked ≡ a.seat.booked ++ notes → Goes read a (calling calls) b
-goes_books read a b notes calls session no_leg books took parts booked = record {
+    → ((waiting : Option Note) → booked_by read a.session waiting calls ≡ notes)
+    → withdrawn_by read a.session (calling calls) ≡ ids → b.took ≡ a.took
+    → lasting b.seat ≡ lasting a.seat → b.seat.booked ≡ a.seat.booked ++ notes → b.seat.asked ≡ a.seat.asked ++ ids
+    → Goes read a (calling calls) b
+goes_books read a b notes ids calls session no_leg books withdraws took parts booked asked = record {
   session = session ∙ ap (after_calls read a.session) (sym (calling-calls calls));
   taken = ap (λ t. t.taken) took ∙ (sym (append-nil a.took.taken)
       ∙ ap (λ l. a.took.taken ++ l) (sym (calling-taken calls ∙ no_leg)));
@@ -179,22 +214,25 @@ goes_books read a b notes calls session no_leg books took parts booked = record 
   seat = parts;
   booked = λ waiting. booked ∙ ap (λ l. a.seat.booked ++ l)
       (sym (ap (booked_by read a.session waiting) (calling-calls calls) ∙ books waiting));
+  asked = asked ∙ ap (λ l. a.seat.asked ++ l) (sym withdraws);
 }
 
--- ones that book none
+-- ones that book none, and withdraw none
 goes_calls : (read : Decoding) (a b : WorkerParts) (calls : List SessionCall)
     → b.session ≡ after_calls read a.session calls → legs_in calls ≡ []
-    → ((waiting : Option Note) → booked_by read a.session waiting calls ≡ []) → b.took ≡ a.took
+    → ((waiting : Option Note) → booked_by read a.session waiting calls ≡ [])
+    → withdrawn_by read a.session (calling calls) ≡ [] → b.took ≡ a.took
     → beside_shares b.seat ≡ beside_shares a.seat → Goes read a (calling calls) b
-goes_calls read a b calls session no_leg no_note took seat =
-    goes_books read a b [] calls session no_leg no_note took (still_lasts a.seat b.seat seat)
-    (same_booked a.seat b.seat [] seat refl)
+goes_calls read a b calls session no_leg no_note no_withdrawal took seat =
+    goes_books read a b [] [] calls session no_leg no_note no_withdrawal took (still_lasts a.seat b.seat seat)
+    (same_booked a.seat b.seat [] seat refl) (same_asked a.seat b.seat [] seat refl)
 
 pub does_moves : (w : Wording) (a b : WorkerStateParts) → Moves w a.io b.io → b.took ≡ a.took
     → beside_shares b.seat ≡ beside_shares a.seat → Does w a b
 does_moves w a b moves took seat = record {
   events = calling moves.calls;
-  goes = goes_calls w.decoding (worker_in a) (worker_in b) moves.calls moves.session moves.no_leg moves.no_note took seat;
+  goes = goes_calls w.decoding (worker_in a) (worker_in b) moves.calls moves.session moves.no_leg moves.no_note
+      moves.no_withdrawal took seat;
   speaks = subst (λ (calls : List SessionCall). SpeaksOn w a.io calls b.io)
       (sym (calling-calls moves.calls)) moves.speaks;
 }
@@ -218,9 +256,9 @@ books_silent : (w : Wording) (x m y : SessionIoParts) (step : Step) (noted : Ses
     → noted ≡ m.session
     → ((y.session ≡ noted) × Tells m.wire y.wire (Takes (concat step.out)))
     ⊎ ((y.session ≡ broken noted) × Tells m.wire y.wire (TakesFirst (concat step.out))) → y.stream ≡ m.stream
-    → Books w [] x y
+    → Books w [] step.withdrawn x y
 books_silent w x m y step noted asks same (inl all) stream =
-    books_gave w x m y step asks [] [] y.wire (all.0 ∙ same) refl (λ waiting. refl)
+    books_gave w x m y step asks [] [] y.wire (all.0 ∙ same) refl (λ waiting. refl) refl
     (inl (stays_first (Takes (concat step.out)) x.wire m.wire y.wire asks.wire all.1))
     (λ said hearing. (
       speak_none w m.session said y.wire y.wire (stays_here y.wire),
@@ -229,6 +267,7 @@ books_silent w x m y step noted asks same (inl all) stream =
     ))
 books_silent w x m y step noted asks same (inr part) stream =
     books_gave w x m y step asks [] (call.Broken ∷ []) y.wire (part.0 ∙ ap broken same) refl (λ waiting. refl)
+    refl
     (inr (tt, stays_first (TakesFirst (concat step.out)) x.wire m.wire y.wire asks.wire part.1))
     (λ said hearing. (
       speak_broken w m.session said y.wire y.wire (stays_here y.wire),
@@ -249,10 +288,10 @@ books_note : (w : Wording) (x m y : SessionIoParts) (step : Step) (noted : Sessi
     → Asks w x step m → step.note ≡ Some note → noted ≡ confirm m.session
     → ((y.session ≡ noted) × Tells m.wire y.wire (Takes (concat step.out)))
     ⊎ ((y.session ≡ broken noted) × Tells m.wire y.wire (TakesFirst (concat step.out))) → y.stream ≡ m.stream
-    → Books w (note ∷ []) x y
+    → Books w (note ∷ []) step.withdrawn x y
 books_note w x m y step noted note asks is confirmed (inl all) stream =
     books_gave w x m y step asks (note ∷ []) (call.Confirm ∷ []) y.wire (all.0 ∙ confirmed) refl
-    (λ waiting. ap (λ l. l ++ []) (confirm_books w x m step asks note is waiting))
+    (λ waiting. ap (λ l. l ++ []) (confirm_books w x m step asks note is waiting)) refl
     (inl (stays_first (Takes (concat step.out)) x.wire m.wire y.wire asks.wire all.1))
     (λ said hearing. (
       speak_silent w m.session said call.Confirm [] y.wire y.wire y.wire tt (stays_here y.wire) refl
@@ -261,7 +300,7 @@ books_note w x m y step noted note asks is confirmed (inl all) stream =
     ))
 books_note w x m y step noted note asks is confirmed (inr part) stream =
     books_gave w x m y step asks (note ∷ []) (call.Confirm ∷ call.Broken ∷ []) y.wire (part.0 ∙ ap broken confirmed) refl
-    (λ waiting. ap (λ l. l ++ []) (confirm_books w x m step asks note is waiting))
+    (λ waiting. ap (λ l. l ++ []) (confirm_books w x m step asks note is waiting)) refl
     (inr (tt, stays_first (TakesFirst (concat step.out)) x.wire m.wire y.wire asks.wire part.1))
     (λ said hearing. (
       speak_silent w m.session said call.Confirm (call.Broken ∷ []) y.wire y.wire y.wire tt (stays_here y.wire) refl
@@ -269,33 +308,36 @@ books_note w x m y step noted note asks is confirmed (inr part) stream =
       hearing_gone said y (gone noted y.session part.0),
     ))
 
-does_books : (w : Wording) (a b : WorkerStateParts) (notes : List Note) → Books w notes a.io b.io → b.took ≡ a.took
-    → lasting b.seat ≡ lasting a.seat → b.seat.booked ≡ a.seat.booked ++ notes → Does w a b
-does_books w a b notes books took parts booked = record {
+does_books : (w : Wording) (a b : WorkerStateParts) (notes : List Note) (ids : List LegIdParts)
+    → Books w notes ids a.io b.io → b.took ≡ a.took → lasting b.seat ≡ lasting a.seat
+    → b.seat.booked ≡ a.seat.booked ++ notes → b.seat.asked ≡ a.seat.asked ++ ids → Does w a b
+does_books w a b notes ids books took parts booked asked = record {
   events = calling books.calls;
-  goes = goes_books w.decoding (worker_in a) (worker_in b) notes books.calls books.session books.no_leg books.booked took
-      parts booked;
+  goes = goes_books w.decoding (worker_in a) (worker_in b) notes ids books.calls books.session books.no_leg books.booked
+      books.withdraws took parts booked asked;
   speaks = subst (λ (calls : List SessionCall). SpeaksOn w a.io calls b.io)
       (sym (calling-calls books.calls)) books.speaks;
 }
 
 -- whether its note was booked or not
-does_carried : (w : Wording) (a b d : WorkerStateParts) (step : Step) (carries : CarriesOut step.note (concat step.out) b d)
+does_carried : (w : Wording) (a b d : WorkerStateParts) (step : Step) (carries : CarriesOut step.withdrawn step.note (concat step.out) b d)
     → Asks w a.io step b.io → b.took ≡ a.took → beside_shares b.seat ≡ beside_shares a.seat
     → MayBook step.note b.io.session b.seat.booked carries.noted d.seat.booked → Does w a d
 does_carried w a b d step carries asks took seat (inl none) =
-    does_books w a d []
+    does_books w a d [] step.withdrawn
     (books_silent w a.io b.io d.io step carries.noted asks none.0 carries.writes carries.stream)
     (carries.took ∙ took) (carries.seat ∙ still_lasts a.seat b.seat seat)
     (none.1 ∙ same_booked a.seat b.seat [] seat refl)
+    (carries.asked ∙ ap (λ (told : BesideShares). told.asked ++ step.withdrawn) seat)
 does_carried w a b d step carries asks took seat (inr one) =
-    does_books w a d (one.0 ∷ [])
+    does_books w a d (one.0 ∷ []) step.withdrawn
     (books_note w a.io b.io d.io step carries.noted one.0 asks one.1 one.2 carries.writes carries.stream)
     (carries.took ∙ took) (carries.seat ∙ still_lasts a.seat b.seat seat)
     (one.3 ∙ ap (λ (told : BesideShares). told.booked ++ one.0 ∷ []) seat)
+    (carries.asked ∙ ap (λ (told : BesideShares). told.asked ++ step.withdrawn) seat)
 
 pub does_asked : (w : Wording) (a b d : WorkerStateParts) (step : Step) → Asks w a.io step b.io
-    → b.took ≡ a.took → beside_shares b.seat ≡ beside_shares a.seat → CarriesOut step.note (concat step.out) b d
+    → b.took ≡ a.took → beside_shares b.seat ≡ beside_shares a.seat → CarriesOut step.withdrawn step.note (concat step.out) b d
     → Does w a d
 does_asked w a b d step asks took seat carries = does_carried w a b d step carries asks took seat carries.notes
 
@@ -311,6 +353,15 @@ dropping-taken : (legs : List PlacedLeg) → taken_of (dropping legs) ≡ legs
 dropping-taken [] = refl
 dropping-taken (leg ∷ legs) = ap (λ l. leg ∷ l) (dropping-taken legs)
 
+-- the ids of legs
+abbrev ids_of : List PlacedLeg → List LegIdParts
+ids_of legs = map (λ leg. leg.leg.id) legs
+
+dropping-withdrawn : (read : Decoding) (s : SessionParts) (legs : List PlacedLeg)
+    → withdrawn_by read s (dropping legs) ≡ ids_of legs
+dropping-withdrawn read s [] = refl
+dropping-withdrawn read s (leg ∷ legs) = ap (λ l. leg.leg.id ∷ l) (dropping-withdrawn read s legs)
+
 allowed_drops : (read : Decoding) (s : SessionParts) (legs : List PlacedLeg) → IsIdle s → AreAllowed read s (dropping legs)
 allowed_drops read s [] idle = tt
 allowed_drops read s (leg ∷ legs) idle = (idle, allowed_drops read s legs idle)
@@ -323,10 +374,13 @@ goes_drains read a b drains idle = record {
   taken = drains.taken ∙ ap (λ l. a.took.taken ++ l) (sym (dropping-taken drains.legs));
   allowed = allowed_drops read a.io.session drains.legs idle;
   venue = drains.venue;
-  seat = still_lasts a.seat b.seat drains.seat;
+  seat = ap (λ (told : BesideShares). told.lasts) drains.seat;
   booked = λ waiting.
-      same_booked a.seat b.seat (booked_by read a.io.session waiting (calls_of (dropping drains.legs))) drains.seat
-      (ap (booked_by read a.io.session waiting) (dropping-calls drains.legs));
+      ap (λ (told : BesideShares). told.booked) drains.seat
+      ∙ (sym (append-nil a.seat.booked)
+      ∙ ap (λ calls. a.seat.booked ++ booked_by read a.io.session waiting calls) (sym (dropping-calls drains.legs)));
+  asked = ap (λ (told : BesideShares). told.asked) drains.seat
+      ∙ ap (λ l. a.seat.asked ++ l) (sym (dropping-withdrawn read a.io.session drains.legs));
 }
 
 pub does_drains : (w : Wording) (a b : WorkerStateParts) → Drains a b → IsIdle a.io.session → Does w a b
@@ -347,11 +401,12 @@ drains_none a b io took seat = record {
   io = io;
   taken = ap (λ t. t.taken) took ∙ sym (append-nil a.took.taken);
   venue = ap (λ t. t.venue) took;
-  seat = seat;
+  seat = seat ∙ asks_none (beside_shares a.seat);
 }
 
+-- one that was taken, and asked for
 pub drains_one : (a b : WorkerStateParts) (leg : PlacedLeg) → b.io ≡ a.io → b.took ≡ with_taken a.took leg
-    → beside_shares b.seat ≡ beside_shares a.seat → Drains a b
+    → beside_shares b.seat ≡ asked_too (leg.leg.id ∷ []) (beside_shares a.seat) → Drains a b
 drains_one a b leg io took seat = record {
   legs = leg ∷ [];
   io = io;
@@ -366,15 +421,12 @@ drains_on a b c first next = record {
   io = next.io ∙ first.io;
   taken = next.taken ∙ (ap (λ l. l ++ next.legs) first.taken ∙ append_assoc a.took.taken first.legs next.legs);
   venue = next.venue ∙ first.venue;
-  seat = next.seat ∙ first.seat;
+  seat = next.seat
+      ∙ (ap (asked_too (ids_of next.legs)) first.seat
+      ∙ (asked_both (ids_of first.legs) (ids_of next.legs) (beside_shares a.seat)
+      ∙ ap (λ ids. asked_too ids (beside_shares a.seat))
+      (sym (map-append (λ (leg : PlacedLeg). leg.leg.id) first.legs next.legs))));
 }
-
--- the next leg, if there was one
-pub drains_next : (a b : WorkerStateParts) (next : Option PlacedLeg)
-    → MatchOption next (b.took ≡ a.took) (λ leg. b.took ≡ with_taken a.took leg) → b.io ≡ a.io
-    → beside_shares b.seat ≡ beside_shares a.seat → Drains a b
-drains_next a b None took io seat = drains_none a b io took seat
-drains_next a b (Some leg) took io seat = drains_one a b leg io took seat
 
 -- a leg that was taken and handed to the session
 handed : (read : Decoding) (s : SessionParts) (leg : PlacedLeg) (event : WorkerEvent)
@@ -385,10 +437,10 @@ handed read s leg event (inl e) up =
 handed read s leg event (inr e) up =
     (ap taken_in e, subst (λ (one : WorkerEvent). IsAllowed s one) (sym e) up)
 
-pub does_hands : (w : Wording) (a b : WorkerStateParts) (leg : PlacedLeg)
-    → Hands w leg a.io b.io → a.io.session.phase ≡ Up → b.took ≡ with_taken a.took leg
-    → beside_shares b.seat ≡ beside_shares a.seat → Does w a b
-does_hands w a b leg hands up took seat =
+pub does_hands : (w : Wording) (a b : WorkerStateParts) (leg : PlacedLeg) (sent : Bool)
+    → Hands w leg sent a.io b.io → a.io.session.phase ≡ Up → b.took ≡ with_taken a.took leg
+    → beside_shares b.seat ≡ asked_too (unsent leg sent) (beside_shares a.seat) → Does w a b
+does_hands w a b leg sent hands up took seat =
     let one = handed w.decoding a.io.session leg hands.event hands.of_leg up in
     let all : calls_in hands.event ++ hands.calls ≡ calls_of (hands.event ∷ calling hands.calls) =
     ap (λ l. calls_in hands.event ++ l) (sym (calling-calls hands.calls)) in
@@ -405,28 +457,28 @@ does_hands w a b leg hands up took seat =
           allowed_calls w.decoding (after_calls w.decoding a.io.session (calls_in hands.event)) hands.calls hands.no_leg,
         );
         venue = ap (λ t. t.venue) took;
-        seat = still_lasts a.seat b.seat seat;
+        seat = ap (λ (told : BesideShares). told.lasts) seat;
         booked = λ waiting.
-            same_booked a.seat b.seat
-            (booked_by w.decoding a.io.session waiting (calls_of (hands.event ∷ calling hands.calls))) seat
-            (ap (booked_by w.decoding a.io.session waiting) (sym all) ∙ hands.no_note waiting);
+            ap (λ (told : BesideShares). told.booked) seat
+            ∙ (sym (append-nil a.seat.booked) ∙ ap (λ l. a.seat.booked ++ l)
+            (sym (ap (booked_by w.decoding a.io.session waiting) (sym all) ∙ hands.no_note waiting)));
+        asked = ap (λ (told : BesideShares). told.asked) seat ∙ ap (λ l. a.seat.asked ++ l) (sym hands.withdraws);
       };
       speaks = subst (λ (calls : List SessionCall). SpeaksOn w a.io calls b.io) all hands.speaks;
     }
 
 -- a leg that was taken, if one was, and what the session did with it
 pub does_sent : (w : Wording) (a b d : WorkerStateParts) (next : Option PlacedLeg) → a.io.session.phase ≡ Up
-    → MatchOption next (b.took ≡ a.took) (λ leg. b.took ≡ with_taken a.took leg) → beside_shares b.seat ≡ beside_shares a.seat
-    → b.io ≡ a.io
-    → MatchOption next (d.io ≡ b.io) (λ leg. Hands w leg b.io d.io) → d.took ≡ b.took
-    → beside_shares d.seat ≡ beside_shares b.seat → Does w a d
-does_sent w a b d None up took parts io sent same seat =
-    let all : d.io ≡ a.io = sent ∙ io in
-    does_same w a d (ap (λ (x : SessionIoParts). x.session) all) (same ∙ took) (seat ∙ parts)
+    → MatchOption next (b.took ≡ a.took) (λ leg. b.took ≡ with_taken a.took leg) → b.seat ≡ a.seat → b.io ≡ a.io
+    → MatchOption next ((d.io ≡ b.io) × (beside_shares d.seat ≡ beside_shares b.seat)) (λ leg. Sends w leg b d)
+    → d.took ≡ b.took → Does w a d
+does_sent w a b d None up took still io sent same =
+    let all : d.io ≡ a.io = sent.0 ∙ io in
+    does_same w a d (ap (λ (x : SessionIoParts). x.session) all) (same ∙ took) (sent.1 ∙ ap beside_shares still)
     (stays_same a.io.wire d.io.wire (ap (λ (x : SessionIoParts). x.wire) all)) (ap (λ (x : SessionIoParts). x.stream) all)
-does_sent w a b d (Some leg) up took parts io sent same seat =
-    does_hands w a d leg (subst (λ (x : SessionIoParts). Hands w leg x d.io) io sent) up (same ∙ took)
-    (seat ∙ parts)
+does_sent w a b d (Some leg) up took still io sent same =
+    does_hands w a d leg sent.sent (subst (λ (x : SessionIoParts). Hands w leg sent.sent x d.io) io sent.hands) up
+    (same ∙ took) (sent.seat ∙ ap (λ (seat : Seat). asked_too (unsent leg sent.sent) (beside_shares seat)) still)
 
 -- a session that a turn left closed, and one that is abandoned
 pub closed_in : (phase : Phase) → is_over phase ≡ true → phase ≡ Closed
@@ -468,7 +520,7 @@ pub finish_abandoned : (read : Decoding) (a b : WorkerParts) → b.session ≡ a
     → Goes read a (last_calls a.session.phase) b
 finish_abandoned read a b session took seat e =
     subst (λ (events : List WorkerEvent). Goes read a events b) (sym (one_call a.session.phase e))
-    (goes_calls read a b (call.Abandon ∷ []) session refl (λ waiting. refl) took seat)
+    (goes_calls read a b (call.Abandon ∷ []) session refl (λ waiting. refl) refl took seat)
 
 pub abandoned_closed : (s t : SessionParts) → t ≡ abandon s → t.phase ≡ Closed
 abandoned_closed s t e = ap (λ (u : SessionParts). u.phase) e

@@ -1,5 +1,6 @@
 -- What a venue's worker does: the calls of its session, and what becomes of the legs that it takes from its ring.
 use Rattle.std.specs.Prelude.{◌≡◌, ℕ, false, List, [], ◌∷◌, ◌++◌, Option}
+use Rattle.leg.specs.LegId.{LegIdParts}
 use Rattle.leg.specs.declared.placed_leg.PlacedLeg.{PlacedLeg}
 use Rattle.dialect.specs.declared.note.Note.{Note}
 use Rattle.dialect.specs.Wording.{Decoding}
@@ -10,7 +11,7 @@ use Rattle.session_core.specs.Session.{SessionParts, may_write}
 use Rattle.session_core.specs.Trial.{after_calls}
 use Rattle.release_lock.specs.Queues.{Took}
 use Rattle.exec_collector.specs.Seats.{Seat}
-use Rattle.session_worker.specs.Booking.{booked_by}
+use Rattle.session_worker.specs.Booking.{booked_by, withdrawn_at}
 use Rattle.session_worker.specs.Speaking.{Wire}
 
 -- what a worker does. A leg that fails was handed to the session, which wanted memory for it, and the connection was
@@ -48,6 +49,17 @@ taken_in (Fails leg) = leg ∷ []
 abbrev pub taken_of : List WorkerEvent → List PlacedLeg
 taken_of [] = []
 taken_of (event ∷ events) = taken_in event ++ taken_of events
+
+-- the legs that an event withdraws: those of its call, or the leg that wasn't sent; and those of a list of events
+abbrev pub withdrawn_in : Decoding → SessionParts → WorkerEvent → List LegIdParts
+withdrawn_in read s (Calls made) = withdrawn_at read s made
+withdrawn_in read s (Drops leg) = leg.leg.id ∷ []
+withdrawn_in read s (Fails leg) = leg.leg.id ∷ []
+
+abbrev pub withdrawn_by : Decoding → SessionParts → List WorkerEvent → List LegIdParts
+withdrawn_by read s [] = []
+withdrawn_by read s (event ∷ events) =
+    withdrawn_in read s event ++ withdrawn_by read (after_calls read s (calls_in event)) events
 
 -- a session that can't send a leg now: it isn't up, or no number is left
 abbrev pub IsIdle : SessionParts → Type 0
@@ -89,8 +101,8 @@ abbrev pub lasting : Seat → Lasting
 lasting seat = record { parts = seat.parts; venue = seat.venue }
 
 -- a worker before and after these events: the session is that after the calls, and the legs taken are the events'.
--- The seat has as many parts and is of the same venue, and the notes that the book took on it are those that the calls
--- confirm, whichever note waited before
+-- The seat has as many parts and is of the same venue, the notes that the book took on it are those that the calls
+-- confirm, whichever note waited before, and the legs that it was asked to withdraw those that the events withdraw
 pub record Goes (read : Decoding) (before : WorkerParts) (events : List WorkerEvent) (after : WorkerParts)
     : Type 0 where
   pub session : after.session ≡ after_calls read before.session (calls_of events)
@@ -100,3 +112,4 @@ pub record Goes (read : Decoding) (before : WorkerParts) (events : List WorkerEv
   pub seat : lasting after.seat ≡ lasting before.seat
   pub booked : (waiting : Option Note)
       → after.seat.booked ≡ before.seat.booked ++ booked_by read before.session waiting (calls_of events)
+  pub asked : after.seat.asked ≡ before.seat.asked ++ withdrawn_by read before.session events

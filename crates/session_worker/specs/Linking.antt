@@ -1,11 +1,12 @@
 -- What a worker does at its link in one step of a turn.
-use Rattle.std.specs.Prelude.{◌≡◌, ◌⊎◌, ℕ, true, List, [], ◌∷◌, ◌++◌, Option, Some, None, Ok, Err}
+use Rattle.std.specs.Prelude.{◌≡◌, ◌⊎◌, ℕ, Bool, true, false, List, [], ◌∷◌, ◌++◌, map, Option, Some, None, Ok, Err}
 use Rattle.fix_text.specs.Tagged.{Tagged}
 use Rattle.fix_text.specs.Reading.{Stream, next_read, fed}
 use Rattle.fix_tags.specs.Reading.{envelope_read}
 use Rattle.fix_tags.specs.Stamp.{StampParts}
 use Rattle.fix_tags.specs.declared.envelope.Envelope.{Envelope}
 use Rattle.fix_tags.specs.declared.tag_fault.TagFault.{TagFault}
+use Rattle.leg.specs.LegId.{LegIdParts}
 use Rattle.leg.specs.declared.placed_leg.PlacedLeg.{PlacedLeg}
 use Rattle.dialect.specs.declared.note.Note.{Note}
 use Rattle.dialect.specs.Wording.{Wording}
@@ -26,7 +27,7 @@ use Rattle.session_worker.specs.declared.reading.Heard.TheVariants as heard
 use Rattle.session_worker.specs.Hearing.{Said, said_with, said_after, Hears, ReaderOn}
 use Rattle.session_worker.specs.Booking.{booked_by}
 use Rattle.session_worker.specs.Speaking.{Wire, Speak, TakesFirst}
-use Rattle.session_worker.specs.Events.{WorkerEvent, WorkerParts, Lasting, lasting, calls_in, calls_of, legs_in, Goes}
+use Rattle.session_worker.specs.Events.{WorkerEvent, WorkerParts, Lasting, lasting, calls_in, calls_of, legs_in, withdrawn_by, Goes}
 use Rattle.session_worker.specs.Events.WorkerEvent.{Calls, Fails}
 
 -- a session, what its link tells, and what its reader has
@@ -51,13 +52,27 @@ SpeaksOn w before calls after = (said : Said) → IsHearing said before
 abbrev pub MayBreak : SessionParts → SessionParts → Type 0
 MayBreak before after = (after ≡ before) ⊎ (after ≡ broken before)
 
--- a seat but for its shares: what lasts of it, and the notes booked on it
+-- a seat but for its shares: what lasts of it, the notes booked on it, and the legs asked for
 pub record BesideShares : Type 0 where
   pub lasts : Lasting
   pub booked : List Note
+  pub asked : List LegIdParts
 
 abbrev pub beside_shares : Seat → BesideShares
-beside_shares seat = record { lasts = lasting seat; booked = seat.booked }
+beside_shares seat = record { lasts = lasting seat; booked = seat.booked; asked = seat.asked }
+
+-- the book was asked to withdraw these legs too
+abbrev pub asked_too : List LegIdParts → BesideShares → BesideShares
+asked_too ids told = record told { asked = told.asked ++ ids }
+
+-- a leg that wasn't sent
+abbrev pub unsent : PlacedLeg → Bool → List LegIdParts
+unsent leg true = []
+unsent leg false = leg.leg.id ∷ []
+
+-- calls of the session, as events
+abbrev pub calling : List SessionCall → List WorkerEvent
+calling calls = map (λ made. Calls made) calls
 
 -- a session as it was, and no note was booked; or the note was booked, if there is one, and confirmed
 abbrev pub MayBook : Option Note → SessionParts → List Note → SessionParts → List Note → Type 0
@@ -77,22 +92,24 @@ Writes bytes before after =
     ((after.session ≡ before.session) × Tells before.wire after.wire (Takes bytes))
     ⊎ ((after.session ≡ broken before.session) × Tells before.wire after.wire (TakesPart bytes))
 
--- some calls, none of which is to send a leg, or books a note
+-- some calls, none of which is to send a leg, books a note or withdraws a leg
 pub record Moves (w : Wording) (before after : SessionIoParts) : Type 0 where
   pub calls : List SessionCall
   pub session : after.session ≡ after_calls w.decoding before.session calls
   pub no_leg : legs_in calls ≡ []
   pub no_note : (waiting : Option Note) → booked_by w.decoding before.session waiting calls ≡ []
+  pub no_withdrawal : withdrawn_by w.decoding before.session (calling calls) ≡ []
   pub speaks : SpeaksOn w before calls after
 
--- the session was to send a leg: that call and others, or the leg failed
-pub record Hands (w : Wording) (leg : PlacedLeg) (before after : SessionIoParts) : Type 0 where
+-- the session was to send a leg, and did or didn't: that call and others, or the leg failed
+pub record Hands (w : Wording) (leg : PlacedLeg) (sent : Bool) (before after : SessionIoParts) : Type 0 where
   pub event : WorkerEvent
   pub of_leg : (event ≡ Calls (call.SendLeg leg.ordinal leg.leg)) ⊎ (event ≡ Fails leg)
   pub calls : List SessionCall
   pub session : after.session ≡ after_calls w.decoding before.session (calls_in event ++ calls)
   pub no_leg : legs_in calls ≡ []
   pub no_note : (waiting : Option Note) → booked_by w.decoding before.session waiting (calls_in event ++ calls) ≡ []
+  pub withdraws : withdrawn_by w.decoding before.session (event ∷ calling calls) ≡ unsent leg sent
   pub speaks : SpeaksOn w before (calls_in event ++ calls) after
 
 -- a call that neither dials nor sends a leg, and books no note
@@ -164,21 +181,29 @@ pub record Does (w : Wording) (before after : WorkerStateParts) : Type 0 where
   pub goes : Goes w.decoding (worker_in before) events (worker_in after)
   pub speaks : SpeaksOn w before.io (calls_of events) after.io
 
--- a worker before and after it dropped some legs
+-- a leg was handed to the session; where that didn't send it, the book was asked to withdraw it
+pub record Sends (w : Wording) (leg : PlacedLeg) (before after : WorkerStateParts) : Type 0 where
+  pub sent : Bool
+  pub hands : Hands w leg sent before.io after.io
+  pub seat : beside_shares after.seat ≡ asked_too (unsent leg sent) (beside_shares before.seat)
+
+-- a worker before and after it dropped some legs, each of which the book was asked to withdraw
 pub record Drains (before after : WorkerStateParts) : Type 0 where
   pub legs : List PlacedLeg
   pub io : after.io ≡ before.io
   pub taken : after.took.taken ≡ before.took.taken ++ legs
   pub venue : after.took.venue ≡ before.took.venue
-  pub seat : beside_shares after.seat ≡ beside_shares before.seat
+  pub seat : beside_shares after.seat ≡ asked_too (map (λ leg. leg.leg.id) legs) (beside_shares before.seat)
 
--- what a step wanted was done: its note, if it had one, was booked and confirmed, and its frames were written; or the
--- first bytes of them, and the connection was given up
-pub record CarriesOut (note : Option Note) (bytes : List ℕ) (before after : WorkerStateParts) : Type 0 where
+-- what a step wanted was done: the book was asked to withdraw the legs that it names, its note, if it had one, was
+-- booked and confirmed, and its frames were written; or the first bytes of them, and the connection was given up
+pub record CarriesOut (withdrawn : List LegIdParts) (note : Option Note) (bytes : List ℕ)
+    (before after : WorkerStateParts) : Type 0 where
   pub noted : SessionParts
   pub notes : MayBook note before.io.session before.seat.booked noted after.seat.booked
   pub writes : ((after.io.session ≡ noted) × Tells before.io.wire after.io.wire (Takes bytes))
       ⊎ ((after.io.session ≡ broken noted) × Tells before.io.wire after.io.wire (TakesFirst bytes))
   pub took : after.took ≡ before.took
   pub seat : lasting after.seat ≡ lasting before.seat
+  pub asked : after.seat.asked ≡ before.seat.asked ++ withdrawn
   pub stream : after.io.stream ≡ before.io.stream

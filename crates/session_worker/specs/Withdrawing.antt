@@ -1,16 +1,17 @@
--- Which legs a worker counts as withdrawn: those of which the book takes the withdrawal.
-use Rattle.std.specs.Prelude.{◌≡◌, ◌⊎◌, ◌+◌, min, List, [], ◌∷◌}
+-- Which legs a worker counts as withdrawn: those that it asks the book to withdraw, and the book does.
+use Rattle.std.specs.Prelude.{◌≡◌, ◌⊎◌, ◌+◌, min, List, [], ◌∷◌, ◌++◌}
 use Rattle.leg.specs.LegId.{LegIdParts}
 use Rattle.exec_collector.specs.Resolved.{GainsLeg}
 use Rattle.session_worker.specs.Linking.{WorkerStateParts}
 
--- a leg was withdrawn in the book: the seat gained its shares, and one more is counted, up to the greatest number of
--- the count's type; or the book had moved it already, and nothing changed
+-- the book was asked to withdraw a leg. It did: the seat gained the leg's shares, and one more is counted, up to the
+-- greatest number of the count's type. Or it refused: neither changed
 abbrev pub Withdraws : LegIdParts → WorkerStateParts → WorkerStateParts → Type 0
 Withdraws id before after =
-    (GainsLeg id before.seat.shares after.seat.shares
+    (after.seat.asked ≡ before.seat.asked ++ id ∷ [])
+    × ((GainsLeg id before.seat.shares after.seat.shares
     × (after.withdrawn ≡ min (before.withdrawn + 1) 18446744073709551615))
-    ⊎ (after ≡ before)
+    ⊎ ((after.seat.shares ≡ before.seat.shares) × (after.withdrawn ≡ before.withdrawn)))
 
 -- legs were withdrawn so, one after the other
 abbrev pub WithdrawsAll : List LegIdParts → WorkerStateParts → WorkerStateParts → Type 0

@@ -5,15 +5,16 @@
 //! - `Worker::run`: there is a list of events, calls of its session and legs taken, by which its session is that after
 //!   these calls, from the start on, and the legs that it took are just those of the events, in order. A leg is handed
 //!   to the session only where that is up, and dropped only where it isn't or no number is left. The notes that its
-//!   session confirmed are just those that the book took on its seat, in order. It ended as `Closed`
-//!   exactly where the last turn left the session closed, else as `TurnLimit` or `Stopped`. So whatever is promised of
-//!   a session over any calls holds of a worker's, whatever its link gives.
+//!   session confirmed are just those that the book took on its seat, in order. The legs that the book was asked to
+//!   withdraw there are just those that its session names as withdrawn, and those that it took and didn't send, in
+//!   order. It ended as `Closed` exactly where the last turn left the session closed, else as `TurnLimit` or `Stopped`.
+//!   So whatever is promised of a session over any calls holds of a worker's, whatever its link gives.
 //! - Where the link tells its traffic, the same events say what went over it. A connection is dialled just before each
 //!   Connect. The messages that the session receives on it are the first ones of the bytes read on it, in order, none
 //!   left out. The frames of the session's answer to each call are written, whole and once and in order, or the first
 //!   bytes of them, and then the connection is given up. Nothing else is written.
-//! - A leg that is withdrawn is counted just where the book takes that, and the worker's seat then gains its shares
-//!   (`WorkerState::withdraw` and `withdraw_all`, private). What a worker tells on its board is claimed nowhere.
+//! - A leg that the book was asked to withdraw is counted just where it did, and the worker's seat then gains its
+//!   shares (`WorkerState::withdraw` and `withdraw_all`, private). What a worker tells on its board is claimed nowhere.
 //! - `WorkerEnd::in_doubt` gives exactly the ordinals of the legs taken that the session has in doubt.
 //! - `run_all` promises the same of each of its workers, in order.
 //! - `audit` is `Ok` exactly where each worker took the first legs released to the venue at its place, the workers'

@@ -241,7 +241,7 @@ impl<K: Link, C: Clock + Drop> SessionIo<K, C> {
     /// Sends a leg, and says whether the session took it. Where it wanted memory for that, or the order can't be
     /// written, the connection is given up.
     pub(crate) fn send<D: Dialect>(&mut self, dialect: &D, placed: &PlacedLeg) -> bool
-        ensures { Hands (D.wording dialect.now) placed.now self.old self.new }
+        ensures { Hands (D.wording dialect.now) placed.now result self.old self.new }
     {
         let stamp = self.clock.now();
         match self

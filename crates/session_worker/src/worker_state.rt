@@ -8,7 +8,7 @@ ghost use Rattle.session_core.specs.declared.phase.Phase.TheVariants as phase;
 ghost use Rattle.session_core.specs.Receiving.{confirm};
 ghost use Rattle.session_core.specs.Calling.{broken};
 ghost use Rattle.session_worker.specs.Events.{Goes, lasting};
-ghost use Rattle.session_worker.specs.Linking.{worker_in, beside_shares, MayBook, Hands, Does, Drains, CarriesOut};
+ghost use Rattle.session_worker.specs.Linking.{worker_in, beside_shares, asked_too, MayBook, Sends, Does, Drains, CarriesOut};
 ghost use Rattle.session_worker.specs.Withdrawing.{Withdraws, WithdrawsAll};
 ghost use Rattle.session_worker.specs.Ends.{is_over, IsReason, last_calls};
 ghost use Rattle.session_worker.specs.Taking.{TakesNext};
@@ -313,10 +313,10 @@ impl<K: Link, C: Clock + Drop, L: Run, M: Accounts> WorkerState<K, C, L, M> {
         collector: &Collector<M>,
         next: Option<PlacedLeg>,
     ) -> bool
-        ensures io { MatchOption next (self.new.io ≡ self.old.io)
-            (λ leg. Hands (D.wording dialect.now) leg self.old.io self.new.io) }
+        ensures sends { MatchOption next
+            ((self.new.io ≡ self.old.io) × (beside_shares self.new.seat ≡ beside_shares self.old.seat))
+            (λ leg. Sends (D.wording dialect.now) leg self.old self.new) }
         ensures took { self.new.took ≡ self.old.took }
-        ensures seat { beside_shares self.new.seat ≡ beside_shares self.old.seat }
     {
         let Some(leg) = next else {
             return false;
@@ -389,7 +389,7 @@ impl<K: Link, C: Clock + Drop, L: Run, M: Accounts> WorkerState<K, C, L, M> {
     /// Does what a step of the session wants: the legs that it names are withdrawn in the book, its note is booked and
     /// then confirmed, and its frames are written. Where the book wants memory the connection is given up.
     fn carry_out(&mut self, rt: &impl Wait, collector: &Collector<M>, step: Step)
-        ensures { CarriesOut step.note (concat step.out) self.old self.new }
+        ensures { CarriesOut step.withdrawn step.note (concat step.out) self.old self.new }
     {
         let Step {
             out,
@@ -417,6 +417,7 @@ impl<K: Link, C: Clock + Drop, L: Run, M: Accounts> WorkerState<K, C, L, M> {
         ensures stream { self.new.io.stream ≡ self.old.io.stream }
         ensures took { self.new.took ≡ self.old.took }
         ensures seat { lasting self.new.seat ≡ lasting self.old.seat }
+        ensures asked { self.new.seat.asked ≡ self.old.seat.asked }
     {
         match note {
             Some(note) => self.book(rt, collector, &note),
@@ -434,6 +435,7 @@ impl<K: Link, C: Clock + Drop, L: Run, M: Accounts> WorkerState<K, C, L, M> {
         ensures stream { self.new.io.stream ≡ self.old.io.stream }
         ensures took { self.new.took ≡ self.old.took }
         ensures seat { lasting self.new.seat ≡ lasting self.old.seat }
+        ensures asked { self.new.seat.asked ≡ self.old.seat.asked }
     {
         match collector.apply(rt, note, &mut self.seat) {
             Ok(_) => {
@@ -482,12 +484,12 @@ impl<K: Link, C: Clock + Drop, L: Run, M: Accounts> WorkerState<K, C, L, M> {
         true
     }
 
-    /// Withdraws legs in the book, and counts them.
+    /// Asks the book to withdraw legs, and counts those that it does.
     fn withdraw_all(&mut self, rt: &impl Wait, collector: &Collector<M>, ids: LegIds)
         ensures counted { WithdrawsAll ids self.old self.new }
         ensures io { self.new.io ≡ self.old.io }
         ensures took { self.new.took ≡ self.old.took }
-        ensures seat { beside_shares self.new.seat ≡ beside_shares self.old.seat }
+        ensures seat { beside_shares self.new.seat ≡ asked_too ids (beside_shares self.old.seat) }
     {
         let ids = ids.into_vec();
         for id in &ids {
@@ -495,12 +497,12 @@ impl<K: Link, C: Clock + Drop, L: Run, M: Accounts> WorkerState<K, C, L, M> {
         }
     }
 
-    /// Withdraws a leg in the book, and counts it. Where the book has moved it already nothing happens.
+    /// Asks the book to withdraw a leg, and counts it if it does.
     fn withdraw(&mut self, rt: &impl Wait, collector: &Collector<M>, id: LegId)
         ensures counted { Withdraws id self.old self.new }
         ensures io { self.new.io ≡ self.old.io }
         ensures took { self.new.took ≡ self.old.took }
-        ensures seat { beside_shares self.new.seat ≡ beside_shares self.old.seat }
+        ensures seat { beside_shares self.new.seat ≡ asked_too (id ∷ []) (beside_shares self.old.seat) }
     {
         match collector.withdraw(rt, id, &mut self.seat) {
             Ok(()) => self.withdrawn = self.withdrawn.saturating_add(1),

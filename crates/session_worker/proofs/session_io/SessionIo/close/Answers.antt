@@ -9,7 +9,7 @@ use Rattle.session_worker.specs.Events.{IsIdle}
 use Rattle.session_worker.specs.Linking.{SessionIoParts, io_of, Moves}
 use Rattle.session_worker.proofs.Spoken.{stays_here, writes_breaks}
 use Rattle.session_worker.proofs.Connected.{close_on}
-use Rattle.session_worker.proofs.Calling.{moves_on, moves_refused, moves_written, asks_step, moves_broken, idle_broken, idle_may_break, idle_closed, idle_refused}
+use Rattle.session_worker.proofs.Calling.{moves_on, moves_refused, moves_written, asks_step, moves_broken, idle_broken, idle_may_break, idle_closed, idle_refused, none_closed}
 use Rattle.session_worker.proofs.session_io.SessionIo.close.Goals as goal
 
 pub returns-in-Ok-clause-moves : goal.returns-in-Ok-clause-moves
@@ -22,6 +22,7 @@ returns-in-Ok-clause-moves g c =
     (moves_written w old between now c.in-Ok.step
     (asks_step w old.session c.close.new.self call.Close (close old.session) c.now-stamp.result c.in-Ok.step old.wire old.stream tt refl
     (λ said. tt) (λ said. refl) (close_on old.session) c.in-Ok.ensures.gives)
+    (none_closed w.encoding old.session c.close.new.self c.now-stamp.result c.in-Ok.step c.in-Ok.ensures.gives)
     c.write_all.ensures.wire c.write_all.ensures.stream)
 
 pub returns-in-Ok-clause-idle : goal.returns-in-Ok-clause-idle

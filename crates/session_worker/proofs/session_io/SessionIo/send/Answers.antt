@@ -1,4 +1,4 @@
-use Rattle.std.proofs.Common.{◌≡◌, ℕ, List, rules, subst}
+use Rattle.std.proofs.Common.{◌≡◌, ℕ, true, false, List, rules, subst}
 use Rattle.std.specs.Global.{Vec}
 use Rattle.dialect.specs.declared.message.Message.{Message}
 use Rattle.dialect.specs.Framed.{IsFramed}
@@ -17,7 +17,7 @@ returns-in-Ok g c =
     let sent : SessionIoParts = io_of c.send_leg.new.self old.wire old.stream in
     let wrote : Writes c.in-Ok.frame.items sent now =
     subst (λ (bytes : List ℕ). Writes bytes sent now) c.as_slice.ensures.value c.write.ensures.wire in
-    subst (λ (x : SessionIoParts). Hands w c.args.placed.now x now) c.self.view_is
+    subst (λ (x : SessionIoParts). Hands w c.args.placed.now true x now) c.self.view_is
     (hands_sent w c.args.placed.now old.session c.send_leg.new.self c.now-stamp.result c.in-Ok.frame old.wire old.stream now
     c.in-Ok.ensures wrote c.write.ensures.stream)
 
@@ -26,7 +26,7 @@ returns-in-Err-OutOfMemory g c =
     let w : Wording = g.D.Dialect.wording c.args.dialect.now in
     let old : SessionIoParts = io_of c.self.inside.session (g.K.Link.wire c.self.inside.link) c.self.inside.reader in
     let now : SessionIoParts = c.break_off.new.self in
-    subst (λ (x : SessionIoParts). Hands w c.args.placed.now x now) c.self.view_is
+    subst (λ (x : SessionIoParts). Hands w c.args.placed.now false x now) c.self.view_is
     (hands_failed (λ (m : Message) (bytes : Vec ℕ). IsFramed w.encoding c.now-stamp.result (alone m) bytes.items) w
     c.args.placed.now old.session c.send_leg.new.self _ old.wire old.stream now c.in-Err-OutOfMemory.ensures
     c.break_off.ensures.session c.break_off.ensures.wire)
@@ -37,6 +37,6 @@ returns-in-Err g c =
     let old : SessionIoParts = io_of c.self.inside.session (g.K.Link.wire c.self.inside.link) c.self.inside.reader in
     let now : SessionIoParts = io_of c.send_leg.new.self old.wire old.stream in
     let other : c.in-Err.field-0 ≡ SessionFault.OutOfMemory → ⊥ = search rules in
-    subst (λ (x : SessionIoParts). Hands w c.args.placed.now x now) c.self.view_is
+    subst (λ (x : SessionIoParts). Hands w c.args.placed.now false x now) c.self.view_is
     (hands_refused (λ (m : Message) (bytes : Vec ℕ). IsFramed w.encoding c.now-stamp.result (alone m) bytes.items) w
     c.args.placed.now old.session c.send_leg.new.self c.in-Err.field-0 old.wire old.stream other c.in-Err.ensures)

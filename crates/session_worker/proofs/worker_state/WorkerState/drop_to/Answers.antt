@@ -1,6 +1,9 @@
-use Rattle.std.proofs.Common.{refl, subst}
+use Rattle.std.proofs.Common.{◌≡◌, refl, subst, ◌∙◌}
+use Rattle.std.specs.Prelude.{Option, MatchOption}
+use Rattle.leg.specs.declared.placed_leg.PlacedLeg.{PlacedLeg}
+use Rattle.session_worker.specs.Taking.{with_taken}
 use Rattle.session_worker.specs.Linking.{WorkerStateParts, Drains}
-use Rattle.session_worker.proofs.Doing.{state_of, drains_none, drains_next, drains_on}
+use Rattle.session_worker.proofs.Doing.{state_of, drains_none, drains_one, drains_on}
 use Rattle.session_worker.proofs.worker_state.WorkerState.drop_to.Goals as goal
 
 pub loop-init : goal.loop-init
@@ -10,12 +13,12 @@ pub loop-preserved : goal.loop-preserved
 loop-preserved g c =
     let b : WorkerStateParts = c.loop.self in
     let k : WorkerStateParts = state_of c.self-in-loop.inside.io c.self-in-loop.inside.takings c.self-in-loop.inside.seat c.self-in-loop.inside.withdrawn in
-    let m : WorkerStateParts = state_of c.self-in-loop.inside.io c.next_to.new.self c.self-in-loop.inside.seat c.self-in-loop.inside.withdrawn in
     let d : WorkerStateParts = c.withdraw.new.self in
-    drains_on _ m d
-    (drains_on _ b m c.loop.invariant (subst (λ (x : WorkerStateParts). Drains x m) c.self-in-loop.view_is
-    (drains_next k m c.in-Ok-Some.field-0 c.in-Ok-Some.ensures refl refl)))
-    (drains_none m d c.withdraw.ensures.io c.withdraw.ensures.took c.withdraw.ensures.seat)
+    drains_on _ b d c.loop.invariant (subst (λ (x : WorkerStateParts). Drains x d) c.self-in-loop.view_is
+    (drains_one k d c.in-Ok-Some.leg c.withdraw.ensures.io
+    (c.withdraw.ensures.took ∙ subst (λ (next : Option PlacedLeg). MatchOption next
+    (c.next_to.new.self ≡ k.took) (λ leg. c.next_to.new.self ≡ with_taken k.took leg)) c.in-Ok-Some.field-0-is c.in-Ok-Some.ensures)
+    c.withdraw.ensures.seat))
 
 pub returns-in-Ok-None : goal.returns-in-Ok-None
 returns-in-Ok-None g c =
@@ -23,7 +26,10 @@ returns-in-Ok-None g c =
     let k : WorkerStateParts = state_of c.self-in-loop.inside.io c.self-in-loop.inside.takings c.self-in-loop.inside.seat c.self-in-loop.inside.withdrawn in
     let m : WorkerStateParts = state_of c.self-in-loop.inside.io c.next_to.new.self c.self-in-loop.inside.seat c.self-in-loop.inside.withdrawn in
     drains_on _ b m c.loop.invariant (subst (λ (x : WorkerStateParts). Drains x m) c.self-in-loop.view_is
-    (drains_next k m c.in-Ok-None.field-0 c.in-Ok-None.ensures refl refl))
+    (drains_none k m refl
+    (subst (λ (next : Option PlacedLeg). MatchOption next
+    (c.next_to.new.self ≡ k.took) (λ leg. c.next_to.new.self ≡ with_taken k.took leg)) c.in-Ok-None.field-0-is c.in-Ok-None.ensures)
+    refl))
 
 pub returns-in-Err : goal.returns-in-Err
 returns-in-Err g c =

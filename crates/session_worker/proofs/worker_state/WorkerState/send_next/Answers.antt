@@ -13,7 +13,7 @@ returns-in-Ok g c =
     let d : WorkerStateParts = c.send.new.self in
     let up = ap (λ (x : WorkerStateParts). x.io.session.phase) c.self.view_is ∙ c.requires in
     subst (λ (x : WorkerStateParts). Does w x d) c.self.view_is
-    (does_sent w a b d c.in-Ok.next up c.in-Ok.ensures refl refl c.send.ensures.io c.send.ensures.took c.send.ensures.seat)
+    (does_sent w a b d c.in-Ok.next up c.in-Ok.ensures refl refl c.send.ensures.sends c.send.ensures.took)
 
 pub returns-in-Err : goal.returns-in-Err
 returns-in-Err g c =

@@ -1,12 +1,12 @@
-use Rattle.std.proofs.Common.{List, refl, subst, ◌∙◌}
+use Rattle.std.proofs.Common.{◌≡◌, List, refl, subst, ◌∙◌}
 use Rattle.leg.specs.LegId.{LegIdParts}
-use Rattle.session_worker.specs.Linking.{WorkerStateParts}
+use Rattle.session_worker.specs.Linking.{WorkerStateParts, beside_shares, asked_too}
 use Rattle.session_worker.specs.Withdrawing.{WithdrawsAll}
-use Rattle.session_worker.proofs.Withdrawals.{withdraws_more, withdraws_all}
+use Rattle.session_worker.proofs.Withdrawals.{withdraws_more, withdraws_all, asks_none, asks_more, asks_all}
 use Rattle.session_worker.proofs.worker_state.WorkerState.withdraw_all.Goals as goal
 
 pub loop-id-init : goal.loop-id-init
-loop-id-init g c = (refl, refl, refl, refl)
+loop-id-init g c = (refl, refl, asks_none _, refl)
 
 pub loop-id-preserved : goal.loop-id-preserved
 loop-id-preserved g c =
@@ -16,7 +16,8 @@ loop-id-preserved g c =
     let so_far = c.loop-id.invariant in (
       c.withdraw.ensures.io ∙ so_far.0,
       c.withdraw.ensures.took ∙ so_far.1,
-      c.withdraw.ensures.seat ∙ so_far.2,
+      asks_more c.deref-id-items.result.now c.loop-id.id-index c.id-item.result c.loop-id-test.true c.id-item.is
+          (beside_shares a.seat) (beside_shares b.seat) (beside_shares d.seat) so_far.2 c.withdraw.ensures.seat,
       withdraws_more c.deref-id-items.result.now c.loop-id.id-index c.id-item.result c.loop-id-test.true c.id-item.is
           a b d so_far.3 c.withdraw.ensures.counted,
     )
@@ -27,3 +28,12 @@ returns-clause-counted g c =
     let b : WorkerStateParts = c.loop-id.self in
     subst (λ (ids : List LegIdParts). WithdrawsAll ids a b) (c.deref-id-items.ensures.value ∙ c.into_vec-ids.ensures)
     (withdraws_all c.deref-id-items.result.now c.loop-id.id-index a b c.loop-id-test.false c.loop-id.invariant.3)
+
+pub returns-clause-seat : goal.returns-clause-seat
+returns-clause-seat g c =
+    let a : WorkerStateParts = c.args.self.now in
+    let b : WorkerStateParts = c.loop-id.self in
+    subst (λ (ids : List LegIdParts). beside_shares b.seat ≡ asked_too ids (beside_shares a.seat))
+    (c.deref-id-items.ensures.value ∙ c.into_vec-ids.ensures)
+    (asks_all c.deref-id-items.result.now c.loop-id.id-index (beside_shares a.seat) (beside_shares b.seat)
+    c.loop-id-test.false c.loop-id.invariant.2)
