@@ -14,7 +14,7 @@ use Rattle.share_ledger.proofs.Adding.{totals_add_up}
 use Rattle.exec_collector.specs.Resolved.{Replays}
 use Rattle.exec_collector.proofs.Bounded.{bounded_book}
 use Rattle.desk_news.specs.declared.sweep_parts.SweepParts.{SweepParts}
-use Rattle.day_sweeps.specs.Sweeps.{sweeps_from, sweeps_in, sum_of}
+use Rattle.day_sweeps.specs.Sweeps.{sweep_of, sweep_in, sweeps_from, sweeps_in, sum_of}
 
 -- what is left of a list at a place
 next_at : {A : Type 0} (xs : List A) (at : ℕ) (x : A) → slice_get xs at ≡ Some x → drop at xs ≡ x ∷ drop (suc at) xs
@@ -76,6 +76,18 @@ found : (book : BookParts) (at : ℕ) (t : Totals) → Replays book → totals b
 found book at t replays e =
     let told : totals book (suc at) ≡ Some t = ap (totals book) (sym (add-one at)) ∙ e in
     found_at book at t (slice_get (opened book.entries) at) replays refl told told
+
+-- a sweep whose totals were looked up
+pub sweep_told : (book : BookParts) (number shares : ℕ) (t : Totals) → 1 ≤ number → Replays book
+    → totals book number ≡ Some t → shares ≡ sum_of t
+    → Some (record { sweep = number; shares = shares; totals = t }) ≡ sweep_in book number
+sweep_told book zero shares t some replays e sum_is = absurd (omega (arith, some))
+sweep_told book (suc at) shares t some replays e sum_is =
+    let it = found_at book at t (slice_get (opened book.entries) at) replays refl e e in
+    let as_shares : shares ≡ sweep_shares it.legs = sum_is ∙ it.shares in
+    let this : record { sweep = suc at; shares = shares; totals = t } ≡ sweep_of book (suc at) it.legs =
+    (λ k. record { sweep = suc at; shares = as_shares k; totals = sym it.totals_are k }) in
+    ap Some this ∙ sym (ap (option_map (sweep_of book (suc at))) it.there)
 
 -- the parts of a sweep are at most all shares that were opened
 pub few_shares : (book : BookParts) (at : ℕ) (t : Totals) → Replays book → totals book (at + 1) ≡ Some t

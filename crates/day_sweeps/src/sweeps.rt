@@ -1,10 +1,9 @@
 //! The sweeps of a day, as the book has them.
 
-ghost use Rattle.std.specs.Prelude.{◌≡◌, ◌≤◌, ◌+◌, IfOk, IfSome, option_map};
+ghost use Rattle.std.specs.Prelude.{◌≡◌, ◌≤◌, ◌+◌, IfOk, IfSome};
 ghost use Rattle.std.specs.List.{All};
-ghost use Rattle.share_ledger.specs.Book.{BookParts, totals};
 ghost use Rattle.exec_collector.specs.Resolved.{Replays};
-ghost use Rattle.day_sweeps.specs.Sweeps.{sweeps_in, sum_of, AddsUp};
+ghost use Rattle.day_sweeps.specs.Sweeps.{sweeps_in, sum_of, AddsUp, IsBooked};
 
 use desk_news::SweepParts;
 use exec_collector::{Accounts, Collector};
@@ -42,8 +41,7 @@ pub fn sweep_now<M: Accounts>(
     number: u64,
 ) -> Option<SweepParts>
     requires { 1 ≤ number }
-    ensures booked { (book : BookParts) × Replays book
-        × (option_map (λ sweep. sweep.totals) result ≡ totals book number) }
+    ensures booked { IsBooked number result }
     ensures adds_up { IfSome result AddsUp }
 {
     let totals = collector.totals(rt, number)?;

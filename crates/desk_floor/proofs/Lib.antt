@@ -1,1 +1,3 @@
 mod Changed
+mod Places
+mod Rising

@@ -1,3 +1,5 @@
 pub mod Release
 pub mod Standing
 pub mod Changes
+pub mod Legs
+pub mod Status

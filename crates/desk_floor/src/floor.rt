@@ -1,6 +1,11 @@
 //! What the threads of a day share.
 
-ghost use Rattle.std.specs.Prelude.{◌≡◌, ◌≤◌, length};
+ghost use Rattle.std.specs.Prelude.{◌≡◌, ◌⊎◌, ◌≤◌, length, MatchOption};
+ghost use Rattle.share_ledger.specs.Book.{BookParts};
+ghost use Rattle.share_ledger.specs.Entries.{opened};
+ghost use Rattle.exec_collector.specs.Resolved.{Replays};
+ghost use Rattle.day_sweeps.specs.Sweeps.{IsDay};
+ghost use Rattle.desk_floor.specs.Status.{IsSeen};
 
 use crate::bells::Bells;
 use crate::counter::Counter;
@@ -67,7 +72,10 @@ pub struct Left<L: Run, M: Accounts> {
 
 impl<L: Run, M: Accounts, W: Write + Drop> Floor<L, M, W> {
     /// What is seen of the venue at a place, if there is one. It waits for no lock.
-    pub fn seen(&self, place: usize) -> Option<Seen> {
+    pub fn seen(&self, place: usize) -> Option<Seen>
+        ensures { MatchOption result ((16 ≤ place) ⊎ (length self.now.views.items ≤ place))
+            (λ seen. (seen.venue ≡ place) × IsSeen seen.standing) }
+    {
         let venue = VenueId::new(u8::try_from(place).ok()?).ok()?;
         let view = self.views.get(place)?;
         Some(view.seen(venue, self.lock.is_shut(venue)))
@@ -142,12 +150,16 @@ impl<L: Run, M: Accounts, W: Write + Drop> Floor<L, M, W> {
     }
 
     /// How many sweeps were placed. It may wait for the book's lock.
-    pub fn sweeps(&self, rt: &impl Wait) -> u64 {
+    pub fn sweeps(&self, rt: &impl Wait) -> u64
+        ensures { (book : BookParts) × Replays book × (result ≡ length (opened book.entries)) }
+    {
         self.collector.read(rt, |book: &Book| book.next_sweep()) - 1
     }
 
     /// The shares of the day. It may wait for the book's lock.
-    pub fn totals(&self, rt: &impl Wait) -> DayTotals {
+    pub fn totals(&self, rt: &impl Wait) -> DayTotals
+        ensures { IsDay result }
+    {
         let resolved = self.collector.resolved(rt);
         let placed = self.signals.placed();
         DayTotals {

@@ -1,17 +1,19 @@
 //! The legs of a sweep, as the book, the desk and the venues' workers have them.
 
-ghost use Rattle.std.specs.Prelude.{◌≡◌, ◌≤◌};
+ghost use Rattle.std.specs.Prelude.{◌≡◌, ◌≤◌, ◌+◌, length, slice_get, IfOk};
 ghost use Rattle.share_ledger.specs.Book.{BookParts, leg_in};
 ghost use Rattle.exec_collector.specs.Resolved.{Replays};
-ghost use Rattle.release_lock.specs.Locked.{OnlyTurns};
+ghost use Rattle.sweep_release.specs.History.{KeptDesk};
+ghost use Rattle.release_lock.specs.Locked.{OnlyTurns, Replays as DeskReplays};
+ghost use Rattle.desk_floor.specs.Legs.{AreLegs, IsHalved, IsStanding, is_before, one_of, released_under};
 ghost use Rattle.desk_floor.specs.Standing.{leg_state_of};
 ghost use Rattle.leg.specs.LegId.{IsLegId};
 
 use crate::floor::Floor;
 use crate::venue_view::VenueView;
 use exec_collector::{Accounts, Collector};
-use leg::{Leg, LegId, LegState, MAX_PLACE, MAX_SWEEP, Split, Terms, VenueId};
-use release_lock::Run;
+use leg::{Leg, LegId, LegState, MAX_PLACE, MAX_SWEEP, PlacedLeg, Split, Terms, VenueId};
+use release_lock::{ReleaseLock, Run};
 use share_ledger::{Book, BookedLeg};
 use std::alloc::{AllocError, Global};
 use std::io::Write;
@@ -26,14 +28,6 @@ pub struct LegStanding {
     pub terms: Terms,
     pub parts: Split,
     pub state: LegState,
-}
-
-/// What was asked of a leg at the desk.
-#[derive(Drop)]
-struct Released {
-    terms: Terms,
-    /// Which of its venue's legs it is, from 1.
-    ordinal: u64,
 }
 
 /// How far a leg has come: the book has these parts of it, it is this one of its venue's legs, so many of which were
@@ -70,24 +64,58 @@ pub fn leg_now<M: Accounts>(
 }
 
 /// Whether a leg is of an earlier sweep than another, or in front of it in the same one.
-fn is_before(leg: &Leg, id: LegId) -> bool {
+fn is_before(leg: &Leg, id: LegId) -> bool
+    ensures { result ≡ is_before leg.now.id id }
+{
     (leg.id.sweep(), leg.id.place()) < (id.sweep(), id.place())
 }
 
-/// What was released to a venue under a leg's number, if there is such a leg. The legs of a venue are in the order of
-/// their numbers.
-fn released_leg(desk: &mut Desk, venue: VenueId, id: LegId) -> Result<Option<Released>, AllocError>
+/// Where a number stands, or would stand, among legs that are in the order of their numbers.
+fn place_of(legs: &[Leg], id: LegId) -> usize
+    ensures few { result ≤ length legs.now }
+    ensures halves { IsHalved id legs.now result }
+{
+    legs.partition_point(|leg| is_before(leg, id))
+}
+
+/// The leg at a place with its ordinal, if it has this number.
+fn leg_at(legs: &[Leg], place: usize, id: LegId) -> Result<Option<PlacedLeg>, AllocError>
+    ensures { IfOk result (λ found. found ≡ one_of id (place + 1) (slice_get legs.now place)) }
+{
+    let Some(leg) = legs.get(place) else {
+        return Ok(None);
+    };
+    if leg.id != id {
+        return Ok(None);
+    }
+    Ok(Some(PlacedLeg {
+        ordinal: (place as u64).saturating_add(1),
+        leg: leg.clone()?,
+    }))
+}
+
+/// The leg of a number among those released to a venue, with its ordinal there, if it is one of them. The legs of a
+/// venue are in the order of their numbers.
+fn released_leg(desk: &mut Desk, venue: VenueId, id: LegId) -> Result<Option<PlacedLeg>, AllocError>
+    ensures value { IfOk result (λ found. found ≡ released_under desk.old.desk venue id) }
     ensures turns { OnlyTurns desk.old desk.new }
 {
     let legs = desk.released(venue);
-    let place = legs.partition_point(|leg| is_before(leg, id));
-    match legs.get(place) {
-        Some(leg) if leg.id == id => Ok(Some(Released {
-            terms: leg.terms.clone()?,
-            ordinal: (place as u64).saturating_add(1),
-        })),
-        _ => Ok(None),
-    }
+    leg_at(legs, place_of(legs, id), id)
+}
+
+/// The leg of a number as a desk has released it to a venue that replays from its own history, if it has. It may wait
+/// for the lock.
+fn released_now<L: Run>(
+    rt: &impl Wait,
+    lock: &ReleaseLock<L>,
+    venue: VenueId,
+    id: LegId,
+) -> Result<Option<PlacedLeg>, AllocError>
+    ensures { (desk : KeptDesk) × DeskReplays desk
+        × IfOk result (λ found. found ≡ released_under desk.desk venue id) }
+{
+    lock.with(rt, |desk: &mut Desk| released_leg(desk, venue, id))
 }
 
 /// How a leg stands that the book has, if the desk has it too.
@@ -96,23 +124,22 @@ fn standing_of<L: Run, M: Accounts, W: Write + Drop>(
     floor: &Floor<L, M, W>,
     id: LegId,
     booked: &BookedLeg,
-) -> Result<Option<LegStanding>, AllocError> {
+) -> Result<Option<LegStanding>, AllocError>
+    ensures { IfOk result (λ leg. IsStanding (length floor.now.views.items) id booked.now leg) }
+{
     let venue = booked.venue;
     let Some(view) = floor.views.get(usize::from(venue.number())) else {
         return Ok(None);
     };
-    let found = floor
-        .lock
-        .with(rt, |desk: &mut Desk| released_leg(desk, venue, id))?;
-    let Some(Released { terms, ordinal }) = found else {
+    let Some(placed) = released_now(rt, &floor.lock, venue, id)? else {
         return Ok(None);
     };
     Ok(Some(LegStanding {
         id,
         venue,
-        terms,
+        terms: placed.leg.terms,
         parts: booked.parts,
-        state: state_of(&booked.parts, ordinal, view.taken(), view.settled()),
+        state: state_of(&booked.parts, placed.ordinal, view.taken(), view.settled()),
     }))
 }
 
@@ -123,7 +150,9 @@ pub fn sweep_legs<L: Run, M: Accounts, W: Write + Drop>(
     alloc: Global,
     floor: &Floor<L, M, W>,
     number: u64,
-) -> Result<Vec<LegStanding>, AllocError> {
+) -> Result<Vec<LegStanding>, AllocError>
+    ensures { IfOk result (λ legs. AreLegs (length floor.now.views.items) number legs.items) }
+{
     let mut legs = Vec::new(alloc);
     if number < 1 || number > MAX_SWEEP {
         return Ok(legs);

@@ -1,14 +1,16 @@
 //! How a venue stands, as a desk asks.
 
 ghost use Rattle.std.specs.Prelude.{◌≡◌, length};
-ghost use Rattle.release_lock.specs.Locked.{OnlyTurns};
+ghost use Rattle.release_lock.specs.Locked.{OnlyTurns, Replays};
+ghost use Rattle.sweep_release.specs.History.{KeptDesk};
 ghost use Rattle.sweep_release.specs.Released.{released};
+ghost use Rattle.desk_floor.specs.Status.{IsTold};
 
 use crate::floor::Floor;
 use desk_news::VenueStatus;
 use exec_collector::Accounts;
 use leg::VenueId;
-use release_lock::Run;
+use release_lock::{ReleaseLock, Run};
 use std::io::Write;
 use std::sync::Wait;
 use sweep_release::Desk;
@@ -21,20 +23,26 @@ fn released_to(desk: &mut Desk, venue: VenueId) -> u64
     desk.released(venue).len() as u64
 }
 
+/// How many legs a desk has released to a venue that replays from its own history. It may wait for the lock.
+fn released_now<L: Run>(rt: &impl Wait, lock: &ReleaseLock<L>, venue: VenueId) -> u64
+    ensures { (desk : KeptDesk) × Replays desk × (result ≡ length (released venue desk.desk.sweeps)) }
+{
+    lock.with(rt, |desk: &mut Desk| released_to(desk, venue))
+}
+
 /// How the venue at a place stands, if there is one. It may wait for the locks of the desk and of the venue's log.
 pub fn venue_status<L: Run, M: Accounts, W: Write + Drop>(
     rt: &impl Wait,
     floor: &Floor<L, M, W>,
     place: usize,
-) -> Option<VenueStatus> {
+) -> Option<VenueStatus>
+    ensures { IsTold floor.now.names.items (length floor.now.views.items) place result }
+{
     let name = floor.names.get(place)?;
     let seen = floor.seen(place)?;
     let view = floor.views.get(place)?;
     let lost = view.lost(rt);
-    let venue = seen.venue;
-    let released = floor
-        .lock
-        .with(rt, |desk: &mut Desk| released_to(desk, venue));
+    let released = released_now(rt, &floor.lock, seen.venue);
     Some(VenueStatus {
         venue: name.clone().unwrap(),
         unsent: released.saturating_sub(seen.taken),

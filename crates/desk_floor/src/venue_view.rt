@@ -1,5 +1,8 @@
 //! What the threads of a day see of a venue.
 
+ghost use Rattle.std.specs.Prelude.{◌≡◌};
+ghost use Rattle.desk_floor.specs.Status.{IsSeen};
+
 use crate::standing::{Standing, standing_of};
 use clock::Clock;
 use day_log::{Traffic, VenueLog};
@@ -118,7 +121,10 @@ impl VenueView {
     }
 
     /// What is seen of the venue of this number now, whose gate is shut or not.
-    pub fn seen(&self, venue: VenueId, is_shut: bool) -> Seen {
+    pub fn seen(&self, venue: VenueId, is_shut: bool) -> Seen
+        ensures venue { result.venue ≡ venue }
+        ensures standing { IsSeen result.standing }
+    {
         let board = &self.board;
         Seen {
             venue,
