@@ -19,7 +19,7 @@ use Rattle.venue_line.proofs.GivenSteps.{Whole, whole_new, whole_step}
 use Rattle.venue_line.proofs.LineGives.{line_holds}
 use Rattle.venue_line.proofs.ForGood.{settled-trans}
 use Rattle.exec_collector.specs.Seats.{Seat}
-use Rattle.session_worker.specs.Events.{WorkerParts, Lasting, calls_of, taken_of, Goes}
+use Rattle.session_worker.specs.Events.{WorkerParts, Lasting, calls_of, taken_of, withdrawn_by, Goes}
 use Rattle.session_worker.specs.Booking.{booked_by}
 use Rattle.session_worker.specs.Events.WorkerEvent.{Drops}
 use Rattle.session_worker.specs.Ends.{WorkerLeft, last_calls, Runs}
@@ -28,7 +28,7 @@ use Rattle.worker_line.specs.Happening.{VenueEvent, works_of, after_event, after
 use Rattle.worker_line.specs.WorkerTheorem.{released_line, IsSafeLine, Worked, TheWorkerTheorem, works_in, Ran, TheRunTheorem, TheDayTheorem}
 use Rattle.worker_line.proofs.OneEvent.{event_leads}
 use Rattle.worker_line.proofs.TakenAlong.{session_along, given_along, HasTaken, taken_along, each_is_next}
-use Rattle.worker_line.proofs.Shares.{shares_at}
+use Rattle.worker_line.proofs.SeatShares.{shares_at}
 
 module _ (read : Decoding) where
   all_hold : (a : Line) (events : List VenueEvent) → MayAllHappen read a events → AllTakeNext read a events → Whole a
@@ -89,6 +89,8 @@ the_worker_theorem read config released events after small worked may next =
       given = given_along read a events;
       booked = worked.goes.booked a.waiting ∙ ap (λ l. worked.before.seat.booked ++ l)
           (ap (λ s. booked_by read s a.waiting (calls_of (works_of events))) worked.new ∙ sym (given_along read a events));
+      asked = worked.goes.asked ∙ ap (λ l. worked.before.seat.asked ++ l)
+          (ap (λ s. withdrawn_by read s (works_of events)) worked.new);
       left = has.left ∙ ap length (sym took);
       first = subst (λ l. IsPrefix l (placed_from 1 (after_events read a events).released)) (sym took) has.first;
     }
@@ -133,9 +135,11 @@ the_day_theorem w callers queues seats report day venue config events after took
     let given = (after_events w.decoding start events).given in
     let lasts = ran.runs.last.seat ∙ ran.runs.goes.seat in
     let of_venue = ap (λ (l : Lasting). l.venue) lasts ∙ ap (λ (s : Seat). s.venue) new in
+    let asked = withdrawn_by w.decoding start.session (works_of events) in
     let none = ap (λ (s : Seat). s.booked) new in
+    let none_asked = ap (λ (s : Seat). s.asked) new in
     record {
       line = line;
-      shares = shares_at day.book seats venue after.seat given day.book_replays day.kept sits of_venue
-          (line.booked ∙ ap (λ l. l ++ given) none);
+      shares = shares_at day.book seats venue after.seat given asked day.book_replays day.kept sits of_venue
+          (line.booked ∙ ap (λ l. l ++ given) none) (line.asked ∙ ap (λ l. l ++ asked) none_asked);
     }

@@ -1,12 +1,11 @@
 -- In a book that its history leads to, the notes on a leg are those of its venue on it. So the notes of the venue that
 -- moved rule its shares.
 use Rattle.std.proofs.Common.{◌≡◌, ℕ, Bool, true, false, List, [], ◌∷◌, ◌++◌, filter, map, Option, Some, None, inl, inr, refl, ap, sym, ◌∙◌, subst, if◌then◌else◌}
-use Rattle.std.specs.Prelude.{◌==◌, slice_get}
-use Rattle.std.specs.List.{All}
-use Rattle.std.proofs.lemmas.Bool.{eqb-true, eq-eqb}
+use Rattle.std.specs.Prelude.{◌==◌, ◌||◌}
+use Rattle.std.proofs.lemmas.Bool.{cases_Bool, eqb-true, eq-eqb, or_right}
 use Rattle.std.proofs.lemmas.List.{append-nil}
-use Rattle.std.proofs.lemmas.List.Elements.{filter-append, All-get_or}
-use Rattle.std.proofs.lemmas.Option.{same_Some, slice_get_within, get_or_from_slice_get}
+use Rattle.std.proofs.lemmas.List.Elements.{filter-append}
+use Rattle.std.proofs.lemmas.Option.{same_Some}
 use Rattle.leg.specs.LegId.{LegIdParts}
 use Rattle.leg.specs.declared.sweep.Routed.{Routed}
 use Rattle.leg.specs.declared.sweep.Sweep.{Sweep}
@@ -25,23 +24,11 @@ use Rattle.share_ledger.proofs.Sound.{IsSound, let_in, sound-new, sound-again}
 use Rattle.share_ledger.proofs.Adding.{leg_adds_up}
 use Rattle.exec_collector.specs.Resolved.{Replays}
 use Rattle.exec_collector.proofs.Bounded.{sound_book}
-use Rattle.exec_collector.specs.Seats.{Seat}
-use Rattle.exec_collector.specs.Booked.{moved_of, AreBooked, IsKept}
-use Rattle.worker_line.specs.Shares.{IsRuled, AreShares}
-
-first_of_them : (here : Bool) (note : Note) (xs ys zs : List Note) → zs ≡ xs ++ ys
-    → (if here then note ∷ zs else zs) ≡ (if here then note ∷ xs else xs) ++ ys
-first_of_them true note xs ys zs e = ap (λ l. note ∷ l) e
-first_of_them false note xs ys zs e = e
-
-moved_of-append : (venue : ℕ) (xs ys : List BookEntry)
-    → moved_of venue (xs ++ ys) ≡ moved_of venue xs ++ moved_of venue ys
-moved_of-append venue [] ys = refl
-moved_of-append venue (Opened sweep ∷ xs) ys = moved_of-append venue xs ys
-moved_of-append venue (Withdrawn id ∷ xs) ys = moved_of-append venue xs ys
-moved_of-append venue (Moved from note ∷ xs) ys =
-    first_of_them (from == venue) note (moved_of venue xs) (moved_of venue ys) (moved_of venue (xs ++ ys))
-    (moved_of-append venue xs ys)
+use Rattle.exec_collector.specs.declared.booking.Booking.{Booking}
+use Rattle.exec_collector.specs.declared.booking.Booking.TheVariants.{Given, Asked}
+use Rattle.exec_collector.specs.Booked.{moved_of, moved_among, withdrawn_among, asked_of, is_of_venue, withdrawn_ids, withdrawn_of, IsAsBooked}
+use Rattle.exec_collector.proofs.Booked.{moved-append, is_withdrawn-ids}
+use Rattle.worker_line.specs.Shares.{is_among, IsRuled}
 
 -- where no note is on a leg, none of a venue is
 none_by : (about here : Bool) (id : LegIdParts) (note : Note) (xs ys : List Note) → is_about id note ≡ about
@@ -69,7 +56,7 @@ same_by_venue : (venue : ℕ) (id : LegIdParts) (entries more : List BookEntry) 
     → notes_on id (entries ++ more) ≡ notes_on id entries → IsByVenue venue id entries
     → IsByVenue venue id (entries ++ more)
 same_by_venue venue id entries more none same is =
-    let moved = moved_of-append venue entries more ∙ ap (λ l. moved_of venue entries ++ l) none
+    let moved = moved-append venue entries more ∙ ap (λ l. moved_of venue entries ++ l) none
     ∙ append-nil (moved_of venue entries) in
     same ∙ is ∙ sym (ap (filter (is_about id)) moved)
 
@@ -91,7 +78,7 @@ moved_by_venue venue from note id entries of is =
     ∙ ap (λ l. l ++ notes_on id (Moved from note ∷ [])) is
     ∙ ap (λ l. filter (is_about id) (moved_of venue entries) ++ l) last
     ∙ sym (filter-append (is_about id) (moved_of venue entries) more)
-    ∙ sym (ap (filter (is_about id)) (moved_of-append venue entries (Moved from note ∷ [])))
+    ∙ sym (ap (filter (is_about id)) (moved-append venue entries (Moved from note ∷ [])))
 
 -- so it is of each leg and its venue
 record AreByVenue (book : BookParts) : Type 0 where
@@ -192,35 +179,69 @@ notes_by_venue book replays =
     (subst AreByVenue replays
     (by_venue-replay (new_book book.venues) book.entries (sound-new book.venues) (by_venue-new book.venues))).each
 
--- by the notes of a venue in the history each of its legs is ruled
-ruled_by : (book : BookParts) → Replays book → (venue : ℕ) (moved : List Note) → moved_of venue book.entries ≡ moved
+unlike_first : (keeps : Bool) (leg id : LegIdParts) (ids : List LegIdParts) → is_same_leg leg id ≡ false
+    → is_among id (if keeps then leg ∷ ids else ids) ≡ is_among id ids
+unlike_first true leg id ids other = ap (λ b. b || is_among id ids) other
+unlike_first false leg id ids other = refl
+
+-- where a leg is of a venue, it is among the venue's withdrawn ones if it is among all of them
+among_kept : (keeps : LegIdParts → Bool) (id : LegIdParts) → keeps id ≡ true → (ids : List LegIdParts)
+    → is_among id ids ≡ is_among id (filter keeps ids)
+among_kept keeps id here [] = refl
+among_kept keeps id here (leg ∷ ids) =
+    elim (cases_Bool (is_same_leg leg id)) [
+      | inl same ↦
+          (let this : keeps leg ≡ true = ap keeps (is_same_leg-true leg id same) ∙ here in
+          ap (λ b. b || is_among id ids) same
+          ∙ sym (ap (λ b. is_among id (if b then leg ∷ filter keeps ids else filter keeps ids)) this
+          ∙ ap (λ b. b || is_among id (filter keeps ids)) same))
+      | inr other ↦
+          ap (λ b. b || is_among id ids) other
+          ∙ (among_kept keeps id here ids ∙ sym (unlike_first (keeps leg) leg id (filter keeps ids) other))
+    ]
+
+withdrawn_by_venue : (book : BookParts) (venue : ℕ) (id : LegIdParts) (routed : Routed)
+    → order_of id book.entries ≡ Some routed → routed.venue ≡ venue
+    → is_withdrawn id book.entries ≡ is_among id (withdrawn_of venue book.entries)
+withdrawn_by_venue book venue id routed found of_venue =
+    is_withdrawn-ids id book.entries
+    ∙ among_kept (λ leg. is_of_venue venue (order_of leg book.entries)) id
+    (ap (is_of_venue venue) found ∙ eq-eqb routed.venue venue of_venue) (withdrawn_ids book.entries)
+
+-- by what the history has of a venue each of its legs is ruled
+pub ruled_by : (book : BookParts) → Replays book → (venue : ℕ) (bookings : List Booking) → IsAsBooked venue book bookings
     → (id : LegIdParts) (routed : Routed) → order_of id book.entries ≡ Some routed → routed.venue ≡ venue
-    → IsRuled book moved id routed
-ruled_by book replays venue moved is id routed found of_venue =
+    → IsRuled book bookings id routed
+ruled_by book replays venue bookings is id routed found of_venue =
     let notes = notes_by_venue book replays id routed found
-    ∙ ap (λ v. filter (is_about id) (moved_of v book.entries)) of_venue ∙ ap (filter (is_about id)) is in
+    ∙ ap (λ v. filter (is_about id) (moved_of v book.entries)) of_venue ∙ ap (filter (is_about id)) is.moved in
+    let gone = withdrawn_by_venue book venue id routed found of_venue ∙ ap (is_among id) is.withdrawn in
     record {
-      parts = ap (λ l. parts_of routed.terms.shares (is_withdrawn id book.entries) (map move_of l)) notes;
+      withdrawn = gone;
+      parts = ap (λ l. parts_of routed.terms.shares (is_withdrawn id book.entries) (map move_of l)) notes
+          ∙ ap (λ b. parts_of routed.terms.shares b (map move_of (filter (is_about id) (moved_among bookings)))) gone;
       adds_up = leg_adds_up book id routed (sound_book book replays) found;
     }
 
-pub shares_kept : (book : BookParts) (venue : ℕ) (seat : Seat) (given : List Note) → Replays book → IsKept book seat
-    → seat.venue ≡ Some venue → seat.booked ≡ given → AreShares book venue given
-shares_kept book venue seat given replays kept of_venue is =
-    let same = same_Some kept.venue venue (sym kept.of_venue ∙ of_venue) in
-    let booked = subst (λ v. AreBooked v book seat.bookings) same kept.booked in
-    record {
-      bookings = seat.bookings;
-      notes = sym kept.notes ∙ is;
-      booked = booked;
-      each_leg = ruled_by book replays venue _ booked.moved;
-    }
+-- a leg that the book withdrew was asked for
+also_then : (b x y : Bool) → (x ≡ true → y ≡ true) → (b || x) ≡ true → (b || y) ≡ true
+also_then true x y more is = refl
+also_then false x y more is = more is
 
--- so it is of the seat at a venue's place, where each seat is kept
-pub shares_at : (book : BookParts) (seats : List Seat) (venue : ℕ) (seat : Seat) (given : List Note) → Replays book
-    → All (IsKept book) seats → slice_get seats venue ≡ Some seat → seat.venue ≡ Some venue → seat.booked ≡ given
-    → AreShares book venue given
-shares_at book seats venue seat given replays kept there of_venue is =
-    let this = subst (IsKept book) (get_or_from_slice_get seats venue seat seat there)
-    (All-get_or (IsKept book) seats venue seat (slice_get_within seats venue seat there) kept) in
-    shares_kept book venue seat given replays this of_venue is
+among_asked : (id : LegIdParts) (bookings : List Booking) → is_among id (withdrawn_among bookings) ≡ true
+    → is_among id (asked_of bookings) ≡ true
+among_asked id [] is = is
+among_asked id (Given note answer entries ∷ rest) is = among_asked id rest is
+among_asked id (Asked leg true entries ∷ rest) is =
+    also_then (is_same_leg leg id) (is_among id (withdrawn_among rest)) (is_among id (asked_of rest))
+    (among_asked id rest) is
+among_asked id (Asked leg false entries ∷ rest) is = or_right (is_same_leg leg id) _ (among_asked id rest is)
+
+pub only_asked : (book : BookParts) (venue : ℕ) (bookings : List Booking) (asked : List LegIdParts)
+    → IsAsBooked venue book bookings → asked_of bookings ≡ asked → (id : LegIdParts) (routed : Routed)
+    → order_of id book.entries ≡ Some routed → routed.venue ≡ venue → is_withdrawn id book.entries ≡ true
+    → is_among id asked ≡ true
+only_asked book venue bookings asked is legs id routed found of_venue gone =
+    ap (is_among id) (sym legs)
+    ∙ among_asked id bookings
+    (ap (is_among id) (sym is.withdrawn) ∙ (sym (withdrawn_by_venue book venue id routed found of_venue) ∙ gone))

@@ -16,7 +16,7 @@ use Rattle.venue_line.specs.ForGood.{StaysSettled}
 use Rattle.session_worker.specs.declared.day_report.DayReport.{DayReport}
 use Rattle.session_worker.specs.declared.end_reason.EndReason.{EndReason}
 use Rattle.session_worker.specs.Booking.{booked_by}
-use Rattle.session_worker.specs.Events.{WorkerEvent, WorkerParts, calls_of, Goes}
+use Rattle.session_worker.specs.Events.{WorkerEvent, WorkerParts, calls_of, withdrawn_by, Goes}
 use Rattle.session_worker.specs.Events.WorkerEvent.{Drops}
 use Rattle.session_worker.specs.Ends.{WorkerLeft, last_calls, Runs}
 use Rattle.session_worker.specs.Audit.{AuditedDay}
@@ -50,8 +50,9 @@ pub record Ran (w : Wording) (config : ConfigParts) (events : List VenueEvent) (
 
 -- at each moment what is safe on a line holds, and from each to every later one what is settled stays so; the line that
 -- is reached at the end has the worker's session, and was given the notes that the session's calls confirm. These are
--- just the notes that the book took on the worker's seat meanwhile, in order. And the legs that left are those that the
--- worker took, the first ones released
+-- just the notes that the book took on the worker's seat meanwhile, in order, and the legs that it was asked to
+-- withdraw are just those that the worker's events withdraw. And the legs that left are those that the worker took, the
+-- first ones released
 pub record IsSafeLine (read : Decoding) (start : Line) (events : List VenueEvent) (before after : WorkerParts)
     : Type 0 where
   pub holds : All LineHolds (moments_of read start events)
@@ -60,6 +61,7 @@ pub record IsSafeLine (read : Decoding) (start : Line) (events : List VenueEvent
   pub given : (after_events read start events).given
       ≡ booked_by read start.session start.waiting (calls_of (works_of events))
   pub booked : after.seat.booked ≡ before.seat.booked ++ (after_events read start events).given
+  pub asked : after.seat.asked ≡ before.seat.asked ++ withdrawn_by read start.session (works_of events)
   pub left : (after_events read start events).left ≡ length after.took.taken
   pub first : IsPrefix after.took.taken (placed_from 1 (after_events read start events).released)
 
@@ -77,11 +79,13 @@ TheRunTheorem w = (config : ConfigParts) (legs : List Leg) (events : List VenueE
     → MayAllHappen w.decoding (released_line config legs) events → IsPrefix after.took.taken (placed_from 1 legs)
     → IsSafeLine w.decoding (released_line config legs) events ran.before after
 
--- so it is of a venue's worker, and the shares of the venue's legs in the book are as the line's notes say
+-- so it is of a venue's worker, and the shares of the venue's legs in the book are as the line's notes say, and as the
+-- withdrawals that the worker asked for
 pub record IsSafeVenue (read : Decoding) (start : Line) (events : List VenueEvent) (book : BookParts) (venue : ℕ)
     (before after : WorkerParts) : Type 0 where
   pub line : IsSafeLine read start events before after
   pub shares : AreShares book venue (after_events read start events).given
+      (withdrawn_by read start.session (works_of events))
 
 -- and of each worker of a day that was audited, where nothing need be known of its legs: it began with the new seat of
 -- its venue, and ended with the one at the venue's place

@@ -11,9 +11,10 @@ use dialect::Dialect;
 
 /// Of each worker of a day whose audit found nothing wrong, with the legs that the desk released to its venue: its
 /// session is that of a line, so that at each moment what is safe on a line holds between it and its exchange, and what
-/// is settled stays settled. And the notes that it gave the book rule the shares of its venue's legs there: each was
-/// answered by the book's rule, the venue's notes in the history are just those that moved, and each leg's five parts
-/// are what the share rule makes of those on it and of its withdrawal, and add up to its shares. It asks that the
+/// is settled stays settled. And the notes that it gave the book, and the legs that it asked it to withdraw, which are
+/// those that its session withdrew or didn't send, rule the shares of its venue's legs there: each was answered by the
+/// book's rule, what the history has of the venue are just the notes that moved and the legs that the book withdrew,
+/// and each leg's five parts are what the share rule makes of those on it, and add up to its shares. It asks that the
 /// exchange keeps the rules, and wrote what came in the present connection; and that the worker began with the new seat
 /// of its venue, and that seat is the one at the venue's place.
 pub fn every_worker_of_an_audited_day_is_a_line<D: Dialect>(dialect: &D)
@@ -66,7 +67,8 @@ pub fn what_comes_over_the_link_was_written<D: Dialect>(dialect: &D)
 /// The sweep theorem of a running dispatcher: of each worker of a day whose audit found nothing wrong, over a link that
 /// tells its traffic, whatever exchange is at the other end. Where the exchange keeps the rules, and what comes to
 /// either end came by the bytes on the link, its orders, gaps, close, settled legs and reports are safe at each moment,
-/// what is settled stays so, and the shares of the venue's legs in the book are ruled by what the session confirmed.
+/// what is settled stays so, and the shares of the venue's legs in the book are ruled by what the session confirmed,
+/// and by what the book withdrew of the legs that the session withdrew or didn't send.
 pub fn every_venue_of_an_audited_day_is_safe_by_its_bytes<D: Dialect>(dialect: &D)
     ensures { TheDayByBytes (D.wording dialect.now) }
 {}

@@ -7,10 +7,12 @@
 //!   `audit` answered with Ok `laws::every_worker_of_an_audited_day_is_a_line`. If the exchange keeps the rules and
 //!   wrote each message in the connection in which the worker receives it, everything of the line theorem holds at
 //!   each moment, what is settled stays settled, and the line's session at the end is the worker's (`IsSafeLine`). The
-//!   notes given to the book are just those that it took on the worker's seat (field `booked`).
-//! - The shares of an audited day, in the last of these laws (`AreShares`): the book answered each of these notes by
-//!   its rule, its history has of the venue just those that moved, and the five parts of each of the venue's legs are
-//!   what the share rule makes of those on it and of its withdrawal, and add up to the leg's shares.
+//!   notes given to the book are just those that it took on the worker's seat (field `booked`), and the legs that it
+//!   was asked to withdraw there are just those that the worker's events withdraw (field `asked`).
+//! - The shares of an audited day, in the last of these laws (`AreShares`): the book answered each of these notes and
+//!   withdrawals by its rule, its history has of the venue just the notes that moved and the legs that it withdrew, and
+//!   the five parts of each of the venue's legs are what the share rule makes of those on it, and add up to the leg's
+//!   shares.
 //! - A worked history, computed: of two legs that were sent before a break the exchange has taken one, the other is
 //!   withdrawn, and its number filled over (`laws::a_lost_leg_is_withdrawn_and_filled_over`).
 //! - What the bytes on its link have to do with these messages, over a link that tells its traffic: what a reader reads
@@ -19,8 +21,9 @@
 //!   either end by the bytes, what the theorem asks of each message holds
 //!   (`laws::what_comes_over_the_link_was_written`). With the day's theorem it is one law,
 //!   `laws::every_venue_of_an_audited_day_is_safe_by_its_bytes`.
-//! - Not said: that the withdrawals in the book are just those of the session; and that a network hands on the bytes as
-//!   they are: that is what the last of these laws asks.
+//! - Not said: that the book refused none of the withdrawals. It did so only where the leg is withdrawn already, a note
+//!   on it moved, or the book didn't have it yet (field `refused` of `AreShares`). And that a network hands on the
+//!   bytes as they are: that is what the last of these laws asks.
 //!
 //! See `docs/theorem.md`, "Of a running worker".
 #![tactic(auto)]
