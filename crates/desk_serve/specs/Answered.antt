@@ -1,5 +1,5 @@
 -- What a sweep is answered that comes over HTTP.
-use Rattle.std.specs.Prelude.{◌≡◌, ◌≢◌, ℕ, List, Result, Option}
+use Rattle.std.specs.Prelude.{◌≡◌, ◌≢◌, ℕ, List, Result}
 use Rattle.leg.specs.declared.sweep.Routed.{Routed}
 use Rattle.sweep_text.specs.declared.answer.Answer.{Answer}
 use Rattle.sweep_text.specs.declared.answer.Answer.TheVariants as answer

@@ -1,17 +1,17 @@
 //! A desk's day, as one connection asks it.
 
-ghost use Rattle.std.specs.Prelude.{◌≡◌, ⊤};
+ghost use Rattle.std.specs.Prelude.{◌≡◌, ⊤, IfOk, filter_map, length};
 ghost use Rattle.desk_serve.specs.Answered.{IsAnswered, outcome_of};
+ghost use Rattle.desk_serve.specs.Shown.{AreAll, AreShown, IsPage, IsSums, IsSweep};
 
 use crate::follower::Follower;
 use crate::page::Page;
-use crate::rows::{leg_row, venue_row};
+use crate::shown::{leg_rows, sweeps_behind, venue_rows};
 use clock::UtcClock;
 use day_log::LineLog;
-use day_sweeps::sweep_now;
 use desk_floor::{Floor, sweep_legs};
 use desk_http::{Changes, Day, DaySums, RefusalCounts};
-use desk_json::{Outcome, SweepLegs, SweepsPage, VenueRow};
+use desk_json::{LegRow, Outcome, SweepLegs, SweepsPage, VenueRow};
 use desk_words::VenueName;
 use exec_collector::Accounts;
 use leg::Sweep;
@@ -53,6 +53,19 @@ fn outcome_of(answer: Answer) -> Outcome
         Answer::Closing => Outcome::Closing,
         Answer::BadLine { .. } => Outcome::Refused(Refusal::OutOfMemory),
     }
+}
+
+/// The legs of the sweep of this number, if there are any.
+fn shown(number: u64, legs: Vec<LegRow>) -> Option<SweepLegs>
+    ensures { AreShown number legs.items result }
+{
+    if legs.is_empty() {
+        return None;
+    }
+    Some(SweepLegs {
+        sweep: number,
+        legs,
+    })
 }
 
 impl<'a, L: Run, M: Accounts, W: Write + Drop, R: Wait + Clock> DayView<'a, L, M, W, R> {
@@ -100,13 +113,14 @@ impl<'a, L: Run, M: Accounts, W: Write + Drop, R: Wait + Clock> Day for DayView<
 
     ghost places = { λ day legs outcome _. IsAnswered day.floor.now.names.items legs outcome };
 
-    ghost pages = { λ _ _ _ _ _. ⊤ };
+    ghost pages = { λ _ after most page _. IsPage after most page };
 
-    ghost shows = { λ _ _ _ _. ⊤ };
+    ghost shows = { λ day number shown _.
+        IsSweep day.floor.now.names.items (length day.floor.now.views.items) number shown };
 
-    ghost lists = { λ _ _ _. ⊤ };
+    ghost lists = { λ day rows _. AreAll day.floor.now.names.items (length day.floor.now.views.items) rows };
 
-    ghost sums_up = { λ _ _ _. ⊤ };
+    ghost sums_up = { λ _ sums _. IsSums sums };
 
     ghost refuses = { λ _ _. ⊤ };
 
@@ -127,44 +141,21 @@ impl<'a, L: Run, M: Accounts, W: Write + Drop, R: Wait + Clock> Day for DayView<
     }
 
     fn sweeps(&mut self, after: u64, most: u64) -> Result<SweepsPage, AllocError> {
-        let mut sweeps = Vec::new(self.alloc);
-        for number in after.saturating_add(1)..=after.saturating_add(most) {
-            match sweep_now(self.rt, &self.floor.collector, number) {
-                Some(sweep) => sweeps.push(sweep)?,
-                None => break,
-            }
-        }
         Ok(SweepsPage {
-            sweeps,
+            sweeps: sweeps_behind(self.rt, self.alloc, &self.floor.collector, after, most)?,
             day: self.floor.totals(self.rt),
             is_closing: self.floor.signals.is_closing(),
         })
     }
 
     fn sweep(&mut self, number: u64) -> Result<Option<SweepLegs>, AllocError> {
-        let mut legs = Vec::new(self.alloc);
-        for leg in sweep_legs(self.rt, self.alloc, self.floor, number)? {
-            if let Some(row) = leg_row(self.floor, leg) {
-                legs.push(row)?;
-            }
-        }
-        if legs.is_empty() {
-            return Ok(None);
-        }
-        Ok(Some(SweepLegs {
-            sweep: number,
-            legs,
-        }))
+        let legs = sweep_legs(self.rt, self.alloc, self.floor, number)?;
+        let rows = leg_rows(self.alloc, self.floor.names.as_slice(), legs)?;
+        Ok(shown(number, rows))
     }
 
     fn venues(&mut self) -> Result<Vec<VenueRow>, AllocError> {
-        let mut rows = Vec::new(self.alloc);
-        for place in 0..self.floor.names.len() {
-            if let Some(row) = venue_row(self.rt, &self.clock, self.alloc, self.floor, place)? {
-                rows.push(row)?;
-            }
-        }
-        Ok(rows)
+        venue_rows(self.rt, &self.clock, self.alloc, self.floor)
     }
 
     fn sums(&mut self) -> Result<DaySums, AllocError> {

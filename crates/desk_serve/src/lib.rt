@@ -3,19 +3,30 @@
 //! Promises:
 //! - Unless the day is closing, a sweep that comes over HTTP is answered with what became of it at a desk that replays
 //!   from its own history (`IsAnswered`, which stands for `places` of `desk_http`).
-//! - What a request may ask, and the texts of the answers, are said by `desk_http`. That the rows, the legs and the
-//!   events are those of the day, that a client is answered in time, and that those who follow the day are told what
-//!   changes, is only tested.
+//! - The sweeps of a page are those behind the number that was asked for, in order, each as a book has it that its own
+//!   history leads to, up to so many or to the first that such a book hasn't got (`IsPage`, for `pages`).
+//! - The legs of a sweep are shown by their places up to the first that such a book hasn't got, each with its parts
+//!   there, the terms with which a desk of such a history released it, and its venue's name. One is left out only where
+//!   such a desk released no such leg, or its venue has no view or no name (`IsSweep`, for `shows`).
+//! - Each venue that has a name and a view is shown, by its place, with how many legs such a desk released to it beyond
+//!   those that its worker told as taken (`AreAll`, for `lists`). The number of sweeps is such a book's, and what
+//!   became of their shares are sums over sweeps as such books had them (`IsSums`, for `sums_up`).
+//! - Each look is at some book or desk: which moment's, and that two looks are at the same one, isn't said. Nothing is
+//!   known of the counts and states that workers tell, of the shares placed, or of whether the day is closing.
+//! - What a request may ask, and the texts of the answers, are said by `desk_http`. That the events are those of the
+//!   day, that a client is answered in time, and that those who follow the day are told what changes, is only tested.
 //!
 //! See `docs/api.md`.
 #![tactic(auto)]
 
+mod counted;
 mod day_view;
 mod follower;
 mod page;
 mod page_server;
 mod part_sums;
 mod rows;
+mod shown;
 
 pub use follower::tell_closed;
 pub use page_server::{PageServer, open_page};

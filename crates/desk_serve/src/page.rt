@@ -1,5 +1,8 @@
 //! What the servers of a page share.
 
+ghost use Rattle.std.specs.Prelude.{IfOk};
+ghost use Rattle.desk_serve.specs.Sums.{AreParts};
+
 use crate::part_sums::PartSums;
 use desk_config::{Address, TokenText};
 use desk_http::Door;
@@ -73,7 +76,9 @@ impl Page {
         &self,
         rt: &impl Wait,
         collector: &Collector<M>,
-    ) -> Result<Totals, AllocError> {
+    ) -> Result<Totals, AllocError>
+        ensures { IfOk result AreParts }
+    {
         self.sums.lock(rt).now(rt, collector)
     }
 

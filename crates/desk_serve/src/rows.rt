@@ -1,11 +1,13 @@
 //! How venues and legs stand, as they are told over HTTP.
 
-ghost use Rattle.std.specs.Prelude.{◌≡◌};
+ghost use Rattle.std.specs.Prelude.{◌≡◌, ◌⊎◌, ◌<◌, ◌≤◌, length, IfOk, MatchOption};
+ghost use Rattle.desk_serve.specs.Shown.{IsVenue, row_of, totals_of};
 
 use clock::Clock;
 use day_log::{BOUNDS, OrderTimes};
 use desk_floor::{Floor, LegStanding, venue_status};
 use desk_json::{LegRow, OrderWaits, VenueRow, WaitCount};
+use desk_words::VenueName;
 use exec_collector::Accounts;
 use leg::{Split, Totals};
 use release_lock::Run;
@@ -35,7 +37,11 @@ pub(crate) fn venue_row<L: Run, M: Accounts, W: Write + Drop>(
     alloc: Global,
     floor: &Floor<L, M, W>,
     place: usize,
-) -> Result<Option<VenueRow>, AllocError> {
+) -> Result<Option<VenueRow>, AllocError>
+    ensures { IfOk result (λ told. MatchOption told
+        ((length floor.now.names.items ≤ place) ⊎ (length floor.now.views.items ≤ place))
+        (λ row. (place < length floor.now.views.items) × IsVenue floor.now.names.items place row)) }
+{
     let Some(status) = venue_status(rt, floor, place) else {
         return Ok(None);
     };
@@ -61,13 +67,7 @@ pub(crate) fn venue_row<L: Run, M: Accounts, W: Write + Drop>(
 
 /// What became of a leg's shares.
 fn totals_of(parts: &Split) -> Totals
-    ensures { result ≡ record {
-      filled = parts.now.filled;
-      busted = parts.now.busted;
-      cancelled = parts.now.cancelled;
-      withdrawn = parts.now.withdrawn;
-      still_open = parts.now.still_open;
-    } }
+    ensures { result ≡ totals_of parts.now }
 {
     Totals {
         filled: parts.filled(),
@@ -78,11 +78,10 @@ fn totals_of(parts: &Split) -> Totals
     }
 }
 
-/// A leg as it is told, if the desk has its venue.
-pub(crate) fn leg_row<L: Run, M: Accounts, W: Write + Drop>(
-    floor: &Floor<L, M, W>,
-    leg: LegStanding,
-) -> Option<LegRow> {
+/// A leg as it is told, if its venue has a name.
+pub(crate) fn leg_row(names: &[VenueName], leg: LegStanding) -> Option<LegRow>
+    ensures { result ≡ row_of names.now leg }
+{
     let LegStanding {
         id,
         venue,
@@ -90,7 +89,7 @@ pub(crate) fn leg_row<L: Run, M: Accounts, W: Write + Drop>(
         parts,
         state,
     } = leg;
-    let name = floor.names.get(usize::from(venue.number()))?;
+    let name = names.get(usize::from(venue.number()))?;
     Some(LegRow {
         id,
         venue: name.clone().unwrap(),
