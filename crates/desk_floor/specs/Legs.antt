@@ -84,11 +84,12 @@ pub record IsUnbooked (id : LegIdParts) : Type 0 where
   pub replays : collector.Replays book
   pub none : leg_in book id ≡ None
 
--- the legs of a sweep, by their places up to the first that a book hasn't got, or to the last of 32; none is told where
--- a sweep can't have the number
+-- the legs of a sweep, by their places up to the first that a book hasn't got, or to the last of 32; of a number that
+-- no sweep can have none is told
 pub record AreLegs (venues sweep : ℕ) (legs : List LegStanding) : Type 0 where
   pub places : ℕ
   pub few : places ≤ 32
+  pub none : 999999999999 < sweep → places ≡ 0
   pub told : ArePlaces venues sweep places legs
-  pub end : places < 32 → (1 ≤ sweep) → (sweep ≤ 999999999999)
+  pub end : places < 32 → 1 ≤ sweep → sweep ≤ 999999999999
       → IsUnbooked (record { sweep = sweep; place = suc places })
