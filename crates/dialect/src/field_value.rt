@@ -1,7 +1,8 @@
 //! The value of a field, with its fault.
 
-ghost use Rattle.std.specs.Prelude.{◌≡◌};
+ghost use Rattle.std.specs.Prelude.{◌≡◌, false, IfOk};
 ghost use Rattle.std.specs.Result.{result_map_both};
+ghost use Rattle.fix_text.specs.Text.{holds_soh};
 ghost use Rattle.dialect.specs.Fields.{required, has_value, is_text};
 
 use crate::fault::DialectFault;
@@ -9,7 +10,8 @@ use fix_tags::AppFields;
 
 /// The value of a field that must be there.
 pub(crate) fn required<'a>(fields: &AppFields<'a>, tag: u32) -> Result<&'a [u8], DialectFault>
-    ensures { result_map_both (λ value. value.now) (λ fault. fault) result ≡ required fields.now tag }
+    ensures value { result_map_both (λ value. value.now) (λ fault. fault) result ≡ required fields.now tag }
+    ensures no_soh { IfOk result (λ value. holds_soh value.now ≡ false) }
 {
     fields.get(tag).ok_or(DialectFault::Missing(tag))
 }

@@ -1,6 +1,7 @@
 //! Texts that a venue picks: an id or a price that is kept as it came.
 
-ghost use Rattle.std.specs.Prelude.{⊤, ◌≡◌};
+ghost use Rattle.std.specs.Prelude.{⊤, ◌≡◌, false};
+ghost use Rattle.fix_text.specs.Text.{holds_soh};
 ghost use Rattle.dialect.specs.FreeText.{IsFreeText, is_free_text, free_text_of};
 
 use arrayvec::ArrayVec;
@@ -60,6 +61,19 @@ impl<const N: usize> FreeText<N> {
             return None;
         }
         let bytes = ArrayVec::try_from(text).unwrap();
+        Some(FreeText { bytes })
+    }
+
+    /// The same of a field's value, which has no SOH: so it isn't searched for one.
+    #[inline(always)]
+    pub(crate) fn of_value(value: &[u8]) -> Option<FreeText<N>>
+        requires { holds_soh value.now ≡ false }
+        ensures { result ≡ free_text_of N value.now }
+    {
+        if value.is_empty() || value.len() > N {
+            return None;
+        }
+        let bytes = ArrayVec::try_from(value).unwrap();
         Some(FreeText { bytes })
     }
 

@@ -11,6 +11,7 @@ use itoa::Buffer;
 use leg::{LegId, MAX_PLACE, MAX_SWEEP};
 
 /// Reads the two numbers round the first `L`.
+#[inline(always)]
 fn read_numbers(text: &[u8]) -> Option<LegId>
     ensures { result ≡ numbers_of text.now }
 {

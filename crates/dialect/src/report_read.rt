@@ -23,7 +23,7 @@ fn exec_id_in(fields: &AppFields<'_>, tag: u32) -> Result<ExecId, DialectFault>
     ensures { result ≡ required_as (free_text_of 64) fields.now tag }
 {
     let text = required(fields, tag)?;
-    ExecId::new(text).ok_or(DialectFault::Bad(tag))
+    ExecId::of_value(text).ok_or(DialectFault::Bad(tag))
 }
 
 #[inline(always)]
@@ -40,7 +40,7 @@ fn last_px_in(fields: &AppFields<'_>) -> Result<LastPx, DialectFault>
     ensures { result ≡ required_as (free_text_of 20) fields.now 31 }
 {
     let text = required(fields, LAST_PX)?;
-    LastPx::new(text).ok_or(DialectFault::Bad(LAST_PX))
+    LastPx::of_value(text).ok_or(DialectFault::Bad(LAST_PX))
 }
 
 /// Reads 32 and 31.

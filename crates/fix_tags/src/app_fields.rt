@@ -1,8 +1,9 @@
 //! The fields of an application message.
-ghost use Rattle.std.specs.Prelude.{◌≡◌, filter};
+ghost use Rattle.std.specs.Prelude.{◌≡◌, false, filter, IfSome};
 ghost use Rattle.std.specs.Option.{option_map};
 ghost use Rattle.fix_text.specs.FrameFields.{fields_in};
 ghost use Rattle.fix_text.specs.Tagged.{value_of};
+ghost use Rattle.fix_text.specs.Text.{holds_soh};
 ghost use Rattle.fix_tags.specs.App.{is_app_tag};
 
 use crate::tag::{BEGIN_STRING, BODY_LENGTH, CHECK_SUM};
@@ -40,7 +41,8 @@ impl<'a> AppFields<'a> {
     #[inline]
     #[tactic(auto, using(crate::proofs::Behind::app_value, crate::proofs::Behind::no_app_value))]
     pub fn get(&self, tag: u32) -> Option<&'a [u8]>
-        ensures { option_map (λ value. value.now) result ≡ value_of self.now tag }
+        ensures value { option_map (λ value. value.now) result ≡ value_of self.now tag }
+        ensures no_soh { IfSome result (λ value. holds_soh value.now ≡ false) }
     {
         if is_application_tag(tag) {
             self.frame.get(tag)

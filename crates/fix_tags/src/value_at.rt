@@ -89,7 +89,7 @@ pub(crate) fn flag_at(frame: &Frame<'_>, tag: u32) -> Result<bool, TagFault>
 }
 
 /// The number of a value, in its range.
-#[inline]
+#[inline(always)]
 fn number_in(tag: u32, value: &[u8], range: NumberRange) -> Result<u64, TagFault>
     ensures { result ≡ good tag (number_if (is_between range.least range.greatest) value.now) }
 {
@@ -100,7 +100,7 @@ fn number_in(tag: u32, value: &[u8], range: NumberRange) -> Result<u64, TagFault
 }
 
 /// A number that must be there.
-#[inline]
+#[inline(always)]
 pub(crate) fn number_of(tag: u32, value: Option<&[u8]>, range: NumberRange) -> Result<u64, TagFault>
     ensures { result ≡ wanted tag (number_if (is_between range.least range.greatest))
         (option_map (λ value. value.now) value.entry) }

@@ -183,7 +183,9 @@ fn drop_front(buffer: &mut Vec<u8>, count: usize)
     buffer.truncate(left);
 }
 
-/// How many bytes are passed alone where no frame begins: the first, and what stands between it and the next `8`.
+/// How many bytes are passed alone where no frame begins: the first, and what stands between it and the next `8`. It
+/// stays a call, since it isn't on the way of a frame.
+#[inline(never)]
 fn junk_length(bytes: &[u8]) -> usize
     requires { 0 < length bytes.now }
     ensures some { 0 < result }

@@ -1,9 +1,10 @@
 //! A frame: fields that are lent from the text in which they lie.
-ghost use Rattle.std.specs.Prelude.{◌≡◌, ◌<◌, ◌==◌, Some, length, slice_get, IfOk, IsOkUnless, OnErr, vec_capacity};
+ghost use Rattle.std.specs.Prelude.{◌≡◌, ◌<◌, ◌==◌, false, Some, length, slice_get, IfOk, IfSome, IsOkUnless, OnErr, vec_capacity};
 ghost use Rattle.std.specs.Option.{option_map};
 ghost use Rattle.fix_text.specs.Tagged.{value_of, left_after};
 ghost use Rattle.fix_text.specs.Reading.{fields_of};
 ghost use Rattle.fix_text.specs.Placing.{AreMore, AreWithin, fields_at};
+ghost use Rattle.fix_text.specs.Text.{holds_soh};
 
 use crate::field::FieldRef;
 use crate::fields::place_fields;
@@ -84,7 +85,8 @@ impl<'a> Frame<'a> {
 
     /// The value of the first field of this tag.
     pub fn get(&self, tag: u32) -> Option<&'a [u8]>
-        ensures { option_map (λ value. value.now) result ≡ value_of (fields_in self.now) tag }
+        ensures value { option_map (λ value. value.now) result ≡ value_of (fields_in self.now) tag }
+        ensures no_soh { IfSome result (λ value. holds_soh value.now ≡ false) }
     {
         for place in self.places {
             if place.tag == tag {
@@ -100,6 +102,7 @@ impl<'a> Frame<'a> {
     pub fn take(&mut self, tag: u32) -> Option<&'a [u8]>
         ensures value { option_map (λ value. value.now) result ≡ value_of (fields_in self.old) tag }
         ensures left { fields_in self.new ≡ left_after tag (fields_in self.old) }
+        ensures no_soh { IfSome result (λ value. holds_soh value.now ≡ false) }
     {
         match self.places {
             [place, others @ ..] if place.tag == tag => {
