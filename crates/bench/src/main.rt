@@ -3,11 +3,12 @@
 //! `wire`; with no word each of them but `wire` does a little. The codec's part is a program of its own, `bench_codec`.
 #![tactic(auto)]
 
-mod fault;
+mod expected;
 mod request;
 
-use crate::fault::BenchFault;
+use crate::expected::Expected;
 use crate::request::run;
+use bench_fault::BenchFault;
 use std::process::ExitCode;
 use trial::{status_of, words};
 
@@ -15,7 +16,7 @@ fn main(rt: HostRuntime) -> ExitCode {
     let mut out = rt.stdout();
     let done = match words(&rt) {
         Ok(words) => run(&rt, rt.alloc(), words.as_slice(), &mut out),
-        Err(error) => Err(BenchFault::from(error)),
+        Err(error) => Err(BenchFault::<Expected>::from(error)),
     };
     ExitCode::from(status_of("bench", done, &mut rt.stderr()))
 }

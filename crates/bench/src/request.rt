@@ -2,8 +2,9 @@
 
 ghost use Rattle.std.specs.Prelude.{◌≤◌, IfOk};
 
-use crate::fault::{BenchFault, Expected};
+use crate::expected::Expected;
 use bench_core::{DayPart, MAX_DAY, ReplayPart, run_day, run_replay};
+use bench_fault::BenchFault;
 use bench_threads::{Load, ThreadsPart, run_threads, run_turns};
 use bench_wire::{WireLoad, run_wire};
 use link::Rest;
@@ -31,7 +32,7 @@ const MAX_PORT: u64 = 65_520;
 const MAX_VENUES: u64 = 16;
 
 /// A number of the command line, up to this one.
-fn count_of(most: u64, text: &str, expected: Expected) -> Result<u64, BenchFault>
+fn count_of(most: u64, text: &str, expected: Expected) -> Result<u64, BenchFault<Expected>>
     ensures { IfOk result (λ number. number ≤ most) }
 {
     number_to(most, text).ok_or(BenchFault::Usage(expected))
@@ -43,7 +44,7 @@ fn day<W: Write>(
     before: &str,
     count: &str,
     out: &mut W,
-) -> Result<(), BenchFault> {
+) -> Result<(), BenchFault<Expected>> {
     let part = DayPart::named(part).ok_or(BenchFault::Usage(Expected::DayPart))?;
     let before = count_of(MILLION, before, Expected::Before)?;
     let count = count_of(MAX_DAY, count, Expected::Count)?;
@@ -55,7 +56,7 @@ fn replay<W: Write>(
     part: &str,
     events: &str,
     out: &mut W,
-) -> Result<(), BenchFault> {
+) -> Result<(), BenchFault<Expected>> {
     let part = ReplayPart::named(part).ok_or(BenchFault::Usage(Expected::ReplayPart))?;
     let events = count_of(MAX_EVENTS, events, Expected::Events)?;
     Ok(run_replay(alloc, part, events, out)?)
@@ -66,7 +67,7 @@ fn threads<R: Threads + Wait + Clock + Sync, W: Write>(
     alloc: Global,
     words: (&str, &str, &str),
     out: &mut W,
-) -> Result<(), BenchFault> {
+) -> Result<(), BenchFault<Expected>> {
     let (part, callers, sweeps) = words;
     let part = ThreadsPart::named(part).ok_or(BenchFault::Usage(Expected::ThreadsPart))?;
     let callers = count_of(MAX_CALLERS, callers, Expected::Callers)?;
@@ -80,13 +81,13 @@ fn turns<R: Wait + Clock, W: Write>(
     alloc: Global,
     turns: &str,
     out: &mut W,
-) -> Result<(), BenchFault> {
+) -> Result<(), BenchFault<Expected>> {
     let turns = count_of(MILLION, turns, Expected::Turns)?;
     Ok(run_turns(rt, alloc, turns, out)?)
 }
 
 /// How a worker waits.
-fn rest_of(text: &str) -> Result<Rest, BenchFault> {
+fn rest_of(text: &str) -> Result<Rest, BenchFault<Expected>> {
     match text {
         "sleep" => Ok(Rest::Sleep),
         "spin" => Ok(Rest::Spin),
@@ -103,7 +104,7 @@ fn wire<
     port: &str,
     words: (&str, &str, &str, &str),
     out: &mut W,
-) -> Result<(), BenchFault> {
+) -> Result<(), BenchFault<Expected>> {
     let (venues, sweeps, pause, how) = words;
     let load = WireLoad {
         port: count_of(MAX_PORT, port, Expected::Port)? as u16,
@@ -135,7 +136,7 @@ fn run_each<R: Threads + Wait + Clock + Sync, W: Write>(
 pub fn run<
     R: Net<Listener = TcpListener, Stream = TcpStream> + Threads + Wait + Clock + Sync,
     W: Write,
->(rt: &R, alloc: Global, words: &[String], out: &mut W) -> Result<(), BenchFault> {
+>(rt: &R, alloc: Global, words: &[String], out: &mut W) -> Result<(), BenchFault<Expected>> {
     match words {
         [_] => Ok(run_each(rt, alloc, out)?),
         [_, name, a] if name.as_str() == "turn" => turns(rt, alloc, a.as_str(), out),

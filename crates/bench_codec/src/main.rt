@@ -3,7 +3,7 @@
 //! what the compiler inlines is the codec's alone.
 #![tactic(auto)]
 
-mod fault;
+mod expected;
 mod order_writer;
 mod part;
 mod reading;
@@ -12,8 +12,9 @@ mod stream;
 mod stretch;
 mod worked;
 
-use crate::fault::CodecFault;
+use crate::expected::Expected;
 use crate::request::run;
+use bench_fault::BenchFault;
 use std::process::ExitCode;
 use trial::{status_of, words};
 
@@ -21,7 +22,7 @@ fn main(rt: HostRuntime) -> ExitCode {
     let mut out = rt.stdout();
     let done = match words(&rt) {
         Ok(words) => run(rt.alloc(), words.as_slice(), &mut out),
-        Err(error) => Err(CodecFault::from(error)),
+        Err(error) => Err(BenchFault::from(error)),
     };
     ExitCode::from(status_of("bench_codec", done, &mut rt.stderr()))
 }

@@ -1,8 +1,6 @@
-//! Why a run stopped.
+//! What the words of the command line are.
 
-use std::io;
 use thiserror::Error;
-use trial::{EndFault, TrialFault};
 
 /// What the words of the command line were expected to be.
 #[derive(Clone, Copy, Debug, PartialEq, Eq, Error)]
@@ -37,34 +35,4 @@ pub enum Expected {
     Pause,
     #[error("sleep or spin")]
     Rest,
-}
-
-/// Why a run stopped.
-#[derive(Clone, Copy, Debug, PartialEq, Eq, Error)]
-pub enum BenchFault {
-    #[error("expected {0}")]
-    Usage(Expected),
-    #[error("{0}")]
-    Trial(TrialFault),
-}
-
-impl From<TrialFault> for BenchFault {
-    fn from(fault: TrialFault) -> BenchFault {
-        BenchFault::Trial(fault)
-    }
-}
-
-impl From<io::Error> for BenchFault {
-    fn from(error: io::Error) -> BenchFault {
-        BenchFault::Trial(TrialFault::from(error))
-    }
-}
-
-impl EndFault for BenchFault {
-    fn status(&self) -> u8 {
-        match self {
-            BenchFault::Usage(_) => 2,
-            BenchFault::Trial(fault) => fault.status(),
-        }
-    }
 }
