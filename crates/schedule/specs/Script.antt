@@ -3,6 +3,7 @@ use Rattle.std.specs.Prelude.{ℕ, suc, ◌-◌, Bool, true, false, ◌&&◌, Li
 use Rattle.std.specs.Char.{is_ascii_graphic}
 use Rattle.std.specs.List.{list_all}
 use Rattle.std.specs.Str.{bytes_eq}
+use Rattle.text_pieces.specs.Pieces.{pieces}
 use Rattle.fix_tags.specs.Digits.{within}
 use Rattle.fix_tags.specs.Number.{number_of}
 use Rattle.leg.specs.declared.side.Side.{Side}
@@ -22,16 +23,6 @@ pub record ScriptParts : Type 0 where
   pub dialects : List AnyDialect
   pub next : List Bool
   pub events : List Event
-
--- the pieces of a text between its separators, one more than there are separators
-abbrev pub with_byte : ℕ → List (List ℕ) → List (List ℕ)
-with_byte byte [] = (byte ∷ []) ∷ []
-with_byte byte (piece ∷ pieces) = (byte ∷ piece) ∷ pieces
-
-abbrev pub pieces : ℕ → List ℕ → List (List ℕ)
-pieces separator [] = [] ∷ []
-pieces separator (byte ∷ bytes) =
-    if byte == separator then [] ∷ pieces separator bytes else with_byte byte (pieces separator bytes)
 
 -- the lines: each ends with LF, which the last one may lack
 abbrev pub without_empty_end : List (List ℕ) → List (List ℕ)

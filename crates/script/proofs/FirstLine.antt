@@ -2,8 +2,9 @@
 use Rattle.std.proofs.Common.{◌≡◌, ℕ, ◌+◌, ◌-◌, ◌<◌, true, false, eqb, List, [], ◌∷◌, length, take, drop, Some, None, refl, sym, ap, ◌∙◌, arith, inl, inr}
 use Rattle.std.proofs.lemmas.Bool.{cases_Bool}
 use Rattle.memchr.specs.Find.{IsFirstByte, is_byte}
-use Rattle.schedule.specs.Script.{pieces, with_byte, lines_of, without_empty_end}
-use Rattle.script.proofs.FirstPiece.{piece_found, piece_whole}
+use Rattle.text_pieces.specs.Pieces.{pieces, with_byte}
+use Rattle.text_pieces.proofs.FirstPiece.{piece_found, piece_whole}
+use Rattle.schedule.specs.Script.{lines_of, without_empty_end}
 
 -- what stands before a text's pieces isn't the last of them
 before_byte : (byte : ℕ) (later : List (List ℕ)) (line : List ℕ)

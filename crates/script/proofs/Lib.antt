@@ -1,4 +1,3 @@
-mod FirstPiece
 pub mod FirstLine
 mod Legs
 mod SoFar

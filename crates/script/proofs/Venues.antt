@@ -5,7 +5,8 @@ use Rattle.std.specs.Str.{bytes_eq}
 use Rattle.std.specs.Option.{option_map, option_and_then}
 use Rattle.std.proofs.lemmas.Bool.Decides.{nat_tests}
 use Rattle.std.proofs.lemmas.List.{length-append}
-use Rattle.schedule.specs.Script.{ScriptHead, ScriptVenue, head_of_words, is_venue_count, number_within, pieces, venue_of_parts, venues_of_words}
+use Rattle.schedule.specs.Script.{ScriptHead, ScriptVenue, head_of_words, is_venue_count, number_within, venue_of_parts, venues_of_words}
+use Rattle.text_pieces.specs.Pieces.{pieces}
 use Rattle.script.specs.Head.{few_venues}
 use Rattle.script.proofs.SoFar.{with_front, one_more, none_more}
 

@@ -3,10 +3,10 @@
 ghost use Rattle.std.specs.Prelude.{◌≡◌, ◌≤◌, ◌∷◌, []};
 ghost use Rattle.schedule.specs.Script.{count_event, event_of, venue_event};
 
-use crate::pieces::Pieces;
 use crate::word::{count_word, px_word, shares_word, venue_word};
 use leg::VenueId;
 use schedule::{Act, Event, FrameNumber};
+use text_pieces::Pieces;
 
 /// The event of a venue alone.
 fn venue_event(name: &str, venue: VenueId) -> Option<Event>

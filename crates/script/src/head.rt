@@ -5,13 +5,13 @@ ghost use Rattle.std.specs.Option.{option_map};
 ghost use Rattle.schedule.specs.Script.{ScriptVenue, head_of_words, words_of};
 ghost use Rattle.script.specs.Head.{few_venues};
 
-use crate::pieces::Pieces;
 use crate::venue_choice::VenueChoice;
 use crate::word::{is_named, number_within, words_of};
 use arrayvec::ArrayVec;
 use dialect::AnyDialect;
 use std::alloc::{AllocError, Global};
 use std::marker::Model;
+use text_pieces::Pieces;
 
 /// The most venues of a script.
 const MAX_VENUES: usize = 16;

@@ -16,7 +16,6 @@ mod kept;
 mod line_fault;
 mod lines;
 mod parts;
-mod pieces;
 mod read;
 mod release;
 mod release_leg;

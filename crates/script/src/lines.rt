@@ -3,7 +3,7 @@
 ghost use Rattle.std.specs.Prelude.{◌≡◌, ◌<◌, ◌∷◌, suc, length, IfSome, IfNone};
 ghost use Rattle.std.specs.Option.{option_map};
 ghost use Rattle.schedule.specs.Script.{lines_of};
-ghost use Rattle.script.specs.Pieces.{with_first};
+ghost use Rattle.text_pieces.specs.Pieces.{with_first};
 
 use memchr::memchr;
 use std::marker::Model;

@@ -7,11 +7,11 @@ ghost use Rattle.script.specs.Reading.{ReadsLine, legs_from, more_legs};
 
 use crate::kept::Kept;
 use crate::line_fault::LineFault;
-use crate::pieces::Pieces;
 use crate::release_leg::read_leg;
 use leg::{Legs, Sweep};
 use schedule::Event;
 use std::alloc::Global;
+use text_pieces::Pieces;
 
 /// The venue of the next leg, behind a word that is `+`.
 fn next_venue<'a>(plus: &[u8], words: &mut Pieces<'a>) -> Option<&'a [u8]>

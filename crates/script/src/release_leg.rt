@@ -4,10 +4,10 @@ ghost use Rattle.std.specs.Prelude.{◌≡◌, ◌≤◌, ◌∷◌, length};
 ghost use Rattle.schedule.specs.Script.{leg_of_words, before, legs_of_words};
 ghost use Rattle.script.specs.Reading.{more_legs};
 
-use crate::pieces::Pieces;
 use crate::word::{any_venue, number_within, shares_word, side_word};
 use dialect::read_symbol;
 use leg::{MAX_PRICE, Routed, Terms};
+use text_pieces::Pieces;
 
 /// The leg of a venue, 0 to 15, a symbol as Plain spells it, a side, shares, and a price in ten-thousandths of a
 /// dollar.

@@ -1,12 +1,13 @@
 //! How a venue of a script is spoken to.
 
 ghost use Rattle.std.specs.Prelude.{◌≡◌};
-ghost use Rattle.schedule.specs.Script.{venue_of_parts, pieces};
+ghost use Rattle.schedule.specs.Script.{venue_of_parts};
+ghost use Rattle.text_pieces.specs.Pieces.{pieces};
 
 use crate::dialect_name::dialect_named;
-use crate::pieces::Pieces;
 use dialect::AnyDialect;
 use std::marker::Model;
+use text_pieces::Pieces;
 
 /// A venue's dialect, and whether its Logons say which number is expected next: NextExpectedMsgSeqNum (789) of a Logon,
 /// FIX 4.4 Volume 2.

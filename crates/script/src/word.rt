@@ -6,10 +6,10 @@ ghost use Rattle.std.specs.List.{list_all};
 ghost use Rattle.std.specs.Str.{bytes_eq};
 ghost use Rattle.schedule.specs.Script.{number_within, venue_word, count_word, shares_word, px_word, side_word, words_of};
 
-use crate::pieces::Pieces;
 use dialect::{LastPx, MAX_LAST_PX};
 use fix_tags::read_number;
 use leg::{MAX_SHARES, MAX_VENUE, Side, VenueId};
+use text_pieces::Pieces;
 
 /// The greatest number of a frame, an order or a trade.
 const MAX_COUNT: u64 = 999_999_999;

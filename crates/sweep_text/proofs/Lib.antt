@@ -1,4 +1,3 @@
-pub mod FirstPiece
 pub mod LegsRead
 pub mod Faults
 pub mod WordsBack

@@ -3,7 +3,8 @@ use Rattle.std.proofs.Common.{◌≡◌, ℕ, ◌≤◌, false, eqb, List, [], �
 use Rattle.std.specs.List.{All, AllByRecursion}
 use Rattle.std.proofs.lemmas.Bool.Decides.{nat_tests}
 use Rattle.std.proofs.lemmas.List.Elements.{recursion_from_All}
-use Rattle.sweep_text.specs.Words.{pieces, with_byte, non_empty, words_of}
+use Rattle.text_pieces.specs.Pieces.{pieces, with_byte}
+use Rattle.sweep_text.specs.Words.{non_empty, words_of}
 
 -- a byte that is printable, and no space
 pub record IsWordByte (byte : ℕ) : Type 0 where

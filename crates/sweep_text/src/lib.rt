@@ -13,7 +13,6 @@ mod command;
 mod laws;
 mod leg_words;
 mod line_fault;
-mod pieces;
 mod read;
 mod words;
 mod write;

@@ -2,10 +2,11 @@
 
 ghost use Rattle.std.specs.Prelude.{◌≡◌, ◌≤◌, [], length, IfNone};
 ghost use Rattle.std.specs.Option.{option_map};
-ghost use Rattle.sweep_text.specs.Words.{with_first, words_of};
+ghost use Rattle.sweep_text.specs.Words.{words_of};
+ghost use Rattle.text_pieces.specs.Pieces.{with_first};
 
-use crate::pieces::Pieces;
 use std::marker::Model;
+use text_pieces::Pieces;
 
 /// The words of a line that are left, parted by spaces.
 #[derive(Drop)]

@@ -2,15 +2,14 @@
 
 ghost use Rattle.std.specs.Prelude.{◌≡◌, [], IfNone};
 ghost use Rattle.std.specs.Option.{option_map};
-ghost use Rattle.sweep_text.specs.Words.{pieces};
-ghost use Rattle.sweep_text.specs.Words.{with_first};
+ghost use Rattle.text_pieces.specs.Pieces.{pieces, with_first};
 
 use memchr::memchr;
 use std::marker::Model;
 
 /// The pieces of a text that are left, one more than there are separators in it.
 #[derive(Drop)]
-pub(crate) struct Pieces<'a> {
+pub struct Pieces<'a> {
     separator: u8,
     rest: Option<&'a [u8]>,
 }
@@ -18,7 +17,7 @@ pub(crate) struct Pieces<'a> {
 impl<'a> Model for Pieces<'a> {
     ghost use Rattle.std.specs.Prelude.{ℕ, List};
     ghost use Rattle.std.specs.Option.{option_map};
-    ghost use Rattle.sweep_text.specs.Words.{pieces_left};
+    ghost use Rattle.text_pieces.specs.Pieces.{pieces_left};
 
     ghost Value = { List (List ℕ) };
 
@@ -26,7 +25,8 @@ impl<'a> Model for Pieces<'a> {
 }
 
 impl<'a> Pieces<'a> {
-    pub(crate) fn new(separator: u8, text: &'a [u8]) -> Pieces<'a>
+    /// Those of a text between its bytes of this value.
+    pub fn new(separator: u8, text: &'a [u8]) -> Pieces<'a>
         ensures { result ≡ pieces separator text.now }
     {
         Pieces {
@@ -37,7 +37,7 @@ impl<'a> Pieces<'a> {
 
     /// The next piece, if there is one.
     #[tactic(auto, using(crate::proofs::FirstPiece::piece_found, crate::proofs::FirstPiece::piece_whole))]
-    pub(crate) fn next(&mut self) -> Option<&'a [u8]>
+    pub fn next(&mut self) -> Option<&'a [u8]>
         ensures first { self.old ≡ with_first (option_map (λ piece. piece.now) result) self.new }
         ensures ended { IfNone result (self.new ≡ []) }
     {

@@ -1,9 +1,9 @@
 -- The pieces of a text, by the place of its first separator.
-use Rattle.std.proofs.Common.{◌≡◌, ℕ, zero, suc, ◌+◌, ◌-◌, ◌<◌, ◌≤◌, true, false, eqb, List, [], ◌∷◌, length, take, drop, get_or, Some, None, refl, sym, ap, ◌∙◌, arith, inl, inr}
+use Rattle.std.proofs.Common.{◌≡◌, ℕ, zero, suc, ◌+◌, ◌-◌, ◌<◌, true, eqb, List, [], ◌∷◌, length, take, drop, get_or, Some, None, refl, sym, ap, ◌∙◌, arith, inl, inr}
 use Rattle.std.proofs.lemmas.Bool.{cases_Bool}
 use Rattle.std.proofs.lemmas.List.{length-drop, take_all}
 use Rattle.memchr.specs.Find.{IsFirstByte, is_byte}
-use Rattle.schedule.specs.Script.{pieces, with_byte}
+use Rattle.text_pieces.specs.Pieces.{pieces, with_byte}
 
 -- the first separator of a text ends the first piece
 found : (separator : ℕ) (text : List ℕ) (at : ℕ) → at < length text → eqb (get_or text at 0) separator ≡ true
@@ -14,7 +14,9 @@ found separator (byte ∷ bytes) zero within here before = rw here refl
 found separator (byte ∷ bytes) (suc n) within here before =
     elim (cases_Bool (eqb byte separator)) [
       | inl is ↦ absurd (before 0 (omega arith) is)
-      | inr other ↦ rw other (ap (with_byte byte) (found separator bytes n (omega (arith, within)) here (λ k low is. before (suc k) (omega (arith, low)) is)))
+      | inr other ↦
+          rw other (ap (with_byte byte) (found separator bytes n (omega (arith, within)) here
+          (λ k low is. before (suc k) (omega (arith, low)) is)))
     ]
 
 -- a text with no separator is one piece
@@ -24,7 +26,9 @@ whole separator [] before = refl
 whole separator (byte ∷ bytes) before =
     elim (cases_Bool (eqb byte separator)) [
       | inl is ↦ absurd (before 0 (omega arith) is)
-      | inr other ↦ rw other (ap (with_byte byte) (whole separator bytes (λ k low is. before (suc k) (omega (arith, low)) is)))
+      | inr other ↦
+          rw other (ap (with_byte byte) (whole separator bytes
+          (λ k low is. before (suc k) (omega (arith, low)) is)))
     ]
 
 -- what stands behind a place
