@@ -1,0 +1,2 @@
+pub mod OnAccepted
+pub mod NotesTheorem
