@@ -1,3 +1,4 @@
 pub mod Accepting
 pub mod OwnAccepted
 pub mod NotesGiven
+pub mod Example

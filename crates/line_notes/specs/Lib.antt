@@ -1,2 +1,3 @@
 pub mod OnAccepted
 pub mod NotesTheorem
+pub mod Example

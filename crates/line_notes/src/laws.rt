@@ -1,5 +1,6 @@
 //! What holds of the notes that the book is given, over any exchange that keeps the rules.
 
+ghost use Rattle.line_notes.specs.Example.{IsRefusalNoted};
 ghost use Rattle.line_notes.specs.NotesTheorem.{TheNotesTheorem, TheWithdrawnTheorem};
 
 /// Whatever exchange keeps the rules, and whatever is delivered, lost, repeated or broken: each note that the book is
@@ -12,4 +13,10 @@ pub fn every_note_is_on_an_accepted_leg()
 /// id.
 pub fn no_note_is_on_a_withdrawn_leg()
     ensures { TheWithdrawnTheorem }
+{}
+
+/// A worked line, computed: the exchange accepts an order and refuses it. The premises of the laws above hold of it, and
+/// the one note that is given is of the refusal, on that leg.
+pub fn a_refused_order_is_noted_of_its_leg()
+    ensures { IsRefusalNoted }
 {}

@@ -5,6 +5,8 @@
 //! - Every note that is given is on a leg that the exchange has accepted: `every_note_is_on_an_accepted_leg`.
 //! - None is on a leg that is withdrawn, where no two released legs have the same id:
 //!   `no_note_is_on_a_withdrawn_leg`.
+//! - A worked line, computed: an order is accepted and refused, and the refusal is noted of its leg
+//!   (`a_refused_order_is_noted_of_its_leg`).
 #![tactic(auto)]
 
 pub mod laws;
