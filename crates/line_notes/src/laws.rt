@@ -15,8 +15,8 @@ pub fn no_note_is_on_a_withdrawn_leg()
     ensures { TheWithdrawnTheorem }
 {}
 
-/// A worked line, computed: the exchange accepts an order and refuses it. The premises of the laws above hold of it, and
-/// the one note that is given is of the refusal, on that leg.
+/// A worked line, computed: the exchange accepts an order and refuses it. The laws above speak of it, and the one note
+/// that is given is that of the refusal, on the accepted leg.
 pub fn a_refused_order_is_noted_of_its_leg()
     ensures { IsRefusalNoted }
 {}
