@@ -291,5 +291,6 @@ is_filled_over read = record {
   accepted = refl;
   taken = refl;
   withdrawn = refl;
+  asked = refl;
   up = refl;
 }

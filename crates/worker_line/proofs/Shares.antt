@@ -200,7 +200,7 @@ among_kept keeps id here (leg ∷ ids) =
           ∙ (among_kept keeps id here ids ∙ sym (unlike_first (keeps leg) leg id (filter keeps ids) other))
     ]
 
-withdrawn_by_venue : (book : BookParts) (venue : ℕ) (id : LegIdParts) (routed : Routed)
+pub withdrawn_by_venue : (book : BookParts) (venue : ℕ) (id : LegIdParts) (routed : Routed)
     → order_of id book.entries ≡ Some routed → routed.venue ≡ venue
     → is_withdrawn id book.entries ≡ is_among id (withdrawn_of venue book.entries)
 withdrawn_by_venue book venue id routed found of_venue =
@@ -228,7 +228,7 @@ also_then : (b x y : Bool) → (x ≡ true → y ≡ true) → (b || x) ≡ true
 also_then true x y more is = refl
 also_then false x y more is = more is
 
-among_asked : (id : LegIdParts) (bookings : List Booking) → is_among id (withdrawn_among bookings) ≡ true
+pub among_asked : (id : LegIdParts) (bookings : List Booking) → is_among id (withdrawn_among bookings) ≡ true
     → is_among id (asked_of bookings) ≡ true
 among_asked id [] is = is
 among_asked id (Given note answer entries ∷ rest) is = among_asked id rest is

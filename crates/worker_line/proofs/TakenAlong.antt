@@ -22,7 +22,7 @@ use Rattle.worker_line.specs.Happening.{VenueEvent, works_of, after_called, afte
 use Rattle.worker_line.specs.Happening.VenueEvent.{Works, Exchanges, Releases}
 
 -- a call changes the session as it does, and nothing of the desk
-called_session : (read : Decoding) (a : Line) (made : SessionCall)
+pub called_session : (read : Decoding) (a : Line) (made : SessionCall)
     → (after_called read a made).session ≡ (called read a.session made).1
 called_session read a (call.Receive envelope) = refl
 called_session read a call.Confirm = refl

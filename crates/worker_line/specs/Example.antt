@@ -17,7 +17,7 @@ use Rattle.session_core.specs.Turn.{fence_id}
 use Rattle.session_core.specs.Example.{config, leg}
 use Rattle.exchange_core.specs.Acceptance.{Carried, RuleState}
 use Rattle.venue_line.specs.Line.{Line, new_line}
-use Rattle.session_worker.specs.Events.{AreAllowed}
+use Rattle.session_worker.specs.Events.{AreAllowed, withdrawn_by}
 use Rattle.session_worker.specs.Events.WorkerEvent.{Calls}
 use Rattle.worker_line.specs.Happening.{VenueEvent, works_of, after_events, MayAllHappen, AllTakeNext}
 use Rattle.worker_line.specs.Happening.VenueEvent.{Works, Exchanges, Releases}
@@ -132,4 +132,5 @@ pub record IsFilledOver (read : Decoding) : Type 0 where
   pub accepted : (reached read).exchange.intake.accepted ≡ first ∷ []
   pub taken : leg_state (reached read).session 1 ≡ Some Taken
   pub withdrawn : leg_state (reached read).session 2 ≡ Some Withdrawn
+  pub asked : withdrawn_by read (new_session config) (works_of history) ≡ second.id ∷ []
   pub up : (reached read).session.phase ≡ Up

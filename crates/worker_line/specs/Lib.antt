@@ -1,4 +1,5 @@
 pub mod Happening
+pub mod Gone
 pub mod Shares
 pub mod WorkerTheorem
 pub mod Example

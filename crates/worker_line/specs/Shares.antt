@@ -1,7 +1,7 @@
 -- The shares of a venue's legs in the book, by the notes that were given to it and the legs that it was asked to
 -- withdraw.
-use Rattle.std.specs.Prelude.{◌≡◌, ◌⊎◌, ℕ, Bool, true, false, List, [], map, filter, take, Some, None}
-use Rattle.std.specs.List.{Contains, list_any}
+use Rattle.std.specs.Prelude.{◌≡◌, ℕ, Bool, true, false, List, map, filter, take, Some, None}
+use Rattle.std.specs.List.{Contains, IsDistinct, list_any}
 use Rattle.leg.specs.LegId.{LegIdParts}
 use Rattle.leg.specs.Split.{leg_shares}
 use Rattle.leg.specs.declared.sweep.Routed.{Routed}
@@ -26,17 +26,16 @@ pub record IsRuled (book : BookParts) (bookings : List Booking) (id : LegIdParts
       (map move_of (filter (is_about id) (moved_among bookings)))
   pub adds_up : leg_shares (leg_parts id routed.terms.shares book) ≡ routed.terms.shares
 
--- why a book that had so many entries refused to withdraw a leg: it is withdrawn, or a note on it moved, or the book
--- had no such leg yet
-abbrev pub IsReason : BookParts → List Note → LegIdParts → ℕ → Type 0
-IsReason book moved id count =
-    (is_withdrawn id book.entries ≡ true)
-    ⊎ ((filter (is_about id) moved ≡ [] → ⊥) ⊎ (order_of id (take count book.entries) ≡ None))
+-- no note given is on a leg that was asked for
+abbrev pub AreSpared : List Note → List LegIdParts → Type 0
+AreSpared given asked =
+    (id : LegIdParts) (note : Note) → Contains asked id → Contains given note → is_about id note ≡ false
 
 -- the notes that a venue's worker gave, and the legs that it asked to be withdrawn, are those that the book took of it,
 -- in order: each was answered by the book's rule, and what the history has of the venue are just the notes that moved
--- and the legs that the book withdrew. These rule each leg of the venue; none is withdrawn but one that was asked for,
--- and none was refused but for a reason
+-- and the legs that the book withdrew. These rule each leg of the venue; none is withdrawn but one that was asked for.
+-- None was asked for twice, and no note given is on one that was; so the book refused none but one that it didn't have
+-- yet
 pub record AreShares (book : BookParts) (venue : ℕ) (given : List Note) (asked : List LegIdParts) : Type 0 where
   pub bookings : List Booking
   pub notes : notes_of bookings ≡ given
@@ -46,5 +45,7 @@ pub record AreShares (book : BookParts) (venue : ℕ) (given : List Note) (asked
       → IsRuled book bookings id routed
   pub only_asked : (id : LegIdParts) (routed : Routed) → order_of id book.entries ≡ Some routed → routed.venue ≡ venue
       → is_withdrawn id book.entries ≡ true → is_among id asked ≡ true
+  pub once : IsDistinct is_same_leg asked
+  pub spared : AreSpared given asked
   pub refused : (id : LegIdParts) (routed : Routed) → order_of id book.entries ≡ Some routed → routed.venue ≡ venue
-      → (count : ℕ) → Contains bookings (Asked id false count) → IsReason book (moved_among bookings) id count
+      → (count : ℕ) → Contains bookings (Asked id false count) → order_of id (take count book.entries) ≡ None

@@ -21,6 +21,7 @@ use Rattle.session_worker.specs.Events.WorkerEvent.{Drops}
 use Rattle.session_worker.specs.Ends.{WorkerLeft, last_calls, Runs}
 use Rattle.session_worker.specs.Audit.{AuditedDay}
 use Rattle.worker_line.specs.Happening.{VenueEvent, works_of, after_events, moments_of, MayAllHappen, AllTakeNext}
+use Rattle.worker_line.specs.Gone.{AreGone}
 use Rattle.worker_line.specs.Shares.{AreShares}
 
 -- a line on which nothing has happened, but that these legs are released
@@ -51,8 +52,8 @@ pub record Ran (w : Wording) (config : ConfigParts) (events : List VenueEvent) (
 -- at each moment what is safe on a line holds, and from each to every later one what is settled stays so; the line that
 -- is reached at the end has the worker's session, and was given the notes that the session's calls confirm. These are
 -- just the notes that the book took on the worker's seat meanwhile, in order, and the legs that it was asked to
--- withdraw are just those that the worker's events withdraw. And the legs that left are those that the worker took, the
--- first ones released
+-- withdraw are just those that the worker's events withdraw: these are the legs that are withdrawn on the line. And the
+-- legs that left are those that the worker took, the first ones released
 pub record IsSafeLine (read : Decoding) (start : Line) (events : List VenueEvent) (before after : WorkerParts)
     : Type 0 where
   pub holds : All LineHolds (moments_of read start events)
@@ -62,6 +63,7 @@ pub record IsSafeLine (read : Decoding) (start : Line) (events : List VenueEvent
       ≡ booked_by read start.session start.waiting (calls_of (works_of events))
   pub booked : after.seat.booked ≡ before.seat.booked ++ (after_events read start events).given
   pub asked : after.seat.asked ≡ before.seat.asked ++ withdrawn_by read start.session (works_of events)
+  pub gone : AreGone (after_events read start events) (withdrawn_by read start.session (works_of events))
   pub left : (after_events read start events).left ≡ length after.took.taken
   pub first : IsPrefix after.took.taken (placed_from 1 (after_events read start events).released)
 

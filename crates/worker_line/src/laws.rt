@@ -14,9 +14,10 @@ use dialect::Dialect;
 /// is settled stays settled. And the notes that it gave the book, and the legs that it asked it to withdraw, which are
 /// those that its session withdrew or didn't send, rule the shares of its venue's legs there: each was answered by the
 /// book's rule, what the history has of the venue are just the notes that moved and the legs that the book withdrew,
-/// and each leg's five parts are what the share rule makes of those on it, and add up to its shares. It asks that the
-/// exchange keeps the rules, and wrote what came in the present connection; and that the worker began with the new seat
-/// of its venue, and that seat is the one at the venue's place.
+/// and each leg's five parts are what the share rule makes of those on it, and add up to its shares. No leg is asked
+/// for twice, and no note given is on one that is; so the book refused none of the venue's legs but one that it didn't
+/// have yet. It asks that the exchange keeps the rules, and wrote what came in the present connection; and that the
+/// worker began with the new seat of its venue, and that seat is the one at the venue's place.
 pub fn every_worker_of_an_audited_day_is_a_line<D: Dialect>(dialect: &D)
     ensures { TheDayTheorem (D.wording dialect.now) }
 {}
@@ -35,6 +36,7 @@ pub fn a_worker_at_work_is_a_line()
 
 /// A worked history: of two legs that were sent before a break the exchange has taken only the first. The premises of
 /// the laws above hold of it, and it ends with the first leg taken and the second withdrawn, its number filled over.
+/// The book is asked to withdraw the second leg alone.
 pub fn a_lost_leg_is_withdrawn_and_filled_over()
     ensures { (read : Decoding) → IsFilledOver read }
 {}
@@ -68,7 +70,8 @@ pub fn what_comes_over_the_link_was_written<D: Dialect>(dialect: &D)
 /// tells its traffic, whatever exchange is at the other end. Where the exchange keeps the rules, and what comes to
 /// either end came by the bytes on the link, its orders, gaps, close, settled legs and reports are safe at each moment,
 /// what is settled stays so, and the shares of the venue's legs in the book are ruled by what the session confirmed,
-/// and by what the book withdrew of the legs that the session withdrew or didn't send.
+/// and by what the book withdrew of the legs that the session withdrew or didn't send. Of the venue's legs it refused
+/// none but one that it didn't have yet.
 pub fn every_venue_of_an_audited_day_is_safe_by_its_bytes<D: Dialect>(dialect: &D)
     ensures { TheDayByBytes (D.wording dialect.now) }
 {}
