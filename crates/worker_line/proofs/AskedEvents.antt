@@ -52,7 +52,7 @@ broken_log s =
 
 module _ (a b : Line) (h : Whole a) (leads : Leads a b) where
   -- no leg leaves
-  none_asked : (left : b.left ≡ a.left) → Grew a.session.log b.session.log → Asks a b []
+  none_asked : b.left ≡ a.left → Grew a.session.log b.session.log → Asks a b []
   none_asked left grew =
       let safe = leads_safely a b leads h in
       asks_none a b h.0 safe.0.0 safe.1 (leads_past a b leads) left

@@ -68,8 +68,9 @@ distinct-none : IsDistinct is_same_leg []
 unfolding IsDistinct
 distinct-none = tt
 
-distinct-cons : (id : LegIdParts) (ids : List LegIdParts) → ((other : LegIdParts) → Contains ids other → id ≡ other → ⊥)
-    → IsDistinct is_same_leg ids → IsDistinct is_same_leg (id ∷ ids)
+distinct-cons : (id : LegIdParts) (ids : List LegIdParts)
+    → ((other : LegIdParts) → Contains ids other → id ≡ other → ⊥) → IsDistinct is_same_leg ids
+    → IsDistinct is_same_leg (id ∷ ids)
 unfolding IsDistinct
 distinct-cons id ids others more =
     (all_of (λ y. is_same_leg id y ≡ false) ids (λ other there. differs id other (others other there)), more)
@@ -340,7 +341,11 @@ module _ (a b : Line) (ia : LineInvariant a) (ib : LineInvariant b) (stays : Sta
         leg = leg;
         whole = whole;
         same = refl;
-        withdrawn = record { from = omega arith; left = omega arith; gone = inl (no_state (leg_state b.session (suc a.left)) refl) };
+        withdrawn = record {
+          from = omega arith;
+          left = omega arith;
+          gone = inl (no_state (leg_state b.session (suc a.left)) refl);
+        };
       };
       fresh = λ before. (let l = before.left in omega arith);
     });

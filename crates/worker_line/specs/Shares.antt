@@ -34,8 +34,8 @@ AreSpared given asked =
 -- the notes that a venue's worker gave, and the legs that it asked to be withdrawn, are those that the book took of it,
 -- in order: each was answered by the book's rule, and what the history has of the venue are just the notes that moved
 -- and the legs that the book withdrew. These rule each leg of the venue; none is withdrawn but one that was asked for.
--- None was asked for twice, and no note given is on one that was; so the book refused none but one that it didn't have
--- yet
+-- None was asked for twice, and no note given is on one that was; so of the venue's legs the book refused none but one
+-- that it didn't have yet
 pub record AreShares (book : BookParts) (venue : ℕ) (given : List Note) (asked : List LegIdParts) : Type 0 where
   pub bookings : List Booking
   pub notes : notes_of bookings ≡ given
