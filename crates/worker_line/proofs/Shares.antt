@@ -28,7 +28,7 @@ use Rattle.exec_collector.specs.declared.booking.Booking.{Booking}
 use Rattle.exec_collector.specs.declared.booking.Booking.TheVariants.{Given, Asked}
 use Rattle.exec_collector.specs.Booked.{moved_of, moved_among, withdrawn_among, asked_of, is_of_venue, withdrawn_ids, withdrawn_of, IsAsBooked}
 use Rattle.exec_collector.proofs.Booked.{moved-append, is_withdrawn-ids}
-use Rattle.worker_line.specs.Shares.{is_among, IsRuled}
+use Rattle.worker_line.specs.Shares.{is_among, HasParts}
 
 -- where no note is on a leg, none of a venue is
 none_by : (about here : Bool) (id : LegIdParts) (note : Note) (xs ys : List Note) → is_about id note ≡ about
@@ -211,7 +211,7 @@ withdrawn_by_venue book venue id routed found of_venue =
 -- by what the history has of a venue each of its legs is ruled
 pub ruled_by : (book : BookParts) → Replays book → (venue : ℕ) (bookings : List Booking) → IsAsBooked venue book bookings
     → (id : LegIdParts) (routed : Routed) → order_of id book.entries ≡ Some routed → routed.venue ≡ venue
-    → IsRuled book bookings id routed
+    → HasParts book bookings id routed
 ruled_by book replays venue bookings is id routed found of_venue =
     let notes = notes_by_venue book replays id routed found
     ∙ ap (λ v. filter (is_about id) (moved_of v book.entries)) of_venue ∙ ap (filter (is_about id)) is.moved in

@@ -19,7 +19,7 @@ is_among id ids = list_any (λ leg. is_same_leg leg id) ids
 
 -- a leg's parts are what the share rule makes of the notes on it, among those that moved, and of its withdrawal if the
 -- book withdrew it; and they add up to its shares
-pub record IsRuled (book : BookParts) (bookings : List Booking) (id : LegIdParts) (routed : Routed) : Type 0 where
+pub record HasParts (book : BookParts) (bookings : List Booking) (id : LegIdParts) (routed : Routed) : Type 0 where
   pub withdrawn : is_withdrawn id book.entries ≡ is_among id (withdrawn_among bookings)
   pub parts : leg_parts id routed.terms.shares book
       ≡ parts_of routed.terms.shares (is_among id (withdrawn_among bookings))
@@ -42,7 +42,7 @@ pub record AreShares (book : BookParts) (venue : ℕ) (given : List Note) (asked
   pub legs : asked_of bookings ≡ asked
   pub booked : AreBooked venue book bookings
   pub each_leg : (id : LegIdParts) (routed : Routed) → order_of id book.entries ≡ Some routed → routed.venue ≡ venue
-      → IsRuled book bookings id routed
+      → HasParts book bookings id routed
   pub only_asked : (id : LegIdParts) (routed : Routed) → order_of id book.entries ≡ Some routed → routed.venue ≡ venue
       → is_withdrawn id book.entries ≡ true → is_among id asked ≡ true
   pub once : IsDistinct is_same_leg asked
