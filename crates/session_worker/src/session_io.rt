@@ -31,9 +31,6 @@ use std::sync::Arc;
 use std::time::Duration;
 use venue_board::{Loss, Progress, VenueBoard};
 
-/// How many bytes a read takes at most.
-const READ_SIZE: usize = 4096;
-
 /// How many milliseconds a rest lasts at least, unless the link has something to tell.
 const LEAST_REST: u64 = 1;
 
@@ -285,14 +282,13 @@ impl<K: Link, C: Clock + Drop> SessionIo<K, C> {
         }
     }
 
-    /// Reads once. Where that fails, or no byte comes any more, the connection is given up.
-    pub(crate) fn read(&mut self)
+    /// Reads once, as far as the buffer goes. Where that fails, or no byte comes any more, the connection is given up.
+    pub(crate) fn read(&mut self, buf: &mut [u8])
         ensures session { MayBreak self.old.session self.new.session }
         ensures wire { Reads self.old.wire self.new.wire }
         ensures hears { (said : Said) → IsHearing said self.old → IsHearing said self.new }
     {
-        let mut buf = [0; READ_SIZE];
-        match self.link.read(&mut buf) {
+        match self.link.read(buf) {
             Ok(Got::Bytes(count)) => self.take_in(&buf[..count]),
             Ok(Got::Nothing) => {}
             Ok(Got::End) => self.break_off(Loss::PeerClosed),

@@ -33,6 +33,9 @@ use venue_board::Loss;
 /// In how many rounds a turn drains a ring at most.
 const DRAIN_ROUNDS: usize = 8;
 
+/// How many bytes a turn reads at most.
+const READ_SIZE: usize = 4096;
+
 /// How many messages a turn takes at most; the others are taken in the next one.
 const MESSAGES_A_TURN: usize = 512;
 
@@ -84,6 +87,7 @@ impl<K: Link, C: Clock + Drop, L: Run, M: Accounts> WorkerState<K, C, L, M> {
         ensures does { Does (D.wording dialect.now) self.old self.new }
         ensures reason { IsReason result self.new.io.session.phase }
     {
+        let mut buf = [0; READ_SIZE];
         let mut rests = 0;
         let mut patience = Patience::new();
         for _ in rt.forever() {
@@ -94,7 +98,7 @@ impl<K: Link, C: Clock + Drop, L: Run, M: Accounts> WorkerState<K, C, L, M> {
                 break;
             }
             self.heed(rt, lock, stop);
-            if self.turn(rt, dialect, lock, collector) {
+            if self.turn(rt, dialect, lock, collector, &mut buf) {
                 rests += 1;
             }
         }
@@ -129,13 +133,14 @@ impl<K: Link, C: Clock + Drop, L: Run, M: Accounts> WorkerState<K, C, L, M> {
         self.io.abandon();
     }
 
-    /// One turn, and whether the worker rested at its end, since it had nothing to do.
+    /// One turn, which reads into this buffer, and whether the worker rested at its end, since it had nothing to do.
     pub(crate) fn turn<D: Dialect>(
         &mut self,
         rt: &impl Wait,
         dialect: &D,
         lock: &ReleaseLock<L>,
         collector: &Collector<M>,
+        buf: &mut [u8],
     ) -> bool
         ensures { Does (D.wording dialect.now) self.old self.new }
     {
@@ -143,7 +148,7 @@ impl<K: Link, C: Clock + Drop, L: Run, M: Accounts> WorkerState<K, C, L, M> {
         self.io.begin_turn();
         self.begin(rt, dialect, lock, collector);
         self.close_if_shut(rt, dialect, lock, collector);
-        self.listen(rt, dialect, collector);
+        self.listen(rt, dialect, collector, buf);
         self.write_if_quiet(rt, dialect, collector);
         self.ask_if_silent(rt, dialect, collector);
         self.rest_if_idle(taken)
@@ -350,14 +355,20 @@ impl<K: Link, C: Clock + Drop, L: Run, M: Accounts> WorkerState<K, C, L, M> {
         }
     }
 
-    /// Reads once, while there is a connection, and does what the messages want.
-    fn listen<D: Dialect>(&mut self, rt: &impl Wait, dialect: &D, collector: &Collector<M>)
+    /// Reads once into the buffer, while there is a connection, and does what the messages want.
+    fn listen<D: Dialect>(
+        &mut self,
+        rt: &impl Wait,
+        dialect: &D,
+        collector: &Collector<M>,
+        buf: &mut [u8],
+    )
         ensures { Does (D.wording dialect.now) self.old self.new }
     {
         if !self.io.is_connected() {
             return;
         }
-        self.io.read();
+        self.io.read(buf);
         for _ in 0..MESSAGES_A_TURN {
             match self.io.hear(dialect) {
                 Some(step) => self.carry_out(rt, collector, step),
