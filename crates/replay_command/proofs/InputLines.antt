@@ -3,7 +3,8 @@ use Rattle.std.proofs.Common.{◌≡◌, ℕ, suc, ◌<◌, true, false, eqb, Li
 use Rattle.std.specs.Prelude.{◌==◌, if◌then◌else◌}
 use Rattle.std.proofs.lemmas.Bool.{cases_Bool}
 use Rattle.std.specs.Io.BufRead.{take_through, drop_through}
-use Rattle.schedule.specs.Script.{pieces, with_byte, lines_of, without_empty_end}
+use Rattle.text_pieces.specs.Pieces.{pieces, with_byte}
+use Rattle.schedule.specs.Script.{lines_of, without_empty_end}
 use Rattle.script.proofs.FirstLine.{before_pieces}
 
 -- the bytes before the first line end, and the pieces behind that
