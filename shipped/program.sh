@@ -7,9 +7,19 @@ made_of=$here/shipped/made_of
 # The crates that the program is made of, lowest first. A line of crates.txt is a crate and what it uses, and stands
 # behind the lines of these.
 crates_of_program() {
-    tac "$here/crates.txt" | awk -F '[: ]+' -v top="$top" '
-        BEGIN { wanted[top] }
-        $1 != "" && $1 in wanted { print $1; for (i = 2; i <= NF; i++) wanted[$i] }' | tac
+    awk -F '[: ]+' -v top="$top" '
+        { lines[NR] = $0 }
+        END {
+            wanted[top]
+            for (at = NR; at; at--) {
+                count = split(lines[at], words)
+                if (count && words[1] in wanted) {
+                    crates[at] = words[1]
+                    for (i = 2; i <= count; i++) wanted[words[i]]
+                }
+            }
+            for (at = 1; at <= NR; at++) if (at in crates) print crates[at]
+        }' "$here/crates.txt"
 }
 
 # The lines of crates.txt of these crates.

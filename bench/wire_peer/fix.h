@@ -1,4 +1,4 @@
-/* What the two programs that stand beside `bench wire` share: frames, the clock, and loopback sockets. */
+/* What the programs that stand beside `dispatch` in a bench share: frames, the clock, and loopback sockets. */
 #include <arpa/inet.h>
 #include <errno.h>
 #include <netinet/in.h>
@@ -13,23 +13,23 @@
 
 enum { MOST_VENUES = 16, FRAME = 512 };
 
-static int64_t now_ns(void) {
+static inline int64_t now_ns(void) {
     struct timespec t;
     clock_gettime(CLOCK_MONOTONIC, &t);
     return t.tv_sec * 1000000000LL + t.tv_nsec;
 }
 
-static void fail(const char *why) {
+static inline void fail(const char *why) {
     fprintf(stderr, "%s\n", why);
     exit(1);
 }
 
-static void no_delay(int fd) {
+static inline void no_delay(int fd) {
     const int one = 1;
     setsockopt(fd, IPPROTO_TCP, TCP_NODELAY, &one, sizeof one);
 }
 
-static struct sockaddr_in loopback(int port) {
+static inline struct sockaddr_in loopback(int port) {
     struct sockaddr_in at = {0};
     at.sin_family = AF_INET;
     at.sin_port = htons((uint16_t)port);
@@ -37,15 +37,33 @@ static struct sockaddr_in loopback(int port) {
     return at;
 }
 
+/* Puts a text, or a number that isn't negative, at `to`: where it ends. */
+static inline char *put(char *to, const char *text) { return stpcpy(to, text); }
+
+static inline char *put_number(char *to, long number) {
+    char digits[24], *at = digits + sizeof digits;
+    *--at = 0;
+    do *--at = (char)('0' + number % 10);
+    while (number /= 10);
+    return put(to, at);
+}
+
 /* The frame of a message of this kind and number, `body` behind its header; its length. */
-static size_t frame(char *to, const char *kind, const char *me, const char *peer, long number, const char *body) {
-    char inner[FRAME], stamp[32];
+static inline size_t frame(char *to, const char *kind, const char *me, const char *peer, long number, const char *body) {
+    static char stamp[40];
+    static time_t stamped;
+    char inner[FRAME], *at = inner, *end = to;
     const time_t second = time(NULL);
-    strftime(stamp, sizeof stamp, "%Y%m%d-%H:%M:%S.000", gmtime(&second));
-    const int length = snprintf(inner, sizeof inner, "35=%s\00149=%s\00156=%s\00134=%ld\00152=%s\001%s", kind, me, peer,
-                                number, stamp, body);
-    const int size = snprintf(to, FRAME, "8=FIX.4.4\0019=%d\001%s", length, inner);
+    if (second != stamped) strftime(stamp, sizeof stamp, "%Y%m%d-%H:%M:%S.000", gmtime(&second));
+    stamped = second;
+    at = put(put(put(put(put(put(at, "35="), kind), "\00149="), me), "\00156="), peer);
+    at = put(put(put(put(put_number(put(at, "\00134="), number), "\00152="), stamp), "\001"), body);
+    end = put(put(put_number(put(end, "8=FIX.4.4\0019="), at - inner), "\001"), inner);
     unsigned sum = 0;
-    for (int at = 0; at < size; at++) sum += (unsigned char)to[at];
-    return (size_t)size + (size_t)snprintf(to + size, FRAME - (size_t)size, "10=%03u\001", sum % 256);
+    for (const char *it = to; it < end; it++) sum += (unsigned char)*it;
+    end = put(end, "10=");
+    *end++ = (char)('0' + sum % 256 / 100);
+    *end++ = (char)('0' + sum % 256 / 10 % 10);
+    *end++ = (char)('0' + sum % 256 % 10);
+    return (size_t)(put(end, "\001") - to);
 }

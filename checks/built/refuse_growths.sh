@@ -2,32 +2,61 @@
 
 # How long a run may take. One that takes longer is ended, with status 124.
 most_seconds=${most_seconds:-600}
+# How many runs go side by side.
+at_once=${at_once:-$(nproc)}
 
 place=$(mktemp -d)
 trap 'rm -rf "$place"' EXIT
 clang -O2 -shared -fPIC -o "$place/refuse_growth.so" checks/built/refuse_growth.c || exit 1
 
-# Runs a program (its words behind the name of a judge) again and again, the first run refused its first growth of
-# memory, the next its second, until a run ends without a refusal. Standard input is read anew from the file `input` for
-# each run. After each run the judge is called with the growth's number and the run's status; what the run wrote stands
-# in "$place/out" and "$place/err". How many growths were refused is left in `growths`.
-refuse_each_growth() {
-    local judge=$1
+# Runs a program (its words behind a number) with the growth of memory of that number refused. Standard input is read anew
+# from the file `input`. The run has a folder of its own, "$place/runs/NUMBER": `out` and `err` are what it wrote, `status`
+# how it ended, and it runs in `here`, where it finds what lies in the folder `files`, if one is named. A run that met no
+# refusal is noted in "$place/runs/unmet".
+run_refused() {
+    local number=$1 room=$place/runs/$1
     shift
-    growths=0
-    while :; do
-        rm -f "$place/met"
-        timeout "$most_seconds" env REFUSED=$((growths + 1)) MET="$place/met" LD_PRELOAD="$place/refuse_growth.so" "$@" \
-            < "$input" > "$place/out" 2> "$place/err"
-        "$judge" $((growths + 1)) $?
-        [ -e "$place/met" ] || break
-        growths=$((growths + 1))
+    [ -z "${files:-}" ] || cp -r "$files/." "$room/here/"
+    cd "$room/here" || exit
+    timeout "$most_seconds" env REFUSED="$number" MET="$room/met" LD_PRELOAD="$place/refuse_growth.so" "$@" \
+        > "$room/out" 2> "$room/err"
+    echo $? > "$room/status"
+    [ -e "$room/met" ] || echo "$number" >> "$place/runs/unmet"
+}
+
+# Runs a program (its words behind the name of a judge) again and again, the first run refused its first growth of
+# memory, the next its second, and so on to a run that meets no refusal. Then the judge is called for each of them with
+# the growth's number, the run's status and its folder. How many growths were refused is left in `growths`.
+refuse_each_growth() {
+    local judge=$1 started=0 running=0 number ended last
+    shift
+    rm -rf "$place/runs"
+    mkdir "$place/runs"
+    while [ ! -e "$place/runs/unmet" ]; do
+        if [ "$running" -eq "$at_once" ]; then
+            wait -n
+            running=$((running - 1))
+            continue
+        fi
+        if [ $((started % 64)) -eq 0 ]; then
+            mkdir -p $(seq -f "$place/runs/%.0f/here" $((started + 1)) $((started + 64)))
+        fi
+        started=$((started + 1))
+        run_refused "$started" "$@" < "$input" &
+        running=$((running + 1))
     done
+    wait
+    last=$(sort -n "$place/runs/unmet" | head -n 1)
+    for ((number = 1; number <= last; number++)); do
+        read -r ended < "$place/runs/$number/status"
+        "$judge" "$number" "$ended" "$place/runs/$number"
+    done
+    growths=$((last - 1))
 }
 
 same_lines() {
-    if [ "$2" -ne 0 ] || ! cmp -s "$place/out" "$place/wanted"; then
-        echo "growth $1 refused: status $2: $(head -n 1 "$place/err")"
+    if [ "$2" -ne 0 ] || ! cmp -s "$3/out" "$place/wanted"; then
+        echo "growth $1 refused: status $2: $(head -n 1 "$3/err")"
         status=1
     fi
 }
@@ -37,7 +66,7 @@ same_lines() {
 # is stored beside its crate.
 must_print_the_same() {
     local least=$1 name=$2
-    local program=crates/$name/out/$name
+    local program=$PWD/crates/$name/out/$name
     shift 2
     local line="$name${*:+ $*}"
     status=0

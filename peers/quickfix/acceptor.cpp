@@ -13,6 +13,8 @@
 //   --test-every N    sends a TestRequest behind each Nth order of a venue
 //
 // It ends by SIGTERM, or after --seconds.
+#include "options.hpp"
+
 #include <quickfix/FileLog.h>
 #include <quickfix/FileStore.h>
 #include <quickfix/Session.h>
@@ -46,21 +48,6 @@ namespace {
 
 using FIX::Session;
 using FIX::SessionID;
-
-// The options of the command line; each has to be named in `values` with what it is where the line hasn't it.
-class Options {
-  std::map<std::string, std::string> values_;
-
- public:
-  Options(int count, char** words, std::map<std::string, std::string> values) : values_(std::move(values)) {
-    for (int i = 1; i < count; i += 2) {
-      if (!values_.count(words[i]) || i + 1 == count) throw std::runtime_error(std::string("bad option ") + words[i]);
-      values_[words[i]] = words[i + 1];
-    }
-  }
-  const std::string& text(const std::string& name) const { return values_.at(name); }
-  long number(const std::string& name) const { return std::stol(text(name)); }
-};
 
 struct Plan { const long fill, drop_every, ignore_every, test_every; };
 

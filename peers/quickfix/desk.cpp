@@ -12,6 +12,8 @@
 //   --persist WORD    the engine's setting PersistMessages, `Y` or `N`; without its messages it fills all numbers over
 //   --only-up WORD    whether it sends orders only while it is logged on: `yes` or `no`
 //   --wait N          seconds that it waits for reports at the end
+#include "options.hpp"
+
 #include <quickfix/MessageStore.h>
 #include <quickfix/Session.h>
 #include <quickfix/SocketInitiator.h>
@@ -23,28 +25,12 @@
 #include <chrono>
 #include <fstream>
 #include <iostream>
-#include <map>
 #include <sstream>
 #include <thread>
 
 namespace {
 
 using Clock = std::chrono::system_clock;
-
-// The options of the command line; each has to be named in `values` with what it is where the line hasn't it.
-class Options {
-  std::map<std::string, std::string> values_;
-
- public:
-  Options(int count, char** words, std::map<std::string, std::string> values) : values_(std::move(values)) {
-    for (int i = 1; i < count; i += 2) {
-      if (!values_.count(words[i]) || i + 1 == count) throw std::runtime_error(std::string("bad option ") + words[i]);
-      values_[words[i]] = words[i + 1];
-    }
-  }
-  const std::string& text(const std::string& name) const { return values_.at(name); }
-  long number(const std::string& name) const { return std::stol(text(name)); }
-};
 
 class Desk : public FIX::NullApplication {
   const bool skips_;

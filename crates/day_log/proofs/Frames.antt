@@ -1,21 +1,20 @@
 -- A frame as it is written is split off as one message.
-use Rattle.std.proofs.Common.{◌≡◌, ℕ, ◌+◌, ◌%◌, ◌^◌, ◌<◌, ◌≤◌, eqb, ltb, Bool, true, false, List, [], ◌∷◌, ◌++◌, length, sum, Option, Some, None, refl, sym, ap, ◌∙◌, arith, append_assoc, if◌then◌else◌}
+use Rattle.std.proofs.Common.{◌≡◌, ℕ, ◌%◌, ◌^◌, ◌<◌, ◌≤◌, eqb, ltb, Bool, true, false, List, [], ◌∷◌, ◌++◌, length, sum, Option, Some, None, refl, sym, ap, ◌∙◌, arith, append_assoc, if◌then◌else◌}
 use Rattle.std.specs.Prelude.{IsTrue, not, decimal}
 use Rattle.std.specs.Char.{is_ascii_digit}
 use Rattle.std.specs.Str.{all_ascii_digits}
 use Rattle.std.specs.List.{list_all}
-use Rattle.std.proofs.lemmas.Bool.{and_parts, or_parts, eqb-true, eq-eqb, lt-ltb, ne_eqb, not-true, leb-true}
-use Rattle.std.proofs.lemmas.List.{append-nil, length-append}
+use Rattle.std.proofs.lemmas.Bool.{and_parts, or_parts, eqb-true, eq-eqb, ne_eqb, not-true, leb-true}
+use Rattle.std.proofs.lemmas.List.{append-nil}
 use Rattle.fix_text.specs.Tagged.{Tagged}
 use Rattle.fix_text.specs.Text.{field_text, fields_text, holds_soh, is_writable_tag, is_writable_value, begins_with_type, has_writable_tags, has_writable_values}
 use Rattle.fix_text.specs.Frame.{three_digits, header_text, frame_text}
 use Rattle.fix_text.specs.Grammar.{digits_number}
-use Rattle.fix_text.proofs.Lengths.{frames_are_short}
 use Rattle.fix_text.proofs.Readers.{digit_range}
 use Rattle.fix_text.proofs.Rewritten.{decimal_digits, decimal_number, digits_no_soh, holds_soh-append, is_check-three_digits}
 use Rattle.day_log.specs.declared.field.Field.{Field}
 use Rattle.day_log.specs.declared.field.Field.TheVariants.{Empty, One, Ten, CheckSum, Other}
-use Rattle.day_log.specs.Piece.{PieceParts, Split, after_byte, field_after, is_end, longer_text, new_piece, split_on, with_message}
+use Rattle.day_log.specs.Messages.{Split, field_after, is_end, split, split_on, with_message}
 
 -- what is read of the field behind bytes, if no message ends with one of them
 abbrev pub goes : Field → List ℕ → Option Field
@@ -126,37 +125,26 @@ goes_header n small =
 goes_trailer : (n : ℕ) → n < 1000 → goes Empty (49 ∷ 48 ∷ 61 ∷ three_digits n) ≡ Some CheckSum
 goes_trailer n small = goes_check (three_digits n) (digits_no_soh (three_digits n) (is_check-three_digits n small).each)
 
-split_goes_at : (ends : Bool) (p : PieceParts) (f g : Field) (cs b : List ℕ) (whole : Split)
+split_goes_at : (ends : Bool) (f g h : Field) (text cs b : List ℕ) (whole : Split)
     → ◌≡◌ {A = Option Field} (if ends then None else goes f cs) (Some g)
-    → (goes f cs ≡ Some g → split_on p (cs ++ b) ≡ whole)
-    → (if ends then with_message p.text (split_on new_piece (cs ++ b)) else split_on p (cs ++ b)) ≡ whole
-split_goes_at true p f g cs b whole e later = absurd cc
-split_goes_at false p f g cs b whole e later = later e
+    → (goes f cs ≡ Some g → split_on f text (cs ++ b) ≡ whole)
+    → (if ends then with_message text (split_on h [] (cs ++ b)) else split_on f text (cs ++ b)) ≡ whole
+split_goes_at true f g h text cs b whole e later = absurd cc
+split_goes_at false f g h text cs b whole e later = later e
 
 -- bytes in which no message ends are under way
-split_goes : (f g : Field) (text a b : List ℕ) → length text + length a ≤ 8192 → goes f a ≡ Some g
-    → split_on (record { field = f; text = Some text }) (a ++ b) ≡ split_on (record { field = g; text = Some (text ++ a) }) b
-split_goes f g text [] b short e = rw (some_is f g e, append-nil text) refl
-split_goes f g text (c ∷ cs) b short e =
-    let room : ltb (length text) 8192 ≡ true = lt-ltb _ _ (omega (arith, short)) in
-    let longer : longer_text c text ≡ Some (text ++ c ∷ []) = rw room refl in
+split_goes : (f g : Field) (text a b : List ℕ) → goes f a ≡ Some g → split_on f text (a ++ b) ≡ split_on g (text ++ a) b
+split_goes f g text [] b e = rw (some_is f g e, append-nil text) refl
+split_goes f g text (c ∷ cs) b e =
     let next = field_after f c in
-    let fits : length (text ++ c ∷ []) + length cs ≤ 8192 = omega (arith, short, length-append text (c ∷ [])) in
-    split_goes_at (is_end f c) (after_byte c (record { field = f; text = Some text })) next g cs b _ e
+    split_goes_at (is_end f c) next g Empty (text ++ c ∷ []) cs b _ e
     (λ (goes_on : goes next cs ≡ Some g).
-    ap (λ (t : Option (List ℕ)). split_on (record { field = next; text = t }) (cs ++ b)) longer
-    ∙ split_goes next g (text ++ c ∷ []) cs b fits goes_on
-    ∙ ap (λ (t : List ℕ). split_on (record { field = g; text = Some t }) b) (append_assoc text (c ∷ []) cs))
-
--- the last byte of a message
-split_end : (front rest : List ℕ) → length front < 8192
-    → split_on (record { field = CheckSum; text = Some front }) (1 ∷ rest)
-    ≡ with_message (Some (front ++ 1 ∷ [])) (split_on new_piece rest)
-split_end front rest short = let room : ltb (length front) 8192 ≡ true = lt-ltb _ _ short in rw room refl
+    split_goes next g (text ++ c ∷ []) cs b goes_on
+    ∙ ap (λ (t : List ℕ). split_on g t b) (append_assoc text (c ∷ []) cs))
 
 pub frame_splits : (fields : List Tagged) (rest : List ℕ) → IsTrue (has_writable_tags fields)
     → IsTrue (has_writable_values fields) → length (fields_text fields) ≤ 4096
-    → split_on new_piece (frame_text fields ++ rest) ≡ with_message (Some (frame_text fields)) (split_on new_piece rest)
+    → split (frame_text fields ++ rest) ≡ with_message (frame_text fields) (split rest)
 frame_splits fields rest tags values short =
     let typed = and_parts (begins_with_type fields) (list_all (λ field. is_writable_tag field.tag) fields) tags in
     let body = fields_text fields in
@@ -166,14 +154,11 @@ frame_splits fields rest tags values short =
     let last : List ℕ = 49 ∷ 48 ∷ 61 ∷ three_digits n in
     let front = before ++ last in
     let is : frame_text fields ≡ front ++ 1 ∷ [] = sym (append_assoc before last (1 ∷ [])) in
-    let sized = frames_are_short fields short in
-    let fits : length front < 8192 = omega (arith, sized, ap length is, length-append front (1 ∷ [])) in
     let ends : goes Empty front ≡ Some CheckSum =
     goes_append Empty Empty before last
     (goes_append Empty Empty header body (goes_header (length body) (omega (arith, short))) ∙ goes_fields fields typed.1 values)
     ∙ goes_trailer n (omega arith) in
-    ap (λ (t : List ℕ). split_on new_piece (t ++ rest)) is
-    ∙ ap (split_on new_piece) (append_assoc front (1 ∷ []) rest)
-    ∙ split_goes Empty CheckSum [] front (1 ∷ rest) (omega (arith, fits)) ends
-    ∙ split_end front rest fits
-    ∙ ap (λ (t : List ℕ). with_message (Some t) (split_on new_piece rest)) (sym is)
+    ap (λ (t : List ℕ). split (t ++ rest)) is
+    ∙ ap split (append_assoc front (1 ∷ []) rest)
+    ∙ split_goes Empty CheckSum [] front (1 ∷ rest) ends
+    ∙ ap (λ (t : List ℕ). with_message t (split rest)) (sym is)

@@ -1,2 +1,6 @@
+mod FrameHeads
 mod Frames
-mod Split
+mod Heard
+mod Noting
+mod Splitting
+mod Writes

@@ -1,4 +1,5 @@
 pub mod Fault
 pub mod Folder
 pub mod Header
-pub mod Piece
+pub mod Messages
+pub mod Noted

@@ -1,7 +1,7 @@
 //! How far the field is read that is under way.
 
 ghost use Rattle.std.specs.Prelude.{◌≡◌};
-ghost use Rattle.day_log.specs.Piece.{field_after, is_end};
+ghost use Rattle.day_log.specs.Messages.{field_after, is_end};
 
 const SOH: u8 = 1;
 

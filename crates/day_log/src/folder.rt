@@ -9,6 +9,7 @@ use crate::file_writer::FileWriter;
 use crate::header::{SWEEPS_HEADER, header_line};
 use crate::log_file::LogFile;
 use crate::venue_log::VenueLog;
+use change_count::ChangeCount;
 use desk_config::Venue;
 use std::alloc::{AllocError, Global};
 use std::fs::{Files, OpenOptions};
@@ -137,11 +138,14 @@ fn begin_venue<R: Files>(
     begin_log(rt, alloc, folder, file, header.as_slice())
 }
 
-/// The lines of a log, of which none waits.
-fn new_log(alloc: Global) -> Result<Arc<VenueLog, Global>, LogFault>
+/// The lines of a log, of which none waits, and which are told there.
+fn new_log(
+    alloc: Global,
+    lines: Arc<ChangeCount, Global>,
+) -> Result<Arc<VenueLog, Global>, LogFault>
     ensures { IfErr result (λ fault. fault ≡ LogFault.OutOfMemory) }
 {
-    Ok(Arc::new(alloc, VenueLog::new(alloc))?)
+    Ok(Arc::new(alloc, VenueLog::new(alloc, lines))?)
 }
 
 impl<F: Write + Drop> DayLogs<F> {
@@ -150,7 +154,7 @@ impl<F: Write + Drop> DayLogs<F> {
         ensures some { IfOk result (λ logs. (logs.venues.items ≡ []) × (length logs.writers.items ≡ 1)) }
         ensures only { IfErr result (λ fault. fault ≡ LogFault.OutOfMemory) }
     {
-        let log = new_log(alloc)?;
+        let log = new_log(alloc, Arc::new(alloc, ChangeCount::new())?)?;
         let mut writers = Vec::new(alloc);
         writers.push(FileWriter::new(log.clone()?, sweeps))?;
         Ok(DayLogs {
@@ -166,7 +170,7 @@ impl<F: Write + Drop> DayLogs<F> {
             × (length self.new.writers.items ≡ length self.old.writers.items + 1)) }
         ensures only { IfErr result (λ fault. fault ≡ LogFault.OutOfMemory) }
     {
-        let log = new_log(alloc)?;
+        let log = new_log(alloc, self.sweeps.shared_lines()?)?;
         self.writers.push(FileWriter::new(log.clone()?, file))?;
         self.venues.push(log)?;
         Ok(())

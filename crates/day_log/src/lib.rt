@@ -1,16 +1,21 @@
 //! The logs of a desk's day: a link that notes what goes over it, the day's folder, and the thread that writes.
 //!
 //! Promises:
-//! - A `LoggedLink` keeps the laws of `Link` with the traffic of the link that it hands its calls to. What goes one
-//!   way over a connection is split into messages exactly as stated (`split_on`): a message ends with its field
-//!   CheckSum (10). Each frame that is written is one message with all its bytes, whatever follows it
-//!   (`written_frames_are_messages`). The line at the head of a venue's log, the names of the files and the text of
-//!   each fault are the stated ones (`header_text`, `file_text`, `fault_text`).
+//! - A `LoggedLink` keeps the laws of `Link` with the traffic of the link that it hands its calls to.
+//! - Where a log is kept, a `Recorder` notes what each call asks for and nothing else (`after_taking`, `after_read`,
+//!   `after_hearing`, `after_end`): the messages that were written whole, by however many writes
+//!   (`written_messages_are_noted`), and those that the session heard, in however many reads they came
+//!   (`heard_frames_are_noted`), in order and with all their bytes. What came in front of a message that was heard is
+//!   noted with it; no byte of it is lost (`no_byte_is_lost`), and each frame that was written is split off of it
+//!   (`written_frames_are_split_off`). What is noted is kept for contracts alone; that a line of it is put into the log
+//!   is what `Noting::note` does, and no clause says it.
+//! - The line at the head of a venue's log, the names of the files and the text of each fault are the stated ones
+//!   (`header_text`, `file_text`, `fault_text`).
 //! - `open_logs` gives a log for each venue and one for the lines, and answers `NameTaken` exactly where a venue is
 //!   called `sweeps`. What is put under a log's lock, that a file is there or isn't, and that the writer's thread
 //!   comes to write are said nowhere: what it writes of a batch is `LogWriter`'s promise.
-//! - What `Traffic` counts, how long orders wait to be written (`OrderTimes`), and what a venue said as it logged out
-//!   (`LogoutText`), is only tested.
+//! - What `Traffic` counts, how long orders wait to be written (`OrderTimes`), what a venue said as it logged out
+//!   (`LogoutText`), and that others are told when a worker did something, is only tested.
 #![tactic(auto)]
 
 mod counts;
@@ -18,17 +23,21 @@ mod fault;
 mod field;
 mod file_writer;
 mod folder;
+mod frame_head;
 mod header;
 pub mod laws;
 mod line_log;
 mod log_file;
 mod logged_link;
 mod logout_text;
+mod noted;
 mod order_times;
 mod piece;
 mod recorder;
+mod split;
 mod traffic;
 mod venue_log;
+mod way;
 
 pub use counts::LogCounts;
 pub use fault::LogFault;

@@ -40,6 +40,7 @@ impl<'a, R: Wait + time::Clock, K: Link, C: Clock + Drop> Link for LoggedLink<'a
     }
 
     fn read(&mut self, buf: &mut [u8]) -> Result<Got, LinkFault> {
+        self.recorder.came_back();
         let got = self.link.read(buf)?;
         if let Got::Bytes(count) = got {
             self.recorder.received(&buf[..count]);
@@ -47,17 +48,24 @@ impl<'a, R: Wait + time::Clock, K: Link, C: Clock + Drop> Link for LoggedLink<'a
         Ok(got)
     }
 
+    fn heard(&mut self, left: usize) {
+        self.link.heard(left);
+        self.recorder.heard(left);
+    }
+
     fn write(&mut self, bytes: &[u8]) -> Result<usize, LinkFault> {
         let count = self.link.write(bytes)?;
-        self.recorder.sent(&bytes[..count]);
+        self.recorder.sent(bytes, count);
         Ok(count)
     }
 
     fn rest(&mut self, most: Duration) {
+        self.recorder.came_back();
         self.link.rest(most)
     }
 
     fn shut(&mut self) -> Result<(), LinkFault> {
+        self.recorder.ended();
         self.link.shut()
     }
 

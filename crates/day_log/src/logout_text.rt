@@ -1,5 +1,6 @@
 //! What a venue said as it logged out.
 
+use crate::frame_head::has_type;
 use desk_words::{Printable, shown};
 use std::sync::atomic::{AtomicBool, Ordering};
 use std::sync::{Mutex, Wait};
@@ -7,8 +8,8 @@ use std::sync::{Mutex, Wait};
 /// What ends a field.
 const SOH: u8 = 1;
 
-/// The place of MsgType (35) among a message's fields, from 0.
-const MSG_TYPE_AT: usize = 2;
+/// MsgType (35) of a Logout.
+pub(crate) const LOGOUT: &[u8; 5] = b"35=5\x01";
 
 /// The most bytes of a text that are kept.
 const MAX_TEXT: usize = 200;
@@ -21,11 +22,6 @@ pub struct LogoutText {
     text: Mutex<Option<Printable<MAX_TEXT>>>,
 }
 
-/// Whether a message is a Logout: its third field is MsgType (35), and 5 (FIX 4.4 Volume 2, "Logout").
-fn is_logout(message: &[u8]) -> bool {
-    message.split(|byte| *byte == SOH).nth(MSG_TYPE_AT) == Some(b"35=5".as_slice())
-}
-
 /// The value of a message's first Text (58), if it has one.
 fn text_of(message: &[u8]) -> Option<&[u8]> {
     let field = message
@@ -36,7 +32,7 @@ fn text_of(message: &[u8]) -> Option<&[u8]> {
 
 /// What a message says, as it is shown, if it is a Logout with a text.
 fn said_by(message: &[u8]) -> Option<Printable<MAX_TEXT>> {
-    if !is_logout(message) {
+    if !has_type(message, LOGOUT) {
         return None;
     }
     let text = text_of(message)?;

@@ -1,106 +1,97 @@
-//! What went over a connection, split into messages.
+//! What no message ended yet.
 
-ghost use Rattle.std.specs.Prelude.{◌≡◌, ◌<◌, ◌≤◌, drop, length};
+ghost use Rattle.std.specs.Prelude.{◌≡◌, ◌≤◌, Some, [], drop, length};
 ghost use Rattle.std.specs.Option.{option_map};
-ghost use Rattle.day_log.specs.Piece.{Read, after_byte, new_piece, read_on};
+ghost use Rattle.day_log.specs.Messages.{front_of, is_fresh, kept_with, last_of};
 
-use crate::field::Field;
 use arrayvec::ArrayVec;
 use std::marker::Model;
 
-/// How many bytes of a message are kept, at most. A session takes no message as long as that.
-const MAX_MESSAGE: usize = 8_192;
+/// How many bytes are kept, at most: a read, and the longest message that a session takes, have less.
+const ROOM: usize = 16_384;
 
-/// The message that is under way on one way of a connection: the bytes that went over it behind the end of the message
-/// before. A message ends with its field CheckSum (10), which FIX has as the end of a message; so bytes that are no
-/// message stand in front of the next one. A message of more than 8,192 bytes is told, and its text isn't kept.
+/// The bytes that went one way over a connection and that no message ended yet, as long as there is room for them.
 #[derive(Drop)]
 pub(crate) struct Piece {
-    field: Field,
-    text: ArrayVec<u8, MAX_MESSAGE>,
+    bytes: ArrayVec<u8, ROOM>,
+    /// How many of the bytes belong to messages that have ended.
+    ended: usize,
     is_too_long: bool,
 }
 
-/// How many bytes were taken, and whether the message ended with the last of them.
-#[derive(Clone, Copy)]
-pub(crate) struct Taken {
-    pub(crate) count: usize,
-    pub(crate) is_whole: bool,
+impl Model for Piece {
+    ghost use Rattle.std.specs.Prelude.{ℕ, List, Option, Some, None, ◌≤◌, length, drop, if◌then◌else◌};
+
+    ghost Value = { Option (List ℕ) };
+
+    ghost view = { λ piece. if piece.is_too_long then None else Some (drop piece.ended piece.bytes.items) };
+
+    ghost invariant = { λ piece. piece.ended ≤ length piece.bytes.items };
 }
 
-impl Model for Piece {
-    ghost use Rattle.std.specs.Prelude.{Some, None, if◌then◌else◌};
-    ghost use Rattle.day_log.specs.Piece.{PieceParts};
-
-    ghost Value = { PieceParts };
-
-    ghost view = { λ piece. record {
-      field = piece.field;
-      text = if piece.is_too_long then None else Some piece.text.items;
-    } };
+/// Lets the first of some bytes go.
+fn let_go(bytes: &mut ArrayVec<u8, ROOM>, count: usize)
+    requires { count ≤ length bytes.old.items }
+    ensures { bytes.new.items ≡ drop count bytes.old.items }
+{
+    let left = bytes.len() - count;
+    bytes.as_mut_slice().copy_within(count.., 0);
+    bytes.truncate(left);
 }
 
 impl Piece {
-    /// Nothing is under way.
+    /// Nothing is kept.
     pub(crate) fn new() -> Piece
-        ensures { result ≡ new_piece }
+        ensures { result ≡ Some [] }
     {
         Piece {
-            field: Field::Empty,
-            text: ArrayVec::new(),
+            bytes: ArrayVec::new(),
+            ended: 0,
             is_too_long: false,
         }
     }
 
-    /// A message begins.
-    pub(crate) fn begin(&mut self)
-        ensures { self.new ≡ new_piece }
+    /// Whether nothing is kept, and nothing was that there was no room for.
+    pub(crate) fn is_fresh(&self) -> bool
+        ensures { result ≡ is_fresh self.now }
     {
-        self.field = Field::Empty;
-        self.text.clear();
-        self.is_too_long = false;
+        !self.is_too_long && self.ended == self.bytes.len()
     }
 
-    /// The text of the message that is under way, unless it is longer than 8,192 bytes.
-    pub(crate) fn text(&self) -> Option<&[u8]>
-        ensures { option_map (λ text. text.now) result ≡ self.now.text }
+    /// Keeps more bytes.
+    pub(crate) fn add(&mut self, bytes: &[u8])
+        ensures { self.new ≡ kept_with self.old bytes.now }
     {
-        if self.is_too_long {
-            return None;
+        if self.ended > 0 {
+            let_go(&mut self.bytes, self.ended);
+            self.ended = 0;
         }
-        Some(self.text.as_slice())
-    }
-
-    /// Takes the next byte of the message.
-    fn push(&mut self, byte: u8)
-        ensures { self.new ≡ after_byte byte self.old }
-    {
-        self.field = self.field.after(byte);
-        if self.text.try_push(byte).is_err() {
+        if self.bytes.try_extend_from_slice(bytes).is_err() {
             self.is_too_long = true;
         }
     }
 
-    /// Takes bytes up to the end of the message; all of them where it doesn't end with one of them.
-    pub(crate) fn take(&mut self, bytes: &[u8]) -> Taken
-        ensures read { record { piece = self.new; is_whole = result.is_whole; rest = drop result.count bytes.now }
-            ≡ read_on self.old bytes.now }
-        ensures within { result.count ≤ length bytes.now }
-        ensures some { 0 < length bytes.now → 0 < result.count }
+    /// All of the bytes but so many that are left, unless they were too many.
+    pub(crate) fn front(&self, left: usize) -> Option<&[u8]>
+        ensures { option_map (λ bytes. bytes.now) result ≡ front_of self.now left }
     {
-        for (index, byte) in bytes.iter().enumerate() {
-            let is_whole = self.field.is_end(*byte);
-            self.push(*byte);
-            if is_whole {
-                return Taken {
-                    count: index + 1,
-                    is_whole,
-                };
-            }
+        if self.is_too_long {
+            return None;
         }
-        Taken {
-            count: bytes.len(),
-            is_whole: false,
+        let kept = &self.bytes.as_slice()[self.ended..];
+        Some(&kept[..kept.len().saturating_sub(left)])
+    }
+
+    /// A message ended behind which so many bytes are left.
+    pub(crate) fn end(&mut self, left: usize)
+        ensures { self.new ≡ last_of self.old left }
+    {
+        let kept = self.bytes.len() - self.ended;
+        self.ended += kept.saturating_sub(left);
+        if left == 0 {
+            self.bytes.clear();
+            self.ended = 0;
+            self.is_too_long = false;
         }
     }
 }

@@ -39,7 +39,7 @@ impl Traffic {
         self.messages_sent.load(Ordering::SeqCst)
     }
 
-    /// How many messages it gave, each of which ends with its CheckSum (10), whether valid or not.
+    /// How many messages the session heard in the bytes that it gave: a garbled one isn't counted.
     pub fn messages_received(&self) -> u64 {
         self.messages_received.load(Ordering::SeqCst)
     }
@@ -84,15 +84,23 @@ impl Traffic {
         self.refused_dials.fetch_add(1, Ordering::SeqCst);
     }
 
-    /// Counts what the link took: so many bytes, which completed so many messages.
-    pub(crate) fn count_sent(&self, bytes: u64, messages: u64) {
+    /// Counts bytes that the link took.
+    pub(crate) fn count_sent(&self, bytes: u64) {
         self.bytes_sent.fetch_add(bytes, Ordering::SeqCst);
-        self.messages_sent.fetch_add(messages, Ordering::SeqCst);
     }
 
-    /// Counts what it gave: so many bytes, which completed so many messages.
-    pub(crate) fn count_received(&self, bytes: u64, messages: u64) {
+    /// Counts a message that it took whole.
+    pub(crate) fn count_message_sent(&self) {
+        self.messages_sent.fetch_add(1, Ordering::SeqCst);
+    }
+
+    /// Counts bytes that it gave.
+    pub(crate) fn count_received(&self, bytes: u64) {
         self.bytes_received.fetch_add(bytes, Ordering::SeqCst);
-        self.messages_received.fetch_add(messages, Ordering::SeqCst);
+    }
+
+    /// Counts a message that was heard.
+    pub(crate) fn count_message_received(&self) {
+        self.messages_received.fetch_add(1, Ordering::SeqCst);
     }
 }

@@ -4,10 +4,12 @@ ghost use Rattle.std.specs.Prelude.{◌≡◌, IfSome, IsSomeAnd};
 ghost use Rattle.message_log.specs.Line.{line_text};
 
 use crate::counts::LogCounts;
+use change_count::ChangeCount;
 use fix_tags::Stamp;
 use message_log::{Direction, LogQueue, log_line};
-use std::alloc::Global;
-use std::sync::{Mutex, Wait};
+use std::alloc::{AllocError, Global};
+use std::sync::{Arc, Mutex, Wait};
+use std::time::Duration;
 
 /// How many bytes of lines wait to be written, at most.
 const ROOM: usize = 1_048_576;
@@ -18,6 +20,8 @@ const ROOM: usize = 1_048_576;
 pub struct VenueLog {
     alloc: Global,
     queue: Mutex<LogQueue>,
+    // Tells who writes that a line waits.
+    lines: Arc<ChangeCount, Global>,
 }
 
 /// The line of a message that has a text. None where it has none, or there is no memory for its line.
@@ -37,12 +41,33 @@ fn line_of(
 }
 
 impl VenueLog {
-    /// No line waits yet. It takes no memory.
-    pub fn new(alloc: Global) -> VenueLog {
+    /// No line waits yet. It tells each line there.
+    pub fn new(alloc: Global, lines: Arc<ChangeCount, Global>) -> VenueLog {
         VenueLog {
             alloc,
             queue: Mutex::new(LogQueue::new(alloc, ROOM)),
+            lines,
         }
+    }
+
+    /// Where the day's logs tell their lines.
+    pub(crate) fn shared_lines(&self) -> Result<Arc<ChangeCount, Global>, AllocError> {
+        self.lines.clone()
+    }
+
+    /// How many lines were put into the day's logs.
+    pub(crate) fn lines_put(&self) -> u64 {
+        self.lines.count()
+    }
+
+    /// Waits until more lines than these are put into one of the day's logs, so long at most, or for `wake_writer`.
+    pub(crate) fn wait_for_line(&self, rt: &impl Wait, put: u64, most: Duration) {
+        self.lines.wait(rt, put, most);
+    }
+
+    /// Who writes the lines of the day's logs is to look whether the day is over.
+    pub fn wake_writer(&self) {
+        self.lines.tell();
     }
 
     /// Puts the line of a message behind those that wait. It is lost, and counted so, where the message has no text, or
@@ -55,7 +80,10 @@ impl VenueLog {
         message: Option<&[u8]>,
     ) {
         match line_of(self.alloc, stamp, direction, message) {
-            Some(line) => self.put(rt, line.as_slice()),
+            Some(line) => {
+                self.put(rt, line.as_slice());
+                self.lines.tell();
+            }
             None => self.queue.lock(rt).lose(),
         }
     }

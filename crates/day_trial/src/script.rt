@@ -85,6 +85,8 @@ impl Link for Script {
         Ok(Got::Bytes(count))
     }
 
+    fn heard(&mut self, _left: usize) {}
+
     fn write(&mut self, bytes: &[u8]) -> Result<usize, LinkFault> {
         match push_frame(&mut self.text, bytes) {
             Ok(()) => Ok(bytes.len()),

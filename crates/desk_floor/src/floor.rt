@@ -54,7 +54,7 @@ pub struct Floor<L: Run, M: Accounts, W: Write + Drop> {
     /// The log of the lines that are taken and answered, if one is kept.
     pub line_log: Option<Arc<VenueLog, Global>>,
     pub signals: Signals,
-    /// What wakes the workers.
+    /// What wakes the threads.
     pub bells: Bells,
     /// What tells the workers to stop.
     pub stop: Stop,
@@ -128,9 +128,16 @@ impl<L: Run, M: Accounts, W: Write + Drop> Floor<L, M, W> {
 
     /// The day is to close; the second time it is given up.
     pub fn close(&self) {
-        if self.signals.close() {
+        if self.begin_close() {
             self.give_up();
         }
+    }
+
+    /// The day is to close, and no sweep is taken any more. It says whether the day was closing already.
+    pub fn begin_close(&self) -> bool {
+        let is_closing = self.signals.close();
+        self.bells.tell_turn();
+        is_closing
     }
 
     /// The workers are told to stop, once: they shut their gates and close their sessions in order.
@@ -138,15 +145,34 @@ impl<L: Run, M: Accounts, W: Write + Drop> Floor<L, M, W> {
         if !self.signals.stop_workers() {
             self.stop.tell();
             self.bells.ring_all();
+            self.bells.tell_turn();
         }
     }
 
     /// The day is to close, and its workers give up their sessions.
     pub fn give_up(&self) {
-        self.signals.close();
+        self.begin_close();
         self.stop();
         self.stop.tell();
         self.bells.ring_all();
+    }
+
+    /// The workers have ended, and so the day closes.
+    pub fn end(&self) {
+        self.signals.end();
+        self.bells.tell_turn();
+        self.bells.ring_takers();
+    }
+
+    /// The day is over: the exchanges, the servers of its page and the writer of its logs are to stop.
+    pub fn finish(&self) {
+        self.signals.stop();
+        self.bells.tell_turn();
+        self.bells.ring_takers();
+        self.bells.ring_exchanges();
+        if let Some(log) = &self.line_log {
+            log.wake_writer();
+        }
     }
 
     /// How many sweeps were placed. It may wait for the book's lock.

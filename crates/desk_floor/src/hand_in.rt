@@ -97,6 +97,7 @@ impl<L: Run, M: Accounts, W: Write + Drop> Floor<L, M, W> {
         };
         log.answered(&answer);
         self.refusals.note(rt, &answer);
+        self.bells.news().tell();
         answer
     }
 

@@ -18,7 +18,7 @@ use crate::followers::tell_followers;
 use crate::pages::open_pages;
 use day_sweeps::booked_sweeps;
 use desk_config::{DeskConfig, Venue};
-use desk_floor::{Counter, Floor, Left, Manner, Refusals, Signals, Voice};
+use desk_floor::{Bells, Counter, Floor, Left, Manner, Refusals, Signals, Voice};
 use desk_serve::PageServer;
 use desk_talk::{DeskInput, InputLines};
 use desk_threads::{Cast, Ended, in_threads};
@@ -166,8 +166,9 @@ where
         sight,
         exchanges,
         workers,
-        bells,
+        mut bells,
     } = ready;
+    add_takers(&mut bells, &lines, servers.as_slice())?;
     let Sight {
         names,
         views,
@@ -196,6 +197,28 @@ where
     };
     let ended = in_threads(rt, alloc, &floor, cast, lines)?;
     told(rt, alloc, floor, ended)
+}
+
+/// Adds what ends the waits of the caller, and of the servers of the page.
+fn add_takers<I: Read + Drop>(
+    bells: &mut Bells,
+    lines: &InputLines<I>,
+    servers: &[PageServer],
+) -> Result<(), DayFault>
+    ensures { IfErr result IsNoMismatch }
+{
+    match lines.wakeup() {
+        Ok(wakeup) => bells.add_taker(wakeup)?,
+        Err(_) => return Err(DayFault::OutOfMemory),
+    }
+    let Some(server) = servers.first() else {
+        return Ok(());
+    };
+    match server.wakeup() {
+        Ok(wakeup) => bells.add_taker(wakeup)?,
+        Err(_) => return Err(DayFault::OutOfMemory),
+    }
+    Ok(())
 }
 
 /// What became of a day whose threads have ended.

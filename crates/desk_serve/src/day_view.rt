@@ -19,15 +19,14 @@ use release_lock::Run;
 use std::alloc::{AllocError, Global};
 use std::io::Write;
 use std::sync::Wait;
-use std::thread;
 use std::time::{Clock, Duration};
 use sweep_text::{Answer, Refusal, write_sweep};
 
-/// How many milliseconds pass between two looks what changed.
-const LOOK_MILLIS: u64 = 100;
+/// How many milliseconds pass between two tellings, at least.
+const TELL_MILLIS: u64 = 100;
 
-/// For how many such looks a change is waited for: a second.
-const LOOKS: u64 = 10;
+/// How many seconds a change is waited for.
+const LOOK_SECONDS: u64 = 1;
 
 /// A desk's day, as one connection asks it.
 #[derive(Drop)]
@@ -39,6 +38,8 @@ pub(crate) struct DayView<'a, L: Run, M: Accounts, W: Write + Drop, R: Wait + Cl
     clock: UtcClock<'a, R>,
     log: LineLog<'a, R, UtcClock<'a, R>>,
     follower: Option<Follower>,
+    /// Whether changes were told by the last call.
+    has_told: bool,
     /// Whether it was followed to its end.
     is_over: bool,
 }
@@ -53,6 +54,11 @@ fn outcome_of(answer: Answer) -> Outcome
         Answer::Closing => Outcome::Closing,
         Answer::BadLine { .. } => Outcome::Refused(Refusal::OutOfMemory),
     }
+}
+
+/// Whether nothing changed.
+fn is_still(changes: &Changes) -> bool {
+    changes.events.is_empty() && !changes.is_over
 }
 
 /// The legs of the sweep of this number, if there are any.
@@ -84,6 +90,7 @@ impl<'a, L: Run, M: Accounts, W: Write + Drop, R: Wait + Clock> DayView<'a, L, M
             clock: UtcClock::new(rt),
             log: LineLog::new(rt, alloc, UtcClock::new(rt), floor.line_log()?),
             follower: None,
+            has_told: false,
             is_over: false,
         })
     }
@@ -91,6 +98,13 @@ impl<'a, L: Run, M: Accounts, W: Write + Drop, R: Wait + Clock> DayView<'a, L, M
     /// Whether the connection followed the day to its end.
     pub fn is_over(&self) -> bool {
         self.is_over
+    }
+
+    /// Tells changes.
+    fn telling(&mut self, changes: Changes) -> Changes {
+        self.has_told = !changes.events.is_empty();
+        self.is_over = changes.is_over;
+        changes
     }
 
     /// What changed since it was asked last.
@@ -204,17 +218,23 @@ impl<'a, L: Run, M: Accounts, W: Write + Drop, R: Wait + Clock> Day for DayView<
     }
 
     fn changes(&mut self, _since: u64) -> Result<Changes, AllocError> {
-        for _ in 0..LOOKS {
-            let changes = self.news()?;
-            if changes.is_over {
-                self.is_over = true;
+        let floor = self.floor;
+        if self.has_told {
+            let turn = floor.bells.turns().count();
+            if !floor.signals.is_over() {
+                let most = Duration::from_millis(TELL_MILLIS);
+                floor.bells.turns().wait(self.rt, turn, most);
             }
-            if changes.is_over || !changes.events.is_empty() {
-                return Ok(changes);
-            }
-            thread::sleep(self.rt, Duration::from_millis(LOOK_MILLIS));
         }
-        self.news()
+        let seen = floor.bells.news().count();
+        let changes = self.news()?;
+        if !is_still(&changes) {
+            return Ok(self.telling(changes));
+        }
+        let most = Duration::from_secs(LOOK_SECONDS);
+        floor.bells.news().wait(self.rt, seen, most);
+        let changes = self.news()?;
+        Ok(self.telling(changes))
     }
 
     fn unfollow(&mut self) {

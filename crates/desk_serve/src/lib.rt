@@ -21,6 +21,7 @@
 
 mod counted;
 mod day_view;
+mod entrance;
 mod follower;
 mod page;
 mod page_server;

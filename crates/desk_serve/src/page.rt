@@ -3,6 +3,7 @@
 ghost use Rattle.std.specs.Prelude.{IfOk};
 ghost use Rattle.desk_serve.specs.Sums.{AreParts};
 
+use crate::entrance::Entrance;
 use crate::part_sums::PartSums;
 use desk_config::{Address, TokenText};
 use desk_http::Door;
@@ -17,11 +18,17 @@ use std::sync::{Mutex, Wait};
 /// How many clients may follow a day at once.
 pub(crate) const MOST_FOLLOWERS: u64 = 4;
 
+/// How many clients come between two looks at what became of the shares, at most.
+const CLIENTS_A_LOOK: u64 = 100;
+
 /// What the servers of a page share.
 #[derive(Drop)]
 pub(crate) struct Page {
     pub door: Door,
+    pub entrance: Entrance,
     followers: AtomicU64,
+    // How often a server waited for a client.
+    clients: AtomicU64,
     sums: Mutex<PartSums>,
 }
 
@@ -53,12 +60,13 @@ fn authorization(alloc: Global, token: Option<&TokenText>) -> Result<String, All
 }
 
 impl Page {
-    /// The page that is served under this address of a file, which is this one.
+    /// The page that is served under this address of a file, which is this one, to those who come in there.
     pub fn new(
         alloc: Global,
         at: &SocketAddr,
         address: &Address,
         token: Option<&TokenText>,
+        entrance: Entrance,
     ) -> Result<Page, AllocError> {
         Ok(Page {
             door: Door {
@@ -66,7 +74,9 @@ impl Page {
                 other_name: other_name(alloc, at)?,
                 authorization: authorization(alloc, token)?,
             },
+            entrance,
             followers: AtomicU64::new(0),
+            clients: AtomicU64::new(0),
             sums: Mutex::new(PartSums::new(alloc)),
         })
     }
@@ -80,6 +90,15 @@ impl Page {
         ensures { IfOk result AreParts }
     {
         self.sums.lock(rt).now(rt, collector)
+    }
+
+    /// Looks at what became of the shares, for each hundredth client and where none came, so that no client waits for a
+    /// look at a whole day. What memory is wanted for is looked at later.
+    pub fn keep_up<M: Accounts>(&self, rt: &impl Wait, collector: &Collector<M>, is_idle: bool) {
+        let clients = self.clients.fetch_add(1, Ordering::SeqCst);
+        if is_idle || clients % CLIENTS_A_LOOK == 0 {
+            let _ = self.parts(rt, collector);
+        }
     }
 
     /// One client more follows the day, if not too many do.

@@ -1,23 +1,20 @@
 //! What serves a page: each server one connection after the other, in a thread of its own.
 
 use crate::day_view::DayView;
+use crate::entrance::Entrance;
 use crate::page::{MOST_FOLLOWERS, Page};
 use desk_config::{Address, TokenText};
 use desk_floor::Floor;
 use desk_http::serve;
 use desk_page::PAGE;
 use exec_collector::Accounts;
-use readiness::Readiness;
+use readiness::Wakeup;
 use release_lock::Run;
 use std::alloc::Global;
 use std::io::{self, Write};
 use std::net::{Net, SocketAddr, TcpListener, TcpStream};
-use std::os::fd::AsRawFd;
 use std::sync::{Arc, Wait};
 use std::time::{Clock, Duration};
-
-/// How many milliseconds a server waits for a client before it looks whether the day is over.
-const LOOK_MILLIS: u64 = 100;
 
 /// How many milliseconds a client may say nothing.
 const READ_MILLIS: u64 = 500;
@@ -28,8 +25,6 @@ const WRITE_SECONDS: u64 = 5;
 /// One of the servers of a page.
 #[derive(Drop)]
 pub struct PageServer {
-    listener: TcpListener,
-    readiness: Readiness,
     page: Arc<Page, Global>,
 }
 
@@ -46,14 +41,12 @@ pub fn open_page<R: Net<Listener = TcpListener, Stream = TcpStream>>(
 ) -> io::Result<Vec<PageServer>> {
     let listener = TcpListener::bind(rt, at)?;
     listener.set_nonblocking(true)?;
-    let page = Arc::new(alloc, Page::new(alloc, &at, address, token)?)?;
+    let entrance = Entrance::new(rt, alloc, listener)?;
+    let page = Page::new(alloc, &at, address, token, entrance)?;
+    let page = Arc::new(alloc, page)?;
     let mut servers = Vec::new(alloc);
     for _ in 0..callers.saturating_add(MOST_FOLLOWERS) {
-        let listener = listener.try_clone()?;
-        let readiness = Readiness::new(rt, alloc, listener.as_raw_fd())?;
         servers.push(PageServer {
-            listener,
-            readiness,
             page: page.clone()?,
         })?;
     }
@@ -61,6 +54,11 @@ pub fn open_page<R: Net<Listener = TcpListener, Stream = TcpStream>>(
 }
 
 impl PageServer {
+    /// What has the servers of its page look whether the day is over.
+    pub fn wakeup(&self) -> io::Result<Arc<Wakeup, Global>> {
+        self.page.entrance.wakeup()
+    }
+
     /// Serves the page until the day is over, and gives the clients that followed it to its end. A client for which
     /// there is no memory is let go.
     pub fn serve<L: Run, M: Accounts, W: Write + Drop, R: Wait + Clock>(
@@ -69,29 +67,22 @@ impl PageServer {
         alloc: Global,
         floor: &Floor<L, M, W>,
     ) -> Vec<TcpStream> {
-        let mut server = self;
         let mut followers = Vec::new(alloc);
         for _ in rt.forever() {
             if floor.signals.is_over() {
                 break;
             }
-            let Some(client) = server.next_client() else {
+            let entrance = &self.page.entrance;
+            let client = entrance.next_client(rt, &floor.signals.is_over);
+            self.page.keep_up(rt, &floor.collector, client.is_none());
+            let Some(client) = client else {
                 continue;
             };
-            if let Ok(Some(follower)) = server.serve_client(rt, alloc, floor, client) {
+            if let Ok(Some(follower)) = self.serve_client(rt, alloc, floor, client) {
                 let _ = followers.push(follower);
             }
         }
         followers
-    }
-
-    /// The next client, if one comes within a tenth of a second.
-    fn next_client(&mut self) -> Option<TcpStream> {
-        if !self.readiness.wait(Duration::from_millis(LOOK_MILLIS)) {
-            return None;
-        }
-        let (client, _) = self.listener.accept().ok()?;
-        Some(client)
     }
 
     /// Serves a client's request, and gives the client if it followed the day to its end.

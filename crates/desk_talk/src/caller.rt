@@ -14,8 +14,13 @@ use std::sync::Wait;
 use std::time::{Clock, Duration};
 use sweep_text::{Answer, Command, read_line};
 
-/// How many milliseconds the caller waits for a line before it looks how the day stands.
-const LOOK_MILLIS: u64 = 20;
+/// How many seconds the caller waits for a line before it looks how the day stands. The end of the workers ends the
+/// wait.
+const LOOK_SECONDS: u64 = 60;
+
+/// How many lines are taken between two looks at the sweeps that have open shares. So `status` never looks at a whole
+/// day. What memory is wanted for is looked at later.
+const LINES_A_LOOK: u64 = 256;
 
 /// Takes the lines of an input and answers each. Before the first it waits until each venue is up, but no longer than
 /// two seconds. With the end of the input, with `close`, or where input or output fails, the day is to close. It gives
@@ -32,7 +37,7 @@ pub fn take_lines<L: Run, M: Accounts, W: Write + Drop, I: Read + Drop, R: Wait 
         Ok(()) => None,
         Err(fault) => Some(fault),
     };
-    floor.signals.close();
+    floor.begin_close();
     broken_off
 }
 
@@ -69,9 +74,16 @@ where
         if floor.signals.is_ending() && !lines.has_more() {
             return Ok(());
         }
-        match lines.next(Duration::from_millis(LOOK_MILLIS))? {
-            Next::Line => answer_line(rt, alloc, floor, lines, &mut open, log)?,
-            Next::Nothing => {}
+        match lines.next(Duration::from_secs(LOOK_SECONDS))? {
+            Next::Line => {
+                answer_line(rt, alloc, floor, lines, &mut open, log)?;
+                if lines.number() % LINES_A_LOOK == 0 {
+                    let _ = open.look(rt, &floor.collector);
+                }
+            }
+            Next::Nothing => {
+                let _ = open.look(rt, &floor.collector);
+            }
             Next::End => return Ok(()),
         }
     }

@@ -1,11 +1,12 @@
 //! The lines of an input.
 
 use desk_floor::TalkFault;
-use readiness::Readiness;
+use readiness::{Readiness, Wakeup};
 use std::alloc::Global;
 use std::io::{self, BufRead, BufReader, ErrorKind, Read};
 use std::net::Net;
 use std::os::fd::RawFd;
+use std::sync::Arc;
 use std::time::Duration;
 use sweep_text::MAX_LINE;
 
@@ -65,6 +66,11 @@ impl<I: Read + Drop> InputLines<I> {
         })
     }
 
+    /// What ends a wait for a line, for another thread.
+    pub fn wakeup(&self) -> io::Result<Arc<Wakeup, Global>> {
+        self.readiness.wakeup()
+    }
+
     /// How many lines were read: the number of the last one.
     pub fn number(&self) -> u64 {
         self.number
@@ -83,7 +89,8 @@ impl<I: Read + Drop> InputLines<I> {
         !self.input.buffer().is_empty()
     }
 
-    /// Reads the next line; where none is there it waits for one, so long at most. The last one needs no end.
+    /// Reads the next line; where none is there it waits for one, so long at most, or until the wait is ended. The last
+    /// one needs no end.
     pub fn next(&mut self, most: Duration) -> Result<Next, TalkFault> {
         if !self.is_part {
             self.line.clear();

@@ -1,23 +1,23 @@
 //! The keeper of a day: it tells what changes, and closes the day in order.
 
 use crate::news::Told;
+use change_count::ChangeCount;
 use desk_floor::{Floor, TalkFault};
 use exec_collector::Accounts;
 use release_lock::Run;
 use std::alloc::Global;
 use std::io::Write;
 use std::sync::Wait;
-use std::thread;
-use std::time::{Clock, Duration};
+use std::time::{Clock, Duration, Instant};
 
-/// How many milliseconds pass between two looks at the day.
+/// How many milliseconds pass between two tellings: a sweep is told at most every 100 ms.
+const TELL_MILLIS: u64 = 100;
+
+/// How many milliseconds pass between two looks whether a share is open, while that is waited for.
 const LOOK_MILLIS: u64 = 10;
 
-/// How many looks are a second at least.
-const LOOKS_A_SECOND: u64 = 100;
-
-/// How many such looks pass between two at the book: a sweep is told at most every 100 ms.
-const LOOKS_BETWEEN: u64 = 10;
+/// How many seconds the keeper waits for a change before it looks by itself: what memory was wanted for is told then.
+const LOOK_SECONDS: u64 = 1;
 
 /// What is waited for. The end of the workers ends each wait.
 #[derive(Clone, Copy)]
@@ -42,12 +42,12 @@ pub fn keep<L: Run, M: Accounts, W: Write + Drop, R: Wait + Clock>(
     } else {
         None
     };
-    let patience = floor.manner.patience.saturating_mul(LOOKS_A_SECOND);
-    watch(rt, floor, &mut told, Until::Closing, u64::MAX);
+    watch(rt, floor, &mut told, Until::Closing, None);
+    let patience = Some(floor.manner.patience);
     watch(rt, floor, &mut told, Until::Resolved, patience);
     tell(rt, floor, &mut told);
     floor.stop();
-    watch(rt, floor, &mut told, Until::Ended, u64::MAX);
+    watch(rt, floor, &mut told, Until::Ended, None);
 }
 
 /// Whether what is waited for has come.
@@ -66,23 +66,87 @@ fn is_reached<L: Run, M: Accounts, W: Write + Drop>(
     }
 }
 
-/// Tells what changes until that has come, for so many looks at most.
+/// Whether so many seconds have passed since this moment; they have where the clock can't be read.
+fn is_over(clock: &impl Clock, begun: Option<Instant>, seconds: Option<u64>) -> bool {
+    let Some(seconds) = seconds else {
+        return false;
+    };
+    let Some(begun) = begun else {
+        return true;
+    };
+    match begun.elapsed(clock) {
+        Ok(passed) => passed >= Duration::from_secs(seconds),
+        Err(_) => true,
+    }
+}
+
+/// Tells what changes until that has come, for so many seconds at most, if a number is given. It sleeps while nothing
+/// changes.
 fn watch<L: Run, M: Accounts, W: Write + Drop, R: Wait + Clock>(
     rt: &R,
     floor: &Floor<L, M, W>,
     told: &mut Option<Told>,
     until: Until,
-    looks: u64,
+    seconds: Option<u64>,
 ) {
-    for look in 0..looks {
-        if is_reached(rt, floor, until) {
+    let begun = Instant::now(rt).ok();
+    let changes = awaited(floor, told.is_some(), until);
+    for _ in rt.forever() {
+        let seen = changes.count();
+        if is_reached(rt, floor, until) || is_over(rt, begun, seconds) {
             return;
         }
-        if look % LOOKS_BETWEEN == 0 {
-            tell(rt, floor, told);
+        tell(rt, floor, told);
+        if has_come_meanwhile(rt, floor, until) {
+            return;
         }
-        thread::sleep(rt, Duration::from_millis(LOOK_MILLIS));
+        changes.wait(rt, seen, Duration::from_secs(LOOK_SECONDS));
     }
+}
+
+/// The changes that are waited for: each where they are told, or may resolve the last share; else those of the day.
+fn awaited<L: Run, M: Accounts, W: Write + Drop>(
+    floor: &Floor<L, M, W>,
+    tells: bool,
+    until: Until,
+) -> &ChangeCount {
+    match until {
+        Until::Resolved => floor.bells.news(),
+        Until::Closing | Until::Ended => {
+            if tells {
+                floor.bells.news()
+            } else {
+                floor.bells.turns()
+            }
+        }
+    }
+}
+
+/// How often, and after how many milliseconds each, it is looked between two tellings whether that has come: often only
+/// where nobody tells that it has.
+fn looks_at(until: Until) -> (u64, u64) {
+    match until {
+        Until::Resolved => (TELL_MILLIS / LOOK_MILLIS, LOOK_MILLIS),
+        Until::Closing | Until::Ended => (1, TELL_MILLIS),
+    }
+}
+
+/// Rests between two tellings, and says whether what is waited for has come.
+fn has_come_meanwhile<L: Run, M: Accounts, W: Write + Drop, R: Wait + Clock>(
+    rt: &R,
+    floor: &Floor<L, M, W>,
+    until: Until,
+) -> bool {
+    let (looks, millis) = looks_at(until);
+    for _ in 0..looks {
+        let seen = floor.bells.turns().count();
+        if is_reached(rt, floor, until) {
+            return true;
+        }
+        let most = Duration::from_millis(millis);
+        floor.bells.turns().wait(rt, seen, most);
+    }
+    false
 }
 
 /// Tells what changed; where the output can't be written, nothing is told any more. What memory is wanted for is told

@@ -177,7 +177,7 @@ fn serve_exchange<X: Serve, L: Run, M: Accounts, W: Write + Drop>(
 ) -> Result<(), AllocError> {
     let served = exchange.serve(&floor.signals.is_over);
     if served.is_err() {
-        floor.signals.close();
+        floor.begin_close();
         floor.stop();
     }
     served
@@ -205,7 +205,7 @@ where
     ensures only { IfErr result IsNoMismatch }
 {
     if !floor.signals.awaits(rt, &floor.signals.exchanges) {
-        floor.signals.stop();
+        floor.finish();
         return Err(DayFault::NoThread);
     }
     let (worked, called) = join(
@@ -213,7 +213,7 @@ where
         || run_workers(rt, alloc, floor, workers),
         || run_desk(rt, alloc, floor, lines),
     );
-    floor.signals.stop();
+    floor.finish();
     Ok(Dispatched {
         workers: worked?,
         broken_off: called?,

@@ -10,10 +10,16 @@ use clock::UtcClock;
 use desk_config::Venue;
 use dialect::AnyDialect;
 use exchange_sim::{Acceptor, Plan, Port, serve};
+use link::Bell;
 use std::alloc::{AllocError, Global};
+use std::io;
 use std::net::{Net, SocketAddr};
+use std::sync::Arc;
 use std::sync::atomic::AtomicBool;
-use std::time::Clock;
+use std::time::{Clock, Duration};
+
+/// How many seconds a turn of an exchange waits at most. The end of the day ends the wait.
+const TURN_SECONDS: u64 = 60;
 
 /// Serves clients in a thread of a day.
 pub trait Serve {
@@ -42,9 +48,10 @@ impl<'a, R: Net + Clock> Exchange<'a, R> {
             ≡ new_exchange (exchange_end venue.now)) }
         ensures only { IfErr result (λ fault. fault ≡ DayFault.NoSocket) }
     {
-        let Ok(port) = Port::open(rt, alloc) else {
+        let Ok(mut port) = Port::open(rt, alloc) else {
             return Err(DayFault::NoSocket);
         };
+        port.wait_for(Duration::from_secs(TURN_SECONDS));
         let Ok(addr) = port.addr() else {
             return Err(DayFault::NoSocket);
         };
@@ -66,6 +73,13 @@ impl<'a, R: Net + Clock> Exchange<'a, R> {
             port,
             acceptor,
         })
+    }
+}
+
+impl<'a, R: Net + Clock> Exchange<'a, R> {
+    /// The bell that has it look whether the day is over.
+    pub fn bell(&self) -> io::Result<Arc<Bell, Global>> {
+        self.port.bell()
     }
 }
 

@@ -30,8 +30,25 @@ pub struct OpenVenues<'a, L: Run, M: Accounts, R: Net + Wait + Clock> {
     pub exchanges: Vec<Exchange<'a, R>>,
     /// A worker for each, in order.
     pub workers: Vec<DeskWorker<'a, R, L, M>>,
-    /// What wakes the workers.
+    /// What wakes the threads of the day.
     pub bells: Bells,
+}
+
+/// The bells of a day's exchanges.
+fn new_bells<'a, R: Net + Clock>(
+    alloc: Global,
+    exchanges: &[Exchange<'a, R>],
+) -> Result<Bells, DayFault>
+    ensures { IfErr result IsNoMismatch }
+{
+    let mut bells = Bells::new(alloc)?;
+    for exchange in exchanges {
+        match exchange.bell() {
+            Ok(bell) => bells.add_exchange(bell)?,
+            Err(_) => return Err(DayFault::OutOfMemory),
+        }
+    }
+    Ok(bells)
 }
 
 /// Opens the venues of a day: an exchange for each that is simulated, the logs in the folder, if there is one, and a
@@ -55,7 +72,7 @@ pub fn open_venues<'a, L: Run, M: Accounts, R: Net + Files<File = File> + Wait +
 {
     let Places { addrs, exchanges } = open_places(rt, alloc, venues)?;
     let sight = first_sight(rt, alloc, folder, venues)?;
-    let mut bells = Bells::new(alloc);
+    let mut bells = new_bells(alloc, exchanges.as_slice())?;
     let addrs = addrs.as_slice();
     let views = sight.views.as_slice();
     let workers = new_workers(rt, alloc, venues, addrs, views, drains, seats, &mut bells)?;

@@ -103,7 +103,7 @@ fn new_link<'a, R: Net + Wait + time::Clock>(
     ensures { IfErr result IsNoMismatch }
 {
     let last_dial = view.last_dial()?;
-    let recorder = new_recorder(rt, view)?;
+    let recorder = new_recorder(rt, view, bells)?;
     let Ok(poller) = Poller::new(rt, alloc) else {
         return Err(DayFault::NoSocket);
     };
@@ -119,9 +119,13 @@ fn new_link<'a, R: Net + Wait + time::Clock>(
 fn new_recorder<'a, R: Wait + time::Clock>(
     rt: &'a R,
     view: &VenueView,
+    bells: &Bells,
 ) -> Result<Recorder<'a, R, UtcClock<'a, R>>, AllocError> {
     let traffic = view.shared_traffic()?;
-    Ok(Recorder::new(rt, UtcClock::new(rt), traffic, view.log()?))
+    let clock = UtcClock::new(rt);
+    let mut recorder = Recorder::new(rt, clock, traffic, view.log()?);
+    recorder.tell_on(bells.shared_news()?);
+    Ok(recorder)
 }
 
 /// Runs the workers until their sessions are over, or given up. Then the day closes, if it wasn't closing already.
@@ -152,6 +156,6 @@ where
         workers,
         u64::MAX,
     );
-    floor.signals.end();
+    floor.end();
     Ok(ends?)
 }

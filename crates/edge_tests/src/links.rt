@@ -86,6 +86,8 @@ impl Link for Trickle {
         Ok(Got::Bytes(1))
     }
 
+    fn heard(&mut self, _left: usize) {}
+
     fn write(&mut self, bytes: &[u8]) -> Result<usize, LinkFault> {
         if !self.dialled || fails(&mut self.calls_left) {
             return Err(LinkFault::counted(&mut self.faults));

@@ -106,6 +106,8 @@ impl<D: Dialect + Drop, C: Clock + Drop> Link for MemoryLink<D, C> {
         Ok(Got::Bytes(count))
     }
 
+    fn heard(&mut self, _left: usize) {}
+
     fn write(&mut self, bytes: &[u8]) -> Result<usize, LinkFault> {
         if counted(&mut self.calls, self.plan.fails_at) || !self.acceptor.is_connected() {
             return Err(self.recording.fault());

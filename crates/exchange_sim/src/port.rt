@@ -1,13 +1,14 @@
 //! A port on which a simulated exchange listens.
 
-use link::Poller;
+use link::{Bell, Poller};
 use mio::net::{TcpListener, TcpStream};
 use std::alloc::Global;
 use std::io;
 use std::net::{Net, SocketAddr};
+use std::sync::Arc;
 use std::time::Duration;
 
-/// How many milliseconds a turn waits at most: for a client, or for its bytes.
+/// How many milliseconds a turn waits at most for a client or its bytes, unless another time is asked for.
 const TURN_MILLIS: u64 = 10;
 
 /// A port of this machine on which a simulated exchange listens, and what it waits with.
@@ -15,6 +16,7 @@ const TURN_MILLIS: u64 = 10;
 pub struct Port {
     listener: TcpListener,
     poller: Poller,
+    turn: Duration,
 }
 
 impl Port {
@@ -23,7 +25,21 @@ impl Port {
         let mut listener = TcpListener::bind(net, SocketAddr::from(([127, 0, 0, 1], 0)))?;
         let poller = Poller::new(net, alloc)?;
         poller.watch(&mut listener)?;
-        Ok(Port { listener, poller })
+        Ok(Port {
+            listener,
+            poller,
+            turn: Duration::from_millis(TURN_MILLIS),
+        })
+    }
+
+    /// From now on a turn waits so long at most.
+    pub fn wait_for(&mut self, turn: Duration) {
+        self.turn = turn;
+    }
+
+    /// The bell that ends a turn's wait.
+    pub fn bell(&self) -> io::Result<Arc<Bell, Global>> {
+        self.poller.bell()
     }
 
     /// The address that clients dial.
@@ -31,9 +47,9 @@ impl Port {
         self.listener.local_addr()
     }
 
-    /// Waits for a turn at most, until a client or bytes of one come.
+    /// Waits for a turn at most, until a client or bytes of one come, or the bell is rung.
     pub(crate) fn rest(&mut self) {
-        self.poller.sleep(Duration::from_millis(TURN_MILLIS));
+        self.poller.sleep(self.turn);
     }
 
     /// The next client. Where none is there it waits for a turn.

@@ -14,8 +14,8 @@ use std::sync::atomic::{AtomicBool, Ordering};
 /// How many bytes a turn reads at most.
 const MOST_READ: usize = 1_024;
 
-/// Serves one client after another until `is_over`, or for so many turns, each of which waits ten milliseconds at most
-/// for a client or its bytes. Where a connection fails, or the plan cuts it, the next client is waited for. The only
+/// Serves one client after another until `is_over`, or for so many turns, each of which waits for a client or its bytes
+/// as long as the port has it. Where a connection fails, or the plan cuts it, the next client is waited for. The only
 /// refusal is out of memory.
 pub fn serve<D: Dialect, C: Clock>(
     port: &mut Port,

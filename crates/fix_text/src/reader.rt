@@ -75,6 +75,13 @@ impl FrameReader {
         self.kept.buffer.len()
     }
 
+    /// How many bytes aren't passed yet.
+    pub fn waiting(&self) -> usize
+        ensures { result ≡ length self.now.rest }
+    {
+        self.kept.buffer.len() - self.cursor.end
+    }
+
     /// Adds bytes to the end of the stream. The only refusal is out of memory.
     pub fn feed(&mut self, bytes: &[u8]) -> Result<(), ReaderFault>
         ensures ok { OnOk result (self.new ≡ fed self.old bytes.now) }

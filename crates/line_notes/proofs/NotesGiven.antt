@@ -4,6 +4,7 @@ use Rattle.std.specs.Prelude.{slice_get}
 use Rattle.std.specs.List.{Contains}
 use Rattle.std.proofs.lemmas.List.Elements.{All-weaker, Contains-append_left, Contains-append_right, Contains-append_cases, Contains-push}
 use Rattle.std.proofs.lemmas.Option.{same_Some}
+use Rattle.leg.specs.LegId.{LegIdParts}
 use Rattle.leg.specs.Numbered.{numbered}
 use Rattle.leg.specs.declared.leg.Leg.{Leg}
 use Rattle.dialect.specs.declared.note.Note.{Note}
@@ -12,7 +13,9 @@ use Rattle.resend.specs.Log.{Entry}
 use Rattle.session_core.specs.Counting.{note_for}
 use Rattle.venue_line.specs.Line.{Line, noted}
 use Rattle.venue_line.specs.Notes.{notes_under}
+use Rattle.venue_line.specs.LineTheorem.{LineHolds}
 use Rattle.venue_line.proofs.LineGives.{line_holds}
+use Rattle.line_notes.specs.OnAccepted.{leg_named, IsOnAccepted}
 use Rattle.line_notes.specs.NotesTheorem.{NotesAreOnAccepted, TheNotesTheorem, NoneIsOnWithdrawn, TheWithdrawnTheorem}
 use Rattle.line_notes.proofs.OwnAccepted.{WholeNoted, noted_steps}
 
@@ -73,16 +76,34 @@ ordinal_of (x ∷ legs) (o ∷ ordinals) f (suc k) leg same there =
     let rest = ordinal_of legs ordinals f k leg more there in
     (rest.0, Contains-append_right (o ∷ []) ordinals rest.0 rest.1, rest.2)
 
-pub none_on_withdrawn : (w : Line) → WholeNoted w → NoneIsOnWithdrawn w
-none_on_withdrawn w h apart ordinal leg n gone whole there names =
-    let on = notes_on w h n there in
-    let holds = line_holds w h.0.0 h.0.1 in
+-- the accepted leg of this id
+pub record HasOrdinal (w : Line) (holds : LineHolds w) (id : LegIdParts) : Type 0 where
+  pub ordinal : ℕ
+  pub leg : Leg
+  pub accepted : Contains holds.ordinals ordinal
+  pub whole : numbered ordinal w.released ≡ Some leg
+  pub same : leg.id ≡ id
+
+pub ordinal_named : (w : Line) (holds : LineHolds w) (n : Note) (id : LegIdParts)
+    → IsOnAccepted w.exchange.intake.accepted n → leg_named n ≡ Some id → HasOrdinal w holds id
+ordinal_named w holds n id on names =
     let accepted = on.accepted in
     let at = ordinal_of w.exchange.intake.accepted holds.ordinals (λ o. numbered o w.released) accepted.place
     accepted.leg holds.released accepted.there in
-    let named : leg.id ≡ on.id = same_Some leg.id on.id (sym names ∙ on.on) in
-    let one : ordinal ≡ at.0 = apart ordinal at.0 leg accepted.leg whole at.2 (named ∙ sym accepted.same) in
-    holds.withdrawn_is_missing ordinal gone (subst (Contains holds.ordinals) (sym one) at.1)
+    record {
+      ordinal = at.0;
+      leg = accepted.leg;
+      accepted = at.1;
+      whole = at.2;
+      same = accepted.same ∙ same_Some on.id id (sym on.on ∙ names);
+    }
+
+pub none_on_withdrawn : (w : Line) → WholeNoted w → NoneIsOnWithdrawn w
+none_on_withdrawn w h apart ordinal leg n gone whole there names =
+    let holds = line_holds w h.0.0 h.0.1 in
+    let at = ordinal_named w holds n leg.id (notes_on w h n there) names in
+    let one : ordinal ≡ at.ordinal = apart ordinal at.ordinal leg at.leg whole at.whole (sym at.same) in
+    holds.withdrawn_is_missing ordinal gone (subst (Contains holds.ordinals) (sym one) at.accepted)
 
 pub the_notes_theorem : TheNotesTheorem
 the_notes_theorem config lines small steps =

@@ -1,3 +1,4 @@
 pub mod Counts
 pub mod Dialling
+pub mod Told
 pub mod Traffic

@@ -6,7 +6,10 @@
 //!   after each call exactly the bytes more that the call took or gave.
 //! - `write_whole` writes all bytes, in order and each once; a fault comes only of the link, and then the first of
 //!   them were taken, and not all.
-//! - `TcpLink` is a link over TCP that tells no traffic: of it the counts alone are proved.
+//! - `TcpLink` is a link over TCP that tells its traffic: of each write the bytes that the system took, of each read
+//!   those that it gave. The record of them (`Told`, private) takes no byte, so no proof holds it to the calls of the
+//!   system: `read_now`, `write_once`, and the `dial` and `write` of a `TcpLink` have to be read. What was taken may be
+//!   lost.
 //! - That a read of it doesn't wait, that a rest ends, and that a `Bell` ends it, is only tested.
 //!
 //! See `docs/worker.md`.
@@ -20,6 +23,7 @@ mod link_fault;
 mod poller;
 mod rest;
 mod tcp_link;
+mod told;
 mod whole;
 
 pub use bell::Bell;

@@ -35,6 +35,11 @@ pub trait Link: Drop {
             (λ _. Tells (wire self.old) (wire self.new) Stays) }
         ensures faults { Rises result (fault_count self.old) (fault_count self.new) };
 
+    /// Is told that a message was found in the bytes that the link gave, behind which so many of them are left.
+    fn heard(&mut self, left: usize)
+        ensures wire { Tells (wire self.old) (wire self.new) Stays }
+        ensures faults { fault_count self.new ≡ fault_count self.old };
+
     /// Writes the first of these bytes, and answers how many: one at least, unless there are none.
     fn write(&mut self, bytes: &[u8]) -> Result<usize, LinkFault>
         ensures bound { IfOk result (λ n. IsSomeOf n (length bytes.now)) }

@@ -1,5 +1,5 @@
 -- A day: how large it is, and what its threads begin and end with.
-use Rattle.std.specs.Prelude.{◌≡◌, ℕ, zero, suc, ◌+◌, ◌*◌, ◌≤◌, false, List, [], ◌∷◌, ◌++◌, None, codes, map, sum_by}
+use Rattle.std.specs.Prelude.{◌≡◌, ℕ, zero, suc, ◌+◌, ◌*◌, ◌≤◌, false, List, [], ◌∷◌, ◌++◌, Some, codes, map, sum_by}
 use Rattle.fix_tags.specs.Config.{ConfigParts}
 use Rattle.exec_collector.specs.Seats.{Seat, worker_seat}
 use Rattle.exchange_sim.specs.declared.plan.Plan.{Plan}
@@ -42,9 +42,9 @@ abbrev pub plans : ℕ → ℕ → List Plan
 plans cut zero = []
 plans cut (suc venue) = plans cut venue ++ plan_of (cut_of cut venue) ∷ []
 
--- the worker of a drain's venue before its first turn, and those of so many venues
+-- the worker of a drain's venue before its first turn, over whose link nothing went, and those of so many venues
 abbrev pub worker_of : DrainParts → WorkerParts
-worker_of drain = new_worker (new_session dispatcher) drain.venue (worker_seat drain.venue) None
+worker_of drain = new_worker (new_session dispatcher) drain.venue (worker_seat drain.venue) (Some [])
 
 abbrev pub new_workers : ℕ → List WorkerParts
 new_workers venues = map worker_of (new_drains venues)

@@ -1,6 +1,6 @@
 //! The workers of a day.
 
-ghost use Rattle.std.specs.Prelude.{◌≡◌, length, IfOk, IfErr, map};
+ghost use Rattle.std.specs.Prelude.{◌≡◌, [], length, IfOk, IfErr, map};
 ghost use Rattle.exec_collector.specs.Seats.{worker_seats};
 ghost use Rattle.release_lock.specs.Queues.{new_drains};
 ghost use Rattle.live_day.specs.Day.{new_workers};
@@ -63,7 +63,8 @@ fn new_link<'a, R: Net + Clock>(
     addr: SocketAddr,
     bells: &mut Bells,
 ) -> Result<TcpLink<'a, R>, LiveFault>
-    ensures { IfErr result (λ fault. fault ≡ LiveFault.NoSocket) }
+    ensures unused { IfOk result (λ link. link.told.traffic ≡ []) }
+    ensures only { IfErr result (λ fault. fault ≡ LiveFault.NoSocket) }
 {
     let Ok(poller) = Poller::new(rt, alloc) else {
         return Err(LiveFault::NoSocket);

@@ -1,6 +1,6 @@
 //! The text of a line.
 
-ghost use Rattle.std.specs.Prelude.{◌≡◌, ◌++◌, IfOk, OnOk};
+ghost use Rattle.std.specs.Prelude.{◌≡◌, ◌++◌, ◌∷◌, [], IfOk, IfSome, OnOk};
 ghost use Rattle.message_log.specs.Line.{byte_logged, line_text, logged, mark};
 
 use crate::direction::Direction;
@@ -43,12 +43,36 @@ fn mark(direction: Direction) -> &'static [u8]
     }
 }
 
+/// What a byte is logged as, if that is one byte.
+#[tactic(auto, unfolding(crate::specs::Line::byte_logged, desk_words::specs::Printable::byte_shown))]
+fn one_byte_logged(byte: u8) -> Option<u8>
+    ensures { IfSome result (λ shown. byte_logged byte ≡ shown ∷ []) }
+{
+    match byte {
+        SOH => Some(b'|'),
+        b'|' => None,
+        b'\\' => None,
+        b' '..=b'~' => Some(byte),
+        _ => None,
+    }
+}
+
+fn append_byte(line: &mut Vec<u8>, byte: u8) -> Result<(), AllocError>
+    ensures { OnOk result (line.new.items ≡ line.old.items ++ byte_logged byte) }
+{
+    match one_byte_logged(byte) {
+        Some(shown) => line.push(shown)?,
+        None => line.extend_from_slice(byte_logged(byte).as_slice())?,
+    }
+    Ok(())
+}
+
 fn append_logged(line: &mut Vec<u8>, message: &[u8]) -> Result<(), AllocError>
     ensures { OnOk result (line.new.items ≡ line.old.items ++ logged message.now) }
 {
+    line.reserve(message.len())?;
     for byte in message {
-        let piece = byte_logged(*byte);
-        line.extend_from_slice(piece.as_slice())?;
+        append_byte(line, *byte)?;
     }
     Ok(())
 }

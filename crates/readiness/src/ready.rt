@@ -2,16 +2,18 @@
 
 ghost use Rattle.std.specs.Prelude.{◌≡◌, true, false};
 
+use crate::wakeup::Wakeup;
 use mio::unix::SourceFd;
 use mio::{Events, Interest, Poll, Token};
 use std::alloc::Global;
 use std::io;
 use std::net::Net;
 use std::os::fd::RawFd;
+use std::sync::Arc;
 use std::time::Duration;
 
-/// What is waited for: the input alone.
-const SOURCES: usize = 1;
+/// What is waited for: the input, and what ends a wait.
+const SOURCES: usize = 2;
 
 const INPUT: Token = Token(0);
 
@@ -23,6 +25,7 @@ pub struct Readiness {
     poll: Poll,
     events: Events,
     is_watched: bool,
+    wakeup: Arc<Wakeup, Global>,
 }
 
 impl Readiness {
@@ -30,6 +33,7 @@ impl Readiness {
     pub fn new(net: &impl Net, alloc: Global, fd: RawFd) -> io::Result<Readiness> {
         let poll = Poll::new(net)?;
         let events = Events::with_capacity(alloc, SOURCES)?;
+        let wakeup = Arc::new(alloc, Wakeup::new(poll.registry())?)?;
         let watched = poll
             .registry()
             .register(&mut SourceFd(&fd), INPUT, Interest::READABLE);
@@ -38,11 +42,17 @@ impl Readiness {
             poll,
             events,
             is_watched: watched.is_ok(),
+            wakeup,
         })
     }
 
-    /// Waits until a read would give something, so long at most, and says whether it would. Where the system can't
-    /// tell, the read itself is to show it.
+    /// What ends its waits, for another thread.
+    pub fn wakeup(&self) -> io::Result<Arc<Wakeup, Global>> {
+        Ok(self.wakeup.clone()?)
+    }
+
+    /// Waits until a read would give something or the wait is ended, so long at most, and says whether a read would.
+    /// Where the system can't tell, the read itself is to show it.
     pub fn wait(&mut self, most: Duration) -> bool
         ensures { self.old.is_watched ≡ false → result ≡ true }
     {
@@ -61,6 +71,6 @@ impl Readiness {
             .registry()
             .reregister(&mut SourceFd(&self.fd), INPUT, Interest::READABLE)?;
         self.poll.poll(&mut self.events, Some(most))?;
-        Ok(!self.events.is_empty())
+        Ok(self.events.iter().any(|event| event.token() == INPUT))
     }
 }

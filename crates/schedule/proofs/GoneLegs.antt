@@ -2,7 +2,6 @@
 -- that
 -- were withdrawn before, with those that it names.
 use Rattle.std.proofs.Common.{◌≡◌, ◌≤◌, ◌<◌, ◌⊎◌, ℕ, zero, suc, Bool, true, false, List, [], ◌∷◌, length, map, take, Option, Some, None, refl, sym, ap, subst, ◌∙◌, inl, inr, arith}
-use Rattle.std.specs.Prelude.{slice_get}
 use Rattle.std.specs.List.{Contains}
 use Rattle.std.specs.Option.{option_map_or}
 use Rattle.std.proofs.lemmas.List.Elements.{Contains-append_left, Contains-append_right, Contains-push}
@@ -23,6 +22,7 @@ use Rattle.schedule.specs.Growing.{IsWorldLater}
 use Rattle.schedule.specs.LineOf.{line_at}
 use Rattle.venue_line.specs.Line.{Line, LineStep}
 use Rattle.venue_line.specs.LineTheorem.{IsWithdrawnLeg}
+use Rattle.venue_line.proofs.Kept.{numbered_there}
 use Rattle.venue_line.proofs.ForGood.{gone_stays}
 use Rattle.venue_line.proofs.LineGives.{line_holds}
 use Rattle.schedule.proofs.ReportedLegs.{IsNumberOf, made_on}
@@ -180,17 +180,6 @@ gone_after w after safe safe_after advances later id g =
           (safe_after.lines g.v now.0 now.1).0 g.ordinal g.gone;
     }
 
--- the leg of an ordinal
-leg_there : (xs : List Leg) (k : ℕ) → k < length xs → (leg : Leg) × (slice_get xs k ≡ Some leg)
-leg_there [] k low = absurd (omega arith)
-leg_there (x ∷ xs) zero low = (x, refl)
-leg_there (x ∷ xs) (suc k) low = leg_there xs k (omega arith)
-
-numbered_there : (xs : List Leg) (number : ℕ) → 1 ≤ number → number ≤ length xs → (leg : Leg)
-    × (numbered number xs ≡ Some leg)
-numbered_there xs zero from low = absurd (omega arith)
-numbered_there xs (suc k) from low = leg_there xs k (omega arith)
-
 -- what is withdrawn now was so before, or is among these
 pub gone_before : (w after : World) → IsSafe w → IsSafe after → Advances w after → (ids : List LegIdParts)
     → ((v : ℕ) (old now : VenueParts) (ordinal : ℕ) (leg : Leg) → venue_in w v ≡ Some old → venue_in after v ≡ Some now
@@ -208,7 +197,7 @@ gone_before w after safe safe_after advances ids lefts sinces id g =
       | inl before ↦
           (let within = i.copies.left_released in
           let left = before.left in
-          let found = numbered_there (released g.v w.desk.sweeps) g.ordinal before.from (omega arith) in
+          let found = numbered_there g.ordinal (released g.v w.desk.sweeps) before.from (omega arith) in
           let one : found.0 ≡ g.leg = same_Some found.0 g.leg
           (sym (p.past.released g.ordinal found.0 found.1) ∙ g.whole) in
           inl (record {

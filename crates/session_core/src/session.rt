@@ -13,7 +13,7 @@ use crate::step::LegIds;
 use dialect::Message;
 use fix_tags::{Config, TextRef};
 use leg::{Leg, LegId, LegState};
-use resend::{GapFill, InSeq, OutLog};
+use resend::{GapFill, InSeq, OutLog, Sent};
 use std::alloc::Global;
 use std::marker::Model;
 
@@ -48,6 +48,7 @@ impl Session {
     ghost use Rattle.session_core.specs.Sound.{IsSound};
     ghost use Rattle.session_core.specs.Decision.{decided};
     ghost use Rattle.resend.specs.Log.{last_number, last_ordinal, leg_at, fill_for, doubt_from};
+    ghost use Rattle.resend.specs.Window.{window};
     ghost use Rattle.session_core.specs.Receiving.{named_fence, confirm};
     ghost use Rattle.session_core.specs.Calling.{own_next, connecting, sending, broken, malformed, abandon};
 
@@ -108,6 +109,13 @@ impl Session {
         ensures { result ≡ has_doubt self.now }
     {
         self.log.in_doubt()
+    }
+
+    /// The legs in doubt, in the order of their numbers and so of their ordinals.
+    pub fn doubts(&self) -> &[Sent]
+        ensures { result.now ≡ window self.now.log }
+    {
+        self.log.window()
     }
 
     /// How far the leg of an ordinal is settled, if it was sent.

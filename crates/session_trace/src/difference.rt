@@ -24,6 +24,13 @@ pub struct Differs {
     pub why: Difference,
 }
 
+impl Differs {
+    /// Whether it isn't known what the session writes, since there is no memory: that tells nothing of the log.
+    pub fn is_unknown(&self) -> bool {
+        matches!(&self.why, Difference::OutOfMemory)
+    }
+}
+
 impl From<AllocError> for Difference {
     fn from(_fault: AllocError) -> Difference {
         Difference::OutOfMemory

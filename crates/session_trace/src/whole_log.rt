@@ -130,7 +130,7 @@ fn explain_closing<D: Dialect>(
         match explain_from(alloc, dialect, first, logon, log, Some(fence)) {
             Ok(()) => return Ok(()),
             Err(later) => {
-                if later.place > place {
+                if later.is_unknown() || later.place > place {
                     return Err(later);
                 }
             }
@@ -139,7 +139,8 @@ fn explain_closing<D: Dialect>(
     Err(differs)
 }
 
-/// The lines of a log are those of a session which made some calls, or the first one is named that isn't.
+/// The lines of a log are those of a session which made some calls, or the first one is named that isn't. Where memory
+/// is refused, that is answered, and nothing is said of the log.
 pub fn explain<D: Dialect>(alloc: Global, dialect: &D, log: &[Shown]) -> Result<(), Differs>
     ensures { OnOk result (IsOfSession (D.wording dialect.now) log.now) }
 {
@@ -151,6 +152,11 @@ pub fn explain<D: Dialect>(alloc: Global, dialect: &D, log: &[Shown]) -> Result<
     };
     match explain_from(alloc, dialect, place, logon, log, None) {
         Ok(()) => Ok(()),
-        Err(differs) => explain_closing(alloc, dialect, place, logon, log, differs),
+        Err(differs) => {
+            if differs.is_unknown() {
+                return Err(differs);
+            }
+            explain_closing(alloc, dialect, place, logon, log, differs)
+        }
     }
 }

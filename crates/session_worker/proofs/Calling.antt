@@ -44,7 +44,7 @@ use Rattle.session_worker.specs.Events.WorkerEvent.{Calls, Fails}
 use Rattle.session_worker.proofs.Booking.{waiting_after, booked-append, plain_books}
 use Rattle.session_worker.proofs.Spoken.{stays_last, stays_here}
 use Rattle.session_worker.proofs.Hearing.{on_first, on_waits, on_gave, on_stays, on_takes, on_dials}
-use Rattle.session_worker.proofs.Speech.{stays_first, takes_first, speak_read, speak_on, speak_none, speak_made, speak_silent, begins_plain, concat_one, speak_broken}
+use Rattle.session_worker.proofs.Speech.{stays_first, stays_on, takes_first, speak_read, speak_on, speak_none, speak_made, speak_silent, begins_plain, concat_one, speak_broken}
 use Rattle.session_worker.proofs.Connected.{gone, gone_malformed, gone_abandoned, send_on, hearing_same, hearing_takes, hearing_gone}
 
 -- the legs of calls and then others
@@ -389,6 +389,21 @@ heard_step w s now a x y step on receives is = record {
       subst (λ (r : Result Envelope TagFault). ReaderOn (said ++ r ∷ []) a y) receives.says
       (on_gave said receives.fields a x y (hearing on) receives.next is) in
       (on_first (said ++ Ok receives.envelope ∷ []) a y at, (λ still. at));
+}
+
+-- what a step asks for stays so where the link was told something
+pub asks_still : (w : Wording) (x m y : SessionIoParts) (step : Step) → Asks w x step m → y.session ≡ m.session
+    → Tells m.wire y.wire Stays → y.stream ≡ m.stream → Asks w x step y
+asks_still w x m y step asks same stays stream = record {
+  made = asks.made;
+  gave = subst (λ (s : SessionParts). Gave w asks.made x.session step s) (sym same) asks.gave;
+  wire = stays_on x.wire m.wire y.wire asks.wire stays;
+  hears = λ (said : Said) (hearing : IsHearing said x).
+      let heard = asks.hears said hearing in (
+        heard.0,
+        hearing_same (said_with said asks.made) m y
+            (λ on. subst (λ (s : SessionParts). is_connected s.phase ≡ true) same on) stays stream heard.1,
+      );
 }
 
 pub heard_malformed : (w : Wording) (x y : SessionIoParts) (z : Stream) (fields : List Tagged) (fault : TagFault)

@@ -29,7 +29,9 @@
 mod audit_fault;
 mod auditing;
 mod day_report;
+mod doubt_count;
 mod end_reason;
+mod fencing;
 mod gates;
 mod open_shares;
 mod pace;
@@ -43,7 +45,6 @@ mod session_io;
 mod stop;
 mod takings;
 mod timer;
-mod unsettled;
 mod worker;
 mod worker_end;
 mod worker_state;

@@ -1,6 +1,6 @@
 //! What a worker tells of itself.
 
-use crate::unsettled::Unsettled;
+use crate::doubt_count::count_doubts;
 use session_core::Session;
 use std::alloc::Global;
 use std::sync::Arc;
@@ -13,7 +13,6 @@ const COUNT_AFTER: u64 = 100;
 #[derive(Drop)]
 pub(crate) struct Reporter {
     board: Option<Arc<VenueBoard, Global>>,
-    unsettled: Unsettled,
     /// The moment at which its legs were counted last.
     counted: u64,
     /// Whether a dial was refused since the session was found down.
@@ -25,7 +24,6 @@ impl Reporter {
     pub fn new() -> Reporter {
         Reporter {
             board: None,
-            unsettled: Unsettled::new(),
             counted: 0,
             is_refused: false,
         }
@@ -77,8 +75,8 @@ impl Reporter {
     ) {
         if let Some(board) = &self.board {
             self.counted = moment;
-            let doubts = self.unsettled.count(session, taken);
-            board.tell_legs(taken, doubts, self.unsettled.settled(), withdrawn);
+            let doubts = count_doubts(session, taken);
+            board.tell_legs(taken, doubts.count, doubts.settled, withdrawn);
             board.tell_heard(heard);
         }
     }

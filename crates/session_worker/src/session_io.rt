@@ -14,6 +14,7 @@ ghost use Rattle.session_worker.specs.Linking.{io_of, IsHearing, MayBreak, Takes
 ghost use Rattle.session_worker.specs.Events.{IsIdle};
 
 use crate::Pace;
+use crate::fencing::Fencing;
 use crate::reading::{Heard, hear};
 use crate::redial::Redial;
 use crate::reporter::Reporter;
@@ -37,6 +38,9 @@ const LEAST_REST: u64 = 1;
 /// How many it lasts at most, so that a worker whose bell nobody rings comes back to its gate.
 const LONGEST_REST: u64 = 1_000;
 
+/// How many it lasts at most while the session is up.
+const LONGEST_REST_UP: u64 = 5_000;
+
 /// A session, the link over which it speaks, since when nothing was written and nothing heard, when it is dialled
 /// again, and whom it tells how far it is. Contracts see the session, what the link tells, and what the reader has.
 #[derive(Drop)]
@@ -47,6 +51,7 @@ pub(crate) struct SessionIo<K: Link, C: Clock + Drop> {
     session: Session,
     reader: FrameReader,
     timer: Timer,
+    fencing: Fencing,
     redial: Redial,
     reporter: Reporter,
 }
@@ -80,6 +85,7 @@ impl<K: Link, C: Clock + Drop> SessionIo<K, C> {
             session: Session::new(alloc, config),
             reader: FrameReader::new(alloc),
             timer,
+            fencing: Fencing::new(pace),
             redial: Redial::new(pace, u64::from(venue.number())),
             reporter: Reporter::new(),
         }
@@ -97,6 +103,7 @@ impl<K: Link, C: Clock + Drop> SessionIo<K, C> {
             session,
             reader: _,
             timer: _,
+            fencing: _,
             redial: _,
             reporter: _,
         } = self;
@@ -240,6 +247,7 @@ impl<K: Link, C: Clock + Drop> SessionIo<K, C> {
     pub(crate) fn send<D: Dialect>(&mut self, dialect: &D, placed: &PlacedLeg) -> bool
         ensures { Hands (D.wording dialect.now) placed.now result self.old self.new }
     {
+        self.fencing.sending(&self.session, self.timer.now());
         let stamp = self.clock.now();
         match self
             .session
@@ -309,9 +317,12 @@ impl<K: Link, C: Clock + Drop> SessionIo<K, C> {
             Heard::Nothing => None,
             Heard::Step(step) => {
                 self.timer.heard();
+                self.fencing.heard();
+                self.link.heard(self.reader.waiting());
                 Some(step)
             }
             Heard::Malformed => {
+                self.link.heard(self.reader.waiting());
                 self.hang_up(Loss::Ended(Ended::Malformed));
                 None
             }
@@ -327,6 +338,8 @@ impl<K: Link, C: Clock + Drop> SessionIo<K, C> {
         ensures { self.new ≡ self.old }
     {
         self.timer.begin_turn(self.clock.millis());
+        self.fencing
+            .begin_turn(self.session.phase(), self.timer.now());
         if self.session.phase() == Phase::Down {
             self.redial.found_down(self.timer.now());
             let pause = self.redial.millis_left(self.timer.now());
@@ -367,6 +380,7 @@ impl<K: Link, C: Clock + Drop> SessionIo<K, C> {
             session,
             reader: _,
             timer,
+            fencing: _,
             redial: _,
             reporter,
         } = self;
@@ -397,18 +411,38 @@ impl<K: Link, C: Clock + Drop> SessionIo<K, C> {
         }
     }
 
+    /// For how many milliseconds nothing is due, and how many a rest lasts at most.
+    fn rest_millis(&self) -> u64 {
+        let now = self.timer.now();
+        match self.session.phase() {
+            Phase::Down => self.redial.millis_left(now).min(LONGEST_REST),
+            Phase::Closed => self.redial.millis_left(now).min(LONGEST_REST),
+            Phase::Up => self.millis_left(now).min(LONGEST_REST_UP),
+            Phase::LoggingOn => self.millis_left(now).min(LONGEST_REST),
+            Phase::Settling => self.millis_left(now).min(LONGEST_REST),
+            Phase::Closing => self.millis_left(now).min(LONGEST_REST),
+            Phase::LoggedOut => self.millis_left(now).min(LONGEST_REST),
+        }
+    }
+
+    /// For how many milliseconds nothing is due on the connection.
+    fn millis_left(&self, now: u64) -> u64 {
+        let left = self.timer.millis_left();
+        match self.fencing.millis_left(&self.session, now) {
+            Some(fence) => left.min(fence),
+            None => left,
+        }
+    }
+
     /// Rests until the link has something to tell, or something is due.
     pub(crate) fn rest(&mut self)
         ensures session { self.new.session ≡ self.old.session }
         ensures wire { Tells self.old.wire self.new.wire Stays }
         ensures stream { self.new.stream ≡ self.old.stream }
     {
-        let left = if self.session.phase().is_connected() {
-            self.timer.millis_left()
-        } else {
-            self.redial.millis_left(self.timer.now())
-        };
-        self.link.rest(Duration::from_millis(left.clamp(LEAST_REST, LONGEST_REST)));
+        let millis = self.rest_millis();
+        self.link
+            .rest(Duration::from_millis(millis.max(LEAST_REST)));
     }
 
     /// After so long without a write the session is told, and gives what is to be written.
@@ -430,14 +464,21 @@ impl<K: Link, C: Clock + Drop> SessionIo<K, C> {
         }
     }
 
-    /// After so long without a message the session is told, and gives what is to be done.
+    /// Whether nothing was received for so long that the exchange is asked, or a fence is due.
+    fn is_asking_due(&self) -> bool {
+        self.timer.is_silent() || self.fencing.is_due(&self.session, self.timer.now())
+    }
+
+    /// After so long without a message, or with a fence due, the session is told, and gives what is to be done.
     pub(crate) fn on_silence<D: Dialect>(&mut self, dialect: &D) -> Option<Step>
         ensures { AsksOrMoves (D.wording dialect.now) self.old result self.new }
     {
-        if !self.timer.is_silent() {
+        if !self.is_asking_due() {
             return None;
         }
-        self.timer.restart_silent();
+        self.timer.restart_if_silent();
+        self.fencing
+            .fenced(self.session.next_out(), self.timer.now());
         let stamp = self.clock.now();
         match self.session.silent(dialect, &stamp) {
             Ok(step) => Some(step),

@@ -1,7 +1,7 @@
 //! When a worker does something by itself.
 
 ghost use Rattle.std.specs.Prelude.{◌≡◌, ◌-◌, ◌*◌, ◌≤◌, ◌↔◌, true, false, min, IsTrue};
-ghost use Rattle.session_worker.specs.Timing.{is_by_turns, quiet_of, silent_of};
+ghost use Rattle.session_worker.specs.Timing.{is_by_turns, quiet_of, silent_of, received_after};
 
 use crate::Pace;
 
@@ -141,11 +141,16 @@ impl Timer {
         self.written = self.moment;
     }
 
-    /// The session was told that nothing was received: it is told again after as long.
-    pub fn restart_silent(&mut self)
-        ensures { self.new ≡ record self.old { received = self.old.moment } }
+    /// The session is told that nothing was received, if that is so: it is told again after as long.
+    pub fn restart_if_silent(&mut self)
+        ensures { self.new ≡ record self.old {
+          received = received_after self.old.silent_after self.old.moment
+              self.old.received;
+        } }
     {
-        self.received = self.moment;
+        if self.is_silent() {
+            self.received = self.moment;
+        }
     }
 
     /// Whether in this turn a frame was written or a message heard.

@@ -69,6 +69,10 @@ impl<'a, T: Clock> Link for Meeting<'a, T> {
         self.script.read(buf)
     }
 
+    fn heard(&mut self, left: usize) {
+        self.script.heard(left)
+    }
+
     fn write(&mut self, bytes: &[u8]) -> Result<usize, LinkFault> {
         self.met = self.met || self.meets();
         if self.met {

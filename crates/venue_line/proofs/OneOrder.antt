@@ -95,7 +95,7 @@ module _ (w : Line) where
     never = holds.withdrawn_is_missing;
   }
 
-  as_many : (holds : LineHolds w) → length holds.ordinals ≡ length w.exchange.intake.accepted
+  pub as_many : (holds : LineHolds w) → length holds.ordinals ≡ length w.exchange.intake.accepted
   as_many holds =
       sym (length-map holds.ordinals (λ ordinal. numbered ordinal w.released))
       ∙ (sym (ap length holds.released) ∙ length-map w.exchange.intake.accepted (λ leg. Some leg))

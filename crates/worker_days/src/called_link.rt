@@ -124,6 +124,10 @@ impl<'a, 'c, R: Wait, K: Link, L: Run, M: Accounts> Link for CalledLink<'a, 'c, 
         self.link.read(buf)
     }
 
+    fn heard(&mut self, left: usize) {
+        self.link.heard(left)
+    }
+
     fn write(&mut self, bytes: &[u8]) -> Result<usize, LinkFault> {
         self.count();
         self.call_beside(Beside::Writes);

@@ -8,13 +8,14 @@ use Rattle.venue_line.specs.Line.{Line}
 use Rattle.venue_line.proofs.ForGood.{settled-refl, settled-trans}
 use Rattle.venue_line.proofs.GivenSteps.{Whole}
 use Rattle.venue_line.proofs.PastLines.{past-refl}
+use Rattle.venue_line.specs.Leading.{Leads}
+use Rattle.venue_line.proofs.Leading.{leads-refl, leads-trans, leads_safely, leads_past}
 use Rattle.schedule.proofs.Asking.{grew_none, grew_by}
 use Rattle.session_worker.specs.Events.{WorkerEvent, calls_in, withdrawn_in, withdrawn_by}
 use Rattle.session_worker.specs.Events.WorkerEvent.{Calls, Drops, Fails}
 use Rattle.worker_line.specs.Gone.{AreGone}
 use Rattle.worker_line.specs.Happening.{VenueEvent, works_of, after_event, after_events, MayAllHappen, AllTakeNext}
 use Rattle.worker_line.specs.Happening.VenueEvent.{Works, Exchanges, Releases}
-use Rattle.worker_line.proofs.Leading.{Leads, leads-refl, leads-trans, leads_safely, leads_past}
 use Rattle.worker_line.proofs.OneEvent.{event_leads}
 use Rattle.worker_line.proofs.TakenAlong.{called_session}
 use Rattle.worker_line.proofs.AskedLegs.{Asks, asks_none, asks_both}

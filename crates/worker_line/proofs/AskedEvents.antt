@@ -18,13 +18,14 @@ use Rattle.session_core.proofs.Called.{connect_keeps, send_leg_keeps, confirm_ke
 use Rattle.session_core.proofs.Received.{receive_is_received}
 use Rattle.venue_line.specs.Line.{Line}
 use Rattle.venue_line.proofs.GivenSteps.{Whole}
+use Rattle.venue_line.specs.Leading.{Leads}
+use Rattle.venue_line.proofs.Leading.{leads_safely, leads_past}
 use Rattle.schedule.proofs.Asking.{grew_none, grew_by}
 use Rattle.session_worker.specs.Booking.{named_in, unless_sent}
 use Rattle.session_worker.specs.Events.{WorkerEvent, withdrawn_in}
 use Rattle.session_worker.specs.Events.WorkerEvent.{Calls, Drops, Fails}
 use Rattle.worker_line.specs.Happening.{after_event, MayHear, TakesNext}
 use Rattle.worker_line.specs.Happening.VenueEvent.{Works}
-use Rattle.worker_line.proofs.Leading.{Leads, leads_safely, leads_past}
 use Rattle.worker_line.proofs.OneEvent.{IsAt, first_behind, event_leads}
 use Rattle.worker_line.proofs.AskedLegs.{Asks, asks_none, asks_since, asks_sent, asks_unsent}
 

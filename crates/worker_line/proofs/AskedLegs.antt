@@ -1,7 +1,6 @@
 -- From a line to a later one: the legs that were asked to be withdrawn meanwhile are those that are withdrawn on the
 -- later line and weren't on the earlier one, and none was asked for twice where legs have ids of their own.
-use Rattle.std.proofs.Common.{◌≡◌, ◌<◌, ◌≤◌, ◌⊎◌, ℕ, zero, suc, Bool, true, false, ◌&&◌, List, [], ◌∷◌, ◌++◌, length, Option, Some, None, refl, sym, ap, subst, ◌∙◌, inl, inr, if◌then◌else◌, arith}
-use Rattle.std.specs.Prelude.{slice_get}
+use Rattle.std.proofs.Common.{◌≡◌, ◌<◌, ◌≤◌, ◌⊎◌, ℕ, zero, suc, Bool, true, false, ◌&&◌, List, [], ◌∷◌, ◌++◌, Option, Some, None, refl, sym, ap, subst, ◌∙◌, inl, inr, if◌then◌else◌, arith}
 use Rattle.std.specs.List.{Contains, AllByRecursion, IsDistinct}
 use Rattle.std.proofs.lemmas.Bool.{cases_Bool, cases_lt}
 use Rattle.std.proofs.lemmas.List.Elements.{Contains-append_left, Contains-append_right, Contains-append_cases}
@@ -22,20 +21,15 @@ use Rattle.venue_line.specs.Copies.{IsLegAt}
 use Rattle.venue_line.specs.LineInvariant.{LineInvariant}
 use Rattle.venue_line.specs.LineTheorem.{IsWithdrawnLeg}
 use Rattle.venue_line.specs.ForGood.{StaysSettled}
+use Rattle.venue_line.proofs.Kept.{numbered_there}
 use Rattle.venue_line.proofs.ForGood.{state_is}
 use Rattle.venue_line.proofs.LegStates.{found, has_state}
 use Rattle.venue_line.proofs.PastLines.{IsPast}
 use Rattle.schedule.proofs.LegsGone.{gone_since}
 use Rattle.schedule.proofs.NamedLegs.{IsNowWithdrawn, named_since, since_named}
-use Rattle.worker_line.specs.Gone.{IsGoneLeg}
+use Rattle.worker_line.specs.Gone.{HaveOwnIds, IsGoneLeg}
 
--- the legs that left have ids of their own
-abbrev pub HaveOwnIds : Line → Type 0
-HaveOwnIds w =
-    (ordinal other : ℕ) (leg more : Leg) → ordinal ≤ w.left → other ≤ w.left → numbered ordinal w.released ≡ Some leg
-    → numbered other w.released ≡ Some more → leg.id ≡ more.id → ordinal ≡ other
-
-own_before : (a b : Line) → a.left ≤ b.left → StaysSettled a b → HaveOwnIds b → HaveOwnIds a
+pub own_before : (a b : Line) → a.left ≤ b.left → StaysSettled a b → HaveOwnIds b → HaveOwnIds a
 own_before a b left stays own ordinal other leg more low lower here there same =
     own ordinal other leg more (omega arith) (omega arith) (stays.released ordinal leg here)
     (stays.released other more there) same
@@ -64,7 +58,7 @@ all_more : (P : LegIdParts → Type 0) (xs ys : List LegIdParts) → AllByRecurs
 all_more P [] ys first more = more
 all_more P (x ∷ xs) ys first more = (first.0, all_more P xs ys first.1 more)
 
-distinct-none : IsDistinct is_same_leg []
+pub distinct-none : IsDistinct is_same_leg []
 unfolding IsDistinct
 distinct-none = tt
 
@@ -75,7 +69,7 @@ unfolding IsDistinct
 distinct-cons id ids others more =
     (all_of (λ y. is_same_leg id y ≡ false) ids (λ other there. differs id other (others other there)), more)
 
-distinct-append : (xs ys : List LegIdParts) → IsDistinct is_same_leg xs → IsDistinct is_same_leg ys
+pub distinct-append : (xs ys : List LegIdParts) → IsDistinct is_same_leg xs → IsDistinct is_same_leg ys
     → ((id : LegIdParts) → Contains xs id → Contains ys id → ⊥) → IsDistinct is_same_leg (xs ++ ys)
 unfolding IsDistinct
 distinct-append [] ys first more apart = more
@@ -156,32 +150,40 @@ pub record Asks (a w : Line) (asked : List LegIdParts) : Type 0 where
       → IsWithdrawnLeg a ordinal ⊎ Contains asked leg.id
   pub once : HaveOwnIds w → IsDistinct is_same_leg asked
 
--- the leg of an ordinal
-leg_there : (xs : List Leg) (k : ℕ) → k < length xs → (leg : Leg) × (slice_get xs k ≡ Some leg)
-leg_there [] k low = absurd (omega arith)
-leg_there (x ∷ xs) zero low = (x, refl)
-leg_there (x ∷ xs) (suc k) low = leg_there xs k (omega arith)
+-- a leg that was gone on an earlier line is so on a later one, and is the same
+module _ (b w : Line) (stays : StaysSettled b w) where
+  abbrev pub gone_later : (id : LegIdParts) → IsGoneLeg b id → IsGoneLeg w id
+  gone_later id is = record {
+    ordinal = is.ordinal;
+    leg = is.leg;
+    whole = stays.released is.ordinal is.leg is.whole;
+    same = is.same;
+    withdrawn = stays.withdrawn is.ordinal is.withdrawn;
+  }
 
-pub numbered_there : (xs : List Leg) (number : ℕ) → 1 ≤ number → number ≤ length xs → (leg : Leg)
-    × (numbered number xs ≡ Some leg)
-numbered_there xs zero from low = absurd (omega arith)
-numbered_there xs (suc k) from low = leg_there xs k (omega arith)
+  pub whole_before : LineInvariant b → (ordinal : ℕ) (leg : Leg) → numbered ordinal w.released ≡ Some leg
+      → IsWithdrawnLeg b ordinal → numbered ordinal b.released ≡ Some leg
+  whole_before i ordinal leg whole before =
+      let within = i.copies.left_released in
+      let left = before.left in
+      let there = numbered_there ordinal b.released before.from (omega arith) in
+      let one : there.0 ≡ leg = same_Some there.0 leg (sym (stays.released ordinal there.0 there.1) ∙ whole) in
+      subst (λ (l : Leg). numbered ordinal b.released ≡ Some l) one there.1
+
+  -- a leg that was gone on the earlier line wasn't asked for since
+  pub not_again : b.left ≤ w.left → HaveOwnIds w → (id : LegIdParts) → IsGoneLeg b id → IsAskedLeg b w id → ⊥
+  not_again left own id x y =
+      let low = x.withdrawn.left in
+      let same = own x.ordinal y.gone.ordinal x.leg y.gone.leg (omega arith) y.gone.withdrawn.left
+      (stays.released x.ordinal x.leg x.whole) y.gone.whole (x.same ∙ sym y.gone.same) in
+      y.fresh (subst (IsWithdrawnLeg b) same x.withdrawn)
 
 -- one line after the other
 module _ (a b w : Line) (now later : List LegIdParts) (i : LineInvariant b) (first : Asks a b now) (more : Asks b w later) where
   each_both : (id : LegIdParts) → Contains now id ⊎ Contains later id → IsAskedLeg a w id
   each_both id (inl there) =
       let is = first.each id there in
-      record {
-        gone = record {
-          ordinal = is.gone.ordinal;
-          leg = is.gone.leg;
-          whole = more.stays.released is.gone.ordinal is.gone.leg is.gone.whole;
-          same = is.gone.same;
-          withdrawn = more.stays.withdrawn is.gone.ordinal is.gone.withdrawn;
-        };
-        fresh = is.fresh;
-      }
+      record { gone = gone_later b w more.stays id is.gone; fresh = is.fresh }
   each_both id (inr there) =
       let is = more.each id there in
       record { gone = is.gone; fresh = λ before. is.fresh (first.stays.withdrawn is.gone.ordinal before) }
@@ -192,29 +194,11 @@ module _ (a b w : Line) (now later : List LegIdParts) (i : LineInvariant b) (fir
       elim (more.all ordinal leg whole gone) [
         | inr there ↦ inr (Contains-append_right now later leg.id there)
         | inl before ↦
-            (let within = i.copies.left_released in
-            let left = before.left in
-            let there = numbered_there b.released ordinal before.from (omega arith) in
-            let one : there.0 ≡ leg = same_Some there.0 leg
-            (sym (more.stays.released ordinal there.0 there.1) ∙ whole) in
-            let whole_there = subst (λ (l : Leg). numbered ordinal b.released ≡ Some l) one there.1 in
-            elim (first.all ordinal leg whole_there before) [
+            elim (first.all ordinal leg (whole_before b w more.stays i ordinal leg whole before) before) [
               | inl was ↦ inl was
               | inr new ↦ inr (Contains-append_left now later leg.id new)
-            ])
+            ]
       ]
-
-  -- no leg is asked for by both: it was withdrawn between
-  apart : HaveOwnIds w → (id : LegIdParts) → Contains now id → Contains later id → ⊥
-  apart own id here there =
-      let x = first.each id here in
-      let y = more.each id there in
-      let low = x.gone.withdrawn.left in
-      let lower = y.gone.withdrawn.left in
-      let between = more.left in
-      let same = own x.gone.ordinal y.gone.ordinal x.gone.leg y.gone.leg (omega arith) lower
-      (more.stays.released x.gone.ordinal x.gone.leg x.gone.whole) y.gone.whole (x.gone.same ∙ sym y.gone.same) in
-      y.fresh (subst (IsWithdrawnLeg b) same x.gone.withdrawn)
 
   pub asks_both : StaysSettled a w → Asks a w (now ++ later)
   asks_both stays = record {
@@ -222,7 +206,9 @@ module _ (a b w : Line) (now later : List LegIdParts) (i : LineInvariant b) (fir
     stays = stays;
     each = λ id there. each_both id (Contains-append_cases now later id there);
     all = all_both;
-    once = λ own. distinct-append now later (first.once (own_before b w more.left more.stays own)) (more.once own) (apart own);
+    once = λ own.
+        distinct-append now later (first.once (own_before b w more.left more.stays own)) (more.once own)
+        (λ id here there. not_again b w more.stays more.left own id (first.each id here).gone (more.each id there));
   }
 
 -- one step or two, from a line to the next

@@ -18,6 +18,7 @@ use Rattle.venue_line.specs.ForGood.{StaysSettled}
 use Rattle.venue_line.proofs.GivenSteps.{Whole, whole_new, whole_step}
 use Rattle.venue_line.proofs.LineGives.{line_holds}
 use Rattle.venue_line.proofs.ForGood.{settled-trans}
+use Rattle.venue_line.proofs.Leading.{leads_safely, holds_at_last}
 use Rattle.line_notes.specs.NotesTheorem.{NotesAreOnAccepted}
 use Rattle.line_notes.proofs.NotesGiven.{the_notes_theorem}
 use Rattle.exec_collector.specs.Seats.{Seat}
@@ -28,7 +29,6 @@ use Rattle.session_worker.specs.Ends.{WorkerLeft, last_calls, Runs}
 use Rattle.session_worker.proofs.Doing.{goes_on}
 use Rattle.worker_line.specs.Happening.{VenueEvent, works_of, after_event, after_events, moments_of, MayAllHappen, AllTakeNext}
 use Rattle.worker_line.specs.WorkerTheorem.{released_line, IsSafeLine, Worked, TheWorkerTheorem, works_in, Ran, TheRunTheorem, TheDayTheorem}
-use Rattle.worker_line.proofs.Leading.{leads_safely, holds_at_last}
 use Rattle.worker_line.proofs.OneEvent.{event_leads}
 use Rattle.worker_line.proofs.TakenAlong.{session_along, given_along, HasTaken, taken_along, each_is_next}
 use Rattle.worker_line.proofs.AskedAlong.{events_lead, asks_along, are_gone}
@@ -178,5 +178,6 @@ the_day_theorem w callers queues seats report day venue config events after took
       shares = shares_at day.book seats venue after.seat end.given asked day.book_replays day.kept sits of_venue
           (line.booked ∙ ap (λ l. l ++ end.given) none) (line.asked ∙ ap (λ l. l ++ asked) none_asked)
           (asks.once own)
-          (spared_by start end asked ended own (notes_along w.decoding config legs events small may next) asks);
+          (spared_by end asked ended own (notes_along w.decoding config legs events small may next)
+          (λ id there. (asks.each id there).gone));
     }

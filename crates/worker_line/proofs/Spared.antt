@@ -1,10 +1,9 @@
 -- On an audited day legs that left have ids of their own, and no note given is on a leg that was asked for: each note is
 -- on a leg that the exchange accepted, and such a leg isn't withdrawn.
 use Rattle.std.proofs.Common.{◌≡◌, ◌≤◌, ℕ, zero, suc, true, List, [], ◌∷◌, length, Some, refl, sym, ap, subst, ◌∙◌, inl, inr, arith, length-append}
-use Rattle.std.specs.Prelude.{slice_get}
 use Rattle.std.specs.List.{Contains}
 use Rattle.std.proofs.lemmas.Bool.{cases_Bool}
-use Rattle.std.proofs.lemmas.Option.{same_Some, slice_get_within, get_or_from_slice_get}
+use Rattle.std.proofs.lemmas.Option.{same_Some}
 use mathlib.Core.List.{IsPrefix}
 use Rattle.leg.specs.LegId.{LegIdParts}
 use Rattle.leg.specs.Numbered.{numbered}
@@ -19,17 +18,18 @@ use Rattle.sweep_release.specs.Released.{released}
 use Rattle.release_lock.specs.Queues.{placed_from}
 use Rattle.venue_line.specs.Line.{Line}
 use Rattle.venue_line.specs.ForGood.{StaysSettled}
+use Rattle.venue_line.proofs.Kept.{numbered_there}
 use Rattle.venue_line.proofs.GivenSteps.{Whole}
 use Rattle.venue_line.proofs.LineGives.{line_holds, accepted_of}
 use Rattle.line_notes.specs.OnAccepted.{leg_named}
 use Rattle.line_notes.specs.NotesTheorem.{NotesAreOnAccepted}
-use Rattle.schedule.proofs.GoneLegs.{ordinal_of}
+use Rattle.line_notes.proofs.NotesGiven.{ordinal_named}
 use Rattle.schedule.proofs.LegNumbers.{one_ordinal}
+use Rattle.worker_line.specs.Gone.{HaveOwnIds, IsGoneLeg}
 use Rattle.worker_line.specs.Shares.{AreSpared}
-use Rattle.worker_line.proofs.AskedLegs.{HaveOwnIds, Asks, numbered_there}
 
 -- the released legs that left, where those that were taken are the first of these
-placed_length : (from : ℕ) (legs : List Leg) → length (placed_from from legs) ≡ length legs
+pub placed_length : (from : ℕ) (legs : List Leg) → length (placed_from from legs) ≡ length legs
 placed_length from [] = refl
 placed_length from (leg ∷ legs) = ap suc (placed_length (suc from) legs)
 
@@ -50,7 +50,7 @@ first_released : (a w : Line) → StaysSettled a w → w.left ≤ length a.relea
     → ordinal ≤ w.left → numbered ordinal w.released ≡ Some leg → numbered ordinal a.released ≡ Some leg
 first_released a w stays within ordinal leg low is =
     let from = numbered_from w.released ordinal leg is in
-    let there = numbered_there a.released ordinal from (omega arith) in
+    let there = numbered_there ordinal a.released from (omega arith) in
     let one : there.0 ≡ leg = same_Some there.0 leg (sym (stays.released ordinal there.0 there.1) ∙ is) in
     subst (λ (l : Leg). numbered ordinal a.released ≡ Some l) one there.1
 
@@ -62,33 +62,25 @@ own_ids venue sweeps a w is stays within ordinal other leg more low lower here t
     (subst (λ l. numbered other l ≡ Some more) is (first_released a w stays within other more lower there)) same
 
 -- the leg that a note is about
-about_is : (id : LegIdParts) (n : Note) → is_about id n ≡ true → leg_named n ≡ Some id
+pub about_is : (id : LegIdParts) (n : Note) → is_about id n ≡ true → leg_named n ≡ Some id
 about_is id (note.Report report) is = ap (λ i. Some i) (is_same_leg-true report.id id is)
 about_is id (note.Refused leg) is = ap (λ i. Some i) (is_same_leg-true leg id is)
 about_is id (note.Unread fault) is = absurd cc
 
-accepted_in : (legs : List Leg) (place : ℕ) (leg : Leg) → slice_get legs place ≡ Some leg → Contains legs leg
-accepted_in legs place leg there =
-    (place, slice_get_within legs place leg there, get_or_from_slice_get legs place leg leg there)
-
-pub spared_by : (a w : Line) (asked : List LegIdParts) → Whole w → HaveOwnIds w → NotesAreOnAccepted w
-    → Asks a w asked → AreSpared w.given asked
-spared_by a w asked h own notes asks id n here there =
+pub spared_by : (w : Line) (asked : List LegIdParts) → Whole w → HaveOwnIds w → NotesAreOnAccepted w
+    → ((id : LegIdParts) → Contains asked id → IsGoneLeg w id) → AreSpared w.given asked
+spared_by w asked h own notes each id n here there =
     elim (cases_Bool (is_about id n)) [
       | inr other ↦ other
       | inl is ↦
-          (let on = notes n there in
-          let named : on.id ≡ id = same_Some on.id id (sym on.on ∙ about_is id n is) in
-          let holds = line_holds w h.0 h.1 in
-          let o = ordinal_of w.exchange.intake.accepted holds.ordinals (λ ordinal. numbered ordinal w.released)
-          on.accepted.leg holds.released
-          (accepted_in w.exchange.intake.accepted on.accepted.place on.accepted.leg on.accepted.there) in
-          let sent = accepted_of w h.0 h.1 o.0 o.1 in
+          (let holds = line_holds w h.0 h.1 in
+          let on = ordinal_named w holds n id (notes n there) (about_is id n is) in
+          let sent = accepted_of w h.0 h.1 on.ordinal on.accepted in
           let left = h.0.copies.sent_left sent.message.number sent.leg sent.there in
-          let low : o.0 ≤ w.left = (let e = sent.same in let l = left.1 in omega arith) in
-          let gone = (asks.each id here).gone in
-          let same = own gone.ordinal o.0 gone.leg on.accepted.leg gone.withdrawn.left low gone.whole o.2
-          (gone.same ∙ sym (on.accepted.same ∙ named)) in
+          let low : on.ordinal ≤ w.left = (let e = sent.same in let l = left.1 in omega arith) in
+          let gone = each id here in
+          let same = own gone.ordinal on.ordinal gone.leg on.leg gone.withdrawn.left low gone.whole on.whole
+          (gone.same ∙ sym on.same) in
           absurd (holds.withdrawn_is_missing gone.ordinal gone.withdrawn
-          (subst (Contains holds.ordinals) (sym same) o.1)))
+          (subst (Contains holds.ordinals) (sym same) on.accepted)))
     ]

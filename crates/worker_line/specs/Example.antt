@@ -1,33 +1,24 @@
 -- A worked history: the connection breaks when two legs are on their way, and only the first one has come. In the next
 -- connection that is found out: the first leg is taken, the second one withdrawn, and its number filled over.
-use Rattle.std.specs.Prelude.{◌≡◌, ℕ, false, List, [], ◌∷◌, ◌++◌, codes, replicate, Some, None, Ok}
+use Rattle.std.specs.Prelude.{◌≡◌, ℕ, false, List, [], ◌∷◌, ◌++◌, codes, Some, None}
 use Rattle.fix_tags.specs.Body.{Body}
 use Rattle.fix_tags.specs.declared.body.Body.TheVariants as body
 use Rattle.fix_tags.specs.declared.session_body.SessionBody.TheVariants as body_said
-use Rattle.leg.specs.declared.leg.Leg.{Leg}
 use Rattle.leg.specs.declared.leg_state.LegState.TheVariants.{Taken, Withdrawn}
-use Rattle.dialect.specs.declared.content.Content.{Content}
-use Rattle.dialect.specs.declared.content.Content.TheVariants as say
 use Rattle.dialect.specs.Wording.{Decoding}
 use Rattle.session_core.specs.declared.phase.Phase.TheVariants.{Up}
 use Rattle.session_core.specs.declared.session_call.SessionCall.{SessionCall}
 use Rattle.session_core.specs.declared.session_call.SessionCall.TheVariants as call
 use Rattle.session_core.specs.Session.{new_session, leg_state}
 use Rattle.session_core.specs.Turn.{fence_id}
-use Rattle.session_core.specs.Example.{config, leg}
+use Rattle.session_core.specs.Example.{config}
 use Rattle.exchange_core.specs.Acceptance.{Carried, RuleState}
 use Rattle.venue_line.specs.Line.{Line, new_line}
+use Rattle.venue_line.specs.Worked.{first, second, logon, fence, answer, order, asks, fill, standing, two, four}
 use Rattle.session_worker.specs.Events.{AreAllowed, withdrawn_by}
 use Rattle.session_worker.specs.Events.WorkerEvent.{Calls}
 use Rattle.worker_line.specs.Happening.{VenueEvent, works_of, after_events, MayAllHappen, AllTakeNext}
 use Rattle.worker_line.specs.Happening.VenueEvent.{Works, Exchanges, Releases}
-
--- the two legs of sweep 1
-abbrev pub first : Leg
-first = leg
-
-abbrev pub second : Leg
-second = record leg { id = record { sweep = 1; place = 2 } }
 
 -- the worker makes a call of its session; and it receives what B says
 abbrev pub calls : SessionCall → VenueEvent
@@ -45,39 +36,6 @@ hears number says = calls
       body = says;
     }))
 
--- messages in their connections: Logons, the session's fences and their answers, and orders
-abbrev pub at : ℕ → ℕ → Content → Carried
-at connection number content = record { connection = connection; number = number; content = content }
-
-abbrev pub logon : ℕ → ℕ → Carried
-logon connection number = at connection number (say.Session (body_said.Logon 30 false None))
-
-abbrev pub fence : ℕ → ℕ → Carried
-fence connection number = at connection number (say.Session (body_said.TestRequest (fence_id number)))
-
-abbrev pub answer : ℕ → ℕ → ℕ → Carried
-answer connection number asked = at connection number (say.Session (body_said.Heartbeat (Some (fence_id asked))))
-
-abbrev pub order : ℕ → ℕ → Leg → Carried
-order connection number leg = at connection number (say.Order (Ok leg))
-
--- the exchange, where this connection is live, this number is expected, these legs are accepted, and so many own
--- numbers are used, none of which carries a report
-abbrev pub standing : ℕ → ℕ → List Leg → ℕ → RuleState
-standing connection expected accepted own = record {
-  intake = record {
-    expected = expected;
-    live = Some connection;
-    last = connection;
-    accepted = accepted;
-    closed_at = None;
-  };
-  tests = [];
-  refusable = [];
-  others = [];
-  own = replicate own None;
-}
-
 -- a message comes to the exchange: so it stands then, and this it writes
 abbrev pub takes : Carried → RuleState → List Carried → VenueEvent
 takes m after written = Exchanges (Some m) after written
@@ -86,9 +44,9 @@ takes m after written = Exchanges (Some m) after written
 abbrev pub logging_on : List VenueEvent
 logging_on =
     calls call.Connect
-    ∷ takes (logon 1 1) (standing 1 2 [] 1) (logon 1 1 ∷ [])
+    ∷ takes (logon 1 1) (standing 1 2 [] (None ∷ [])) (logon 1 1 ∷ [])
     ∷ hears 1 (body.Session (body_said.Logon 30 false None))
-    ∷ takes (fence 1 2) (standing 1 3 [] 2) (answer 1 2 2 ∷ [])
+    ∷ takes (fence 1 2) (standing 1 3 [] two) (answer 1 2 2 ∷ [])
     ∷ hears 2 (body.Session (body_said.Heartbeat (Some (fence_id 2))))
     ∷ []
 
@@ -98,7 +56,7 @@ losing =
     Releases (first ∷ second ∷ [])
     ∷ calls (call.SendLeg 1 first)
     ∷ calls (call.SendLeg 2 second)
-    ∷ takes (order 1 3 first) (standing 1 4 (first ∷ []) 2) []
+    ∷ takes (order 1 3 first) (standing 1 4 (first ∷ []) two) []
     ∷ calls call.Broken
     ∷ []
 
@@ -108,13 +66,12 @@ losing =
 abbrev pub settling : List VenueEvent
 settling =
     calls call.Connect
-    ∷ takes (logon 2 5) (standing 2 4 (first ∷ []) 4)
-    (logon 2 3 ∷ at 2 4 (say.Session (body_said.ResendRequest 4 0)) ∷ [])
-    ∷ takes (order 1 4 second) (standing 2 4 (first ∷ []) 4) []
+    ∷ takes (logon 2 5) (standing 2 4 (first ∷ []) four) (logon 2 3 ∷ asks 2 4 4 ∷ [])
+    ∷ takes (order 1 4 second) (standing 2 4 (first ∷ []) four) []
     ∷ hears 3 (body.Session (body_said.Logon 30 false None))
     ∷ hears 4 (body.Session (body_said.ResendRequest 4 0))
-    ∷ takes (at 2 4 (say.Session (body_said.GapFill 7))) (standing 2 7 (first ∷ []) 4) []
-    ∷ takes (fence 2 7) (standing 2 8 (first ∷ []) 5) (answer 2 5 7 ∷ [])
+    ∷ takes (fill 2 4 7) (standing 2 7 (first ∷ []) four) []
+    ∷ takes (fence 2 7) (standing 2 8 (first ∷ []) (four ++ None ∷ [])) (answer 2 5 7 ∷ [])
     ∷ hears 5 (body.Session (body_said.Heartbeat (Some (fence_id 7))))
     ∷ []
 

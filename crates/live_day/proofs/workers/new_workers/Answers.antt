@@ -38,7 +38,8 @@ loop-exchange-preserved g c =
     let seats_left = so_far.seats_left in
     let first = first_seat seat seats c.loop-exchange.seats.items drain drains c.loop-exchange.drains.items first_seat_is
     first_drain so_far.their_seats in
-    let made = c.new.ensures.parts ∙ is_new _ drain seat c.dispatcher_end-end.ensures first.0 in
+    let made = c.new.ensures.parts
+    ∙ is_new _ drain seat _ c.dispatcher_end-end.ensures first.0 c.in_ok-link.ensures.unused in
     record {
       made_are = rw c.in_ok-push.ensures.items
           (one_made _ _ c.loop-exchange.workers.items c.new.result drain c.loop-exchange.drains.items drains _ made first_drain so_far.made_are);

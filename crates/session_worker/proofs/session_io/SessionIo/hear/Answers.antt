@@ -1,10 +1,11 @@
-use Rattle.std.proofs.Common.{◌≡◌, true, sym, ap, subst, ◌∙◌}
+use Rattle.std.proofs.Common.{◌≡◌, true, refl, sym, ap, subst, ◌∙◌}
 use Rattle.dialect.specs.Wording.{Wording}
 use Rattle.session_core.specs.Session.{is_connected}
 use Rattle.session_core.specs.Calling.{broken}
 use Rattle.session_worker.specs.Linking.{SessionIoParts, io_of, Moves, Asks}
 use Rattle.session_worker.proofs.Spoken.{stays_here}
-use Rattle.session_worker.proofs.Calling.{moves_none, moves_broken, heard_nothing, heard_step, heard_malformed}
+use Rattle.session_worker.proofs.Speech.{stays_on}
+use Rattle.session_worker.proofs.Calling.{moves_none, moves_broken, heard_nothing, heard_step, heard_malformed, asks_still}
 use Rattle.session_worker.proofs.session_io.SessionIo.hear.Goals as goal
 
 pub returns-then-not-is_connected : goal.returns-then-not-is_connected
@@ -26,9 +27,11 @@ returns-in-Step g c =
     let now : SessionIoParts = io_of c.hear.new.session old.wire c.hear.new.reader in
     let on : is_connected old.session.phase ≡ true =
     ap is_connected (sym c.phase.ensures) ∙ (sym c.is_connected.ensures ∙ c.if-not-is_connected.false) in
-    subst (λ (x : SessionIoParts). Asks w x c.in-Step.step now) c.self.view_is
+    let told : SessionIoParts = io_of c.hear.new.session (g.K.Link.wire c.heard-in-Step-2.new.self) c.hear.new.reader in
+    subst (λ (x : SessionIoParts). Asks w x c.in-Step.step told) c.self.view_is
+    (asks_still w old now told c.in-Step.step
     (heard_step w old.session c.hear.new.session old.wire old.stream c.hear.new.reader c.in-Step.step on c.in-Step.ensures.heard
-    c.in-Step.ensures.reader)
+    c.in-Step.ensures.reader) refl c.heard-in-Step-2.ensures.wire refl)
 
 pub returns-in-Malformed : goal.returns-in-Malformed
 returns-in-Malformed g c =
@@ -40,7 +43,8 @@ returns-in-Malformed g c =
     let what = c.in-Malformed.ensures.heard in
     subst (λ (x : SessionIoParts). Moves w x now) c.self.view_is
     (heard_malformed w old now c.hear.new.reader what.0 what.1 on what.2 what.3 c.in-Malformed.ensures.reader
-    (c.hang_up.ensures.session ∙ what.4) c.hang_up.ensures.wire)
+    (c.hang_up.ensures.session ∙ what.4)
+    (stays_on old.wire (g.K.Link.wire c.heard-in-Malformed.new.self) now.wire c.heard-in-Malformed.ensures.wire c.hang_up.ensures.wire))
 
 pub returns-in-OutOfMemory : goal.returns-in-OutOfMemory
 returns-in-OutOfMemory g c =

@@ -9,8 +9,8 @@ use Rattle.session_worker.proofs.Connected.{silent_on}
 use Rattle.session_worker.proofs.Calling.{moves_none, moves_on, moves_refused, asks_step, moves_broken}
 use Rattle.session_worker.proofs.session_io.SessionIo.on_silence.Goals as goal
 
-pub returns-then-not-is_silent : goal.returns-then-not-is_silent
-returns-then-not-is_silent g c = moves_none _ _
+pub returns-then-not-is_asking_due : goal.returns-then-not-is_asking_due
+returns-then-not-is_asking_due g c = moves_none _ _
 
 pub returns-in-Ok : goal.returns-in-Ok
 returns-in-Ok g c =

@@ -1,0 +1,17 @@
+pub mod Cut
+pub mod Restarting
+pub mod Reached
+pub mod Chained
+pub mod KnownLegs
+pub mod SameOrdinals
+pub mod WrittenSince
+pub mod Staying
+pub mod Missed
+pub mod Reports
+pub mod Spared
+pub mod Example
+pub mod UnsafeWire
+pub mod UnsafeStarts
+pub mod Early
+pub mod Quiet
+pub mod Unwritten

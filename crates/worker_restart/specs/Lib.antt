@@ -1,0 +1,2 @@
+pub mod WorkerLives
+pub mod WorkerRestartTheorem

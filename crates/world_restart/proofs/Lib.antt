@@ -1,0 +1,13 @@
+pub mod Places
+pub mod Cut
+pub mod Aside
+pub mod ExchangesGo
+pub mod Journals
+pub mod NextNote
+pub mod Sweeps
+pub mod Rebuilt
+pub mod Starting
+pub mod DayHolds
+pub mod StaysOver
+pub mod NotesAgain
+pub mod DeedsDone

@@ -1,0 +1,7 @@
+use Rattle.std.proofs.Common.{refl}
+use Rattle.std.specs.Fmt.{digits}
+use Rattle.world_restart.proofs.rows.before_a_crash.Goals as goal
+
+pub returns : goal.returns
+unfolding digits
+returns c = refl
