@@ -122,7 +122,7 @@ impl<K: Link> Client<K> {
         let mut buf = [0; 256];
         match self.link.read(&mut buf) {
             Ok(Got::Bytes(count)) => self.reader.feed(&buf[..count])?,
-            Ok(Got::Nothing) => self.link.rest(Duration::from_millis(1)),
+            Ok(Got::Nothing) => self.link.rest(Duration::from_millis(20)),
             Ok(Got::End) | Err(_) => self.hang_up(),
         }
         for _frame in 0..16 {

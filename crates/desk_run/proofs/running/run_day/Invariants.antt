@@ -5,7 +5,7 @@ abbrev pub ghosts-named_day-L-Run : goal.ghosts-named_day-L-Run
 ghosts-named_day-L-Run g a = record { queues = map (λ ends. ends.0.table) a.rings.items }
 
 abbrev pub ghosts-named_day-L-Ledger : goal.ghosts-named_day-L-Ledger
-ghosts-named_day-L-Ledger g a = record { name = a.caller.name; parts = a.caller.parts }
+ghosts-named_day-L-Ledger g a = record { name = a.callers.name; parts = a.callers.parts }
 
 abbrev pub ghosts-named_day-M-Ledger : goal.ghosts-named_day-M-Ledger
 ghosts-named_day-M-Ledger g a = record { name = a.workers.name; parts = a.workers.parts }
