@@ -18,7 +18,7 @@ pub enum ReportKind {
     Canceled,
     /// The order was refused.
     Rejected,
-    /// The shares that were open lapsed. It is read from 150=C (Expired) and from 150=3 (Done for day).
+    /// The shares that were open lapsed.
     Expired,
     /// An earlier trade, whose report had this id, is undone.
     Bust { cancelled_id: ExecId },
