@@ -10,8 +10,8 @@ ghost use Rattle.exec_collector.specs.Seats.{worker_seats};
 
 use crate::venue_bookings::VenueBookings;
 use crate::{Accounts, BlankBook, CountedBook, WorkerSeat};
-use dialect::Note;
 use agreed_list::SeatSide;
+use dialect::Note;
 use leg::{LegId, Sweep, Totals};
 use share_ledger::{Applied, Book, BookFault};
 use std::alloc::Global;

@@ -12,8 +12,8 @@ ghost use Rattle.exec_collector.specs.Resolved.{Replays, OnlyOpens, GainsBy, Gai
 use crate::opened_sweeps::keep_opened;
 use crate::venue_bookings::{VenueBookings, add_note, add_withdrawal};
 use crate::{Accounts, WorkerSeat};
-use dialect::Note;
 use agreed_list::{BookSide, SeatSide};
+use dialect::Note;
 use leg::{LegId, Sweep, Totals, VenueId};
 use share_ledger::{Applied, Book, BookFault};
 use std::marker::Model;

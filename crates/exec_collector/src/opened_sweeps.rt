@@ -10,11 +10,7 @@ use leg::Sweep;
 use share_ledger::Book;
 
 /// On both sides stand the sweeps that were opened in the book, from now on.
-pub(crate) fn keep_opened(
-    sweeps: &mut BookSide<Sweep>,
-    side: &mut SeatSide<Sweep>,
-    _book: &Book,
-)
+pub(crate) fn keep_opened(sweeps: &mut BookSide<Sweep>, side: &mut SeatSide<Sweep>, _book: &Book)
     requires { sweeps.old.name ≡ side.old.name }
     ensures agreed { sweeps.old.items ≡ side.old.items }
     ensures book { (sweeps.new.name ≡ sweeps.old.name) × (sweeps.new.items ≡ sweeps_of (opened _book.now.entries)) }

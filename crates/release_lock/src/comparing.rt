@@ -7,10 +7,7 @@ use crate::{LockedDesk, Run};
 use exec_collector::{Accounts, CountedBook};
 
 /// Changes nothing, and tells that the sweeps opened in the book are those that the desk released, in order.
-pub fn compare_sweeps<L: Run, M: Accounts>(
-    locked: &mut LockedDesk<L>,
-    counted: &mut CountedBook<M>,
-)
+pub fn compare_sweeps<L: Run, M: Accounts>(locked: &mut LockedDesk<L>, counted: &mut CountedBook<M>)
     requires tied { L.sweeps ≡ M.sweeps }
     ensures same_sweeps { opened counted.old.entries ≡ locked.old.desk.sweeps }
     ensures same { (locked.new ≡ locked.old) × (counted.new ≡ counted.old) }

@@ -103,9 +103,12 @@ impl<L: Run> LockedDesk<L> {
             feeds: _,
             sweeps,
         } = self;
-        let receipt = collector.lend_beside(rt, desk, sweeps, |desk: &mut Desk, book: &mut Book| {
-            place_in(desk, book, sweep)
-        })?;
+        let receipt = collector.lend_beside(
+            rt,
+            desk,
+            sweeps,
+            |desk: &mut Desk, book: &mut Book| { place_in(desk, book, sweep) },
+        )?;
         seat.count(total, receipt.shares);
         Ok(receipt)
     }

@@ -18,8 +18,7 @@ use crate::{AuditFault, DayReport, WorkerEnd};
 use exec_collector::{Accounts, Collector, CountedBook, WorkerSeat, check_count};
 use link::Link;
 use release_lock::{
-    CallerSeat, LockedDesk, ReleaseLock, Run, VenueEnd, check_placed, check_queues,
-    compare_sweeps,
+    CallerSeat, LockedDesk, ReleaseLock, Run, VenueEnd, check_placed, check_queues, compare_sweeps,
 };
 use std::alloc::{AllocError, Global};
 use std::collections::VecDeque;

@@ -12,8 +12,7 @@ pub invariant_of-self : goal.invariant_of-self
 invariant_of-self g c =
     let gave = c.in_err-receipt.ensures in
     let places : Places c.args.sweep.legs c.self.inside.desk (Err c.in_err-receipt.field-0.0) c.lend_beside.new.beside =
-    record { book = gave.0; book_after = gave.1; placed = search rules } in
-    (
+    record { book = gave.0; book_after = gave.1; placed = search rules } in (
       same_locked g.L.Run.queues c.self.inside.desk c.lend_beside.new.beside c.self.inside.total.total
           c.self.inside.feeds.items c.self.invariant.0
           (outcome c.args.sweep.legs c.self.inside.desk c.lend_beside.new.beside (Err c.in_err-receipt.field-0.0) places),
@@ -57,8 +56,7 @@ invariant_of-self-2 g c =
     let gave = c.in_ok-receipt.ensures in
     let places : Places c.args.sweep.legs c.self.inside.desk (Ok c.in_ok-receipt.receipt) c.lend_beside.new.beside =
     record { book = gave.0; book_after = gave.1; placed = search rules } in
-    let it = outcome c.args.sweep.legs c.self.inside.desk c.lend_beside.new.beside (Ok c.in_ok-receipt.receipt) places in
-    (
+    let it = outcome c.args.sweep.legs c.self.inside.desk c.lend_beside.new.beside (Ok c.in_ok-receipt.receipt) places in (
       released_locked g.L.Run.queues c.args.sweep.legs c.self.inside.desk c.in_ok-receipt.receipt
           c.lend_beside.new.beside c.self.inside.total.total c.count.new.total.total c.self.inside.feeds.items
           c.self.invariant.0 it c.count.ensures.total,

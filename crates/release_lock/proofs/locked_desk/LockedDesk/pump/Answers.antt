@@ -17,8 +17,7 @@ invariant_of-self g c =
     let there = c.requires in
     let within : c.args.venue < length feeds = omega (arith, many, there) in
     let read = subst (λ n. old ≡ get_or feeds n old) same c.index_mut.ensures.value in
-    let at : slice_get feeds c.args.venue ≡ Some old = slice_get_read feeds (length feeds) c.args.venue old refl within read in
-    (
+    let at : slice_get feeds c.args.venue ≡ Some old = slice_get_read feeds (length feeds) c.args.venue old refl within read in (
       rw same (pumped_locked g.L.Run.queues c.args.venue c.self.inside.desk c.pump.new.desk c.self.inside.total.total
           feeds old c.pump.new.feed c.self.invariant.0 c.pump.ensures.desk at c.pump.ensures.ring c.pump.ensures.fed),
       pumped_side c.args.venue c.self.inside.desk c.pump.new.desk c.pump.ensures.desk c.self.invariant.1,

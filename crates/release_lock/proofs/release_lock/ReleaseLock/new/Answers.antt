@@ -31,8 +31,7 @@ loop-number-preserved g c =
 pub invariant_of-locked : goal.invariant_of-locked
 invariant_of-locked g c =
     let made = c.loop-number.invariant.0 in
-    let done : c.loop-number.number ≡ c.args.venues = omega arith in
-    (
+    let done : c.loop-number.number ≡ c.args.venues = omega arith in (
       new_locked _ _ _ c.args.rings.items _ _ _ _ _ c.requires.high c.requires.rings.0 c.requires.queues made done
           c.in_ok-desk.ensures.ok c.open-total.ensures.total,
       record {
