@@ -34,7 +34,11 @@ fn told<N: Net + Clock>(
 fn played<N: Net + Clock>(rt: &N, alloc: Global, addr: SocketAddr) -> Result<Told, Fail> {
     let poller = Poller::new(rt, alloc)?;
     let link = TcpLink::new(rt, addr, poller, Rest::Sleep);
-    let mut client = Client::new(alloc, link)?;
+    trade(Client::new(alloc, link)?)
+}
+
+/// Sends the worked leg once the session is up, and waits until the rest of it is cancelled.
+fn trade<K: Link>(mut client: Client<K>) -> Result<Told, Fail> {
     client.log_on(1_000)?;
     client.send(&worked_leg()?)?;
     client.finish(1_000)?;
