@@ -62,6 +62,7 @@ pub struct Floor<L: Run, M: Accounts, W: Write + Drop> {
     /// What tells the workers to stop.
     pub stop: Stop,
     ghost few: { length names.items ≤ 16 },
+    ghost tied: { L.sweeps ≡ M.sweeps },
 }
 
 /// What its threads leave.
@@ -72,6 +73,7 @@ pub struct Left<L: Run, M: Accounts> {
     pub collector: Collector<M>,
     /// The seat of the page's clients, if there is one.
     pub shared: Option<CallerSeat<L>>,
+    ghost tied: { L.sweeps ≡ M.sweeps },
 }
 
 impl<L: Run, M: Accounts, W: Write + Drop> Floor<L, M, W> {

@@ -88,6 +88,7 @@ fn audited<K: Link, L: Run, M: Accounts>(
     seats: Vec<CallerSeat<L>>,
     workers: Vec<WorkerEnd<K, L, M>>,
 ) -> Result<DayReport, DayFault>
+    requires tied { L.sweeps ≡ M.sweeps }
     requires order { AreInOrder (queues_of workers.items) }
     requires shared { seat_parts (seats_of workers.items) ≡ M.parts }
     requires some { 0 < M.parts }

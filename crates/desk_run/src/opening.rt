@@ -73,7 +73,8 @@ where
     requires venues { (1 ≤ length venues.now) × (length venues.now ≤ 16) }
     requires callers { (callers.name ≡ L.name) × (callers.parts ≡ L.parts) × (L.parts ≡ 1024) }
     requires workers { (workers.name ≡ M.name) × (workers.parts ≡ M.parts) × (M.parts ≡ length venues.now) }
-    requires lists { workers.lists ≡ M.lists }
+    requires lists { (workers.lists ≡ M.lists) × (workers.sweeps ≡ M.sweeps) }
+    requires tied { L.sweeps ≡ M.sweeps }
     requires rings { (length rings.items ≡ length venues.now) × All IsFresh rings.items }
     requires queues { L.queues ≡ map (λ ends. ends.0.table) rings.items }
     ensures plans { IfOk result (λ day. map (λ e. e.acceptor.plan) day.cast.exchanges.items
@@ -86,12 +87,12 @@ where
     ensures only { IfErr result IsNoMismatch }
 {
     let count = venues.len() as u8;
-    let opened = ReleaseLock::<L>::new(alloc, count, callers, rings);
-    let Ok(Opened { lock, seat, drains }) = opened else {
+    let made = Collector::<M>::new(alloc, count, workers);
+    let Ok((collector, seats, sweeps)) = made else {
         return Err(DayFault::OutOfMemory);
     };
-    let made = Collector::<M>::new(alloc, count, workers);
-    let Ok((collector, seats)) = made else {
+    let opened = ReleaseLock::<L>::new(alloc, count, callers, rings, sweeps);
+    let Ok(Opened { lock, seat, drains }) = opened else {
         return Err(DayFault::OutOfMemory);
     };
     let Means {

@@ -124,7 +124,8 @@ where
     requires venues { (1 ≤ length venues.now) × (length venues.now ≤ 16) }
     requires callers { (callers.name ≡ L.name) × (callers.parts ≡ L.parts) × (L.parts ≡ 1024) }
     requires workers { (workers.name ≡ M.name) × (workers.parts ≡ M.parts) × (M.parts ≡ length venues.now) }
-    requires lists { workers.lists ≡ M.lists }
+    requires lists { (workers.lists ≡ M.lists) × (workers.sweeps ≡ M.sweeps) }
+    requires tied { L.sweeps ≡ M.sweeps }
     requires rings { (length rings.items ≡ length venues.now) × All IsFresh rings.items }
     requires queues { L.queues ≡ map (λ ends. ends.0.table) rings.items }
     ensures sweeps { IfOk result (λ day. (book : BookParts) × Replays book × (day.sweeps.items ≡ sweeps_in book)) }

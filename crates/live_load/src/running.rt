@@ -108,7 +108,8 @@ where
     requires venues { length venues.now ≡ plan.venues }
     requires callers { (callers.name ≡ L.name) × (callers.parts ≡ L.parts) × (L.parts ≡ 1024) }
     requires workers { (workers.name ≡ M.name) × (workers.parts ≡ M.parts) × (M.parts ≡ plan.venues) }
-    requires lists { workers.lists ≡ M.lists }
+    requires lists { (workers.lists ≡ M.lists) × (workers.sweeps ≡ M.sweeps) }
+    requires tied { L.sweeps ≡ M.sweeps }
     requires rings { (length rings.items ≡ plan.venues) × All IsFresh rings.items }
     requires queues { L.queues ≡ map (λ ends. ends.0.table) rings.items }
     ensures sweeps { IfOk result (λ day. (book : BookParts) × Replays book × (day.sweeps.items ≡ sweeps_in book)) }
