@@ -13,6 +13,6 @@ loop-venue-preserved g c =
     record {
       plans = plans_more (λ e. e.acceptor.plan) c.args.cut c.args.venues.now c.loop-venue.venue-index c.venue-item.result _
           c.loop-venue.exchanges.items _ _ c.loop-venue-test.true c.venue-item.is own_is c.loop-venue.invariant.plans
-          c.in_ok-push_exchange.ensures c.in_ok-open_place.ensures.plan;
+          c.in_ok-push_exchange.ensures c.in_ok-addr.ensures.plan;
       each = search rules;
     }
