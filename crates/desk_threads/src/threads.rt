@@ -198,8 +198,9 @@ where
         || run_keeper(rt, alloc, floor),
     );
     floor.finish();
+    let ends = worked?;
     kept?;
-    worked
+    Ok(ends)
 }
 
 /// Runs the keeper once the workers are started. It ends when they have ended.
