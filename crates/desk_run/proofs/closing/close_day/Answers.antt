@@ -1,4 +1,4 @@
-use Rattle.std.proofs.Common.{◌≡◌, ◌∙◌}
+use Rattle.std.proofs.Common.{◌∙◌}
 use Rattle.session_worker.proofs.Places.{in_order, all_parts}
 use Rattle.desk_run.proofs.AllSeats.{whole_parts, callers_shares}
 use Rattle.desk_run.proofs.closing.close_day.Goals as goal
