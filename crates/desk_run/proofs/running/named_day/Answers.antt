@@ -4,4 +4,4 @@ use Rattle.desk_run.proofs.running.named_day.Goals as goal
 
 pub close_day-requires-clause-workers : goal.close_day-requires-clause-workers
 close_day-requires-clause-workers g c =
-    c.in_ok-with_lines.ensures.workers ∙ (c.in_ok-day.ensures.workers ∙ ap new_places (sym c.requires.workers.2))
+    c.in_ok-ended.ensures.workers ∙ (c.in_ok-day.ensures.workers ∙ ap new_places (sym c.requires.workers.2))

@@ -20,8 +20,8 @@ returns-clause-placed g c =
     let plan = c.args.plan in
     let sums = sums_of (λ e. e.seat) (λ e. e.unplaced) c.args.called.items in
     let total = c.requires.callers.shares in
-    let placed : c.in_ok-day.day.report.placed ≡ shares_of c.in_ok-parted.seats.items = c.in_ok-day.ensures.placed c.requires.page in
-    let seats = ap shares_of c.in_ok-parted.ensures.0 ∙ sym sums.2 in
-    let unplaced = c.in_ok-parted.ensures.1 ∙ sym sums.1 in
+    let placed : c.in_ok-day.day.report.placed ≡ shares_of c.in_ok-seats.seats.items = c.in_ok-day.ensures.placed c.requires.page in
+    let seats = ap shares_of c.in_ok-seats.ensures.0 ∙ sym sums.2 in
+    let unplaced = c.in_ok-seats.ensures.1 ∙ sym sums.1 in
     let each = ap (λ n. n * shares_each plan) unplaced in
     omega (arith, total, placed, seats, each)
