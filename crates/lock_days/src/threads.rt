@@ -57,7 +57,9 @@ fn calls<L: Run, M: Accounts>(
     lock: &ReleaseLock<L>,
     collector: &Collector<M>,
     seat: CallerSeat<L>,
-) -> CallerSeat<L> {
+) -> CallerSeat<L>
+    requires tied { L.sweeps ≡ M.sweeps }
+{
     let mut seat = seat;
     for _ in 0..SWEEPS {
         if let Ok(sweep) = sweep_each(alloc, VENUES, 1) {
@@ -192,6 +194,7 @@ fn crowd_at<L: Run + Send + Sync, M: Accounts + Send + Sync, R: Threads + Wait +
     requires lock { (site.callers.name ≡ L.name) × (L.parts ≡ 1024)
         × (L.queues ≡ map (λ ends. ends.0.table) site.rings.items) }
     requires book { (site.workers.name ≡ M.name) × (M.parts ≡ site.venues) × (site.workers.lists ≡ M.lists) }
+    requires sweeps { (site.workers.sweeps ≡ M.sweeps) × (L.sweeps ≡ M.sweeps) }
 {
     in_threads(rt, alloc, Floor::<L, M>::open(alloc, site)?)
 }
