@@ -35,7 +35,7 @@ style_of p = record {
 -- the findings of the line of a number, of which this is judged
 abbrev pub entry_findings : Style → ℕ → List ℕ → Result (Option Entry) LineFault → VenueParts → List ℕ
 entry_findings s number line (Err fault) day = []
-entry_findings s number line (Ok entry) day = findings_upto s.words s.form number line (judged day entry) 14
+entry_findings s number line (Ok entry) day = findings_upto s.words s.form number line (judged day entry) 22
 
 -- the findings of the line of a number
 abbrev pub line_findings : Style → ℕ → List ℕ → VenueParts → List ℕ
@@ -60,7 +60,7 @@ legs_if tells day = if tells then legs_text day.watch else []
 
 -- a line for each rule, and where it is asked for what became of the orders
 abbrev pub log_end : Style → LogParts → List ℕ
-log_end s log = summary_upto s.words log.tallies 14 ++ legs_if s.tells_legs log.day
+log_end s log = summary_upto s.words log.tallies 22 ++ legs_if s.tells_legs log.day
 
 -- the log's path, its findings, a line for each rule, and what became of the orders
 abbrev pub log_text : Style → List ℕ → List (List ℕ) → List ℕ

@@ -53,7 +53,7 @@ fn finding_head(alloc: Global, words: &RuleWords, number: u64) -> Result<Vec<u8>
     Ok(text.into_bytes())
 }
 
-/// The rule that a line breaks, and the line.
+/// The rule that a line breaks, the line, and what to do.
 fn finding_text(
     alloc: Global,
     words: &RuleWords,
@@ -64,6 +64,8 @@ fn finding_text(
 {
     let mut text = finding_head(alloc, words, number)?;
     text.extend_from_slice(line)?;
+    text.extend_from_slice(b"\n  ")?;
+    text.extend_from_slice(words.advice.as_bytes())?;
     text.push(b'\n')?;
     Ok(text)
 }
@@ -86,6 +88,7 @@ fn finding_json(
             name: "text",
             value: Value::Text(line),
         },
+        text("advice", words.advice),
     ];
     json_line(alloc, &members)
 }
@@ -112,7 +115,7 @@ fn finding(
 fn finding_at(
     alloc: Global,
     printing: &Printing<'_>,
-    verdicts: &[Verdict; 14],
+    verdicts: &[Verdict; 22],
     place: usize,
     number: u64,
     line: &[u8],
@@ -136,15 +139,15 @@ fn finding_at(
 pub(crate) fn findings(
     alloc: Global,
     printing: &Printing<'_>,
-    verdicts: &[Verdict; 14],
+    verdicts: &[Verdict; 22],
     number: u64,
     line: &[u8],
 ) -> Result<Vec<u8>, AllocError>
     ensures { IfOk result (λ text. printing.now.is_json ≡ false → text.items
-        ≡ findings_upto printing.now.words.now printing.now.form.now number line.now verdicts.now 14) }
+        ≡ findings_upto printing.now.words.now printing.now.form.now number line.now verdicts.now 22) }
 {
     let mut text = Vec::new(alloc);
-    for place in 0..14 {
+    for place in 0..22 {
         let finding = finding_at(alloc, printing, verdicts, place, number, line)?;
         text.extend_from_slice(&finding)?;
     }
@@ -183,7 +186,7 @@ fn tally_json(
 fn tally_at(
     alloc: Global,
     printing: &Printing<'_>,
-    tallies: &[Tally; 14],
+    tallies: &[Tally; 22],
     place: usize,
 ) -> Result<Vec<u8>, AllocError>
     ensures { IfOk result (λ text. printing.now.is_json ≡ false → text.items
@@ -207,13 +210,13 @@ fn tally_at(
 pub(crate) fn summary(
     alloc: Global,
     printing: &Printing<'_>,
-    tallies: &[Tally; 14],
+    tallies: &[Tally; 22],
 ) -> Result<Vec<u8>, AllocError>
     ensures { IfOk result (λ text. printing.now.is_json ≡ false → text.items
-        ≡ summary_upto printing.now.words.now tallies.now 14) }
+        ≡ summary_upto printing.now.words.now tallies.now 22) }
 {
     let mut text = Vec::new(alloc);
-    for place in 0..14 {
+    for place in 0..22 {
         text.extend_from_slice(&tally_at(alloc, printing, tallies, place)?)?;
     }
     Ok(text)

@@ -22,7 +22,7 @@ use std::alloc::{AllocError, Global};
 pub(crate) struct LogCheck {
     pub day: VenueDay,
     pub message: Vec<u8>,
-    pub tallies: [Tally; 14],
+    pub tallies: [Tally; 22],
 }
 
 /// What is known before any line; the orders are kept where they are asked for.
@@ -44,7 +44,7 @@ impl LogCheck {
         LogCheck {
             day: new_day(alloc, keeps_legs),
             message: Vec::new(alloc),
-            tallies: [Tally::new(); 14],
+            tallies: [Tally::new(); 22],
         }
     }
 
@@ -55,7 +55,7 @@ impl LogCheck {
         printing: &Printing<'_>,
         number: u64,
         line: &[u8],
-    ) -> Result<[Verdict; 14], LogFault>
+    ) -> Result<[Verdict; 22], LogFault>
         ensures judged { IfOk result (λ said.
             Judges number (line_entry printing.now.form.now line.now) self.old.day self.new.day (Ok said)) }
         ensures tallies { self.new.tallies ≡ self.old.tallies }

@@ -5,18 +5,19 @@ use Rattle.message_log.specs.declared.direction.Direction.{Direction}
 use Rattle.message_log.specs.declared.direction.Direction.TheVariants.{Sent, Received}
 use Rattle.log_rules.specs.declared.entry.Entry.{Entry}
 use Rattle.log_rules.specs.declared.order_said.OrderSaid.{OrderSaid}
-use Rattle.log_rules.specs.declared.report_said.ReportSaid.{ReportSaid}
+use Rattle.log_rules.specs.declared.report_said.Happening.{Happening}
 use Rattle.log_rules.specs.declared.says.Says.{Says}
-use Rattle.log_rules.specs.declared.says.Says.TheVariants.{Logon, Order, Report}
+use Rattle.log_rules.specs.declared.says.Says.TheVariants.{Logon, Refused, Order, Report}
 use Rattle.log_rules.specs.Checker.{CheckerParts, heard, new_checker}
-use Rattle.log_rules.specs.Ledger.{newest_order}
+use Rattle.log_rules.specs.KeptReport.{ReportParts}
+use Rattle.log_rules.specs.Ledger.{newest_order, newest_under}
 use Rattle.log_rules.specs.Standing.{is_due}
 use Rattle.log_legs.specs.Close.{close_after, is_over}
 use Rattle.log_legs.specs.declared.close.Close.{Close}
 use Rattle.log_legs.specs.declared.close.Close.TheVariants.{Open}
 use Rattle.log_legs.specs.KeptLeg.{LegParts, new_leg, reported, sent_again}
 use Rattle.log_legs.specs.Parts.{move_of}
-use Rattle.log_legs.specs.declared.share_move.Move.{Move}
+use Rattle.log_legs.specs.declared.share_move.Move.TheVariants.{Ends}
 use Rattle.log_legs.specs.declared.leg_heard.LegHeard.{LegHeard}
 use Rattle.log_legs.specs.declared.leg_heard.LegHeard.TheVariants.{Nothing, Reset, First, Again, Moves}
 use Rattle.log_legs.specs.declared.leg_list.LegList.{LegList}
@@ -42,18 +43,25 @@ abbrev pub order_heard : Option ℕ → OrderSaid → LegHeard
 order_heard None said = First (new_leg said)
 order_heard (Some place) said = Again place
 
-abbrev pub report_heard : Option ℕ → Move → LegHeard
-report_heard None change = Nothing
-report_heard (Some place) change = Moves place change
+abbrev pub report_heard : Option ℕ → List ReportParts → Happening → LegHeard
+report_heard None reports happened = Nothing
+report_heard (Some place) reports happened = Moves place (move_of reports place happened)
 
--- what a message does to the orders: one is sent, or again; a report on it is counted; or the numbers are reset
+abbrev pub refusal_heard : Option ℕ → LegHeard
+refusal_heard None = Nothing
+refusal_heard (Some place) = Moves place Ends
+
+-- what a message does to the orders: one is sent, or again; a report on it or its refusal is counted; or the numbers
+-- are reset
 abbrev pub heard_with : CheckerParts → Direction → Says → ℕ → LegHeard
 heard_with c Sent (Logon heart reset next) number = if reset then Reset else Nothing
 heard_with c Sent (Order said) number = order_heard (newest_order c.ledger.orders said.id) said
 heard_with c Received (Report said) number =
     if is_due c.standing.counted number
-    then report_heard (newest_order c.ledger.orders said.id) (move_of c.ledger.reports said.happened)
+    then report_heard (newest_order c.ledger.orders said.id) c.ledger.reports said.happened
     else Nothing
+heard_with c Received (Refused order) number =
+    if is_due c.standing.counted number then refusal_heard (newest_under c.ledger.orders order) else Nothing
 heard_with c direction says number = Nothing
 
 abbrev pub leg_heard : CheckerParts → Entry → LegHeard

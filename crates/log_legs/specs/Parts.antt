@@ -49,13 +49,14 @@ abbrev pub bust_move : Option ℕ → Move
 bust_move None = Tells
 bust_move (Some shares) = Busts shares
 
--- what a report does to the shares of its order
-abbrev pub move_of : List ReportParts → Happening → Move
-move_of reports (happening.Trade shares) = Trades shares
-move_of reports happening.Ended = Ends
-move_of reports (happening.Bust undone) = bust_move (shares_of_exec undone reports)
-move_of reports happening.New = Tells
-move_of reports happening.Other = Tells
+-- what a report does to the shares of its order, which stands at this place
+abbrev pub move_of : List ReportParts → ℕ → Happening → Move
+move_of reports place (happening.Trade shares) = Trades shares
+move_of reports place happening.Ended = Ends
+move_of reports place (happening.Bust undone) = bust_move (shares_of_exec undone (Some place) reports)
+move_of reports place happening.New = Tells
+move_of reports place happening.Other = Tells
+move_of reports place happening.Unknown = Tells
 
 -- the five parts of the shares: of a withdrawn order what is open is withdrawn
 abbrev pub totals_of : Bool → ShareParts → Totals

@@ -1,9 +1,8 @@
 //! What a message does to the orders of a log.
 
 ghost use Rattle.std.specs.Prelude.{◌≡◌, IfOk};
-ghost use Rattle.log_rules.specs.Ledger.{newest_order};
-ghost use Rattle.log_legs.specs.Parts.{move_of};
-ghost use Rattle.log_legs.specs.Legs.{leg_heard, order_heard, report_heard};
+ghost use Rattle.log_rules.specs.Ledger.{newest_order, newest_under};
+ghost use Rattle.log_legs.specs.Legs.{leg_heard, order_heard, refusal_heard, report_heard};
 
 use crate::kept_leg::KeptLeg;
 use crate::share_move::Move;
@@ -21,7 +20,7 @@ pub(crate) enum LegHeard {
     First(KeptLeg),
     /// The order at this place is sent once more.
     Again(usize),
-    /// A report on the order at this place is counted.
+    /// A report on the order at this place is counted, or its refusal.
     Moves(usize, Move),
 }
 
@@ -40,10 +39,20 @@ fn order_heard(
 
 fn report_heard(checker: &Checker, said: &ReportSaid<'_>) -> LegHeard
     ensures { result ≡ report_heard (newest_order checker.now.ledger.orders said.now.id)
-        (move_of checker.now.ledger.reports said.now.happened) }
+        checker.now.ledger.reports said.now.happened }
 {
     match checker.place_of(said.id.as_bytes()) {
-        Some(place) => LegHeard::Moves(place, Move::of(checker, &said.happened)),
+        Some(place) => LegHeard::Moves(place, Move::of(checker, place, &said.happened)),
+        None => LegHeard::Nothing,
+    }
+}
+
+/// The order that was sent under this number is refused.
+fn refusal_heard(checker: &Checker, number: u64) -> LegHeard
+    ensures { result ≡ refusal_heard (newest_under checker.now.ledger.orders number) }
+{
+    match checker.place_under(number) {
+        Some(place) => LegHeard::Moves(place, Move::Ends),
         None => LegHeard::Nothing,
     }
 }
@@ -64,6 +73,8 @@ impl LegHeard {
             }
             (Direction::Received, Says::Report(said)) if checker.standing().is_due(entry.number) =>
                 { Ok(report_heard(checker, said)) }
+            (Direction::Received, Says::Refused { number })
+                if checker.standing().is_due(entry.number) => Ok(refusal_heard(checker, *number)),
             _ => Ok(LegHeard::Nothing),
         }
     }

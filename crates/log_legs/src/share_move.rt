@@ -29,15 +29,18 @@ impl Move {
         }
     }
 
-    /// What a report does by what it says happened. The trade that a bust undoes is the first report of that ExecID.
-    pub(crate) fn of(checker: &Checker, happened: &Happening<'_>) -> Move
-        ensures { result ≡ move_of checker.now.ledger.reports happened.now }
+    /// What a report on the order at this place does by what it says happened. The trade that a bust undoes is the
+    /// first report of that ExecID, if it is on the same order.
+    pub(crate) fn of(checker: &Checker, place: usize, happened: &Happening<'_>) -> Move
+        ensures { result ≡ move_of checker.now.ledger.reports place happened.now }
     {
         match happened {
             Happening::Trade { shares } => Move::Trades(*shares),
             Happening::Ended => Move::Ends,
-            Happening::Bust { undone } => Move::bust(checker.shares_of_exec(undone.as_bytes())),
-            Happening::New | Happening::Other => Move::Tells,
+            Happening::Bust { undone } => {
+                Move::bust(checker.shares_of_exec(undone.as_bytes(), Some(place)))
+            }
+            Happening::New | Happening::Other | Happening::Unknown => Move::Tells,
         }
     }
 }

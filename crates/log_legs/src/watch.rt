@@ -83,7 +83,7 @@ impl Watch {
     }
 
     /// Hears a message, but for the session's end.
-    fn judge(&mut self, entry: &Entry<'_>) -> Result<[Verdict; 14], AllocError>
+    fn judge(&mut self, entry: &Entry<'_>) -> Result<[Verdict; 22], AllocError>
         ensures verdicts { IfOk result (λ said. said ≡ verdicts self.old.checker entry.now) }
         ensures ok { OnOk result (self.new ≡ judged self.old entry.now) }
         ensures err { OnErr result (self.new ≡ self.old) }
@@ -99,7 +99,7 @@ impl Watch {
     }
 
     /// What the next message says of each rule, in the order of `RULES`. Where memory is refused, nothing changes.
-    pub fn hear(&mut self, entry: &Entry<'_>) -> Result<[Verdict; 14], AllocError>
+    pub fn hear(&mut self, entry: &Entry<'_>) -> Result<[Verdict; 22], AllocError>
         ensures verdicts { IfOk result (λ said. said ≡ verdicts self.old.checker entry.now) }
         ensures ok { OnOk result (self.new ≡ watched self.old entry.now) }
         ensures err { OnErr result (self.new ≡ self.old) }

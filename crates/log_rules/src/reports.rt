@@ -3,7 +3,7 @@
 ghost use Rattle.std.specs.Prelude.{◌≡◌, ◌++◌, ◌∷◌, [], option_and_then, slice_get, OnOk, OnErr};
 ghost use Rattle.std.specs.Option.{option_map};
 ghost use Rattle.log_rules.specs.KeptReport.{kept_report};
-ghost use Rattle.log_rules.specs.Ledger.{has_report_in, report_under, shares_of_exec};
+ghost use Rattle.log_rules.specs.Ledger.{has_report_in, report_of_exec, report_under, shares_of_exec};
 
 use crate::kept_report::KeptReport;
 use crate::number_places::NumberPlaces;
@@ -61,12 +61,21 @@ impl Reports {
         self.at(self.by_number.get(number))
     }
 
-    /// How many shares the first report of this ExecID (17) says were traded.
-    pub(crate) fn shares_of(&self, exec: &[u8]) -> Option<u64>
-        ensures { result ≡ shares_of_exec exec.now self.now }
+    /// The first report of this ExecID (17).
+    pub(crate) fn of_exec(&self, exec: &[u8]) -> Option<&KeptReport>
+        ensures { option_map (λ report. report.now) result ≡ report_of_exec exec.now self.now }
     {
-        let report = self.at(self.by_exec.get(exec))?;
-        Some(report.shares())
+        self.at(self.by_exec.get(exec))
+    }
+
+    /// How many shares the first report of this ExecID (17) says were traded, if it is on the order at this place.
+    pub(crate) fn shares_of(&self, exec: &[u8], order: Option<usize>) -> Option<u64>
+        ensures { result ≡ shares_of_exec exec.now order self.now }
+    {
+        match self.of_exec(exec) {
+            Some(report) if report.is_on(order) => Some(report.shares()),
+            _ => None,
+        }
     }
 
     /// Whether a report came under a number of a range.
@@ -77,11 +86,16 @@ impl Reports {
     }
 
     /// A report is behind the others. A refused growth changes nothing.
-    pub(crate) fn push(&mut self, number: u64, said: &ReportSaid<'_>) -> Result<(), AllocError>
-        ensures ok { OnOk result (self.new ≡ self.old ++ kept_report number said.now ∷ []) }
+    pub(crate) fn push(
+        &mut self,
+        number: u64,
+        order: Option<usize>,
+        said: &ReportSaid<'_>,
+    ) -> Result<(), AllocError>
+        ensures ok { OnOk result (self.new ≡ self.old ++ kept_report number order said.now ∷ []) }
         ensures err { OnErr result (self.new ≡ self.old) }
     {
-        let report = KeptReport::new(self.alloc, number, said)?;
+        let report = KeptReport::new(self.alloc, number, order, said)?;
         let exec = Vec::from_slice(self.alloc, said.exec.as_bytes())?;
         self.items.reserve(1)?;
         self.by_exec.reserve()?;
