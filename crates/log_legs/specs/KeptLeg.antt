@@ -1,8 +1,8 @@
 -- An order of a log, and what became of its shares.
-use Rattle.std.specs.Prelude.{ℕ, ◌+◌, ◌-◌, ◌^◌, min, Bool, true, false, List, [], ◌∷◌, ◌++◌, Option, Some, None}
+use Rattle.std.specs.Prelude.{ℕ, ◌+◌, ◌-◌, ◌^◌, min, Bool, true, false, ◌&&◌, List, [], ◌∷◌, ◌++◌, Option, Some, None, ◌==◌, if◌then◌else◌}
 use Rattle.leg.specs.declared.side.Side.{Side}
 use Rattle.log_rules.specs.declared.order_said.OrderSaid.{OrderSaid}
-use Rattle.log_legs.specs.Parts.{ShareParts, all_open, moved}
+use Rattle.log_legs.specs.Parts.{ShareParts, all_open, moved, parts_sum}
 use Rattle.log_legs.specs.declared.share_move.Move.{Move}
 
 -- what an order buys or sells, as far as it can be read, how often it was sent, whether a report on it was counted, and
@@ -36,6 +36,11 @@ new_leg said = record {
 abbrev pub sent_again : LegParts → LegParts
 sent_again leg = record leg { sent = min (leg.sent + 1) (2 ^ 64 - 1) }
 
--- a report on it is counted
-abbrev pub reported : Move → LegParts → LegParts
-reported change leg = record leg { is_reported = true; parts = moved change leg.parts }
+-- it was asked for again in doubt, and never sent again, while all of its shares were open
+abbrev pub is_gone : Bool → LegParts → Bool
+is_gone is_withdrawn leg = is_withdrawn && (leg.sent == 1) && (leg.parts.still_open == parts_sum leg.parts)
+
+-- a report on it is counted: no share of an order that is gone moves
+abbrev pub reported : Bool → Move → LegParts → LegParts
+reported is_withdrawn change leg =
+    if is_gone is_withdrawn leg then leg else record leg { is_reported = true; parts = moved change leg.parts }

@@ -1,7 +1,7 @@
 //! An order of a log, and what became of its shares.
 
 ghost use Rattle.std.specs.Prelude.{◌≡◌, IfOk};
-ghost use Rattle.log_legs.specs.KeptLeg.{new_leg, reported, sent_again, symbol_said};
+ghost use Rattle.log_legs.specs.KeptLeg.{is_gone, new_leg, reported, sent_again, symbol_said};
 
 use crate::share_move::Move;
 use crate::share_parts::ShareParts;
@@ -79,10 +79,21 @@ impl KeptLeg {
         self.sent = self.sent.saturating_add(1);
     }
 
-    /// A report on it is counted.
-    pub(crate) fn report(&mut self, change: Move)
-        ensures { self.new ≡ reported change self.old }
+    /// Whether it is withdrawn, where it was asked for again in doubt: it was never sent again, and all of its shares
+    /// are open.
+    pub(crate) fn is_gone(&self, is_withdrawn: bool) -> bool
+        ensures { result ≡ is_gone is_withdrawn self.now }
     {
+        is_withdrawn && self.sent == 1 && self.parts.is_open()
+    }
+
+    /// A report on it is counted. No share moves of an order that was asked for again in doubt and is withdrawn.
+    pub(crate) fn report(&mut self, is_withdrawn: bool, change: Move)
+        ensures { self.new ≡ reported is_withdrawn change self.old }
+    {
+        if self.is_gone(is_withdrawn) {
+            return;
+        }
         self.is_reported = true;
         self.parts.apply(change);
     }

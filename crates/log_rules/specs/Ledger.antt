@@ -1,5 +1,5 @@
 -- The orders that were sent, and the reports that came.
-use Rattle.std.specs.Prelude.{ℕ, zero, suc, Bool, false, ◌&&◌, ◌||◌, List, [], ◌∷◌, ◌++◌, map, Option, Some, None, option_and_then, is_some, slice_get, nat_le, nat_lt, ◌==◌, if◌then◌else◌}
+use Rattle.std.specs.Prelude.{ℕ, zero, suc, Bool, false, ◌&&◌, ◌||◌, List, [], ◌∷◌, ◌++◌, filter, length, map, Option, Some, None, option_and_then, is_some, not, slice_get, nat_le, nat_lt, ◌==◌, if◌then◌else◌}
 use Rattle.std.specs.Str.{bytes_eq}
 use Rattle.message_log.specs.declared.direction.Direction.{Direction}
 use Rattle.message_log.specs.declared.direction.Direction.TheVariants.{Sent, Received}
@@ -11,7 +11,7 @@ use Rattle.log_rules.specs.declared.says.Says.TheVariants.{Logon, ResendRequest,
 use Rattle.log_rules.specs.declared.standing.Standing.{Standing}
 use Rattle.log_rules.specs.KeptReport.{ReportParts, is_on, kept_report}
 use Rattle.log_rules.specs.Order.{OrderParts, new_order, refused, reported, withdrawn_by}
-use Rattle.log_rules.specs.Standing.{is_due}
+use Rattle.log_rules.specs.Standing.{is_due, was_reached}
 
 -- in their order
 pub record LedgerParts : Type 0 where
@@ -50,6 +50,14 @@ abbrev pub report_of_exec : List ℕ → List ReportParts → Option ReportParts
 report_of_exec exec [] = None
 report_of_exec exec (r ∷ rs) = if bytes_eq r.exec exec then Some r else report_of_exec exec rs
 
+abbrev pub came_under_other : Option ReportParts → ℕ → Bool
+came_under_other None number = false
+came_under_other (Some r) number = not (r.number == number)
+
+-- an ExecID was first that of a report under another number
+abbrev pub comes_again : List ℕ → ℕ → List ReportParts → Bool
+comes_again exec number reports = came_under_other (report_of_exec exec reports) number
+
 abbrev pub shares_if_on : Option ℕ → Option ReportParts → Option ℕ
 shares_if_on order None = None
 shares_if_on order (Some r) = if is_on order r.order then Some r.shares else None
@@ -62,6 +70,10 @@ shares_of_exec exec order reports = shares_if_on order (report_of_exec exec repo
 abbrev pub has_report_in : ℕ → ℕ → List ReportParts → Bool
 has_report_in from to [] = false
 has_report_in from to (r ∷ rs) = (nat_le from r.number && nat_lt r.number to) || has_report_in from to rs
+
+-- how many reports came under numbers above the last that is counted
+abbrev pub uncounted_of : Option ℕ → List ReportParts → ℕ
+uncounted_of counted reports = length (filter (λ r. not (was_reached counted r.number)) reports)
 
 -- with an order behind the others, unless its id was sent before
 abbrev pub with_order : ℕ → OrderSaid → LedgerParts → LedgerParts

@@ -38,7 +38,8 @@ abbrev pub is_known : Happening → Bool
 is_known happening.Unknown = false
 is_known happened = true
 
--- ExecType (150): it is one of the standard's, a trade says how many shares (32), and a bust says which trade (19)
+-- ExecType (150): it is one of the standard's, a trade says how many shares (32) and at which price (31), and a bust
+-- says which trade (19)
 abbrev pub known_kind : Direction → Says → Verdict
 known_kind Received (Report said) = held_if (is_known said.happened)
 known_kind direction says = Unasked

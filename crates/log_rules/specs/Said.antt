@@ -1,5 +1,5 @@
 -- What a body says, as far as the rules look at it (FIX 4.4 Volumes 2 and 4).
-use Rattle.std.specs.Prelude.{ℕ, Bool, List, [], ◌∷◌, codes, Option, Some, None, option_and_then, unwrap_or, ◌==◌, ◌||◌, if◌then◌else◌}
+use Rattle.std.specs.Prelude.{ℕ, Bool, false, List, [], ◌∷◌, codes, length, Option, Some, None, option_and_then, unwrap_or, nat_le, ◌==◌, ◌||◌, if◌then◌else◌}
 use Rattle.std.specs.Str.{bytes_eq}
 use Rattle.fix_text.specs.Tagged.{Tagged, value_of}
 use Rattle.fix_tags.specs.Body.{Body}
@@ -86,13 +86,19 @@ order_with fields (Some id) = Order (record {
 abbrev pub order_said : List Tagged → Says
 order_said fields = order_with fields (value_of fields 11)
 
+-- a price (31) of a trade has at most 20 bytes
+abbrev pub is_priced : Option (List ℕ) → Bool
+is_priced None = false
+is_priced (Some text) = nat_le (length text) 20
+
 abbrev pub trade_with : Option ℕ → Happening
 trade_with None = happening.Unknown
 trade_with (Some shares) = happening.Trade shares
 
--- a trade of so many shares (32)
+-- a trade of so many shares (32), at a price (31)
 abbrev pub trade_of : List Tagged → Happening
-trade_of fields = trade_with (shares_at fields 32)
+trade_of fields =
+    if is_priced (value_of fields 31) then trade_with (shares_at fields 32) else happening.Unknown
 
 abbrev pub bust_with : Option (List ℕ) → Happening
 bust_with None = happening.Unknown

@@ -1,7 +1,7 @@
 //! A log is gone through, message by message.
 
 ghost use Rattle.std.specs.Prelude.{◌≡◌, ◌∷◌, [], IfOk, OnOk, OnErr};
-ghost use Rattle.log_rules.specs.Ledger.{newest_order, newest_under, shares_of_exec};
+ghost use Rattle.log_rules.specs.Ledger.{comes_again, newest_order, newest_under, shares_of_exec, uncounted_of};
 ghost use Rattle.log_rules.specs.Checker.{heard, new_checker, number_of_report, unread_verdicts, verdicts};
 
 use crate::entry::Entry;
@@ -123,6 +123,20 @@ impl Checker {
         ensures { result ≡ newest_under self.now.ledger.orders number }
     {
         self.ledger.place_under(number)
+    }
+
+    /// Whether this ExecID (17) was first that of a report under another number than this one.
+    pub fn comes_again(&self, exec: &[u8], number: u64) -> bool
+        ensures { result ≡ comes_again exec.now number self.now.ledger.reports }
+    {
+        self.ledger.comes_again(exec, number)
+    }
+
+    /// How many reports came under a number that isn't counted, as those behind one that is missing.
+    pub fn uncounted(&self) -> usize
+        ensures { result ≡ uncounted_of self.now.standing.counted self.now.ledger.reports }
+    {
+        self.ledger.uncounted(&self.standing)
     }
 
     /// How many shares the first report of this ExecID (17) says were traded, if it is on the order at this place.

@@ -2,7 +2,7 @@
 
 ghost use Rattle.std.specs.Prelude.{◌≡◌, [], OnOk, OnErr};
 ghost use Rattle.std.specs.Option.{option_map};
-ghost use Rattle.log_rules.specs.Ledger.{changed_by, has_report_in, newest_order, newest_under, order_of, report_of_exec, report_under, shares_of_exec, with_order, with_refusal_heard, with_report, with_report_heard};
+ghost use Rattle.log_rules.specs.Ledger.{changed_by, comes_again, has_report_in, newest_order, newest_under, order_of, report_of_exec, report_under, shares_of_exec, uncounted_of, with_order, with_refusal_heard, with_report, with_report_heard};
 
 use crate::entry::Entry;
 use crate::kept_report::KeptReport;
@@ -82,6 +82,20 @@ impl Ledger {
         ensures { option_map (λ report. report.now) result ≡ report_of_exec exec.now self.now.reports }
     {
         self.reports.of_exec(exec)
+    }
+
+    /// Whether this ExecID (17) was first that of a report under another number.
+    pub(crate) fn comes_again(&self, exec: &[u8], number: u64) -> bool
+        ensures { result ≡ comes_again exec.now number self.now.reports }
+    {
+        self.reports.comes_again(exec, number)
+    }
+
+    /// How many reports came under a number that isn't counted.
+    pub(crate) fn uncounted(&self, standing: &Standing) -> usize
+        ensures { result ≡ uncounted_of standing.now.counted self.now.reports }
+    {
+        self.reports.uncounted(standing)
     }
 
     /// How many shares the first report of this ExecID (17) says were traded, if it is on the order at this place.

@@ -3,11 +3,12 @@
 ghost use Rattle.std.specs.Prelude.{◌≡◌, ◌++◌, ◌∷◌, [], option_and_then, slice_get, OnOk, OnErr};
 ghost use Rattle.std.specs.Option.{option_map};
 ghost use Rattle.log_rules.specs.KeptReport.{kept_report};
-ghost use Rattle.log_rules.specs.Ledger.{has_report_in, report_of_exec, report_under, shares_of_exec};
+ghost use Rattle.log_rules.specs.Ledger.{comes_again, has_report_in, report_of_exec, report_under, shares_of_exec, uncounted_of};
 
 use crate::kept_report::KeptReport;
 use crate::number_places::NumberPlaces;
 use crate::report_said::ReportSaid;
+use crate::standing::Standing;
 use crate::text_places::TextPlaces;
 use std::alloc::{AllocError, Global};
 use std::marker::Model;
@@ -68,6 +69,16 @@ impl Reports {
         self.at(self.by_exec.get(exec))
     }
 
+    /// Whether this ExecID (17) was first that of a report under another number.
+    pub(crate) fn comes_again(&self, exec: &[u8], number: u64) -> bool
+        ensures { result ≡ comes_again exec.now number self.now }
+    {
+        match self.of_exec(exec) {
+            Some(report) => report.number() != number,
+            None => false,
+        }
+    }
+
     /// How many shares the first report of this ExecID (17) says were traded, if it is on the order at this place.
     pub(crate) fn shares_of(&self, exec: &[u8], order: Option<usize>) -> Option<u64>
         ensures { result ≡ shares_of_exec exec.now order self.now }
@@ -76,6 +87,16 @@ impl Reports {
             Some(report) if report.is_on(order) => Some(report.shares()),
             _ => None,
         }
+    }
+
+    /// How many of them came under a number that isn't counted.
+    pub(crate) fn uncounted(&self, standing: &Standing) -> usize
+        ensures { result ≡ uncounted_of standing.now.counted self.now }
+    {
+        self.items
+            .iter()
+            .filter(|report| !standing.was_counted(report.number()))
+            .count()
     }
 
     /// Whether a report came under a number of a range.

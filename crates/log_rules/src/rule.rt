@@ -112,7 +112,7 @@ impl Rule {
             Rule::ResendAnswered => "the exchange answers a resend request before it logs out",
             Rule::ExecOnce => "a new report has an ExecID (17) of its own",
             Rule::KnownKind => {
-                "ExecType (150) is one of FIX 4.4's, with a trade's LastQty (32) or a bust's ExecRefID (19)"
+                "ExecType (150) is one of FIX 4.4's, with a trade's LastQty (32) and LastPx (31) or a bust's ExecRefID (19)"
             }
             Rule::OpenOrder => "nothing but a bust happens to an order that has no open shares",
             Rule::LimitKept => "a trade's LastPx (31) is no worse than the order's Price (44)",

@@ -2,7 +2,7 @@
 
 ghost use Rattle.std.specs.Prelude.{◌≡◌};
 ghost use Rattle.fix_text.specs.Tagged.{value_of};
-ghost use Rattle.log_rules.specs.Said.{application_said, bust_of, fence_number, happening_of, heartbeat_said, order_said, price_at, refusal_of, report_of, report_said, said_by, session_said, shares_at, side_at, trade_of};
+ghost use Rattle.log_rules.specs.Said.{application_said, bust_of, fence_number, happening_of, heartbeat_said, is_priced, order_said, price_at, refusal_of, report_of, report_said, said_by, session_said, shares_at, side_at, trade_of};
 
 use crate::order_said::OrderSaid;
 use crate::report_said::{Happening, ReportSaid};
@@ -39,6 +39,9 @@ const SYMBOL_SFX: u32 = 65;
 const EXEC_TYPE: u32 = 150;
 
 const LEAVES_QTY: u32 = 151;
+
+/// The most bytes of a trade's price.
+const MAX_PRICE: usize = 20;
 
 /// The number of the fence that an id names: `F` and a number with no leading zero.
 fn fence_number(id: &[u8]) -> Option<u64>
@@ -145,9 +148,22 @@ fn order_said<'a>(fields: &AppFields<'a>) -> Says<'a>
     })
 }
 
+/// Whether a trade's price is there, of at most 20 bytes.
+fn is_priced(fields: &AppFields<'_>) -> bool
+    ensures { result ≡ is_priced (value_of fields.now 31) }
+{
+    match fields.get(LAST_PX) {
+        Some(text) => text.len() <= MAX_PRICE,
+        None => false,
+    }
+}
+
 fn trade_of<'a>(fields: &AppFields<'a>) -> Happening<'a>
     ensures { result ≡ trade_of fields.now }
 {
+    if !is_priced(fields) {
+        return Happening::Unknown;
+    }
     match shares_at(fields, LAST_QTY) {
         Some(shares) => Happening::Trade { shares },
         None => Happening::Unknown,
