@@ -5,7 +5,7 @@ use Rattle.std.specs.Io.BufRead.{drop_through, strip_last}
 use Rattle.std.specs.Io.KnownBytes.{Appends}
 use Rattle.std.proofs.lemmas.List.{append-nil, append_assoc}
 use Rattle.day_rules.specs.DeskDay.{DeskParts}
-use Rattle.day_check.specs.Lines.{AreLines, ReadsNext, WereRead, lacks_end}
+use Rattle.day_check.specs.Lines.{AreCutLines, AreLines, ReadsNext, WereRead, is_there, lacks_end}
 use Rattle.day_check.specs.LogChecked.{LogParts, line_checked, new_log}
 use Rattle.day_check.specs.LogText.{Style, checked, findings, line_findings}
 use Rattle.day_check.specs.SweepsLog.{line_heard, lines_heard}
@@ -47,7 +47,15 @@ pub read_all : (all left next : Option (List ℕ)) (raw : List ℕ) (lines : Lis
 read_all None left next raw lines reads so_far = tt
 read_all (Some all) left next raw lines reads so_far =
     let here = subst (λ (l : Option (List ℕ)). IfSome l (ReadsNext false raw next)) so_far.1 reads in
-    (so_far.0, so_far.2, here)
+    (so_far.0, so_far.2, here.0)
+
+pub read_all_cut : (all left next : Option (List ℕ)) (raw : List ℕ) (lines : List (List ℕ)) (is_cut : Bool)
+    → is_cut ≡ is_there raw → IfSome left (ReadsNext false raw next) → LeftAt all left lines
+    → AreCutLines all lines is_cut
+read_all_cut None left next raw lines is_cut is reads so_far = tt
+read_all_cut (Some all) left next raw lines is_cut is reads so_far =
+    let here = subst (λ (l : Option (List ℕ)). IfSome l (ReadsNext false raw next)) so_far.1 reads in
+    (so_far.0, so_far.2, here.0, is ∙ ap is_there here.1)
 
 -- what is known behind the lines that were read so far, and what was printed of them
 pub record CheckedSoFar (s : Style) (is_json : Bool) (all left before after : Option (List ℕ)) (number : ℕ) (log : LogParts)

@@ -21,8 +21,19 @@ IsEnd left = lacks_end (take_through 10 left) ≡ true
 abbrev pub AreLines : Option (List ℕ) → List (List ℕ) → Type 0
 AreLines input lines = IfSome input (λ all. (left : List ℕ) × WereRead lines all left × IsEnd left)
 
--- a line was read, with its end, and these bytes are left behind it; or there was none
+abbrev pub is_there : List ℕ → Bool
+is_there [] = false
+is_there (c ∷ cs) = true
+
+-- the lines are those of an input, where its bytes are known; and this is whether something is left behind them
+abbrev pub AreCutLines : Option (List ℕ) → List (List ℕ) → Bool → Type 0
+AreCutLines input lines is_cut =
+    IfSome input (λ all. (left : List ℕ) × WereRead lines all left × IsEnd left
+    × (is_cut ≡ is_there (take_through 10 left)))
+
+-- a line was read, with its end, and these bytes are left behind it; or there was none, but
+-- for what is left
 abbrev pub ReadsNext : Bool → List ℕ → Option (List ℕ) → List ℕ → Type 0
 ReadsNext true line left bytes =
     (line ≡ take_through 10 bytes) × (left ≡ Some (drop_through 10 bytes)) × (lacks_end line ≡ false)
-ReadsNext false line left bytes = IsEnd bytes
+ReadsNext false line left bytes = IsEnd bytes × (line ≡ take_through 10 bytes)

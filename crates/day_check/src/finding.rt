@@ -2,6 +2,7 @@
 ghost use Rattle.std.specs.Prelude.{◌≡◌, false, IfOk};
 ghost use Rattle.day_rules.specs.VenueDay.{breaks};
 ghost use Rattle.day_check.specs.Finding.{finding_head, finding_if, finding_lines, findings_upto, summary_upto, tally_if, tally_line};
+ghost use Rattle.day_check.specs.LogText.{cut_text, uncounted_text};
 ghost use Rattle.day_check.specs.Shown.{line_shown};
 ghost use Rattle.std.specs.Prelude.{slice_get};
 
@@ -12,6 +13,9 @@ use crate::shown::line_shown;
 use crate::tallies::breaks;
 use log_rules::{Tally, Verdict};
 use std::alloc::{AllocError, Global};
+
+/// What is said of a log that ends within a line.
+const CUT: &str = "what stands behind the last line feed is no line, and isn't judged";
 
 /// How what is said of a log is printed.
 #[derive(Debug, Drop)]
@@ -220,4 +224,43 @@ pub(crate) fn summary(
         text.extend_from_slice(&tally_at(alloc, printing, tallies, place)?)?;
     }
     Ok(text)
+}
+
+/// How many reports weren't counted, where there are some.
+pub(crate) fn uncounted_text(
+    alloc: Global,
+    printing: &Printing<'_>,
+    count: usize,
+) -> Result<Vec<u8>, AllocError>
+    ensures { IfOk result (λ text. printing.now.is_json ≡ false → text.items ≡ uncounted_text count) }
+{
+    if count == 0 {
+        return Ok(Vec::new(alloc));
+    }
+    if printing.is_json {
+        let members = [
+            text("log", printing.log),
+            number("reports_not_counted", count as u64),
+        ];
+        return json_line(alloc, &members);
+    }
+    Ok(format!(in alloc; "reports not counted {count}\n")?.into_bytes())
+}
+
+/// A note where a log ends within a line.
+pub(crate) fn cut_text(
+    alloc: Global,
+    printing: &Printing<'_>,
+    is_cut: bool,
+) -> Result<Vec<u8>, AllocError>
+    ensures { IfOk result (λ text. printing.now.is_json ≡ false → text.items ≡ cut_text is_cut) }
+{
+    if !is_cut {
+        return Ok(Vec::new(alloc));
+    }
+    if printing.is_json {
+        let members = [text("log", printing.log), text("note", CUT)];
+        return json_line(alloc, &members);
+    }
+    Ok(format!(in alloc; "note {CUT}\n")?.into_bytes())
 }

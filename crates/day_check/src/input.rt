@@ -16,7 +16,7 @@ fn lacks_end(line: &[u8]) -> bool
 }
 
 /// Reads the next line of a log, with its end, in the place of what the buffer has; or tells that there is none. What
-/// has no end is no line.
+/// has no end is no line, and stands in the buffer then.
 pub(crate) fn read_text<R: BufRead>(input: &mut R, buffer: &mut Vec<u8>) -> Result<bool, LogFault>
     ensures { IfOk result (λ is_there.
         IfSome (R.remaining input.old) (ReadsNext is_there buffer.new.items (R.remaining input.new))) }
