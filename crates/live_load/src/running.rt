@@ -43,7 +43,6 @@ const PATIENCE: u64 = 86_400;
 
 /// Runs a desk's day over loopback, and audits it. Each caller hands its sweeps in, with an order of 10 shares for each
 /// venue. What changes is told to nobody.
-#[tactic(auto, using(crate::proofs::VenuesMade::venues_count))]
 pub fn run_live<R, P>(
     rt: &R,
     alloc: Global,

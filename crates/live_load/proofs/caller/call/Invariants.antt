@@ -6,5 +6,5 @@ abbrev pub invariant-loop : goal.invariant-loop
 invariant-loop g l = record {
   parts : l.seat.parts ≡ l.fn.seat.parts;
   few : l.unplaced ≤ l.counter;
-  shares : l.seat.shares + l.unplaced * shares_each l.floor.plan ≡ l.fn.seat.shares + l.counter * shares_each l.floor.plan;
+  shares : l.seat.shares + l.unplaced * shares_each l.plan ≡ l.fn.seat.shares + l.counter * shares_each l.plan;
 }
