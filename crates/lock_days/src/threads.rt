@@ -157,7 +157,9 @@ fn in_threads<L: Run + Send + Sync, M: Accounts + Send + Sync, R: Threads + Wait
     rt: &R,
     alloc: Global,
     floor: Floor<L, M>,
-) -> Result<CrowdEnd, TrialFault> {
+) -> Result<CrowdEnd, TrialFault>
+    requires tied { L.sweeps ≡ M.sweeps }
+{
     let Floor {
         lock,
         collector,
@@ -171,11 +173,17 @@ fn in_threads<L: Run + Send + Sync, M: Accounts + Send + Sync, R: Threads + Wait
     let shared = (&lock, &collector);
     let (released, worked) = join(
         rt,
-        || map_vec(
-            rt,
-            callers,
-            &|seat| calls(rt, alloc, shared.0, shared.1, seat),
-        ),
+        ||
+            requires { L.sweeps ≡ M.sweeps }
+        {
+            map_vec(
+                rt,
+                callers,
+                &|seat|
+                    requires { L.sweeps ≡ M.sweeps }
+                { calls(rt, alloc, shared.0, shared.1, seat) },
+            )
+        },
         || map_vec(
             rt,
             posts,

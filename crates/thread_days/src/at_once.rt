@@ -154,7 +154,9 @@ fn in_threads<L: Run + Send + Sync, M: Accounts + Send + Sync, R: Threads + Wait
     alloc: Global,
     floor: Floor<L, M>,
     size: Size,
-) -> Result<Outcome, DayFault> {
+) -> Result<Outcome, DayFault>
+    requires tied { L.sweeps ≡ M.sweeps }
+{
     let Floor {
         lock,
         collector,
@@ -167,7 +169,9 @@ fn in_threads<L: Run + Send + Sync, M: Accounts + Send + Sync, R: Threads + Wait
     let (ends, callers) = join(
         rt,
         || run_all(rt, alloc, &lock, &collector, workers, MOST_TURNS),
-        || all_call(rt, alloc, &lock, &collector, seats, orders.as_slice()),
+        ||
+            requires { L.sweeps ≡ M.sweeps }
+        { all_call(rt, alloc, &lock, &collector, seats, orders.as_slice()) },
     );
     let (seats, receipts) = parted(alloc, callers?)?;
     day_outcome(

@@ -87,7 +87,9 @@ fn in_threads<L: Run + Send + Sync, M: Accounts + Send + Sync, R: Threads + Wait
     alloc: Global,
     floor: Floor<L, M>,
     load: Load,
-) -> Result<Outcome, TrialFault> {
+) -> Result<Outcome, TrialFault>
+    requires tied { L.sweeps ≡ M.sweeps }
+{
     let Floor {
         lock,
         collector,
@@ -103,11 +105,17 @@ fn in_threads<L: Run + Send + Sync, M: Accounts + Send + Sync, R: Threads + Wait
     let start = Instant::now(rt)?;
     let (released, popped) = join(
         rt,
-        || map_vec(
-            rt,
-            seats,
-            &|seat| calls(rt, alloc, lock, collector, seat, sweeps),
-        ),
+        ||
+            requires { L.sweeps ≡ M.sweeps }
+        {
+            map_vec(
+                rt,
+                seats,
+                &|seat|
+                    requires { L.sweeps ≡ M.sweeps }
+                { calls(rt, alloc, lock, collector, seat, sweeps) },
+            )
+        },
         || map_vec(rt, posts, &|post| pops(rt, lock, post, legs)),
     );
     Ok(Outcome::of(&released?, &popped?, start.elapsed(rt)?))
