@@ -8,7 +8,7 @@ from subprocess import TimeoutExpired
 from days.acceptor import Acceptor
 from days.compare import day_faults
 from days.desk import Desk, Late, file_of
-from days.logs import log_faults
+from days.logs import log_faults, truth_faults
 from days.proxy import Proxy, Weather
 from days.sweeps import sweeps_of, wide_sweeps_of
 
@@ -147,6 +147,7 @@ def play(day, dispatch, acceptor_program, folder):
         status = desk.close()
         faults += day_faults(placed, acceptor.orders(), FILL, status, desk.lines)
         faults += log_faults(dispatch, folder, venues)
+        faults += truth_faults(dispatch, folder, venues, desk.lines, len(placed))
     except (Late, RuntimeError, OSError, TimeoutExpired) as fault:
         faults += [str(fault), *desk.errors()]
     finally:

@@ -10,6 +10,9 @@ MOST_SECONDS = 60
 # What a check says of a line that breaks a rule.
 FINDING = re.compile(r"line \d+ [a-z-]+: ")
 
+# What a run and a check say of a sweep.
+SWEEP = re.compile(r"sweep \d+ legs ")
+
 
 def log_faults(dispatch, folder, venues):
     """Where a log is missing, can't be read, shows a rule broken, by the session or by the exchange, or isn't what the
@@ -22,3 +25,30 @@ def log_faults(dispatch, folder, venues):
         for said in ran.stdout.splitlines():
             if FINDING.match(said):
                 yield f"{venue}: {said}"
+
+
+def has_logged_out(log):
+    """Whether the last message that the session sent is a Logout."""
+    sent = [line for line in log.read_text().splitlines() if line[21:24] == " > "]
+    return bool(sent) and "|35=5|" in sent[-1]
+
+
+def unless_unsent(said):
+    """What is said of a sweep, with its withdrawn and its open shares as one: where a session never logged out, no log
+    shows that the desk withdrew what was never sent."""
+    *head, withdrawn, _, still_open = said.split()
+    return [*head, int(withdrawn) + int(still_open)]
+
+
+def truth_faults(dispatch, folder, venues, lines, count):
+    """Where a check of the whole day says otherwise of one of so many sweeps than the run did at its end, in these lines."""
+    logs = [folder / LOGS / f"{name}.log" for name in (*venues, "sweeps")]
+    ran = subprocess.run([dispatch, "check", *logs], capture_output=True, text=True, timeout=MOST_SECONDS)
+    by_check = [said for said in ran.stdout.splitlines() if SWEEP.match(said)]
+    by_run = [said for said in lines if SWEEP.match(said)][-count:]
+    if len(by_check) != count:
+        yield f"the check of the day tells {len(by_check)} sweeps of {count}: {ran.stderr}"
+    told = str if all(has_logged_out(log) for log in logs[:-1]) else unless_unsent
+    for run, check in zip(by_run, by_check):
+        if told(run) != told(check):
+            yield f"the run says {run}, its logs {check}"

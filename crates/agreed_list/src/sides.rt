@@ -53,6 +53,15 @@ impl<T> BookSide<T> {
         ensures seat { (seat.new.name ≡ seat.old.name) × (seat.new.items ≡ seat.old.items ++ item ∷ []) }
     {}
 
+    /// Both sides have these items from now on.
+    pub fn set(&mut self, seat: &mut SeatSide<T>)
+        ghost items: { List T }
+        requires name { self.old.name ≡ seat.old.name }
+        ensures agreed { self.old.items ≡ seat.old.items }
+        ensures book { (self.new.name ≡ self.old.name) × (self.new.items ≡ items) }
+        ensures seat { (seat.new.name ≡ seat.old.name) × (seat.new.items ≡ items) }
+    {}
+
     /// Changes nothing, and tells that both sides have the same items.
     pub fn compare(&mut self, seat: &mut SeatSide<T>)
         requires name { self.old.name ≡ seat.old.name }

@@ -28,6 +28,7 @@ struct Shared<L: Run, M: Accounts> {
     lock: ReleaseLock<L>,
     collector: Collector<M>,
     bells: Vec<Arc<Bell, Global>>,
+    ghost tied: { L.sweeps ≡ M.sweeps },
 }
 
 impl<L: Run, M: Accounts> Shared<L, M> {
@@ -169,6 +170,7 @@ fn load_at<
     requires lock { (site.callers.name ≡ L.name) × (L.parts ≡ 1024)
         × (L.queues ≡ map (λ ends. ends.0.table) site.rings.items) }
     requires book { (site.workers.name ≡ M.name) × (M.parts ≡ site.venues) × (site.workers.lists ≡ M.lists) }
+    requires sweeps { (site.workers.sweeps ≡ M.sweeps) × (L.sweeps ≡ M.sweeps) }
 {
     in_threads(rt, alloc, Floor::<L, M>::open(alloc, site)?, load)
 }

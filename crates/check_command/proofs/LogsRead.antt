@@ -80,7 +80,7 @@ pub log_read : {input : Option (List ℕ)} (r : Request) (of_day : Bool) (p : Pr
     → ChecksLog p input before between first → ChecksExactly p (is_some r.exact) between after other
     → ChecksPath r of_day path before after (record { day = first.day; is_broken = first.is_broken || other })
 log_read r of_day p path before between after first other style is_path json checks exactly =
-    let read : LogRead = record { path = path; lines = checks.lines; exact = exactly.said } in
+    let read : LogRead = record { path = path; lines = checks.lines; is_cut = checks.is_cut; exact = exactly.said } in
     let s = style_asked r of_day in record {
       read = read;
       path_is = refl;
@@ -90,9 +90,9 @@ log_read r of_day p path before between after first other style is_path json che
           (checks.broken ∙ ap (λ (t : Style). breaks_a_rule (checked t checks.lines).tallies) style)
           ∙ ap (λ (b : Bool). breaks_a_rule (checked s checks.lines).tallies || b) exactly.is_so;
       printed = λ off. let on = json ∙ off in
-          behind before between after (log_text s path checks.lines) (text_of_exact exactly.said)
-          (subst (λ (t : Style). Appends before between (log_text t path checks.lines)) style
-          (subst (λ (n : List ℕ). Appends before between (log_text (style_of p) n checks.lines)) is_path
+          behind before between after (log_text s path checks.lines checks.is_cut) (text_of_exact exactly.said)
+          (subst (λ (t : Style). Appends before between (log_text t path checks.lines checks.is_cut)) style
+          (subst (λ (n : List ℕ). Appends before between (log_text (style_of p) n checks.lines checks.is_cut)) is_path
           (checks.printed on)))
           (exactly.printed on);
     }

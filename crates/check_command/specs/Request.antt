@@ -30,7 +30,7 @@ IsForm (Some text) (Quickfix desk) = comp_id_of text ≡ Some desk
 pub record IsRequest (matches : ArgMatches) (r : Request) : Type 0 where
   pub paths : map (λ path. path.now) r.paths.items ≡ values_of (matched_of (found_of matches) (codes "LOG"))
   pub form : IsForm (first_value (found_of matches) (codes "desk")) r.form
-  pub words : length r.words.items ≡ 14
+  pub words : length r.words.items ≡ 22
   pub is_json : IsFlag matches (codes "json") r.is_json
   pub tells_legs : IsFlag matches (codes "legs") r.tells_legs
   pub exact : is_some r.exact ≡ is_some (first_value (found_of matches) (codes "exact"))

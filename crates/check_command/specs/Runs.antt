@@ -17,11 +17,12 @@ pub record ExactSaid : Type 0 where
   pub held : ℕ
   pub broken : Option (ℕ × List ℕ)
 
--- a log that was read: its path, its lines, of which the last one stands first, and what is said of it exactly, where
--- that is asked for
+-- a log that was read: its path, its lines, of which the last one stands first, whether it ends within a line, and what
+-- is said of it exactly, where that is asked for
 pub record LogRead : Type 0 where
   pub path : List ℕ
   pub lines : List (List ℕ)
+  pub is_cut : Bool
   pub exact : Option ExactSaid
 
 abbrev pub exact_broken : Option ExactSaid → Bool
@@ -38,7 +39,7 @@ is_broken s log = breaks_a_rule (checked s log.lines).tallies || exact_broken lo
 
 -- what is printed of it
 abbrev pub read_text : Style → LogRead → List ℕ
-read_text s log = log_text s log.path log.lines ++ text_of_exact log.exact
+read_text s log = log_text s log.path log.lines log.is_cut ++ text_of_exact log.exact
 
 -- whether one of these logs is broken, of which the last one stands first
 abbrev pub any_broken : Style → List LogRead → Bool

@@ -1,13 +1,12 @@
 //! Why `dispatch check` failed.
 ghost use Rattle.std.specs.Prelude.{◌≡◌};
 ghost use Rattle.check_command.specs.declared.fault.CommandFault.TheVariants.{OutOfMemory, WriteFailed};
-ghost use Rattle.check_command.specs.Fault.{IsOfCommandLine, IsOfLogs, fault_status, of_log};
+ghost use Rattle.check_command.specs.Fault.{IsNamed, IsOfCommandLine, IsOfLog, fault_status, log_status};
 
 use clap::error::ErrorKind;
 use command_line::Fault;
 use day_check::LogFault;
-use log_text::LineFault;
-use std::alloc::AllocError;
+use std::alloc::{AllocError, Global};
 use thiserror::Error;
 
 /// Why `dispatch check` failed.
@@ -19,21 +18,65 @@ pub enum CommandFault {
     /// The name of the desk isn't one.
     #[error("--desk takes a comp id, 1 to 16 printable characters without spaces")]
     BadDesk,
-    /// This line of the log, counted from 1, says nothing.
-    #[error("line {number}: {fault}")]
-    BadLine { number: u64, fault: LineFault },
-    /// The first line of a log names no dialect, and no other is given.
-    #[error("the log's first line names no dialect")]
-    NoDialect,
+    /// The log at this path can't be checked.
+    #[error("{path}: {fault}")]
+    OfLog { path: String, fault: LogFault },
     /// Beside the log of a desk's lines a log isn't called after a venue, or two are, or they are too many.
     #[error("beside sweeps.log each log is called after its venue, as NYSE.log, at most 16 and no two alike")]
     BadName,
-    #[error("read failed")]
-    ReadFailed,
     #[error("write failed")]
     WriteFailed,
     #[error("out of memory")]
     OutOfMemory,
+}
+
+/// The exit status that tells the fault of a log.
+fn log_status(fault: &LogFault) -> u8
+    ensures { result ≡ log_status fault.now }
+{
+    match fault {
+        LogFault::BadLine { .. } | LogFault::NoDialect => 3,
+        LogFault::ReadFailed | LogFault::WriteFailed => 4,
+        LogFault::OutOfMemory => 5,
+    }
+}
+
+/// What to do about the fault of a log, where there is something.
+fn log_reason(fault: &LogFault) -> Option<&'static str> {
+    match fault {
+        LogFault::BadLine { .. } => {
+            Some("give the log as it was written, or name by --from the engine that wrote it")
+        }
+        LogFault::NoDialect => Some("name the dialect, as --exact plain"),
+        _ => None,
+    }
+}
+
+/// A fault of the log at this path, which it names.
+fn named(alloc: Global, path: &str, fault: LogFault) -> CommandFault
+    ensures { IsNamed path.now fault result }
+{
+    match String::from_str(alloc, path) {
+        Ok(path) => CommandFault::OfLog { path, fault },
+        Err(_) => CommandFault::OutOfMemory,
+    }
+}
+
+impl CommandFault {
+    /// The fault of the log at this path.
+    pub(crate) fn of_log(alloc: Global, path: &str, fault: LogFault) -> CommandFault
+        ensures { IsOfLog path.now fault result }
+    {
+        match fault {
+            LogFault::BadLine { number, fault } => {
+                named(alloc, path, LogFault::BadLine { number, fault })
+            }
+            LogFault::NoDialect => named(alloc, path, LogFault::NoDialect),
+            LogFault::ReadFailed => named(alloc, path, LogFault::ReadFailed),
+            LogFault::WriteFailed => CommandFault::WriteFailed,
+            LogFault::OutOfMemory => CommandFault::OutOfMemory,
+        }
+    }
 }
 
 impl Fault for CommandFault {
@@ -42,14 +85,17 @@ impl Fault for CommandFault {
     fn status(&self) -> u8 {
         match self {
             CommandFault::CommandLine(_) | CommandFault::BadDesk | CommandFault::BadName => 2,
-            CommandFault::BadLine { .. } | CommandFault::NoDialect => 3,
-            CommandFault::ReadFailed | CommandFault::WriteFailed => 4,
+            CommandFault::OfLog { fault, .. } => log_status(fault),
+            CommandFault::WriteFailed => 4,
             CommandFault::OutOfMemory => 5,
         }
     }
 
     fn reason(&self) -> Option<&'static str> {
-        None
+        match self {
+            CommandFault::OfLog { fault, .. } => log_reason(fault),
+            _ => None,
+        }
     }
 
     fn ends_line(&self) -> bool {
@@ -70,20 +116,6 @@ impl From<command_line::WriteFailed> for CommandFault {
 
     fn from(_: command_line::WriteFailed) -> CommandFault {
         CommandFault::WriteFailed
-    }
-}
-
-impl From<LogFault> for CommandFault {
-    ghost from_gives = { λ fault given. (given ≡ of_log fault) × IsOfLogs given };
-
-    fn from(fault: LogFault) -> CommandFault {
-        match fault {
-            LogFault::BadLine { number, fault } => CommandFault::BadLine { number, fault },
-            LogFault::NoDialect => CommandFault::NoDialect,
-            LogFault::ReadFailed => CommandFault::ReadFailed,
-            LogFault::WriteFailed => CommandFault::WriteFailed,
-            LogFault::OutOfMemory => CommandFault::OutOfMemory,
-        }
     }
 }
 

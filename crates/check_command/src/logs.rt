@@ -8,7 +8,7 @@ use crate::day::Day;
 use crate::fault::CommandFault;
 use crate::files::open;
 use crate::path_name::is_sweeps;
-use day_check::{CheckedLog, Printing, print_exact, print_log};
+use day_check::{CheckedLog, LogFault, Printing, print_exact, print_log};
 use std::alloc::Global;
 use std::fs::Files;
 use std::io::Write;
@@ -20,9 +20,8 @@ fn check_exactly<F: Files, W: Write>(
     request: &Request<'_>,
     printing: &Printing<'_>,
     out: &mut W,
-) -> Result<bool, CommandFault>
-    ensures only { IfErr result IsOfLogs }
-    ensures held { IfOk result
+) -> Result<bool, LogFault>
+    ensures { IfOk result
         (ChecksExactly printing.now (is_some request.now.exact) (W.contents out.old) (W.contents out.new)) }
 {
     match request.exact {
@@ -36,6 +35,28 @@ fn check_exactly<F: Files, W: Write>(
 }
 
 /// Checks the log of a path.
+fn check_path<F: Files, W: Write>(
+    files: &F,
+    alloc: Global,
+    request: &Request<'_>,
+    path: &str,
+    is_of_day: bool,
+    out: &mut W,
+) -> Result<CheckedLog, LogFault>
+    ensures { IfOk result
+        (ChecksPath request.now is_of_day path.now (W.contents out.old) (W.contents out.new)) }
+{
+    let printing = request.printing(path, is_of_day);
+    let mut input = open(files, alloc, path)?;
+    let first = print_log(alloc, &printing, &mut input, out)?;
+    let is_other = check_exactly(files, alloc, request, &printing, out)?;
+    Ok(CheckedLog {
+        is_broken: first.is_broken | is_other,
+        day: first.day,
+    })
+}
+
+/// The same, where a fault names the log.
 fn check_log<F: Files, W: Write>(
     files: &F,
     alloc: Global,
@@ -48,14 +69,10 @@ fn check_log<F: Files, W: Write>(
     ensures checked { IfOk result
         (ChecksPath request.now is_of_day path.now (W.contents out.old) (W.contents out.new)) }
 {
-    let printing = request.printing(path, is_of_day);
-    let mut input = open(files, alloc, path)?;
-    let first = print_log(alloc, &printing, &mut input, out)?;
-    let is_other = check_exactly(files, alloc, request, &printing, out)?;
-    Ok(CheckedLog {
-        is_broken: first.is_broken | is_other,
-        day: first.day,
-    })
+    match check_path(files, alloc, request, path, is_of_day, out) {
+        Ok(log) => Ok(log),
+        Err(fault) => Err(CommandFault::of_log(alloc, path, fault)),
+    }
 }
 
 /// Checks the log of a path, unless it is that of a desk's lines; of a day it is kept.

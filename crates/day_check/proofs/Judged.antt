@@ -13,17 +13,17 @@ use Rattle.day_check.specs.Tallies.{tallied_upto}
 
 pub counted : (number : ℕ) (entry : Result (Option Entry) LineFault) (log : LogParts) (day : VenueParts)
     (tallies between : List Tally) (said : List Verdict) → Judges number entry log.day day (Ok said)
-    → tallies ≡ tallied_upto 14 said between → between ≡ log.tallies
+    → tallies ≡ tallied_upto 22 said between → between ≡ log.tallies
     → record { day = day; tallies = tallies } ≡ entry_checked number entry log
 counted number (Err fault) log day tallies between said judges is same = absurd judges
 counted number (Ok entry) log day tallies between said judges is same = cc
 
 pub told : (s : Style) (number : ℕ) (line : List ℕ) (entry : Result (Option Entry) LineFault) (old day : VenueParts)
     (said : List Verdict) → Judges number entry old day (Ok said)
-    → findings_upto s.words s.form number line said 14 ≡ entry_findings s number line entry old
+    → findings_upto s.words s.form number line said 22 ≡ entry_findings s number line entry old
 told s number line (Err fault) old day said judges = absurd judges
 told s number line (Ok entry) old day said judges =
-    ap (λ (vs : List Verdict). findings_upto s.words s.form number line vs 14) judges.0
+    ap (λ (vs : List Verdict). findings_upto s.words s.form number line vs 22) judges.0
 
 pub as_judged : (number : ℕ) (entry : Result (Option Entry) LineFault) (old day : VenueParts) (said : List Verdict)
     → Judges number entry old day (Ok said) → ChecksAs number entry old day

@@ -1,11 +1,11 @@
 -- Lines that are read one after the other.
-use Rattle.std.proofs.Common.{◌≡◌, ℕ, suc, ◌+◌, ◌<◌, true, false, Bool, List, [], ◌∷◌, ◌++◌, length, Option, Some, None, refl, sym, ap, subst, ◌∙◌, add-one, arith}
+use Rattle.std.proofs.Common.{◌≡◌, ℕ, suc, ◌+◌, true, false, Bool, List, [], ◌∷◌, ◌++◌, length, Option, Some, None, refl, sym, ap, subst, ◌∙◌, add-one}
 use Rattle.std.specs.Prelude.{IfSome}
-use Rattle.std.specs.Io.BufRead.{drop_through, strip_last, take_through}
+use Rattle.std.specs.Io.BufRead.{drop_through, strip_last}
 use Rattle.std.specs.Io.KnownBytes.{Appends}
 use Rattle.std.proofs.lemmas.List.{append-nil, append_assoc}
 use Rattle.day_rules.specs.DeskDay.{DeskParts}
-use Rattle.day_check.specs.Lines.{AreLines, ReadsNext, WereRead}
+use Rattle.day_check.specs.Lines.{AreCutLines, AreLines, ReadsNext, WereRead, is_there, lacks_end}
 use Rattle.day_check.specs.LogChecked.{LogParts, line_checked, new_log}
 use Rattle.day_check.specs.LogText.{Style, checked, findings, line_findings}
 use Rattle.day_check.specs.SweepsLog.{line_heard, lines_heard}
@@ -32,18 +32,14 @@ pub all_left : (all : Option (List ℕ)) → LeftAt all all []
 all_left None = tt
 all_left (Some all) = (all, refl, refl)
 
-none_there : (raw bytes : List ℕ) → 0 < length raw → raw ≡ take_through 10 bytes → bytes ≡ [] → ⊥
-none_there raw [] some is empty = omega (arith, some, ap length is)
-none_there raw (byte ∷ bytes) some is empty = absurd cc
-
 pub read_on : (all left next : Option (List ℕ)) (raw : List ℕ) (lines : List (List ℕ))
     → IfSome left (ReadsNext true raw next) → LeftAt all left lines → LeftAt all next (strip_last 10 raw ∷ lines)
 read_on None left next raw lines reads so_far = tt
 read_on (Some all) left next raw lines reads so_far =
     let here = subst (λ (l : Option (List ℕ)). IfSome l (ReadsNext true raw next)) so_far.1 reads in (
       drop_through 10 so_far.0,
-      here.2,
-      (so_far.0, so_far.2, none_there raw so_far.0 here.0 here.1, ap (strip_last 10) here.1, refl),
+      here.1,
+      (so_far.0, so_far.2, ap lacks_end (sym here.0) ∙ here.2, ap (strip_last 10) here.0, refl),
     )
 
 pub read_all : (all left next : Option (List ℕ)) (raw : List ℕ) (lines : List (List ℕ))
@@ -51,7 +47,15 @@ pub read_all : (all left next : Option (List ℕ)) (raw : List ℕ) (lines : Lis
 read_all None left next raw lines reads so_far = tt
 read_all (Some all) left next raw lines reads so_far =
     let here = subst (λ (l : Option (List ℕ)). IfSome l (ReadsNext false raw next)) so_far.1 reads in
-    subst (WereRead lines all) here so_far.2
+    (so_far.0, so_far.2, here.0)
+
+pub read_all_cut : (all left next : Option (List ℕ)) (raw : List ℕ) (lines : List (List ℕ)) (is_cut : Bool)
+    → is_cut ≡ is_there raw → IfSome left (ReadsNext false raw next) → LeftAt all left lines
+    → AreCutLines all lines is_cut
+read_all_cut None left next raw lines is_cut is reads so_far = tt
+read_all_cut (Some all) left next raw lines is_cut is reads so_far =
+    let here = subst (λ (l : Option (List ℕ)). IfSome l (ReadsNext false raw next)) so_far.1 reads in
+    (so_far.0, so_far.2, here.0, is ∙ ap is_there here.1)
 
 -- what is known behind the lines that were read so far, and what was printed of them
 pub record CheckedSoFar (s : Style) (is_json : Bool) (all left before after : Option (List ℕ)) (number : ℕ) (log : LogParts)

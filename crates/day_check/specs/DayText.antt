@@ -4,7 +4,7 @@ use Rattle.leg.specs.declared.sweep.Routed.{Routed}
 use Rattle.log_legs.specs.LegLine.{sweep_line}
 use Rattle.log_legs.specs.declared.sweep_sums.SweepTotals.{SweepTotals}
 use Rattle.day_rules.specs.DeskDay.{DeskParts}
-use Rattle.day_rules.specs.Sentence.{sentence_name, sentence_text}
+use Rattle.day_rules.specs.Sentence.{sentence_advice, sentence_name, sentence_text}
 use Rattle.day_rules.specs.Sweeps.{sweep_sums}
 use Rattle.day_rules.specs.VenueDay.{VenueParts}
 use Rattle.day_rules.specs.declared.sentence.Sentence.{Sentence}
@@ -13,11 +13,11 @@ use Rattle.day_rules.specs.declared.sentence.Sentence.{Sentence}
 abbrev pub verdict_line : Sentence → List ℕ → List ℕ
 verdict_line says verdict = codes "sentence " ++ sentence_name says ++ codes " " ++ verdict ++ 10 ∷ []
 
--- one that a line breaks, and the line
+-- one that a line breaks, the line, and what to do
 abbrev pub broken_lines : Sentence → List ℕ → ℕ → List ℕ → List ℕ
 broken_lines says path number line =
     codes "sentence " ++ sentence_name says ++ codes " broken " ++ path ++ codes " line " ++ decimal number
-    ++ codes ": " ++ sentence_text says ++ codes "\n  " ++ line ++ 10 ∷ []
+    ++ codes ": " ++ sentence_text says ++ codes "\n  " ++ line ++ codes "\n  " ++ sentence_advice says ++ 10 ∷ []
 
 -- the line of the sweep at a place, of which the first has number 1
 abbrev pub line_of_sums : ℕ → Option SweepTotals → List ℕ

@@ -8,7 +8,8 @@ use Rattle.day_check.specs.Finding.{tally_line}
 
 -- what the session writes in the place of a line, as it is logged, or nothing
 abbrev pub difference_line : ℕ → List ℕ → List ℕ
-difference_line number [] = codes "line " ++ decimal number ++ codes " exact: the session writes nothing\n"
+difference_line number [] =
+    codes "line " ++ decimal number ++ codes " exact: the session writes nothing, or the dialect is another\n"
 difference_line number (c ∷ cs) =
     codes "line " ++ decimal number ++ codes " exact: the session writes " ++ c ∷ cs ++ 10 ∷ []
 

@@ -13,9 +13,9 @@ finding_head words number =
     codes "line " ++ decimal number ++ codes " " ++ words.name.now ++ codes ": " ++ words.asks.now ++ codes " ("
     ++ words.section.now ++ codes ")\n  "
 
--- and the line as it is shown
+-- and the line as it is shown, and what to do
 abbrev pub finding_lines : RuleWords → ℕ → List ℕ → List ℕ
-finding_lines words number shown = finding_head words number ++ shown ++ 10 ∷ []
+finding_lines words number shown = finding_head words number ++ shown ++ codes "\n  " ++ words.advice.now ++ 10 ∷ []
 
 abbrev pub finding_if : Form → ℕ → List ℕ → Option RuleWords → Bool → List ℕ
 finding_if form number line None broken = []

@@ -23,14 +23,14 @@ abbrev pub new_day : Bool → VenueParts
 new_day keeps = if keeps then new_venue (Some no_legs) else new_venue None
 
 abbrev pub new_log : Bool → LogParts
-new_log keeps = record { day = new_day keeps; tallies = replicate 14 no_tally }
+new_log keeps = record { day = new_day keeps; tallies = replicate 22 no_tally }
 
 -- behind the line of a number, of which this is judged
 abbrev pub entry_checked : ℕ → Result (Option Entry) LineFault → LogParts → LogParts
 entry_checked number (Err fault) log = log
 entry_checked number (Ok entry) log = record {
   day = judged_after number log.day entry;
-  tallies = tallied_upto 14 (judged log.day entry) log.tallies;
+  tallies = tallied_upto 22 (judged log.day entry) log.tallies;
 }
 
 -- behind the line of a number

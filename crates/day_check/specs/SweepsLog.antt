@@ -2,6 +2,7 @@
 use Rattle.std.specs.Prelude.{◌≡◌, ℕ, suc, List, [], ◌∷◌, length, Option, Result, Ok, Err, if◌then◌else◌}
 use Rattle.std.specs.Bool.{MatchBool}
 use Rattle.day_rules.specs.DeskDay.{DeskParts, desk_heard}
+use Rattle.log_rules.specs.Moment.{moment_of}
 use Rattle.log_text.specs.Line.{LineSaid, is_passed_over, line_said}
 use Rattle.log_text.specs.declared.fault.LineFault.{LineFault}
 use Rattle.day_check.specs.Lines.{AreLines}
@@ -10,7 +11,7 @@ use Rattle.day_check.specs.declared.fault.LogFault.TheVariants.{BadLine, OutOfMe
 
 -- what is known behind the line of a number, which says this
 abbrev pub HearsAs : ℕ → Result LineSaid LineFault → DeskParts → DeskParts → Type 0
-HearsAs number (Ok said) old new = new ≡ desk_heard number said.direction said.message old
+HearsAs number (Ok said) old new = new ≡ desk_heard number (moment_of said.stamp) said.direction said.message old
 HearsAs number (Err fault) old new = ⊥
 
 -- what is known behind the line of a number: it is passed over, or heard
@@ -26,7 +27,7 @@ NamesBad number text _ = ⊥
 -- what is known behind the line of a number, which says this
 abbrev pub said_heard : ℕ → Result LineSaid LineFault → DeskParts → DeskParts
 said_heard number (Err fault) d = d
-said_heard number (Ok said) d = desk_heard number said.direction said.message d
+said_heard number (Ok said) d = desk_heard number (moment_of said.stamp) said.direction said.message d
 
 abbrev pub line_heard : ℕ → List ℕ → DeskParts → DeskParts
 line_heard number text d = if is_passed_over text then d else said_heard number (line_said text) d

@@ -36,6 +36,7 @@ fn check_lines<R: BufRead, W: Write>(
     let mut line = Vec::new(alloc);
     for number in 1..u64::MAX {
         if !read_text(input, &mut line)? {
+            log.is_cut = !line.is_empty();
             return Ok(log);
         }
         let text = log.check_line(alloc, printing, number, without_end(&line))?;
@@ -55,8 +56,8 @@ pub(crate) fn path_line(alloc: Global, printing: &Printing<'_>) -> Result<Vec<u8
     Ok(format!(in alloc; "log {path}\n")?.into_bytes())
 }
 
-/// Prints the rules that the lines of a log break, then a line for each rule, and then, where it is asked for, what
-/// became of its orders.
+/// Prints the rules that the lines of a log break, a note where it ends within a line, a line for each rule, and then,
+/// where it is asked for, what became of its orders.
 pub fn print_log<R: BufRead, W: Write>(
     alloc: Global,
     printing: &Printing<'_>,

@@ -183,7 +183,9 @@ fn difference_line(alloc: Global, place: u64, logged: &[u8]) -> Result<Vec<u8>, 
     ensures { IfOk result (λ text. text.items ≡ difference_line place logged.now) }
 {
     if logged.is_empty() {
-        let line = format!(in alloc; "line {place} exact: the session writes nothing\n")?;
+        let line = format!(in alloc;
+            "line {place} exact: the session writes nothing, or the dialect is another\n"
+        )?;
         return Ok(line.into_bytes());
     }
     let mut line = format!(in alloc; "line {place} exact: the session writes ")?.into_bytes();

@@ -2,6 +2,7 @@
 ghost use Rattle.std.specs.Prelude.{◌≡◌, false, IfOk};
 ghost use Rattle.day_rules.specs.VenueDay.{breaks};
 ghost use Rattle.day_check.specs.Finding.{finding_head, finding_if, finding_lines, findings_upto, summary_upto, tally_if, tally_line};
+ghost use Rattle.day_check.specs.LogText.{cut_text, uncounted_text};
 ghost use Rattle.day_check.specs.Shown.{line_shown};
 ghost use Rattle.std.specs.Prelude.{slice_get};
 
@@ -12,6 +13,9 @@ use crate::shown::line_shown;
 use crate::tallies::breaks;
 use log_rules::{Tally, Verdict};
 use std::alloc::{AllocError, Global};
+
+/// What is said of a log that ends within a line.
+const CUT: &str = "what stands behind the last line feed is no line, and isn't judged";
 
 /// How what is said of a log is printed.
 #[derive(Debug, Drop)]
@@ -53,7 +57,7 @@ fn finding_head(alloc: Global, words: &RuleWords, number: u64) -> Result<Vec<u8>
     Ok(text.into_bytes())
 }
 
-/// The rule that a line breaks, and the line.
+/// The rule that a line breaks, the line, and what to do.
 fn finding_text(
     alloc: Global,
     words: &RuleWords,
@@ -64,6 +68,8 @@ fn finding_text(
 {
     let mut text = finding_head(alloc, words, number)?;
     text.extend_from_slice(line)?;
+    text.extend_from_slice(b"\n  ")?;
+    text.extend_from_slice(words.advice.as_bytes())?;
     text.push(b'\n')?;
     Ok(text)
 }
@@ -86,6 +92,7 @@ fn finding_json(
             name: "text",
             value: Value::Text(line),
         },
+        text("advice", words.advice),
     ];
     json_line(alloc, &members)
 }
@@ -112,7 +119,7 @@ fn finding(
 fn finding_at(
     alloc: Global,
     printing: &Printing<'_>,
-    verdicts: &[Verdict; 14],
+    verdicts: &[Verdict; 22],
     place: usize,
     number: u64,
     line: &[u8],
@@ -136,15 +143,15 @@ fn finding_at(
 pub(crate) fn findings(
     alloc: Global,
     printing: &Printing<'_>,
-    verdicts: &[Verdict; 14],
+    verdicts: &[Verdict; 22],
     number: u64,
     line: &[u8],
 ) -> Result<Vec<u8>, AllocError>
     ensures { IfOk result (λ text. printing.now.is_json ≡ false → text.items
-        ≡ findings_upto printing.now.words.now printing.now.form.now number line.now verdicts.now 14) }
+        ≡ findings_upto printing.now.words.now printing.now.form.now number line.now verdicts.now 22) }
 {
     let mut text = Vec::new(alloc);
-    for place in 0..14 {
+    for place in 0..22 {
         let finding = finding_at(alloc, printing, verdicts, place, number, line)?;
         text.extend_from_slice(&finding)?;
     }
@@ -183,7 +190,7 @@ fn tally_json(
 fn tally_at(
     alloc: Global,
     printing: &Printing<'_>,
-    tallies: &[Tally; 14],
+    tallies: &[Tally; 22],
     place: usize,
 ) -> Result<Vec<u8>, AllocError>
     ensures { IfOk result (λ text. printing.now.is_json ≡ false → text.items
@@ -207,14 +214,53 @@ fn tally_at(
 pub(crate) fn summary(
     alloc: Global,
     printing: &Printing<'_>,
-    tallies: &[Tally; 14],
+    tallies: &[Tally; 22],
 ) -> Result<Vec<u8>, AllocError>
     ensures { IfOk result (λ text. printing.now.is_json ≡ false → text.items
-        ≡ summary_upto printing.now.words.now tallies.now 14) }
+        ≡ summary_upto printing.now.words.now tallies.now 22) }
 {
     let mut text = Vec::new(alloc);
-    for place in 0..14 {
+    for place in 0..22 {
         text.extend_from_slice(&tally_at(alloc, printing, tallies, place)?)?;
     }
     Ok(text)
+}
+
+/// How many reports weren't counted, where there are some.
+pub(crate) fn uncounted_text(
+    alloc: Global,
+    printing: &Printing<'_>,
+    count: usize,
+) -> Result<Vec<u8>, AllocError>
+    ensures { IfOk result (λ text. printing.now.is_json ≡ false → text.items ≡ uncounted_text count) }
+{
+    if count == 0 {
+        return Ok(Vec::new(alloc));
+    }
+    if printing.is_json {
+        let members = [
+            text("log", printing.log),
+            number("reports_not_counted", count as u64),
+        ];
+        return json_line(alloc, &members);
+    }
+    Ok(format!(in alloc; "reports not counted {count}\n")?.into_bytes())
+}
+
+/// A note where a log ends within a line.
+pub(crate) fn cut_text(
+    alloc: Global,
+    printing: &Printing<'_>,
+    is_cut: bool,
+) -> Result<Vec<u8>, AllocError>
+    ensures { IfOk result (λ text. printing.now.is_json ≡ false → text.items ≡ cut_text is_cut) }
+{
+    if !is_cut {
+        return Ok(Vec::new(alloc));
+    }
+    if printing.is_json {
+        let members = [text("log", printing.log), text("note", CUT)];
+        return json_line(alloc, &members);
+    }
+    Ok(format!(in alloc; "note {CUT}\n")?.into_bytes())
 }

@@ -2,26 +2,35 @@
 
 ghost use Rattle.std.specs.Prelude.{◌≡◌, IfOk, IfSome};
 ghost use Rattle.std.specs.Io.BufRead.{strip_last};
-ghost use Rattle.day_check.specs.Lines.{ReadsNext};
+ghost use Rattle.day_check.specs.Lines.{ReadsNext, lacks_end};
 
 use crate::fault::LogFault;
 use std::alloc::Global;
 use std::io::{BufRead, ErrorKind};
 
-/// Reads the next line of a log, with its end, in the place of what the buffer has; or tells that there is none.
+/// Whether a line has no end, as what was being written when a log ended.
+fn lacks_end(line: &[u8]) -> bool
+    ensures { result ≡ lacks_end line.now }
+{
+    without_end(line).len() == line.len()
+}
+
+/// Reads the next line of a log, with its end, in the place of what the buffer has; or tells that there is none. What
+/// has no end is no line, and stands in the buffer then.
 pub(crate) fn read_text<R: BufRead>(input: &mut R, buffer: &mut Vec<u8>) -> Result<bool, LogFault>
     ensures { IfOk result (λ is_there.
         IfSome (R.remaining input.old) (ReadsNext is_there buffer.new.items (R.remaining input.new))) }
 {
     buffer.clear();
     match input.read_until(b'\n', buffer) {
-        Ok(count) => Ok(count > 0),
+        Ok(_) if lacks_end(buffer) => Ok(false),
+        Ok(_) => Ok(true),
         Err(error) if error.kind() == ErrorKind::OutOfMemory => Err(LogFault::OutOfMemory),
         Err(_) => Err(LogFault::ReadFailed),
     }
 }
 
-/// A line without its end, which the last one may lack.
+/// A line without its end.
 pub(crate) fn without_end(line: &[u8]) -> &[u8]
     ensures { result.now ≡ strip_last 10 line.now }
 {

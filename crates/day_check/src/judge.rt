@@ -39,7 +39,7 @@ fn judge_message(
     message: &EnvelopeRef<'_>,
     number: u64,
     day: &mut VenueDay,
-) -> Result<[Verdict; 14], LineFault>
+) -> Result<[Verdict; 22], LineFault>
     ensures { Judges number (entry_told stamp (direction_told way.now) (Some message.now)) day.old day.new result }
 {
     let Some(direction) = direction_of(way, message) else {
@@ -59,7 +59,7 @@ fn judge_frame(
     frame: &Frame<'_>,
     number: u64,
     day: &mut VenueDay,
-) -> Result<[Verdict; 14], LineFault>
+) -> Result<[Verdict; 22], LineFault>
     ensures { Judges number (entry_told stamp (direction_told way.now) (message_of (Some (fields_in frame.now))))
         day.old day.new result }
 {
@@ -77,7 +77,7 @@ fn judge(
     bytes: &[u8],
     number: u64,
     day: &mut VenueDay,
-) -> Result<[Verdict; 14], LineFault>
+) -> Result<[Verdict; 22], LineFault>
     ensures { Judges number (entry_told stamp (direction_told way.now) (message_in bytes.now)) day.old day.new result }
 {
     let mut reader = FrameReader::new(alloc);
@@ -98,7 +98,7 @@ fn judge_own(
     buffer: &mut Vec<u8>,
     number: u64,
     day: &mut VenueDay,
-) -> Result<[Verdict; 14], LineFault>
+) -> Result<[Verdict; 22], LineFault>
     ensures { Judges number (line_entry Own line.now) day.old day.new result }
 {
     let said = match read_line(line, buffer) {
@@ -122,7 +122,7 @@ fn judge_quickfix(
     line: &[u8],
     number: u64,
     day: &mut VenueDay,
-) -> Result<[Verdict; 14], LineFault>
+) -> Result<[Verdict; 22], LineFault>
     ensures { Judges number (line_entry (Quickfix desk.now) line.now) day.old day.new result }
 {
     let said = match read_quickfix(line) {
@@ -148,7 +148,7 @@ pub(crate) fn judge_line(
     buffer: &mut Vec<u8>,
     number: u64,
     day: &mut VenueDay,
-) -> Result<[Verdict; 14], LineFault>
+) -> Result<[Verdict; 22], LineFault>
     ensures { Judges number (line_entry form.now line.now) day.old day.new result }
 {
     match form {

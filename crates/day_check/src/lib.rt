@@ -4,8 +4,9 @@
 //! Promises:
 //! - `print_log` says of the lines that it read exactly what the rules do (`ChecksLog`): what is known behind them,
 //!   whether a rule is broken, and, where text is printed, that it is the log's (`log_text`): a finding for each rule
-//!   that a line breaks, in the order of the lines and of the rules, a line for each rule, and where it is asked for
-//!   what became of its orders. The lines are those of the bytes that the reader tells (`AreLines`).
+//!   that a line breaks, in the order of the lines and of the rules, a note where the log ends within a line, a
+//!   line for each rule, how many reports weren't counted, and where it is asked for what became of its orders. The
+//!   lines are those of the bytes that the reader tells, and so is what is left (`AreCutLines`).
 //! - `print_exact` prints what `explain` of `session_trace` says of a log (`HoldsExactly`), and `read_sweeps` hears
 //!   each line of the desk's log exactly as the definition does (`HearsLog`). `print_sweeps` prints the sums of each
 //!   sweep (`sweeps_text`).

@@ -3,11 +3,11 @@ ghost use Rattle.std.specs.Prelude.{◌≡◌, false, IfErr, IfOk, Ok, OnOk};
 ghost use Rattle.day_check.specs.Judge.{Checks, ChecksAs, Judges, NamesBadLine, line_entry};
 ghost use Rattle.day_check.specs.LogChecked.{entry_checked, line_checked, new_day, new_log};
 ghost use Rattle.day_check.specs.LogCheck.{log_parts};
-ghost use Rattle.day_check.specs.LogText.{entry_findings, legs_if, line_findings, log_end, style_of};
+ghost use Rattle.day_check.specs.LogText.{entry_findings, legs_if, line_findings, log_end, style_of, uncounted_in};
 ghost use Rattle.day_check.specs.Tallies.{breaks_a_rule};
 
 use crate::fault::LogFault;
-use crate::finding::{Printing, findings, summary};
+use crate::finding::{Printing, cut_text, findings, summary, uncounted_text};
 use crate::judge::judge_line;
 use crate::legs_json::legs_json;
 use crate::tallies::{breaks_a_rule, count};
@@ -22,7 +22,9 @@ use std::alloc::{AllocError, Global};
 pub(crate) struct LogCheck {
     pub day: VenueDay,
     pub message: Vec<u8>,
-    pub tallies: [Tally; 14],
+    pub tallies: [Tally; 22],
+    /// Whether the log ends within a line.
+    pub is_cut: bool,
 }
 
 /// What is known before any line; the orders are kept where they are asked for.
@@ -44,7 +46,8 @@ impl LogCheck {
         LogCheck {
             day: new_day(alloc, keeps_legs),
             message: Vec::new(alloc),
-            tallies: [Tally::new(); 14],
+            tallies: [Tally::new(); 22],
+            is_cut: false,
         }
     }
 
@@ -55,7 +58,7 @@ impl LogCheck {
         printing: &Printing<'_>,
         number: u64,
         line: &[u8],
-    ) -> Result<[Verdict; 14], LogFault>
+    ) -> Result<[Verdict; 22], LogFault>
         ensures judged { IfOk result (λ said.
             Judges number (line_entry printing.now.form.now line.now) self.old.day self.new.day (Ok said)) }
         ensures tallies { self.new.tallies ≡ self.old.tallies }
@@ -132,12 +135,23 @@ impl LogCheck {
         legs_text(alloc, self.day.watch())
     }
 
-    /// A line for each rule, and where it is asked for what became of the orders.
+    /// How many reports weren't counted, where there are some.
+    fn uncounted(&self, alloc: Global, printing: &Printing<'_>) -> Result<Vec<u8>, AllocError>
+        ensures { IfOk result (λ text. printing.now.is_json ≡ false → text.items
+            ≡ uncounted_in self.now.day.watch.checker) }
+    {
+        uncounted_text(alloc, printing, self.day.watch().uncounted())
+    }
+
+    /// A note where the log is cut, a line for each rule, the reports that weren't counted, and where it is asked for
+    /// what became of the orders.
     pub(crate) fn end(&self, alloc: Global, printing: &Printing<'_>) -> Result<Vec<u8>, AllocError>
         ensures { IfOk result (λ text. printing.now.is_json ≡ false → text.items
-            ≡ log_end (style_of printing.now) (log_parts self.now)) }
+            ≡ log_end (style_of printing.now) self.now.is_cut (log_parts self.now)) }
     {
-        let mut text = summary(alloc, printing, &self.tallies)?;
+        let mut text = cut_text(alloc, printing, self.is_cut)?;
+        text.extend_from_slice(&summary(alloc, printing, &self.tallies)?)?;
+        text.extend_from_slice(&self.uncounted(alloc, printing)?)?;
         text.extend_from_slice(&self.legs(alloc, printing)?)?;
         Ok(text)
     }

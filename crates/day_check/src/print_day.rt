@@ -97,7 +97,7 @@ pub struct LinePlace<'a> {
     pub line: u64,
 }
 
-/// A sentence that a line breaks, and the line, as an object of JSON.
+/// A sentence that a line breaks, the line, and what to do, as an object of JSON.
 fn broken_json(
     alloc: Global,
     sentence: Sentence,
@@ -114,11 +114,12 @@ fn broken_json(
             name: "text",
             value: Value::Text(line),
         },
+        text("advice", sentence.advice()),
     ];
     json_line(alloc, &members)
 }
 
-/// A sentence that a line breaks, and the line.
+/// A sentence that a line breaks, the line, and what to do.
 fn broken_text(
     alloc: Global,
     sentence: Sentence,
@@ -131,6 +132,8 @@ fn broken_text(
     let head = format!(in alloc; "sentence {name} broken {path} line {number}: {says}\n  ")?;
     let mut text = head.into_bytes();
     text.extend_from_slice(line)?;
+    text.extend_from_slice(b"\n  ")?;
+    text.extend_from_slice(sentence.advice().as_bytes())?;
     text.push(b'\n')?;
     Ok(text)
 }

@@ -11,6 +11,7 @@ use crate::finding::Printing;
 use crate::input::{read_text, without_end};
 use command_line::print;
 use day_rules::DeskDay;
+use log_rules::Moment;
 use log_text::{is_passed_over, read_line};
 use std::alloc::Global;
 use std::io::{BufRead, Write};
@@ -30,7 +31,10 @@ fn hear_line(
         return Ok(());
     }
     match read_line(line, buffer) {
-        Ok(said) => Ok(desk.hear(number, said.direction, buffer)?),
+        Ok(said) => {
+            let moment = Moment::of(&said.stamp);
+            Ok(desk.hear(number, moment, said.direction, buffer)?)
+        }
         Err(fault) => Err(LogFault::of_line(number, fault)),
     }
 }

@@ -1,7 +1,6 @@
 -- What the logs of a day say of the sentences of the sweep theorem.
 use Rattle.std.specs.Prelude.{ℕ, zero, suc, List, Option, Some, None, option_and_then, option_map, is_some, slice_get, length, if◌then◌else◌}
 use Rattle.std.specs.Option.{option_or}
-use Rattle.leg.specs.declared.sweep.Routed.{Routed}
 use Rattle.day_rules.specs.DeskDay.{DeskParts}
 use Rattle.day_rules.specs.Lines.{earlier}
 use Rattle.day_rules.specs.Orders.{first_failing, in_order_at, is_settled_at, taken_upto}
@@ -23,9 +22,9 @@ order_line v place = option_and_then (slice_get v.notes.orders) place
 
 -- Order: the first order that isn't a leg released to the venue, behind the leg of the order before it; or that is
 -- sent again
-abbrev pub order_broken : List (List Routed) → ℕ → VenueParts → Option ℕ
-order_broken sweeps venue v =
-    earlier (order_line v (first_failing (in_order_at sweeps venue v.watch) (order_count v))) v.notes.sent_once
+abbrev pub order_broken : DeskParts → ℕ → VenueParts → Option ℕ
+order_broken d venue v =
+    earlier (order_line v (first_failing (in_order_at d venue v) (order_count v))) v.notes.sent_once
 
 -- Gaps: the first order in doubt before one that was taken, or report on a withdrawn one
 abbrev pub gaps_broken : VenueParts → Option ℕ
@@ -39,18 +38,18 @@ settled_broken v =
     if is_ended v.watch.close then order_line v (first_failing (is_settled_at v.watch) (order_count v)) else None
 
 -- the first line of a venue's log that breaks a sentence
-abbrev pub broken_line : List (List Routed) → ℕ → Sentence → VenueParts → Option ℕ
-broken_line sweeps venue sentence.Placed v = None
-broken_line sweeps venue sentence.Order v = order_broken sweeps venue v
-broken_line sweeps venue sentence.Gaps v = gaps_broken v
-broken_line sweeps venue sentence.Close v = order_line v v.watch.late
-broken_line sweeps venue sentence.Settled v = settled_broken v
-broken_line sweeps venue sentence.Reports v = earlier v.notes.known_order v.notes.one_use
-broken_line sweeps venue sentence.Shares v = v.notes.sums_add_up
+abbrev pub broken_line : DeskParts → ℕ → Sentence → VenueParts → Option ℕ
+broken_line d venue sentence.Placed v = None
+broken_line d venue sentence.Order v = order_broken d venue v
+broken_line d venue sentence.Gaps v = gaps_broken v
+broken_line d venue sentence.Close v = order_line v v.watch.late
+broken_line d venue sentence.Settled v = settled_broken v
+broken_line d venue sentence.Reports v = earlier v.notes.known_order v.notes.one_use
+broken_line d venue sentence.Shares v = v.notes.sums_add_up
 
-abbrev pub line_at : List (List Routed) → Sentence → ℕ → Option VenueParts → Option ℕ
-line_at sweeps says venue None = None
-line_at sweeps says venue (Some v) = broken_line sweeps venue says v
+abbrev pub line_at : DeskParts → Sentence → ℕ → Option VenueParts → Option ℕ
+line_at d says venue None = None
+line_at d says venue (Some v) = broken_line d venue says v
 
 abbrev pub found_with : Option Place → ℕ → Option ℕ → Option Place
 found_with (Some place) venue line = Some place
@@ -58,14 +57,14 @@ found_with None venue None = None
 found_with None venue (Some line) = Some (OfVenue venue line)
 
 -- where the first of so many logs that breaks a sentence does so
-abbrev pub first_place : List (List Routed) → Sentence → List VenueParts → ℕ → Option Place
-first_place sweeps says venues zero = None
-first_place sweeps says venues (suc n) =
-    found_with (first_place sweeps says venues n) n (line_at sweeps says n (slice_get venues n))
+abbrev pub first_place : DeskParts → Sentence → List VenueParts → ℕ → Option Place
+first_place d says venues zero = None
+first_place d says venues (suc n) =
+    found_with (first_place d says venues n) n (line_at d says n (slice_get venues n))
 
 -- where a log of a venue breaks it
 abbrev pub venue_place : DeskParts → Sentence → List VenueParts → Option Place
-venue_place d says venues = first_place d.intake.sweeps says venues (length venues)
+venue_place d says venues = first_place d says venues (length venues)
 
 -- Shares: where the first sweep was placed whose parts aren't its legs
 abbrev pub uneven_line : DeskParts → List VenueParts → Option ℕ

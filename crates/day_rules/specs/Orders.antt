@@ -1,9 +1,12 @@
 -- The orders of a venue's log against the legs that were released to it.
-use Rattle.std.specs.Prelude.{ℕ, zero, suc, ◌-◌, Bool, true, false, ◌&&◌, ◌||◌, not, List, map, Option, Some, None, option_and_then, slice_get, nat_lt, ◌==◌, if◌then◌else◌}
+use Rattle.std.specs.Prelude.{ℕ, zero, suc, ◌-◌, Bool, true, false, ◌&&◌, ◌||◌, not, List, map, Option, Some, None, option_and_then, slice_get, length, nat_le, nat_lt, ◌==◌, if◌then◌else◌}
 use Rattle.std.specs.Str.{bytes_eq}
 use Rattle.leg.specs.LegId.{LegIdParts}
 use Rattle.leg.specs.declared.sweep.Routed.{Routed}
 use Rattle.sweep_text.specs.Written.{terms_text}
+use Rattle.log_rules.specs.Moment.{elapsed}
+use Rattle.log_rules.specs.declared.moment.Moment.{Moment}
+use Rattle.log_legs.specs.Close.{is_over}
 use Rattle.log_legs.specs.Fate.{leg_said}
 use Rattle.log_legs.specs.Legs.{WatchParts}
 use Rattle.log_legs.specs.LegLine.{terms_shown}
@@ -11,6 +14,8 @@ use Rattle.log_legs.specs.Sweeps.{leg_id_in}
 use Rattle.log_legs.specs.declared.fate.Fate.{Fate}
 use Rattle.log_legs.specs.declared.fate.Fate.TheVariants.{Taken, Doubt}
 use Rattle.log_legs.specs.declared.leg_said.LegSaid.{LegSaid}
+use Rattle.day_rules.specs.DeskDay.{DeskParts}
+use Rattle.day_rules.specs.VenueDay.{VenueParts}
 
 -- the leg of an id among the sweeps that were placed
 abbrev pub released_leg : List (List Routed) → LegIdParts → Option Routed
@@ -34,10 +39,26 @@ abbrev pub is_behind : Option LegIdParts → LegIdParts → Bool
 is_behind None id = true
 is_behind (Some before) id = nat_lt before.sweep id.sweep || (before.sweep == id.sweep && nat_lt before.place id.place)
 
-abbrev pub follows : List (List Routed) → ℕ → Option LegIdParts → LegSaid → Option LegIdParts → Bool
-follows sweeps venue before said None = false
-follows sweeps venue before said (Some id) =
-    is_behind before id && is_released_as venue said (released_leg sweeps id)
+-- the desk's log has no line of more than a second behind a moment
+abbrev pub ends_by : Option Moment → Option Moment → Bool
+ends_by None moment = true
+ends_by (Some last) None = false
+ends_by (Some last) (Some moment) = nat_le (elapsed moment last) 1000
+
+-- an order whose sweep the desk's log may lack, as where the program was killed: the log ends before the session logged
+-- out, the sweep comes behind those that were placed, and the desk's log ends by when the order was sent
+abbrev pub is_cut_off : DeskParts → VenueParts → ℕ → LegIdParts → Bool
+is_cut_off d v place id =
+    nat_lt (length d.intake.sweeps) id.sweep && not (is_over v.watch.close)
+    && ends_by d.last (slice_get v.notes.moments place)
+
+abbrev pub is_released : DeskParts → ℕ → VenueParts → ℕ → LegSaid → LegIdParts → Bool
+is_released d venue v place said id =
+    is_released_as venue said (released_leg d.intake.sweeps id) || is_cut_off d v place id
+
+abbrev pub follows : DeskParts → ℕ → VenueParts → ℕ → LegSaid → Option LegIdParts → Option LegIdParts → Bool
+follows d venue v place said before None = false
+follows d venue v place said before (Some id) = is_behind before id && is_released d venue v place said id
 
 abbrev pub id_said : Option LegSaid → Option LegIdParts
 id_said None = None
@@ -48,13 +69,13 @@ abbrev pub id_before : WatchParts → ℕ → Option LegIdParts
 id_before w zero = None
 id_before w (suc place) = id_said (leg_said w place)
 
-abbrev pub is_in_order : List (List Routed) → ℕ → Option LegIdParts → Option LegSaid → Bool
-is_in_order sweeps venue before None = true
-is_in_order sweeps venue before (Some said) = follows sweeps venue before said (leg_id_in said.id)
+abbrev pub is_in_order : DeskParts → ℕ → VenueParts → ℕ → Option LegSaid → Bool
+is_in_order d venue v place None = true
+is_in_order d venue v place (Some said) = follows d venue v place said (id_before v.watch place) (leg_id_in said.id)
 
 -- Order: an order is a leg released to the venue, behind the leg of the order before it
-abbrev pub in_order_at : List (List Routed) → ℕ → WatchParts → ℕ → Bool
-in_order_at sweeps venue w place = is_in_order sweeps venue (id_before w place) (leg_said w place)
+abbrev pub in_order_at : DeskParts → ℕ → VenueParts → ℕ → Bool
+in_order_at d venue v place = is_in_order d venue v place (leg_said v.watch place)
 
 abbrev pub fails_at : Option ℕ → Bool → ℕ → Option ℕ
 fails_at (Some place) passes n = Some place

@@ -22,3 +22,15 @@ sentence_text sentence.Settled = codes "once both sides logged out no leg is in 
 sentence_text sentence.Reports = codes "each report is on an order that was sent, once, under a number of its own"
 sentence_text sentence.Shares =
     codes "the five parts of each sweep's shares add up to its legs, and the reports to the orders"
+
+-- what to do where it is broken
+abbrev pub sentence_advice : Sentence → List ℕ
+sentence_advice sentence.Placed = codes "see that sweeps.log is whole and that no venue's log is left out"
+sentence_advice sentence.Order =
+    codes "see that these are logs of one day, then stop the desk: it sent an order that it didn't release"
+sentence_advice sentence.Gaps = codes "ask the venue which of these orders it took, and compare its fills with the legs"
+sentence_advice sentence.Close = codes "stop the desk: its session sent an order behind its Logout"
+sentence_advice sentence.Settled = codes "ask the venue whether it took this order"
+sentence_advice sentence.Reports =
+    codes "ask the venue which order this report is on, and compare its fills with the legs"
+sentence_advice sentence.Shares = codes "compare the venue's fills of this order with its leg"

@@ -9,6 +9,7 @@ use Rattle.leg.specs.declared.sweep.Routed.{Routed}
 use Rattle.leg.specs.declared.totals.Totals.{Totals}
 use Rattle.log_rules.specs.Ledger.{newest_order}
 use Rattle.log_rules.specs.Order.{OrderParts}
+use Rattle.log_legs.specs.Close.{is_over}
 use Rattle.log_legs.specs.Fate.{leg_said}
 use Rattle.log_legs.specs.Legs.{WatchParts}
 use Rattle.log_legs.specs.Sweeps.{no_totals, with_shares}
@@ -29,23 +30,23 @@ abbrev pub is_ended : Close → Bool
 is_ended Closed = true
 is_ended other = false
 
--- a leg that was never sent is withdrawn once its venue's session has ended, and open before
+-- a leg that was never sent is withdrawn once the session of its venue logged out, and open before
 abbrev pub unsent : Bool → ℕ → Totals
-unsent is_over shares = record {
+unsent over shares = record {
   filled = 0;
   busted = 0;
   cancelled = 0;
-  withdrawn = if is_over then shares else 0;
-  still_open = if is_over then 0 else shares;
+  withdrawn = if over then shares else 0;
+  still_open = if over then 0 else shares;
 }
 
 abbrev pub said_totals : Bool → ℕ → Option LegSaid → Totals
-said_totals is_over shares None = unsent is_over shares
-said_totals is_over shares (Some said) = said.totals
+said_totals over shares None = unsent over shares
+said_totals over shares (Some said) = said.totals
 
 abbrev pub totals_at : WatchParts → ℕ → Option ℕ → Totals
-totals_at w shares None = unsent (is_ended w.close) shares
-totals_at w shares (Some place) = said_totals (is_ended w.close) shares (leg_said w place)
+totals_at w shares None = unsent (is_over w.close) shares
+totals_at w shares (Some place) = said_totals (is_over w.close) shares (leg_said w place)
 
 -- what became of a leg's shares, by its venue's log; of a venue without one, nothing is known
 abbrev pub leg_totals : Option VenueParts → LegIdParts → ℕ → Totals

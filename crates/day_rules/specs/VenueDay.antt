@@ -5,12 +5,14 @@ use Rattle.log_rules.specs.Checker.{verdicts}
 use Rattle.log_rules.specs.declared.entry.Entry.{Entry}
 use Rattle.log_rules.specs.declared.verdict.Verdict.{Verdict}
 use Rattle.log_rules.specs.declared.verdict.Verdict.TheVariants.{Broken}
-use Rattle.day_rules.specs.Lines.{first_line, noted_line}
+use Rattle.log_rules.specs.declared.moment.Moment.{Moment}
+use Rattle.day_rules.specs.Lines.{first_line, noted_line, noted_moment}
 use Rattle.day_rules.specs.declared.notes.Notes.{Notes}
 
--- where each order was first sent, and the first line that breaks each of these rules
+-- where and when each order was first sent, and the first line that breaks each of these rules
 pub record NotesParts : Type 0 where
   pub orders : List ℕ
+  pub moments : List Moment
   pub sent_once : Option ℕ
   pub one_use : Option ℕ
   pub known_order : Option ℕ
@@ -20,6 +22,7 @@ pub record NotesParts : Type 0 where
 abbrev pub notes_parts : Notes → NotesParts
 notes_parts n = record {
   orders = n.orders.items;
+  moments = n.moments.items;
   sent_once = n.sent_once;
   one_use = n.one_use;
   known_order = n.known_order;
@@ -30,6 +33,7 @@ notes_parts n = record {
 abbrev pub no_notes : NotesParts
 no_notes = record {
   orders = [];
+  moments = [];
   sent_once = None;
   one_use = None;
   known_order = None;
@@ -45,10 +49,11 @@ is_broken verdict = false
 abbrev pub breaks : List Verdict → ℕ → Bool
 breaks said place = is_broken (slice_get said place)
 
--- behind the line of a number of which this is said, and so many orders
-abbrev pub noted : ℕ → List Verdict → ℕ → NotesParts → NotesParts
-noted number said count n = record {
+-- behind the line of a number, logged at this moment, of which this is said, and so many orders
+abbrev pub noted : ℕ → Moment → List Verdict → ℕ → NotesParts → NotesParts
+noted number moment said count n = record {
   orders = noted_line number count n.orders;
+  moments = noted_moment moment count n.moments;
   sent_once = first_line (breaks said 2) number n.sent_once;
   one_use = first_line (breaks said 10) number n.one_use;
   known_order = first_line (breaks said 11) number n.known_order;
@@ -69,5 +74,5 @@ new_venue legs = record { watch = new_watch legs; notes = no_notes }
 abbrev pub venue_heard : ℕ → Entry → VenueParts → VenueParts
 venue_heard number e v = record {
   watch = watched v.watch e;
-  notes = noted number (verdicts v.watch.checker e) (length (watched v.watch e).checker.ledger.orders) v.notes;
+  notes = noted number e.moment (verdicts v.watch.checker e) (length (watched v.watch e).checker.ledger.orders) v.notes;
 }

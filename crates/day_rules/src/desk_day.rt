@@ -7,6 +7,7 @@ use crate::intake::Intake;
 use crate::lines::{first_line, note_line};
 use desk_words::VenueName;
 use leg::Legs;
+use log_rules::Moment;
 use message_log::Direction;
 use std::alloc::{AllocError, Global};
 use std::marker::Model;
@@ -19,6 +20,8 @@ pub struct DeskDay {
     placed: Vec<u64>,
     /// The first line that doesn't fit those before it.
     unfit: Option<u64>,
+    /// When the last line was logged.
+    last: Option<Moment>,
 }
 
 impl Model for DeskDay {
@@ -26,7 +29,7 @@ impl Model for DeskDay {
 
     ghost Value = { DeskParts };
 
-    ghost view = { λ d. record { intake = d.intake; placed = d.placed.items; unfit = d.unfit } };
+    ghost view = { λ d. record { intake = d.intake; placed = d.placed.items; unfit = d.unfit; last = d.last } };
 }
 
 impl DeskDay {
@@ -39,20 +42,28 @@ impl DeskDay {
             intake: Intake::new(alloc, names),
             placed: Vec::new(alloc),
             unfit: None,
+            last: None,
         }
     }
 
-    /// Goes on behind a line (`>`) or an answer (`<`), in the line of this number. An answer that places a sweep has to
-    /// place the one that the line before it asked for, under the next number and with its shares. Where memory is
-    /// refused, nothing changes.
-    pub fn hear(&mut self, number: u64, direction: Direction, text: &[u8]) -> Result<(), AllocError>
-        ensures ok { OnOk result (self.new ≡ desk_heard number direction text.now self.old) }
+    /// Goes on behind a line (`>`) or an answer (`<`), in the line of this number, which was logged at this moment. An
+    /// answer that places a sweep has to place the one that the line before it asked for, under the next number and
+    /// with its shares. Where memory is refused, nothing changes.
+    pub fn hear(
+        &mut self,
+        number: u64,
+        moment: Moment,
+        direction: Direction,
+        text: &[u8],
+    ) -> Result<(), AllocError>
+        ensures ok { OnOk result (self.new ≡ desk_heard number moment direction text.now self.old) }
         ensures err { OnErr result (self.new ≡ self.old) }
     {
         self.placed.reserve(1)?;
         let does_fit = self.intake.hear(direction, text)?;
         note_line(&mut self.placed, number, self.intake.sweeps().len());
         self.unfit = first_line(!does_fit, number, self.unfit);
+        self.last = Some(moment);
         Ok(())
     }
 
@@ -68,6 +79,13 @@ impl DeskDay {
         ensures { result ≡ self.now.unfit }
     {
         self.unfit
+    }
+
+    /// When the last line was logged.
+    pub(crate) fn last(&self) -> Option<Moment>
+        ensures { result ≡ self.now.last }
+    {
+        self.last
     }
 
     /// Where the sweep at a place was placed.

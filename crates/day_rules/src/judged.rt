@@ -56,7 +56,7 @@ fn venue_place(
 ) -> Result<Option<Place>, AllocError>
     ensures { IfOk result (λ place. place ≡ venue_place desk.now sentence venues.now) }
 {
-    first_place(alloc, desk.sweeps(), venues, sentence)
+    first_place(alloc, desk, venues, sentence)
 }
 
 /// Shares: where the sums of a report don't add up, or those of a sweep.

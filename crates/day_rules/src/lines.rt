@@ -1,7 +1,9 @@
 //! The numbers of a log's lines.
 
 ghost use Rattle.std.specs.Prelude.{◌≡◌, ◌<◌, length, vec_capacity};
-ghost use Rattle.day_rules.specs.Lines.{earlier, first_line, noted_line};
+ghost use Rattle.day_rules.specs.Lines.{earlier, first_line, noted_line, noted_moment};
+
+use log_rules::Moment;
 
 /// Notes the line of a number for the last of so many things, unless each has one already. There is room for it.
 pub(crate) fn note_line(lines: &mut Vec<u64>, number: u64, count: usize)
@@ -10,6 +12,16 @@ pub(crate) fn note_line(lines: &mut Vec<u64>, number: u64, count: usize)
 {
     if lines.len() < count {
         lines.push_reserved(number);
+    }
+}
+
+/// Notes the moment for the last of so many things, unless each has one already. There is room for it.
+pub(crate) fn note_moment(moments: &mut Vec<Moment>, moment: Moment, count: usize)
+    requires { length moments.old.items < vec_capacity moments.old }
+    ensures { moments.new.items ≡ noted_moment moment count moments.old.items }
+{
+    if moments.len() < count {
+        moments.push_reserved(moment);
     }
 }
 

@@ -5,12 +5,19 @@ ghost use Rattle.std.specs.Option.{option_map};
 ghost use Rattle.log_legs.specs.Fate.{leg_said};
 ghost use Rattle.log_legs.specs.LegLine.{terms_shown};
 ghost use Rattle.sweep_text.specs.Written.{terms_text};
-ghost use Rattle.day_rules.specs.Orders.{fails_at, first_failing, follows, has_fate, has_terms, id_before, id_said, in_order_at, is_behind, is_doubt, is_in_order, is_released_as, is_settled_at, is_taken, pointed, released_leg, taken_upto};
+ghost use Rattle.day_rules.specs.Orders.{ends_by, fails_at, first_failing, follows, has_fate, has_terms, id_before, id_said, in_order_at, is_behind, is_cut_off, is_doubt, is_in_order, is_released, is_released_as, is_settled_at, is_taken, pointed, released_leg, taken_upto};
 
+use crate::desk_day::DeskDay;
+use crate::venue_day::VenueDay;
 use fix_tags::price_short_text;
 use leg::{LegId, Legs, Routed, Terms};
 use log_legs::{Fate, LegSaid, Watch, append_terms, leg_id_in};
+use log_rules::Moment;
 use std::alloc::{AllocError, Global};
+
+/// How many milliseconds a line of the desk's log may lie behind an order whose sweep it lacks: other callers go on
+/// while one is answered.
+const SLACK: u64 = 1000;
 
 /// The leg of an id among the sweeps that were placed.
 fn released_leg<'a>(sweeps: &'a [Legs], id: &LegId) -> Option<&'a Routed>
@@ -94,23 +101,60 @@ fn id_before(watch: &Watch, place: usize) -> Option<LegId>
     leg_id_in(said.id.as_bytes())
 }
 
+/// Whether the desk's log has no line of more than a second behind a moment.
+fn ends_by(last: Option<Moment>, moment: Option<Moment>) -> bool
+    ensures { result ≡ ends_by last moment }
+{
+    match (last, moment) {
+        (None, _) => true,
+        (Some(_), None) => false,
+        (Some(last), Some(moment)) => moment.until(last) <= SLACK,
+    }
+}
+
+/// Whether the order at a place is of a sweep that the desk's log may lack, as where the program was killed.
+fn is_cut_off(desk: &DeskDay, day: &VenueDay, place: usize, id: &LegId) -> bool
+    ensures { result ≡ is_cut_off desk.now day.now place id.now }
+{
+    (desk.sweeps().len() as u64) < id.sweep()
+        && !day.watch().close().is_over()
+        && ends_by(desk.last(), day.order_moment(place))
+}
+
+/// Whether the order at a place is a leg that was released to the venue, or may be one.
+fn is_released(
+    alloc: Global,
+    desk: &DeskDay,
+    venue: usize,
+    day: &VenueDay,
+    place: usize,
+    said: &LegSaid<'_>,
+    id: &LegId,
+) -> Result<bool, AllocError>
+    ensures { IfOk result (λ is_it. is_it ≡ is_released desk.now venue day.now place said.now id.now) }
+{
+    let is_it = is_released_as(alloc, venue, said, released_leg(desk.sweeps(), id))?;
+    Ok(is_it || is_cut_off(desk, day, place, id))
+}
+
 /// Order: whether the order at a place is a leg that was released to the venue, with its terms, behind the leg of the
 /// order before it.
 fn is_in_order_at(
     alloc: Global,
-    sweeps: &[Legs],
+    desk: &DeskDay,
     venue: usize,
-    watch: &Watch,
+    day: &VenueDay,
     place: usize,
 ) -> Result<bool, AllocError>
-    ensures { IfOk result (λ is_it. is_it ≡ in_order_at sweeps.now venue watch.now place) }
+    ensures { IfOk result (λ is_it. is_it ≡ in_order_at desk.now venue day.now place) }
 {
+    let watch = day.watch();
     let Some(said) = watch.leg(place) else {
         return Ok(true);
     };
     match leg_id_in(said.id.as_bytes()) {
         Some(id) if is_behind(id_before(watch, place), &id) => {
-            is_released_as(alloc, venue, &said, released_leg(sweeps, &id))
+            is_released(alloc, desk, venue, day, place, &said, &id)
         }
         _ => Ok(false),
     }
@@ -131,16 +175,16 @@ pub(crate) fn fails_at(found: Option<usize>, passes: bool, place: usize) -> Opti
 #[tactic(auto, using(crate::proofs::OneMore::one_test_more))]
 pub(crate) fn first_out_of_order(
     alloc: Global,
-    sweeps: &[Legs],
+    desk: &DeskDay,
     venue: usize,
-    watch: &Watch,
+    day: &VenueDay,
 ) -> Result<Option<usize>, AllocError>
     ensures { IfOk result (λ found. found
-        ≡ first_failing (in_order_at sweeps.now venue watch.now) (length watch.now.checker.ledger.orders)) }
+        ≡ first_failing (in_order_at desk.now venue day.now) (length day.now.watch.checker.ledger.orders)) }
 {
     let mut found = None;
-    for place in 0..watch.leg_count() {
-        let is_in_order = is_in_order_at(alloc, sweeps, venue, watch, place)?;
+    for place in 0..day.watch().leg_count() {
+        let is_in_order = is_in_order_at(alloc, desk, venue, day, place)?;
         found = fails_at(found, is_in_order, place);
     }
     Ok(found)

@@ -1,7 +1,7 @@
 //! The sentences of the sweep theorem, as far as the logs of a day show them.
 
 ghost use Rattle.std.specs.Prelude.{◌≡◌};
-ghost use Rattle.day_rules.specs.Sentence.{sentence_name, sentence_text};
+ghost use Rattle.day_rules.specs.Sentence.{sentence_advice, sentence_name, sentence_text};
 
 /// A sentence of the sweep theorem, and before them that the desk's answers fit its lines.
 #[derive(Clone, Copy, Debug, PartialEq, Eq)]
@@ -64,6 +64,27 @@ impl Sentence {
             Sentence::Shares => {
                 "the five parts of each sweep's shares add up to its legs, and the reports to the orders"
             }
+        }
+    }
+
+    /// What to do where it is broken.
+    pub fn advice(self) -> &'static str
+        ensures { result.now ≡ sentence_advice self }
+    {
+        match self {
+            Sentence::Placed => "see that sweeps.log is whole and that no venue's log is left out",
+            Sentence::Order => {
+                "see that these are logs of one day, then stop the desk: it sent an order that it didn't release"
+            }
+            Sentence::Gaps => {
+                "ask the venue which of these orders it took, and compare its fills with the legs"
+            }
+            Sentence::Close => "stop the desk: its session sent an order behind its Logout",
+            Sentence::Settled => "ask the venue whether it took this order",
+            Sentence::Reports => {
+                "ask the venue which order this report is on, and compare its fills with the legs"
+            }
+            Sentence::Shares => "compare the venue's fills of this order with its leg",
         }
     }
 }

@@ -31,7 +31,7 @@ pub(crate) fn is_ended(close: Close) -> bool
     close == Close::Closed
 }
 
-/// A leg that was never sent: withdrawn once its venue's session has ended, and open before.
+/// A leg that was never sent: withdrawn once the session of its venue logged out, and open before.
 fn unsent(is_over: bool, shares: u64) -> Totals
     ensures { result ≡ unsent is_over shares }
 {
@@ -49,7 +49,7 @@ fn unsent(is_over: bool, shares: u64) -> Totals
 fn totals_at(watch: &Watch, shares: u64, place: Option<usize>) -> Totals
     ensures { result ≡ totals_at watch.now shares place }
 {
-    let is_over = is_ended(watch.close());
+    let is_over = watch.close().is_over();
     let Some(place) = place else {
         return unsent(is_over, shares);
     };

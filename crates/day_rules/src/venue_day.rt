@@ -8,7 +8,7 @@ ghost use Rattle.day_rules.specs.VenueDay.{new_venue, notes_parts, venue_heard};
 
 use crate::notes::Notes;
 use log_legs::Watch;
-use log_rules::{Entry, Verdict};
+use log_rules::{Entry, Moment, Verdict};
 use std::alloc::{AllocError, Global};
 use std::marker::Model;
 
@@ -50,14 +50,15 @@ impl VenueDay {
 
     /// What the next message, in the line of this number, says of each rule, in the order of `RULES`. Where memory is
     /// refused, nothing changes.
-    pub fn hear(&mut self, number: u64, entry: &Entry<'_>) -> Result<[Verdict; 14], AllocError>
+    pub fn hear(&mut self, number: u64, entry: &Entry<'_>) -> Result<[Verdict; 22], AllocError>
         ensures verdicts { IfOk result (λ said. said ≡ verdicts self.old.watch.checker entry.now) }
         ensures ok { OnOk result (self.new ≡ venue_heard number entry.now self.old) }
         ensures err { OnErr result (self.new ≡ self.old) }
     {
         self.notes.reserve()?;
         let said = self.watch.hear(entry)?;
-        self.notes.note(number, &said, self.watch.leg_count());
+        self.notes
+            .note(number, entry.moment, &said, self.watch.leg_count());
         Ok(said)
     }
 
@@ -80,5 +81,12 @@ impl VenueDay {
         ensures { result ≡ order_line self.now place }
     {
         self.notes.orders.get(place?).copied()
+    }
+
+    /// When the order at a place was first sent.
+    pub(crate) fn order_moment(&self, place: usize) -> Option<Moment>
+        ensures { result ≡ slice_get self.now.notes.moments place }
+    {
+        self.notes.moments.get(place).copied()
     }
 }

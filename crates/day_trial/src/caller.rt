@@ -1,5 +1,7 @@
 //! A caller.
 
+ghost use Rattle.std.specs.Prelude.{◌≡◌};
+
 use exec_collector::{Accounts, Collector};
 use leg::{Totals, VenueId};
 use release_lock::{CallerSeat, ReleaseLock, Run};
@@ -17,6 +19,7 @@ pub struct Caller<'a, R: Wait, L: Run, M: Accounts> {
     lock: &'a ReleaseLock<L>,
     collector: &'a Collector<M>,
     end: CallerEnd<L>,
+    ghost tied: { L.sweeps ≡ M.sweeps },
 }
 
 /// What a caller gives back.
@@ -37,7 +40,9 @@ impl<'a, R: Wait, L: Run, M: Accounts> Caller<'a, R, L, M> {
         lock: &'a ReleaseLock<L>,
         collector: &'a Collector<M>,
         seat: CallerSeat<L>,
-    ) -> Caller<'a, R, L, M> {
+    ) -> Caller<'a, R, L, M>
+        requires tied { L.sweeps ≡ M.sweeps }
+    {
         Caller {
             rt,
             alloc,

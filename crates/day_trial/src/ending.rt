@@ -1,5 +1,7 @@
 //! The checks once a day is over.
 
+ghost use Rattle.std.specs.Prelude.{◌≡◌};
+
 use crate::sums::{report_of, sweep_ends};
 use crate::venue_checks::venue_end;
 use crate::{DayFault, Outcome, Shown, SweepEnd, VenueEnd};
@@ -70,7 +72,9 @@ pub fn day_outcome<K: Shown, L: Run, M: Accounts>(
     seats: Vec<CallerSeat<L>>,
     receipts: &[Receipt],
     ends: Vec<WorkerEnd<K, L, M>>,
-) -> Result<Outcome, DayFault> {
+) -> Result<Outcome, DayFault>
+    requires tied { L.sweeps ≡ M.sweeps }
+{
     let sweeps = sweep_ends(rt, alloc, &collector, receipts, ends.as_slice())?;
     let venues = venue_ends(alloc, ends.as_slice())?;
     let text = texts_of(alloc, ends.as_slice())?;

@@ -1,5 +1,8 @@
 -- What a sweep is answered.
-use Rattle.std.specs.Prelude.{ℕ, List, Option, Some, None, slice_get, Result, Ok, Err}
+use Rattle.std.specs.Prelude.{◌≡◌, ℕ, List, Option, Some, None, slice_get, Result, Ok, Err, IsSomeAnd}
+use Rattle.leg.specs.declared.sweep.Routed.{Routed}
+use Rattle.share_ledger.specs.Entries.{sweep_shares}
+use Rattle.exec_collector.specs.Seats.{Seat}
 use Rattle.sweep_release.specs.declared.receipt.Receipt.{Receipt}
 use Rattle.sweep_release.specs.declared.release_fault.ReleaseFault.{ReleaseFault}
 use Rattle.sweep_release.specs.declared.release_fault.ReleaseFault.TheVariants as fault
@@ -28,3 +31,12 @@ refusal_of names fault.WrongBook = refusal.WrongBook
 abbrev pub answer_of : List (List ℕ) → Result Receipt ReleaseFault → Answer
 answer_of names (Ok receipt) = Placed receipt.number receipt.shares
 answer_of names (Err why) = Refused (refusal_of names why)
+
+-- the shares that are placed with an answer to a sweep of these legs: all of them, or none
+abbrev pub placed_shares : Answer → List Routed → ℕ
+placed_shares (Placed sweep shares) legs = sweep_shares legs
+placed_shares answer legs = 0
+
+-- the seat of the page's clients, with its one part
+abbrev pub IsOnePart : Option Seat → Type 0
+IsOnePart seat = IsSomeAnd seat (λ s. s.parts ≡ 1)

@@ -1,51 +1,60 @@
-//! The seat on which all who hand sweeps in count.
+//! The seat on which the clients of a day's page count.
 
-ghost use Rattle.std.specs.Prelude.{◌≡◌, ◌+◌, MatchResult};
-ghost use Rattle.share_ledger.specs.Entries.{sweep_shares};
+ghost use Rattle.std.specs.Prelude.{◌≡◌, ◌≢◌};
 ghost use Rattle.sweep_release.specs.History.{KeptDesk};
 ghost use Rattle.release_lock.specs.Locked.{Replays, Releases};
+ghost use Rattle.desk_floor.specs.Release.{answer_of};
 
-use exec_collector::{Accounts, Collector};
+use crate::floor::Floor;
+use day_log::LineLog;
+use exec_collector::Accounts;
 use leg::Sweep;
-use release_lock::{CallerSeat, ReleaseLock, Run};
+use release_lock::{CallerSeat, Run};
+use std::io::Write;
 use std::sync::Wait;
-use sweep_release::{Receipt, ReleaseFault};
+use std::time::Clock;
+use sweep_text::Answer;
 
-/// A seat that has all parts of the run, so that all sweeps placed are counted on it.
+/// A seat with one part of the run, on which the sweeps are counted that clients of the page hand in.
 #[derive(Drop)]
 pub struct Counter<L: Run> {
     seat: CallerSeat<L>,
-    ghost whole: { seat.parts ≡ 1024 },
+    ghost one: { seat.parts ≡ 1 },
 }
 
 impl<L: Run> Counter<L> {
-    /// On a seat that no other part was split off.
+    /// On a seat of one part.
     pub fn new(seat: CallerSeat<L>) -> Counter<L>
-        requires { seat.parts ≡ 1024 }
+        requires { seat.parts ≡ 1 }
     {
         Counter { seat }
     }
 
-    /// Releases a sweep, and counts its shares if it is placed. It may wait for the locks of the desk and the book.
-    pub(crate) fn release<M: Accounts>(
+    /// Hands a sweep in on this seat, as `Floor::hand_in` does.
+    pub(crate) fn hand_in<'a, M, W, R, C>(
         &mut self,
-        rt: &impl Wait,
-        lock: &ReleaseLock<L>,
-        collector: &Collector<M>,
+        rt: &'a R,
+        floor: &Floor<L, M, W>,
+        log: &mut LineLog<'a, R, C>,
+        line: &[u8],
         sweep: Sweep,
-    ) -> Result<Receipt, ReleaseFault>
-        ensures placed { (before : KeptDesk) × (after : KeptDesk) × Replays before × Replays after
-            × Releases sweep.legs before result after }
-        ensures counted { MatchResult result (λ receipt. (receipt.shares ≡ sweep_shares sweep.legs)
-            × (self.new.seat.shares ≡ self.old.seat.shares + receipt.shares)) (λ _. self.new.seat ≡ self.old.seat) }
+    ) -> Answer
+    where
+        M: Accounts,
+        W: Write + Drop,
+        R: Wait + Clock,
+        C: clock::Clock + Drop,
+        ensures { result ≢ Answer.Closing → (before : KeptDesk) × (after : KeptDesk) × (done : _)
+            × Replays before × Replays after × Releases sweep.legs before done after
+            × (result ≡ answer_of floor.now.names.items done) }
     {
-        lock.release(rt, collector, sweep, &mut self.seat)
+        floor.hand_in(rt, &mut self.seat, log, line, sweep)
     }
 
     /// The seat.
     pub fn into_seat(self) -> CallerSeat<L>
         ensures value { result ≡ self.seat }
-        ensures whole { result.parts ≡ 1024 }
+        ensures one { result.parts ≡ 1 }
     {
         self.seat
     }

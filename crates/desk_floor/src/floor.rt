@@ -1,10 +1,11 @@
 //! What the threads of a day share.
 
-ghost use Rattle.std.specs.Prelude.{◌≡◌, ◌⊎◌, ◌≤◌, length, MatchOption};
+ghost use Rattle.std.specs.Prelude.{◌≡◌, ◌⊎◌, ◌≤◌, length, None, MatchOption};
 ghost use Rattle.share_ledger.specs.Book.{BookParts};
 ghost use Rattle.share_ledger.specs.Entries.{opened};
 ghost use Rattle.exec_collector.specs.Resolved.{Replays};
 ghost use Rattle.day_sweeps.specs.Sweeps.{IsDay};
+ghost use Rattle.desk_floor.specs.Release.{IsOnePart};
 ghost use Rattle.desk_floor.specs.Status.{IsSeen};
 
 use crate::bells::Bells;
@@ -46,8 +47,10 @@ pub struct Floor<L: Run, M: Accounts, W: Write + Drop> {
     pub manner: Manner,
     pub lock: ReleaseLock<L>,
     pub collector: Collector<M>,
-    /// On whose seat all who hand sweeps in count.
-    pub counter: Mutex<Counter<L>>,
+    /// On which the clients of the page count; none where no page is served.
+    pub shared: Option<Mutex<Counter<L>>>,
+    /// Is held while a sweep is handed in and answered.
+    pub turn: Mutex<()>,
     /// The sweeps that were refused.
     pub refusals: Refusals,
     pub voice: Voice<W>,
@@ -59,6 +62,7 @@ pub struct Floor<L: Run, M: Accounts, W: Write + Drop> {
     /// What tells the workers to stop.
     pub stop: Stop,
     ghost few: { length names.items ≤ 16 },
+    ghost tied: { L.sweeps ≡ M.sweeps },
 }
 
 /// What its threads leave.
@@ -67,7 +71,9 @@ pub struct Left<L: Run, M: Accounts> {
     pub names: Vec<VenueName>,
     pub lock: ReleaseLock<L>,
     pub collector: Collector<M>,
-    pub seat: CallerSeat<L>,
+    /// The seat of the page's clients, if there is one.
+    pub shared: Option<CallerSeat<L>>,
+    ghost tied: { L.sweeps ≡ M.sweeps },
 }
 
 impl<L: Run, M: Accounts, W: Write + Drop> Floor<L, M, W> {
@@ -198,7 +204,7 @@ impl<L: Run, M: Accounts, W: Write + Drop> Floor<L, M, W> {
     /// What is left once no thread shares it any more.
     pub fn into_left(self) -> Left<L, M>
         ensures names { result.names ≡ self.names }
-        ensures seat { result.seat.parts ≡ 1024 }
+        ensures shared { MatchOption self.shared (result.shared ≡ None) (λ _. IsOnePart result.shared) }
     {
         let Floor {
             names,
@@ -206,7 +212,8 @@ impl<L: Run, M: Accounts, W: Write + Drop> Floor<L, M, W> {
             manner: _,
             lock,
             collector,
-            counter,
+            shared,
+            turn: _,
             refusals: _,
             voice: _,
             line_log: _,
@@ -218,7 +225,10 @@ impl<L: Run, M: Accounts, W: Write + Drop> Floor<L, M, W> {
             names,
             lock,
             collector,
-            seat: counter.into_inner().into_seat(),
+            shared: match shared {
+                Some(counter) => Some(counter.into_inner().into_seat()),
+                None => None,
+            },
         }
     }
 }

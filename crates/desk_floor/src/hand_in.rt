@@ -1,17 +1,16 @@
 //! A sweep is handed in, and answered.
 
-ghost use Rattle.std.specs.Prelude.{◌≡◌, ◌≢◌, slice_get};
+ghost use Rattle.std.specs.Prelude.{◌≡◌, ◌≢◌, ◌+◌, slice_get};
 ghost use Rattle.sweep_release.specs.History.{KeptDesk};
 ghost use Rattle.release_lock.specs.Locked.{Replays, Releases};
-ghost use Rattle.desk_floor.specs.Release.{refusal_of, answer_of};
+ghost use Rattle.desk_floor.specs.Release.{refusal_of, answer_of, placed_shares};
 
-use crate::counter::Counter;
 use crate::floor::Floor;
 use day_log::{LineLog, moment};
 use desk_words::VenueName;
 use exec_collector::Accounts;
 use leg::{Routed, Sweep, VenueId};
-use release_lock::Run;
+use release_lock::{CallerSeat, Run};
 use std::io::Write;
 use std::sync::Wait;
 use std::time::Clock;
@@ -74,10 +73,39 @@ fn venues_of(legs: &[Routed]) -> [bool; VENUES] {
 }
 
 impl<L: Run, M: Accounts, W: Write + Drop> Floor<L, M, W> {
-    /// Hands a sweep in that this line asks for, and answers with what became of it, or that the day is closing. The
-    /// line and its answer stand behind one another in the log. It may wait for the locks; once those of the desk and
-    /// the book are given up it wakes the workers of the sweep's venues.
+    /// Hands a sweep in that this line asks for, for a caller who counts on this seat, and answers with what became of
+    /// it, or that the day is closing. The line and its answer stand behind one another in the log. It may wait for the
+    /// locks; once those of the desk and the book are given up it wakes the workers of the sweep's venues.
     pub fn hand_in<'a, R: Wait + Clock, C: clock::Clock + Drop>(
+        &self,
+        rt: &'a R,
+        seat: &mut CallerSeat<L>,
+        log: &mut LineLog<'a, R, C>,
+        line: &[u8],
+        sweep: Sweep,
+    ) -> Answer
+        ensures answer { result ≢ Answer.Closing → (before : KeptDesk) × (after : KeptDesk) × (done : _)
+            × Replays before × Replays after × Releases sweep.legs before done after
+            × (result ≡ answer_of self.now.names.items done) }
+        ensures parts { seat.new.parts ≡ seat.old.parts }
+        ensures counted { seat.new.shares ≡ seat.old.shares + placed_shares result sweep.legs }
+    {
+        let _turn = self.turn.lock(rt);
+        log.taken(line);
+        let answer = if self.signals.is_closing() {
+            Answer::Closing
+        } else {
+            self.release(rt, seat, sweep)
+        };
+        log.answered(&answer);
+        self.refusals.note(rt, &answer);
+        self.bells.news().tell();
+        answer
+    }
+
+    /// Hands a sweep in for a client of the page, who has no seat of their own, as `hand_in` does. Where the day has no
+    /// page it answers that it is closing.
+    pub fn hand_in_shared<'a, R: Wait + Clock, C: clock::Clock + Drop>(
         &self,
         rt: &'a R,
         log: &mut LineLog<'a, R, C>,
@@ -88,29 +116,24 @@ impl<L: Run, M: Accounts, W: Write + Drop> Floor<L, M, W> {
             × Replays before × Replays after × Releases sweep.legs before done after
             × (result ≡ answer_of self.now.names.items done) }
     {
-        let mut counter = self.counter.lock(rt);
-        log.taken(line);
-        let answer = if self.signals.is_closing() {
-            Answer::Closing
-        } else {
-            self.release(rt, &mut counter, sweep)
-        };
-        log.answered(&answer);
-        self.refusals.note(rt, &answer);
-        self.bells.news().tell();
-        answer
+        match &self.shared {
+            Some(counter) => counter.lock(rt).hand_in(rt, self, log, line, sweep),
+            None => Answer::Closing,
+        }
     }
 
-    /// Releases a sweep, and answers with what became of that.
-    fn release<R: Wait + Clock>(&self, rt: &R, counter: &mut Counter<L>, sweep: Sweep) -> Answer
-        ensures { (before : KeptDesk) × (after : KeptDesk) × (done : _)
+    /// Releases a sweep for a caller who counts on this seat, and answers with what became of that.
+    fn release<R: Wait + Clock>(&self, rt: &R, seat: &mut CallerSeat<L>, sweep: Sweep) -> Answer
+        ensures answer { (before : KeptDesk) × (after : KeptDesk) × (done : _)
             × Replays before × Replays after × Releases sweep.legs before done after
             × (result ≡ answer_of self.now.names.items done) }
+        ensures parts { seat.new.parts ≡ seat.old.parts }
+        ensures counted { seat.new.shares ≡ seat.old.shares + placed_shares result sweep.legs }
     {
         let now = moment(rt);
         let venues = venues_of(sweep.legs.as_slice());
         self.begin_waits(&venues, now);
-        let done = counter.release(rt, &self.lock, &self.collector, sweep);
+        let done = self.lock.release(rt, &self.collector, sweep, seat);
         match &done {
             Ok(receipt) => {
                 self.signals.count_placed(receipt.shares);

@@ -3,8 +3,9 @@
 //!
 //! Promises:
 //! - A sweep that is handed in is answered with what the desk and the book did, under the name of the venue that is to
-//!   blame, unless it is told that the day is closing (`Floor::hand_in`). All who hand sweeps in count on one seat,
-//!   which has all parts of the run whenever its lock is free (`Counter`).
+//!   blame, unless it is told that the day is closing. The caller's seat keeps its parts, and gains the shares of the
+//!   sweep where that is placed, and none else (`Floor::hand_in`). The clients of the page count on a seat of their
+//!   own, which has one part of the run whenever its lock is free (`Counter`).
 //! - How a venue stands follows from what its worker told last, its gate and the dial that failed last, by the stated
 //!   definition, and so does what is told of it (`standing_of`, `Standing::state`). How a leg stands follows from the
 //!   book and from how far its venue's worker is (`state_of`). What a look finds there isn't said, as other threads

@@ -1,1 +1,2 @@
+mod AllSeats
 mod LegsInDoubt

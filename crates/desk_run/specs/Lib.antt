@@ -1,1 +1,2 @@
 pub mod Doubts
+pub mod Seats

@@ -151,7 +151,10 @@ impl<'a, L: Run, M: Accounts, W: Write + Drop, R: Wait + Clock> Day for DayView<
             Ok(line) => line.as_bytes(),
             Err(_) => b"",
         };
-        outcome_of(self.floor.hand_in(self.rt, &mut self.log, line, sweep))
+        outcome_of(
+            self.floor
+                .hand_in_shared(self.rt, &mut self.log, line, sweep),
+        )
     }
 
     fn sweeps(&mut self, after: u64, most: u64) -> Result<SweepsPage, AllocError> {

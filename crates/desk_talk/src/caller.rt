@@ -1,5 +1,7 @@
 //! The caller of a day: it takes the lines of the input, in order, and answers each.
 
+ghost use Rattle.std.specs.Prelude.{◌≡◌, IfSome};
+
 use crate::input_lines::{InputLines, Next};
 use crate::open_sweeps::OpenSweeps;
 use crate::status::tell_status;
@@ -7,7 +9,7 @@ use clock::UtcClock;
 use day_log::LineLog;
 use desk_floor::{Floor, TalkFault};
 use exec_collector::Accounts;
-use release_lock::Run;
+use release_lock::{CallerSeat, Run};
 use std::alloc::Global;
 use std::io::{Read, Write};
 use std::sync::Wait;
@@ -22,23 +24,40 @@ const LOOK_SECONDS: u64 = 60;
 /// day. What memory is wanted for is looked at later.
 const LINES_A_LOOK: u64 = 256;
 
-/// Takes the lines of an input and answers each. Before the first it waits until each venue is up, but no longer than
-/// two seconds. With the end of the input, with `close`, or where input or output fails, the day is to close. It gives
-/// why no line was taken any more before the input ended, if that is so.
+/// What the caller leaves.
+#[derive(Drop)]
+pub struct LinesEnd<L: Run> {
+    pub seat: CallerSeat<L>,
+    /// Why no line was taken any more before the input ended, if that is so.
+    pub broken_off: Option<TalkFault>,
+}
+
+/// Takes the lines of an input and answers each, and counts what is placed on this seat. It begins once the workers
+/// run, and waits until each venue is up, but no longer than two seconds. With the end of the input, with `close`, or
+/// where input or output fails, the day is to close. Where no worker runs within ten seconds the day is given up, and
+/// it leaves nothing.
 pub fn take_lines<L: Run, M: Accounts, W: Write + Drop, I: Read + Drop, R: Wait + Clock>(
     rt: &R,
     alloc: Global,
     floor: &Floor<L, M, W>,
+    seat: CallerSeat<L>,
     lines: InputLines<I>,
-) -> Option<TalkFault> {
+) -> Option<LinesEnd<L>>
+    ensures { IfSome result (λ end. end.seat.parts ≡ seat.parts) }
+{
+    let mut seat = seat;
     let mut lines = lines;
+    if !floor.signals.awaits(rt, &floor.signals.workers) {
+        floor.give_up();
+        return None;
+    }
     floor.await_venues(rt);
-    let broken_off = match log_lines(rt, alloc, floor, &mut lines) {
+    let broken_off = match log_lines(rt, alloc, floor, &mut seat, &mut lines) {
         Ok(()) => None,
         Err(fault) => Some(fault),
     };
     floor.begin_close();
-    broken_off
+    Some(LinesEnd { seat, broken_off })
 }
 
 /// Takes and answers lines to the end of the input, and logs them, if a log is kept.
@@ -46,10 +65,13 @@ fn log_lines<L: Run, M: Accounts, W: Write + Drop, I: Read + Drop, R: Wait + Clo
     rt: &R,
     alloc: Global,
     floor: &Floor<L, M, W>,
+    seat: &mut CallerSeat<L>,
     lines: &mut InputLines<I>,
-) -> Result<(), TalkFault> {
+) -> Result<(), TalkFault>
+    ensures { seat.new.parts ≡ seat.old.parts }
+{
     let mut log = LineLog::new(rt, alloc, UtcClock::new(rt), floor.line_log()?);
-    answer_lines(rt, alloc, floor, lines, &mut log)
+    answer_lines(rt, alloc, floor, seat, lines, &mut log)
 }
 
 /// Takes and answers lines to the end of the input. Once the workers have ended only those are answered still that were
@@ -58,6 +80,7 @@ fn answer_lines<'a, L, M, W, I, R, C>(
     rt: &'a R,
     alloc: Global,
     floor: &Floor<L, M, W>,
+    seat: &mut CallerSeat<L>,
     lines: &mut InputLines<I>,
     log: &mut LineLog<'a, R, C>,
 ) -> Result<(), TalkFault>
@@ -68,6 +91,7 @@ where
     I: Read + Drop,
     R: Wait + Clock,
     C: clock::Clock + Drop,
+    ensures { seat.new.parts ≡ seat.old.parts }
 {
     let mut open = OpenSweeps::new(alloc);
     for _ in rt.forever() {
@@ -76,7 +100,7 @@ where
         }
         match lines.next(Duration::from_secs(LOOK_SECONDS))? {
             Next::Line => {
-                answer_line(rt, alloc, floor, lines, &mut open, log)?;
+                answer_line(rt, alloc, floor, seat, lines, &mut open, log)?;
                 if lines.number() % LINES_A_LOOK == 0 {
                     let _ = open.look(rt, &floor.collector);
                 }
@@ -95,6 +119,7 @@ fn answer_line<'a, L, M, W, I, R, C>(
     rt: &'a R,
     alloc: Global,
     floor: &Floor<L, M, W>,
+    seat: &mut CallerSeat<L>,
     lines: &InputLines<I>,
     open: &mut OpenSweeps,
     log: &mut LineLog<'a, R, C>,
@@ -106,11 +131,12 @@ where
     I: Read + Drop,
     R: Wait + Clock,
     C: clock::Clock + Drop,
+    ensures { seat.new.parts ≡ seat.old.parts }
 {
     let line = lines.line();
     match read_line(alloc, floor.names.as_slice(), line) {
         Ok(Command::Sweep(sweep)) => {
-            let answer = floor.hand_in(rt, log, line, sweep);
+            let answer = floor.hand_in(rt, seat, log, line, sweep);
             floor.voice.say(rt, &answer)
         }
         Ok(Command::Nothing) => {

@@ -2,6 +2,7 @@
 //! tells what changes and closes the day.
 //!
 //! Promises:
+//! - The caller's seat keeps its parts (`take_lines`).
 //! - All that is done here is proved to be safe. What is answered and told is the work of the crates below, and said
 //!   there: `desk_floor` (`Floor::hand_in`), `day_sweeps` (`sweep_now`), `sweep_text` and `desk_news`.
 //! - That lines are answered in their order, that a venue and a sweep are told when they change, that a second `close`
@@ -17,6 +18,6 @@ mod news;
 mod open_sweeps;
 mod status;
 
-pub use caller::take_lines;
+pub use caller::{LinesEnd, take_lines};
 pub use input_lines::{DeskInput, InputLines, Next};
 pub use keeper::keep;

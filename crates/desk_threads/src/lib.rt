@@ -1,11 +1,10 @@
-//! The threads of a desk's day: each exchange that is simulated, each server of its page, what writes its logs, each
-//! worker and the keeper have one of their own, and the caller has the one that starts them.
+//! The threads of a desk's day beside those of its callers: each exchange that is simulated, each server of its page,
+//! what writes its logs and each worker have one of their own, and the keeper has the one that starts them.
 //!
 //! Promises:
 //! - The workers that the threads leave are those that they were given, each at its place, and why threads can't be run
 //!   is no mismatch of the audit (`in_threads`).
-//! - That all threads end once the workers and the caller have ended, or one is refused or wants memory, is only
-//!   tested.
+//! - That all threads end once the workers have ended, or one is refused or wants memory, is only tested.
 //!
 //! See `docs/run.md`.
 #![tactic(auto)]

@@ -6,9 +6,9 @@ ghost use Rattle.session_worker.specs.Places.{place};
 
 use clock::Clock;
 use day_log::{FileWriter, write_until};
-use desk_floor::{Floor, TalkFault};
+use desk_floor::Floor;
 use desk_serve::PageServer;
-use desk_talk::{InputLines, keep, take_lines};
+use desk_talk::keep;
 use desk_venues::{DayFault, Serve, run_workers};
 use dialect::AnyDialect;
 use exec_collector::Accounts;
@@ -18,7 +18,7 @@ use session_worker::{Worker, WorkerEnd};
 use std::alloc::{AllocError, Global};
 use std::collections::VecDeque;
 use std::fs::File;
-use std::io::{Read, Write};
+use std::io::Write;
 use std::net::TcpStream;
 use std::sync::Wait;
 use std::thread::{JoinHandle, Threads, join};
@@ -39,28 +39,20 @@ pub struct Cast<X, K: Link, C: Clock + Drop, L: Run, M: Accounts> {
 #[derive(Drop)]
 pub struct Ended<K: Link, L: Run, M: Accounts> {
     pub workers: Vec<WorkerEnd<K, L, M>>,
-    /// Why no line was taken any more before the input ended, if that is so.
-    pub broken_off: Option<TalkFault>,
     /// The clients that followed the day to its end.
     pub followers: Vec<TcpStream>,
 }
 
-/// What the dispatcher's threads leave.
-#[derive(Drop)]
-struct Dispatched<K: Link, L: Run, M: Accounts> {
-    workers: Vec<WorkerEnd<K, L, M>>,
-    broken_off: Option<TalkFault>,
-}
-
-/// Runs a day: its exchanges, the servers of its page, the writer of its logs, its workers and its keeper, each in a
-/// thread of its own, and the caller in this one. Once the workers and the caller have ended the others are stopped;
-/// the writer writes what waits before it ends. Where a thread is refused, those that run are told so.
-pub fn in_threads<X, K, C, L, M, W, I, R>(
+/// Runs a day, beside those who call: its exchanges, the servers of its page, the writer of its logs and its workers,
+/// each in a thread of its own, and its keeper in this one. A worker takes so many turns at most in which there is
+/// nothing to do. Once the workers have ended the others are stopped; the writer writes what waits before it ends.
+/// Where a thread is refused, those that run are told so.
+pub fn in_threads<X, K, C, L, M, W, R>(
     rt: &R,
     alloc: Global,
     floor: &Floor<L, M, W>,
     cast: Cast<X, K, C, L, M>,
-    lines: InputLines<I>,
+    turn_limit: u64,
 ) -> Result<Ended<K, L, M>, DayFault>
 where
     X: Serve + Drop + Send,
@@ -69,7 +61,6 @@ where
     L: Run + Send + Sync,
     M: Accounts + Send + Sync,
     W: Write + Drop + Send,
-    I: Read + Drop,
     R: Threads + Wait + time::Clock + Sync,
     ensures workers { IfOk result (λ ended. map (λ e. place e.parts) ended.workers.items
         ≡ map (λ w. place w.parts) cast.workers.items) }
@@ -84,22 +75,15 @@ where
     let (served, ended) = join(
         rt,
         || run_servers(rt, alloc, floor, exchanges, servers, writers),
-        || -> Result<Dispatched<K, L, M>, DayFault>
-            ensures workers { IfOk result (λ ended. map (λ e. place e.parts) ended.workers.items
+        || -> Result<Vec<WorkerEnd<K, L, M>>, DayFault>
+            ensures workers { IfOk result (λ ends. map (λ e. place e.parts) ends.items
                 ≡ map (λ w. place w.parts) workers.items) }
             ensures only { IfErr result IsNoMismatch }
-        { run_dispatcher(rt, alloc, floor, workers, lines) },
+        { run_dispatcher(rt, alloc, floor, workers, turn_limit) },
     );
     let followers = served?;
-    let Dispatched {
-        workers,
-        broken_off,
-    } = ended?;
-    Ok(Ended {
-        workers,
-        broken_off,
-        followers,
-    })
+    let workers = ended?;
+    Ok(Ended { workers, followers })
 }
 
 /// Runs the exchanges, the servers of the page and the writer of the logs until they are stopped, and gives the clients
@@ -183,78 +167,57 @@ fn serve_exchange<X: Serve, L: Run, M: Accounts, W: Write + Drop>(
     served
 }
 
-/// Runs the dispatcher once the exchanges are served: its workers and the desk. Once both have ended the exchanges are
-/// stopped.
-fn run_dispatcher<K, C, L, M, W, I, R>(
+/// Runs the dispatcher once the exchanges are served: its workers and its keeper. Once both have ended the exchanges
+/// are stopped. Where the exchanges aren't served the day is given up.
+fn run_dispatcher<K, C, L, M, W, R>(
     rt: &R,
     alloc: Global,
     floor: &Floor<L, M, W>,
     workers: Vec<Worker<AnyDialect, K, C, L, M>>,
-    lines: InputLines<I>,
-) -> Result<Dispatched<K, L, M>, DayFault>
+    turn_limit: u64,
+) -> Result<Vec<WorkerEnd<K, L, M>>, DayFault>
 where
     K: Link + Send,
     C: Clock + Drop + Send,
     L: Run + Send + Sync,
     M: Accounts + Send + Sync,
     W: Write + Drop + Send,
-    I: Read + Drop,
     R: Threads + Wait + time::Clock + Sync,
-    ensures workers { IfOk result (λ ended. map (λ e. place e.parts) ended.workers.items
+    ensures workers { IfOk result (λ ends. map (λ e. place e.parts) ends.items
         ≡ map (λ w. place w.parts) workers.items) }
     ensures only { IfErr result IsNoMismatch }
 {
     if !floor.signals.awaits(rt, &floor.signals.exchanges) {
+        floor.give_up();
         floor.finish();
         return Err(DayFault::NoThread);
     }
-    let (worked, called) = join(
+    let (worked, kept) = join(
         rt,
-        || run_workers(rt, alloc, floor, workers),
-        || run_desk(rt, alloc, floor, lines),
+        || run_workers(rt, alloc, floor, workers, turn_limit),
+        || run_keeper(rt, alloc, floor),
     );
     floor.finish();
-    Ok(Dispatched {
-        workers: worked?,
-        broken_off: called?,
-    })
+    let ends = worked?;
+    kept?;
+    Ok(ends)
 }
 
-/// Runs the desk once the workers are started: its keeper, and the caller in this thread. It ends when the workers have
-/// ended.
-fn run_desk<L, M, W, I, R>(
-    rt: &R,
-    alloc: Global,
-    floor: &Floor<L, M, W>,
-    lines: InputLines<I>,
-) -> Result<Option<TalkFault>, DayFault>
+/// Runs the keeper once the workers are started. It ends when they have ended.
+fn run_keeper<L, M, W, R>(rt: &R, alloc: Global, floor: &Floor<L, M, W>) -> Result<(), DayFault>
 where
-    L: Run + Send + Sync,
-    M: Accounts + Send + Sync,
-    W: Write + Drop + Send,
-    I: Read + Drop,
-    R: Threads + Wait + time::Clock + Sync,
+    L: Run,
+    M: Accounts,
+    W: Write + Drop,
+    R: Wait + time::Clock,
     ensures { IfErr result IsNoMismatch }
 {
     if !floor.signals.awaits(rt, &floor.signals.workers) {
         floor.give_up();
         return Err(DayFault::NoThread);
     }
-    thread::scope(
-        thread::scope_env(),
-        rt,
-        |scope| -> Result<Option<TalkFault>, DayFault>
-            ensures { IfErr result IsNoMismatch }
-        {
-            let Ok(keeper) = scope.spawn(move || keep(rt, alloc, floor)) else {
-                floor.give_up();
-                return Err(DayFault::NoThread);
-            };
-            let broken_off = take_lines(rt, alloc, floor, lines);
-            keeper.join(rt);
-            Ok(broken_off)
-        },
-    )
+    keep(rt, alloc, floor);
+    Ok(())
 }
 
 /// Waits for the exchanges. One that wanted memory refuses the day.

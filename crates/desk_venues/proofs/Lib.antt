@@ -1,1 +1,2 @@
 mod NoMismatch
+mod Plans

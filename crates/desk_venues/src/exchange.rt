@@ -36,14 +36,16 @@ pub struct Exchange<'a, R: Clock> {
 }
 
 impl<'a, R: Net + Clock> Exchange<'a, R> {
-    /// The exchange of a venue, on a free port of this machine: it trades so many shares of each order at once.
+    /// The exchange of a venue, on a free port of this machine: it trades so many shares of each order at once, and
+    /// cuts its connection once, behind message `cut`, or never at 0.
     pub fn open(
         rt: &'a R,
         alloc: Global,
         venue: &Venue,
         fill: u64,
+        cut: u64,
     ) -> Result<Exchange<'a, R>, DayFault>
-        ensures plan { IfOk result (λ exchange. exchange.acceptor.plan ≡ plan_of fill) }
+        ensures plan { IfOk result (λ exchange. exchange.acceptor.plan ≡ plan_of fill cut) }
         ensures ends { IfOk result (λ exchange. exchange.acceptor.engine.exchange
             ≡ new_exchange (exchange_end venue.now)) }
         ensures only { IfErr result (λ fault. fault ≡ DayFault.NoSocket) }
@@ -57,7 +59,7 @@ impl<'a, R: Net + Clock> Exchange<'a, R> {
         };
         let plan = Plan {
             fill,
-            cut_after: 0,
+            cut_after: cut,
             lose: 0,
         };
         let clock = UtcClock::new(rt);

@@ -4,6 +4,7 @@ ghost use Rattle.std.specs.Prelude.{◌≡◌, length, map, IfOk, IfErr};
 ghost use Rattle.exec_collector.specs.Seats.{worker_seats};
 ghost use Rattle.release_lock.specs.Queues.{new_drains};
 ghost use Rattle.desk_venues.specs.Faults.{IsNoMismatch};
+ghost use Rattle.desk_venues.specs.Venues.{plans};
 ghost use Rattle.session_worker.specs.Places.{place, new_places};
 
 use crate::day_fault::DayFault;
@@ -52,17 +53,20 @@ fn new_bells<'a, R: Net + Clock>(
 }
 
 /// Opens the venues of a day: an exchange for each that is simulated, the logs in the folder, if there is one, and a
-/// worker for each, with the drain and the seat at its place. None has dialled.
+/// worker for each, with the drain and the seat at its place. None has dialled. The exchange of the first venue, if it
+/// is simulated, cuts its connection once, behind message `cut`; at 0 none does.
 pub fn open_venues<'a, L: Run, M: Accounts, R: Net + Files<File = File> + Wait + Clock>(
     rt: &'a R,
     alloc: Global,
     venues: &[Venue],
+    cut: u64,
     folder: Option<&str>,
     drains: Vec<VenueDrain<L>>,
     seats: Vec<WorkerSeat<M>>,
 ) -> Result<OpenVenues<'a, L, M, R>, DayFault>
     requires drains { drains.items ≡ new_drains (length venues.now) }
     requires seats { seats.items ≡ worker_seats (length venues.now) }
+    ensures plans { IfOk result (λ ready. map (λ e. e.acceptor.plan) ready.exchanges.items ≡ plans cut venues.now) }
     ensures names { IfOk result (λ ready. ready.sight.names.items ≡ map (λ v. v.name) venues.now) }
     ensures as_many { IfOk result (λ ready. length ready.sight.names.items ≡ length venues.now) }
     ensures views { IfOk result (λ ready. length ready.sight.views.items ≡ length venues.now) }
@@ -70,7 +74,7 @@ pub fn open_venues<'a, L: Run, M: Accounts, R: Net + Files<File = File> + Wait +
         ≡ new_places (length venues.now)) }
     ensures only { IfErr result IsNoMismatch }
 {
-    let Places { addrs, exchanges } = open_places(rt, alloc, venues)?;
+    let Places { addrs, exchanges } = open_places(rt, alloc, venues, cut)?;
     let sight = first_sight(rt, alloc, folder, venues)?;
     let mut bells = new_bells(alloc, exchanges.as_slice())?;
     let addrs = addrs.as_slice();

@@ -1,13 +1,14 @@
 //! Where the exchanges of a day's venues are.
 
-ghost use Rattle.std.specs.Prelude.{◌≡◌, length, IfOk, IfErr};
+ghost use Rattle.std.specs.Prelude.{◌≡◌, ◌++◌, length, map, option_map, option_to_list, IfOk, IfErr, OnOk};
 ghost use Rattle.desk_venues.specs.Faults.{IsNoMismatch};
+ghost use Rattle.desk_venues.specs.Venues.{cut_of, plan_in, plans};
 
 use crate::address::first_address;
 use crate::day_fault::DayFault;
 use crate::exchange::Exchange;
 use desk_config::{Endpoint, Venue};
-use std::alloc::Global;
+use std::alloc::{AllocError, Global};
 use std::net::{Net, SocketAddr};
 use std::time::Clock;
 
@@ -18,31 +19,70 @@ pub struct Places<'a, R: Clock> {
     pub exchanges: Vec<Exchange<'a, R>>,
 }
 
-/// Opens an exchange for each venue that is simulated, and looks up the addresses of the others.
+/// The message behind which the exchange of the venue at a place cuts its connection; 0 for none.
+fn cut_of(cut: u64, place: usize) -> u64
+    ensures { result ≡ cut_of cut place }
+{
+    if place == 0 { cut } else { 0 }
+}
+
+/// Opens an exchange for each venue that is simulated, and looks up the addresses of the others. The exchange of the
+/// first venue cuts its connection once, behind message `cut`; at 0 none does.
 pub fn open_places<'a, R: Net + Clock>(
     rt: &'a R,
     alloc: Global,
     venues: &[Venue],
+    cut: u64,
 ) -> Result<Places<'a, R>, DayFault>
+    ensures plans { IfOk result (λ places. map (λ e. e.acceptor.plan) places.exchanges.items ≡ plans cut venues.now) }
     ensures each { IfOk result (λ places. length places.addrs.items ≡ length venues.now) }
     ensures only { IfErr result IsNoMismatch }
 {
     let mut addrs = Vec::new(alloc);
     let mut exchanges = Vec::new(alloc);
     for venue in venues {
-        match &venue.endpoint {
-            Endpoint::At(address) => {
-                let Some(addr) = first_address(rt, address) else {
-                    return Err(DayFault::NoAddress(addrs.len()));
-                };
-                addrs.push(addr)?;
-            }
-            Endpoint::Simulated(fill) => {
-                let exchange = Exchange::open(rt, alloc, venue, fill.get())?;
-                addrs.push(exchange.addr)?;
-                exchanges.push(exchange)?;
-            }
-        }
+        let own = cut_of(cut, addrs.len());
+        let (addr, exchange) = open_place(rt, alloc, venue, own, addrs.len())?;
+        addrs.push(addr)?;
+        push_exchange(&mut exchanges, exchange)?;
     }
     Ok(Places { addrs, exchanges })
+}
+
+/// The address of the exchange of the venue at a place, and the exchange, if it is simulated; this one cuts its
+/// connection once, behind message `cut`, or never at 0.
+fn open_place<'a, R: Net + Clock>(
+    rt: &'a R,
+    alloc: Global,
+    venue: &Venue,
+    cut: u64,
+    place: usize,
+) -> Result<(SocketAddr, Option<Exchange<'a, R>>), DayFault>
+    ensures plan { IfOk result (λ opened. option_map (λ e. e.acceptor.plan) opened.1
+        ≡ plan_in cut venue.now.endpoint) }
+    ensures only { IfErr result IsNoMismatch }
+{
+    match &venue.endpoint {
+        Endpoint::At(address) => match first_address(rt, address) {
+            Some(addr) => Ok((addr, None)),
+            None => Err(DayFault::NoAddress(place)),
+        },
+        Endpoint::Simulated(fill) => {
+            let exchange = Exchange::open(rt, alloc, venue, fill.get(), cut)?;
+            Ok((exchange.addr, Some(exchange)))
+        }
+    }
+}
+
+/// Appends an exchange, if there is one.
+fn push_exchange<'a, R: Net + Clock>(
+    exchanges: &mut Vec<Exchange<'a, R>>,
+    exchange: Option<Exchange<'a, R>>,
+) -> Result<(), AllocError>
+    ensures { OnOk result (exchanges.new.items ≡ exchanges.old.items ++ option_to_list exchange.entry) }
+{
+    if let Some(exchange) = exchange {
+        exchanges.push(exchange)?;
+    }
+    Ok(())
 }

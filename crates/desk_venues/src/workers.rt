@@ -128,12 +128,14 @@ fn new_recorder<'a, R: Wait + time::Clock>(
     Ok(recorder)
 }
 
-/// Runs the workers until their sessions are over, or given up. Then the day closes, if it wasn't closing already.
+/// Runs the workers until their sessions are over, or given up, or they took so many turns in which there was nothing
+/// to do. Then the day closes, if it wasn't closing already.
 pub fn run_workers<K, C, L, M, R, W>(
     rt: &R,
     alloc: Global,
     floor: &Floor<L, M, W>,
     workers: Vec<Worker<AnyDialect, K, C, L, M>>,
+    turn_limit: u64,
 ) -> Result<Vec<WorkerEnd<K, L, M>>, DayFault>
 where
     K: Link + Send,
@@ -154,7 +156,7 @@ where
         &floor.collector,
         &floor.stop,
         workers,
-        u64::MAX,
+        turn_limit,
     );
     floor.end();
     Ok(ends?)

@@ -1,5 +1,5 @@
 -- What a book took of its venues, as more is written in it.
-use Rattle.std.proofs.Common.{◌≡◌, ℕ, zero, suc, ◌+◌, ◌<◌, Bool, true, false, List, [], ◌∷◌, ◌++◌, length, map, Option, Some, None, Result, Ok, Err, inl, inr, refl, ap, sym, ◌∙◌, subst, arith, if◌then◌else◌}
+use Rattle.std.proofs.Common.{◌≡◌, ℕ, zero, suc, ◌+◌, ◌<◌, Bool, true, false, List, [], ◌∷◌, ◌++◌, length, map, Option, Some, None, Result, inl, inr, refl, ap, sym, ◌∙◌, subst, arith, if◌then◌else◌}
 use Rattle.std.specs.Prelude.{◌==◌, ◌||◌, slice_get, filter}
 use Rattle.std.specs.List.{list_any}
 use Rattle.std.specs.Result.{is_ok}
@@ -17,7 +17,6 @@ use Rattle.share_ledger.specs.declared.applied.Applied.TheVariants as applied
 use Rattle.share_ledger.specs.declared.book_entry.BookEntry.{BookEntry}
 use Rattle.share_ledger.specs.declared.book_entry.BookEntry.TheVariants.{Opened, Withdrawn, Moved}
 use Rattle.share_ledger.specs.declared.book_fault.BookFault.{BookFault}
-use Rattle.share_ledger.specs.declared.book_fault.BookFault.TheVariants.{AlreadyMoved}
 use Rattle.share_ledger.specs.Entries.{order_of, is_same_leg, is_withdrawn}
 use Rattle.share_ledger.specs.Book.{BookParts, BookAnswer, new_book, answer_to, after_note, next_sweep, again, replay}
 use Rattle.share_ledger.proofs.OneMore.{order_of-opened, order_of-withdrawn, order_of-moved, is_same_leg-refl}
@@ -28,7 +27,7 @@ use Rattle.exec_collector.specs.declared.venue_bookings.VenueBookings.{VenueBook
 use Rattle.exec_collector.specs.Resolved.{Replays, OnlyOpens}
 use Rattle.exec_collector.specs.Booked.{moved_of, is_of_venue, withdrawn_ids, withdrawn_of, withdraw_of, moved_among, withdrawn_among, has_moved, when_it_had, entries_before, IsRuled, IsAsBooked, IsAnswered, AreAnswered, AreBooked, notes_of, asked_of}
 use Rattle.exec_collector.specs.Sides.{AreWritten, IsOneMore}
-use Rattle.exec_collector.proofs.Asking.{withdrew, asked_cases}
+use Rattle.exec_collector.proofs.Asking.{asked_cases}
 use Rattle.exec_collector.proofs.Bounded.{sound_book}
 use Rattle.exec_collector.proofs.Counts.{opened_one}
 

@@ -1,4 +1,5 @@
 pub mod Below
+pub mod Sweeps
 pub mod Weighed
 pub mod Bounded
 pub mod Resolving

@@ -2,11 +2,12 @@
 use Rattle.std.specs.Prelude.{◌≡◌, ℕ, suc, List, [], ◌∷◌}
 use Rattle.exec_collector.specs.declared.blank_book.BlankList.{BlankList}
 
--- its count, and the names of its venues' lists, in order
+-- its count, and the names of its venues' lists, in order, and of the list of its sweeps
 pub record BlankParts : Type 0 where
   pub name : ℕ
   pub parts : ℕ
   pub lists : List ℕ
+  pub sweeps : ℕ
 
 -- both sides of this venue's list, on which nothing is
 pub record IsBlank (venue : ℕ) (list : BlankList) : Type 0 where

@@ -1,3 +1,4 @@
+pub mod Opened
 pub mod Resolved
 pub mod Seats
 pub mod Booked

@@ -9,8 +9,13 @@ use std::sync::ledger::Ledger;
 /// and the seat of that venue.
 pub trait Accounts: Ledger {
     ghost lists: { List ℕ };
+
+    /// The list of the sweeps that were opened: one for the book, and one for the desk that releases them.
+    ghost sweeps: { ℕ };
 }
 
 impl Accounts for Brand {
     ghost lists = { [] };
+
+    ghost sweeps = { 0 };
 }

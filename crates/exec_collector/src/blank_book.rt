@@ -4,7 +4,7 @@ ghost use Rattle.std.specs.Prelude.{◌≡◌, ◌≤◌, IfOk, IsOkUnless};
 
 use crate::Booking;
 use agreed_list::{BookSide, SeatSide, new_list};
-use leg::VenueId;
+use leg::{Sweep, VenueId};
 use share_ledger::BookFault;
 use std::alloc::Global;
 use std::marker::Model;
@@ -24,10 +24,12 @@ pub(crate) struct BlankList {
 pub struct BlankBook {
     pub(crate) total: Blank,
     pub(crate) lists: Vec<BlankList>,
+    pub(crate) sweeps: BookSide<Sweep>,
+    pub(crate) desk: SeatSide<Sweep>,
 }
 
 impl Model for BlankBook {
-    ghost use Rattle.std.specs.Prelude.{◌≡◌, length, map};
+    ghost use Rattle.std.specs.Prelude.{◌≡◌, [], length, map};
     ghost use Rattle.exec_collector.specs.Blank.{BlankParts, AreBlank};
 
     ghost Value = { BlankParts };
@@ -36,9 +38,11 @@ impl Model for BlankBook {
       name = blank.total.name;
       parts = blank.total.parts;
       lists = map (λ list. list.book.name) blank.lists.items;
+      sweeps = blank.sweeps.name;
     } };
 
-    ghost invariant = { λ blank. (blank.total.parts ≡ length blank.lists.items) × AreBlank 0 blank.lists.items };
+    ghost invariant = { λ blank. (blank.total.parts ≡ length blank.lists.items) × AreBlank 0 blank.lists.items
+        × (blank.desk.name ≡ blank.sweeps.name) × (blank.sweeps.items ≡ []) × (blank.desk.items ≡ []) };
 }
 
 impl BlankBook {
@@ -57,6 +61,12 @@ impl BlankBook {
             lists.push_reserved(BlankList { venue, book, seat });
         }
         let total = Blank::new(u64::from(venues));
-        Ok(BlankBook { total, lists })
+        let (sweeps, desk) = new_list();
+        Ok(BlankBook {
+            total,
+            lists,
+            sweeps,
+            desk,
+        })
     }
 }

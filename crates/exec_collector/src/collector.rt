@@ -4,13 +4,15 @@ ghost use Rattle.std.specs.Prelude.{◌≡◌, ◌≤◌, ◌++◌, ◌∷◌, [
 ghost use Rattle.std.specs.Fn.{FnOnceReturnsAt, FnOnceReturnsAtMut};
 ghost use Rattle.share_ledger.specs.Book.{BookParts, totals};
 ghost use Rattle.exec_collector.specs.Calls.{CallGives};
+ghost use Rattle.exec_collector.specs.Opened.{IsSide};
 ghost use Rattle.exec_collector.specs.Resolved.{Replays, OnlyOpens, GainsBy, GainsLeg, resolved};
 ghost use Rattle.exec_collector.specs.Seats.{worker_seats};
 
 use crate::venue_bookings::VenueBookings;
 use crate::{Accounts, BlankBook, CountedBook, WorkerSeat};
+use agreed_list::SeatSide;
 use dialect::Note;
-use leg::{LegId, Totals};
+use leg::{LegId, Sweep, Totals};
 use share_ledger::{Applied, Book, BookFault};
 use std::alloc::Global;
 use std::collections::VecDeque;
@@ -28,20 +30,26 @@ impl<M: Accounts> Collector<M> {
         alloc: Global,
         venues: u8,
         blank: BlankBook,
-    ) -> Result<(Collector<M>, Vec<WorkerSeat<M>>), BookFault>
+    ) -> Result<(Collector<M>, Vec<WorkerSeat<M>>, SeatSide<Sweep>), BookFault>
         requires low { 1 ≤ venues }
         requires high { venues ≤ 16 }
         requires name { blank.name ≡ M.name }
         requires parts { (blank.parts ≡ M.parts) × (M.parts ≡ venues) }
-        requires lists { blank.lists ≡ M.lists }
+        requires lists { (blank.lists ≡ M.lists) × (blank.sweeps ≡ M.sweeps) }
         ensures seats { IfOk result (λ made. made.1.items ≡ worker_seats venues) }
+        ensures desk { IfOk result (λ made. (made.2.name ≡ M.sweeps) × (made.2.items ≡ [])) }
         ensures only { IsOkUnless result BookFault.OutOfMemory }
     {
         let count = usize::from(venues);
         let book = Book::new(alloc, venues)?;
         let mut bookings = Vec::with_capacity(alloc, count)?;
         let mut seats = Vec::with_capacity(alloc, count)?;
-        let BlankBook { total, lists } = blank;
+        let BlankBook {
+            total,
+            lists,
+            sweeps,
+            desk,
+        } = blank;
         let (total, mut whole) = total.open::<M>();
         let mut lists = VecDeque::from(lists);
         while let Some(list) = lists.pop_front() {
@@ -56,11 +64,12 @@ impl<M: Accounts> Collector<M> {
             book,
             total,
             bookings,
+            sweeps,
         };
         let collector = Collector {
             counted: Mutex::new(counted),
         };
-        Ok((collector, seats))
+        Ok((collector, seats, desk))
     }
 
     /// Applies a note of the seat's venue; the seat gains the shares that cease to be open, and the note as one that
@@ -121,12 +130,19 @@ impl<M: Accounts> Collector<M> {
     }
 
     /// Lends the book to a closure that only opens sweeps.
-    pub fn lend<T, F: FnOnce(&mut Book) -> T>(&self, rt: &impl Wait, f: F) -> T
+    pub fn lend<T, F: FnOnce(&mut Book) -> T>(
+        &self,
+        rt: &impl Wait,
+        side: &mut SeatSide<Sweep>,
+        f: F,
+    ) -> T
+        requires side { side.old.name ≡ M.sweeps }
         requires call { F.IsAlwaysCallable f }
         requires opens { (b : BookParts) (r : T) (c : BookParts) → FnOnceReturnsAtMut F.FnOnce f b r c → OnlyOpens b c }
-        ensures { (b : BookParts) × (c : BookParts) × FnOnceReturnsAtMut F.FnOnce f b result c }
+        ensures { (b : BookParts) × (c : BookParts) × FnOnceReturnsAtMut F.FnOnce f b result c
+            × IsSide M.sweeps b side.old.name side.old.items × IsSide M.sweeps c side.new.name side.new.items }
     {
-        self.counted.lock(rt).lend(f)
+        self.counted.lock(rt).lend(side, f)
     }
 
     /// Lends the book, beside a value of the caller's, to a closure that only opens sweeps.
@@ -134,14 +150,17 @@ impl<M: Accounts> Collector<M> {
         &self,
         rt: &impl Wait,
         beside: &mut D,
+        side: &mut SeatSide<Sweep>,
         f: F,
     ) -> T
+        requires side { side.old.name ≡ M.sweeps }
         requires call { F.IsAlwaysCallable f }
         requires opens { (x : D) (b : BookParts) (r : T) (y : D) (c : BookParts) →
             CallGives F.FnOnce f x b r y c → OnlyOpens b c }
-        ensures { (b : BookParts) × (c : BookParts) × CallGives F.FnOnce f beside.old b result beside.new c }
+        ensures { (b : BookParts) × (c : BookParts) × CallGives F.FnOnce f beside.old b result beside.new c
+            × IsSide M.sweeps b side.old.name side.old.items × IsSide M.sweeps c side.new.name side.new.items }
     {
-        self.counted.lock(rt).lend_beside(beside, f)
+        self.counted.lock(rt).lend_beside(beside, side, f)
     }
 
     /// The book and its count, once no thread shares the lock any more.

@@ -6,12 +6,15 @@ ghost use Rattle.leg.specs.Answering.{Answers};
 ghost use Rattle.share_ledger.specs.Book.{BookParts, apply, answer_to};
 ghost use Rattle.exec_collector.specs.Booked.{IsKept, withdraw_of};
 ghost use Rattle.exec_collector.specs.Calls.{CallGives};
+ghost use Rattle.exec_collector.specs.Opened.{IsSide};
 ghost use Rattle.exec_collector.specs.Resolved.{Replays, OnlyOpens, GainsBy, GainsLeg, resolved, sum_below};
 
+use crate::opened_sweeps::keep_opened;
 use crate::venue_bookings::{VenueBookings, add_note, add_withdrawal};
 use crate::{Accounts, WorkerSeat};
+use agreed_list::{BookSide, SeatSide};
 use dialect::Note;
-use leg::{LegId, Totals, VenueId};
+use leg::{LegId, Sweep, Totals, VenueId};
 use share_ledger::{Applied, Book, BookFault};
 use std::marker::Model;
 use std::sync::ledger::Book as Total;
@@ -25,6 +28,7 @@ pub struct CountedBook<M: Accounts> {
     pub(crate) book: Book,
     pub(crate) total: Total<M>,
     pub(crate) bookings: Vec<VenueBookings>,
+    pub(crate) sweeps: BookSide<Sweep>,
 }
 
 impl<M: Accounts> Model for CountedBook<M> {
@@ -32,6 +36,7 @@ impl<M: Accounts> Model for CountedBook<M> {
     ghost use Rattle.share_ledger.specs.Book.{BookParts};
     ghost use Rattle.exec_collector.specs.Resolved.{Replays, resolved};
     ghost use Rattle.exec_collector.specs.Sides.{AreWritten};
+    ghost use Rattle.exec_collector.specs.Opened.{IsSide};
 
     ghost Value = { BookParts };
 
@@ -40,7 +45,8 @@ impl<M: Accounts> Model for CountedBook<M> {
     ghost invariant = { λ counted. (counted.venues ≡ counted.book.venues) × (counted.venues ≤ 16)
         × Replays counted.book × (counted.total.total ≡ resolved counted.book)
         × (map (λ venue. venue.side.name) counted.bookings.items ≡ M.lists)
-        × AreWritten counted.book 0 counted.bookings.items };
+        × AreWritten counted.book 0 counted.bookings.items
+        × IsSide M.sweeps counted.book counted.sweeps.name counted.sweeps.items };
 }
 
 impl<M: Accounts> CountedBook<M> {
@@ -127,26 +133,46 @@ impl<M: Accounts> CountedBook<M> {
     }
 
     /// Lends the book to a closure that only opens sweeps.
-    pub fn lend<T, F: FnOnce(&mut Book) -> T>(&mut self, f: F) -> T
+    pub fn lend<T, F: FnOnce(&mut Book) -> T>(&mut self, side: &mut SeatSide<Sweep>, f: F) -> T
+        requires side { side.old.name ≡ M.sweeps }
         requires call { F.IsAlwaysCallable f }
         requires opens { (b : BookParts) (r : T) (c : BookParts) → FnOnceReturnsAtMut F.FnOnce f b r c → OnlyOpens b c }
-        ensures { FnOnceReturnsAtMut F.FnOnce f self.old result self.new }
+        ensures call { FnOnceReturnsAtMut F.FnOnce f self.old result self.new }
+        ensures agreed { IsSide M.sweeps self.old side.old.name side.old.items }
+        ensures side { IsSide M.sweeps self.new side.new.name side.new.items }
     {
-        f(&mut self.book)
+        let given = f(&mut self.book);
+        keep_opened(&mut self.sweeps, side, &self.book);
+        given
     }
 
     /// Lends the book, beside a value of the caller's, to a closure that only opens sweeps.
     pub fn lend_beside<D, T, F: FnOnce(&mut D, &mut Book) -> T>(
         &mut self,
         beside: &mut D,
+        side: &mut SeatSide<Sweep>,
         f: F,
     ) -> T
+        requires side { side.old.name ≡ M.sweeps }
         requires call { F.IsAlwaysCallable f }
         requires opens { (x : D) (b : BookParts) (r : T) (y : D) (c : BookParts) →
             CallGives F.FnOnce f x b r y c → OnlyOpens b c }
-        ensures { CallGives F.FnOnce f beside.old self.old result beside.new self.new }
+        ensures call { CallGives F.FnOnce f beside.old self.old result beside.new self.new }
+        ensures agreed { IsSide M.sweeps self.old side.old.name side.old.items }
+        ensures side { IsSide M.sweeps self.new side.new.name side.new.items }
     {
-        f(beside, &mut self.book)
+        let given = f(beside, &mut self.book);
+        keep_opened(&mut self.sweeps, side, &self.book);
+        given
+    }
+
+    /// Changes nothing, and tells that on the desk's side stand the sweeps that were opened here.
+    pub fn compare_sweeps(&mut self, side: &mut SeatSide<Sweep>)
+        requires { side.old.name ≡ M.sweeps }
+        ensures agreed { IsSide M.sweeps self.old side.old.name side.old.items }
+        ensures same { (self.new ≡ self.old) × (side.new.name ≡ side.old.name) × (side.new.items ≡ side.old.items) }
+    {
+        self.sweeps.compare(side);
     }
 }
 

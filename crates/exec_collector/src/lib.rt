@@ -28,6 +28,7 @@ mod booking;
 mod collector;
 mod counted_book;
 mod counting;
+mod opened_sweeps;
 mod venue_bookings;
 mod worker_seat;
 

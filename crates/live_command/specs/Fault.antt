@@ -1,7 +1,7 @@
 -- The faults of `dispatch live`.
 use Rattle.std.specs.Prelude.{ℕ}
-use Rattle.live_day.specs.declared.live_fault.LiveFault.{LiveFault}
-use Rattle.live_day.specs.declared.live_fault.LiveFault.TheVariants as live
+use Rattle.desk_venues.specs.declared.day_fault.DayFault.{DayFault}
+use Rattle.desk_venues.specs.declared.day_fault.DayFault.TheVariants as day
 use Rattle.live_command.specs.declared.fault.CommandFault.{CommandFault}
 use Rattle.live_command.specs.declared.fault.CommandFault.TheVariants.{
   CommandLine,
@@ -37,11 +37,14 @@ IsOfCommandLine (CommandLine error) = Unit {0}
 IsOfCommandLine OutOfMemory = Unit {0}
 IsOfCommandLine other = ⊥
 
--- the fault of a day that can't be run, or whose audit fails
-abbrev pub live_fault : LiveFault → CommandFault
-live_fault live.NoSocket = NoSocket
-live_fault live.NoThread = NoThread
-live_fault live.OutOfMemory = OutOfMemory
-live_fault live.MismatchQueue = MismatchQueue
-live_fault live.MismatchShares = MismatchShares
-live_fault live.MismatchPlaced = MismatchPlaced
+-- the fault of a day that can't be run, or whose audit fails. A day over loopback keeps no logs and has no page
+abbrev pub day_fault : DayFault → CommandFault
+day_fault (day.NoAddress place) = NoSocket
+day_fault (day.NoLogs fault) = NoSocket
+day_fault day.NoPage = NoSocket
+day_fault day.NoSocket = NoSocket
+day_fault day.NoThread = NoThread
+day_fault day.OutOfMemory = OutOfMemory
+day_fault day.MismatchQueue = MismatchQueue
+day_fault day.MismatchShares = MismatchShares
+day_fault day.MismatchPlaced = MismatchPlaced

@@ -3,7 +3,7 @@ use Rattle.std.specs.Prelude.{ℕ, ◌&&◌, List, Option, Some, None, Result, O
 use Rattle.std.specs.Option.{ok_or}
 use Rattle.fix_text.specs.Then.{◌>>=◌}
 use Rattle.fix_tags.specs.Number.{number_of}
-use Rattle.live_day.specs.declared.live_plan.LivePlan.{LivePlan}
+use Rattle.live_load.specs.declared.live_plan.LivePlan.{LivePlan}
 use Rattle.live_command.specs.declared.fault.CommandFault.{CommandFault}
 use Rattle.live_command.specs.declared.fault.CommandFault.TheVariants.{BadNumber}
 use Rattle.live_command.specs.declared.option.LiveOption.{LiveOption}

@@ -3,8 +3,8 @@ use Rattle.std.specs.Prelude.{ℕ, List, [], ◌∷◌, ◌++◌, codes, decimal
 use Rattle.std.specs.List.{flat_map}
 use Rattle.world_text.specs.SweepLine.{shares_line}
 use Rattle.desk_news.specs.declared.sweep_parts.SweepParts.{SweepParts}
-use Rattle.live_day.specs.declared.day.LiveDay.{LiveDay}
-use Rattle.live_day.specs.declared.day.LiveVenue.{LiveVenue}
+use Rattle.live_load.specs.declared.day.LiveDay.{LiveDay}
+use Rattle.live_load.specs.declared.day.LiveVenue.{LiveVenue}
 use Rattle.session_worker.specs.declared.day_report.DayReport.{DayReport}
 
 -- the line of a sweep

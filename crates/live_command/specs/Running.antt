@@ -6,9 +6,9 @@ use Rattle.command_line.specs.ExitStatus.{exit_status}
 use Rattle.share_ledger.specs.Book.{BookParts}
 use Rattle.exec_collector.specs.Resolved.{Replays}
 use Rattle.day_sweeps.specs.Sweeps.{sweeps_in}
-use Rattle.live_day.specs.declared.day.LiveDay.{LiveDay}
-use Rattle.live_day.specs.declared.live_plan.LivePlan.{LivePlan}
-use Rattle.live_day.specs.Day.{shares_each}
+use Rattle.live_load.specs.declared.day.LiveDay.{LiveDay}
+use Rattle.live_load.specs.declared.live_plan.LivePlan.{LivePlan}
+use Rattle.live_load.specs.Day.{shares_each}
 use Rattle.live_command.specs.declared.fault.CommandFault.{CommandFault}
 use Rattle.live_command.specs.declared.fault.CommandFault.TheVariants.{
   CommandLine,

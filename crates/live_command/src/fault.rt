@@ -1,12 +1,12 @@
 //! Why `dispatch live` failed.
 ghost use Rattle.std.specs.Prelude.{◌≡◌};
 ghost use Rattle.live_command.specs.declared.fault.CommandFault.TheVariants.{OutOfMemory, WriteFailed};
-ghost use Rattle.live_command.specs.Fault.{IsOfCommandLine, fault_status, live_fault};
+ghost use Rattle.live_command.specs.Fault.{IsOfCommandLine, fault_status, day_fault};
 
 use crate::option::LiveOption;
 use clap::error::ErrorKind;
 use command_line::Fault;
-use live_day::LiveFault;
+use desk_venues::DayFault;
 use std::alloc::AllocError;
 use thiserror::Error;
 
@@ -103,17 +103,20 @@ impl From<clap::Error> for CommandFault {
     }
 }
 
-impl From<LiveFault> for CommandFault {
-    ghost from_gives = { λ fault given. given ≡ live_fault fault };
+impl From<DayFault> for CommandFault {
+    ghost from_gives = { λ fault given. given ≡ day_fault fault };
 
-    fn from(fault: LiveFault) -> CommandFault {
+    fn from(fault: DayFault) -> CommandFault {
         match fault {
-            LiveFault::NoSocket => CommandFault::NoSocket,
-            LiveFault::NoThread => CommandFault::NoThread,
-            LiveFault::OutOfMemory => CommandFault::OutOfMemory,
-            LiveFault::MismatchQueue => CommandFault::MismatchQueue,
-            LiveFault::MismatchShares => CommandFault::MismatchShares,
-            LiveFault::MismatchPlaced => CommandFault::MismatchPlaced,
+            DayFault::NoAddress(_) => CommandFault::NoSocket,
+            DayFault::NoLogs(_) => CommandFault::NoSocket,
+            DayFault::NoPage => CommandFault::NoSocket,
+            DayFault::NoSocket => CommandFault::NoSocket,
+            DayFault::NoThread => CommandFault::NoThread,
+            DayFault::OutOfMemory => CommandFault::OutOfMemory,
+            DayFault::MismatchQueue => CommandFault::MismatchQueue,
+            DayFault::MismatchShares => CommandFault::MismatchShares,
+            DayFault::MismatchPlaced => CommandFault::MismatchPlaced,
         }
     }
 }

@@ -21,7 +21,7 @@ mod text;
 
 use command_line::{finish, print};
 pub use fault::CommandFault;
-use live_day::run_live;
+use live_load::run_live;
 pub use option::LiveOption;
 pub use options::{Options, live_command, read_options};
 pub use plan::plan_of;
@@ -29,6 +29,7 @@ use progress::Watch;
 use readiness::Readiness;
 use std::alloc::Global;
 use std::convert::AsStr;
+use std::fs::{File, Files};
 use std::io::{IsTerminal, Write};
 use std::net::{Net, TcpListener, TcpStream};
 use std::os::fd::AsRawFd;
@@ -55,7 +56,12 @@ pub fn live_run<S, R, I, T, W, E>(
 ) -> u8
 where
     S: AsStr,
-    R: Net<Listener = TcpListener, Stream = TcpStream> + Threads + Wait + Clock + Sync,
+    R: Net<Listener = TcpListener, Stream = TcpStream>
+        + Files<File = File>
+        + Threads
+        + Wait
+        + Clock
+        + Sync,
     I: AsRawFd,
     T: Write + IsTerminal + Drop + Send,
     W: Write,
@@ -75,7 +81,12 @@ fn live<S, R, I, T, W>(
 ) -> Result<(), CommandFault>
 where
     S: AsStr,
-    R: Net<Listener = TcpListener, Stream = TcpStream> + Threads + Wait + Clock + Sync,
+    R: Net<Listener = TcpListener, Stream = TcpStream>
+        + Files<File = File>
+        + Threads
+        + Wait
+        + Clock
+        + Sync,
     I: AsRawFd,
     T: Write + IsTerminal + Drop + Send,
     W: Write,

@@ -1,13 +1,13 @@
 //! The day that `dispatch live` is asked to run.
 ghost use Rattle.std.specs.Prelude.{◌≡◌, ◌≤◌, IfOk};
-ghost use Rattle.live_day.specs.Day.{IsLivePlan};
+ghost use Rattle.live_load.specs.Day.{IsLivePlan};
 ghost use Rattle.live_command.specs.LivePlan.{given, number_in, plan_of};
 
 use crate::fault::CommandFault;
 use crate::option::LiveOption;
 use crate::options::Options;
 use fix_tags::read_number;
-use live_day::LivePlan;
+use live_load::LivePlan;
 
 /// The most venues.
 const MAX_VENUES: u64 = 16;

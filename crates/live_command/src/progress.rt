@@ -1,6 +1,6 @@
 //! What watches a day while it runs.
 
-use live_day::{Progress, SoFar};
+use live_load::{Progress, SoFar};
 use readiness::Readiness;
 use std::io::{IsTerminal, Write};
 use std::time::Duration;

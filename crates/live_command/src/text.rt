@@ -3,7 +3,7 @@ ghost use Rattle.std.specs.Prelude.{◌≡◌, ◌++◌, IfOk, OnOk, string_byte
 ghost use Rattle.live_command.specs.LiveText.{day_text, report_line, sweep_lines, venue_line, venue_lines};
 
 use desk_news::SweepParts;
-use live_day::{LiveDay, LiveVenue};
+use live_load::{LiveDay, LiveVenue};
 use session_worker::DayReport;
 use std::alloc::{AllocError, Global};
 use world_text::write_sweep_line;

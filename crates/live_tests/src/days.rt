@@ -2,7 +2,7 @@
 
 use desk_news::SweepParts;
 use leg::Totals;
-use live_day::{LiveDay, LivePlan, Progress, SoFar, run_live};
+use live_load::{LiveDay, LivePlan, Progress, SoFar, run_live};
 use session_worker::DayReport;
 use std::process::Abort;
 use std::test::Fail;

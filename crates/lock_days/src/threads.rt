@@ -57,7 +57,9 @@ fn calls<L: Run, M: Accounts>(
     lock: &ReleaseLock<L>,
     collector: &Collector<M>,
     seat: CallerSeat<L>,
-) -> CallerSeat<L> {
+) -> CallerSeat<L>
+    requires tied { L.sweeps ≡ M.sweeps }
+{
     let mut seat = seat;
     for _ in 0..SWEEPS {
         if let Ok(sweep) = sweep_each(alloc, VENUES, 1) {
@@ -155,7 +157,9 @@ fn in_threads<L: Run + Send + Sync, M: Accounts + Send + Sync, R: Threads + Wait
     rt: &R,
     alloc: Global,
     floor: Floor<L, M>,
-) -> Result<CrowdEnd, TrialFault> {
+) -> Result<CrowdEnd, TrialFault>
+    requires tied { L.sweeps ≡ M.sweeps }
+{
     let Floor {
         lock,
         collector,
@@ -169,11 +173,17 @@ fn in_threads<L: Run + Send + Sync, M: Accounts + Send + Sync, R: Threads + Wait
     let shared = (&lock, &collector);
     let (released, worked) = join(
         rt,
-        || map_vec(
-            rt,
-            callers,
-            &|seat| calls(rt, alloc, shared.0, shared.1, seat),
-        ),
+        ||
+            requires { L.sweeps ≡ M.sweeps }
+        {
+            map_vec(
+                rt,
+                callers,
+                &|seat|
+                    requires { L.sweeps ≡ M.sweeps }
+                { calls(rt, alloc, shared.0, shared.1, seat) },
+            )
+        },
         || map_vec(
             rt,
             posts,
@@ -192,6 +202,7 @@ fn crowd_at<L: Run + Send + Sync, M: Accounts + Send + Sync, R: Threads + Wait +
     requires lock { (site.callers.name ≡ L.name) × (L.parts ≡ 1024)
         × (L.queues ≡ map (λ ends. ends.0.table) site.rings.items) }
     requires book { (site.workers.name ≡ M.name) × (M.parts ≡ site.venues) × (site.workers.lists ≡ M.lists) }
+    requires sweeps { (site.workers.sweeps ≡ M.sweeps) × (L.sweeps ≡ M.sweeps) }
 {
     in_threads(rt, alloc, Floor::<L, M>::open(alloc, site)?)
 }

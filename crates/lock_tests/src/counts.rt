@@ -5,6 +5,7 @@ ghost use Rattle.exec_collector.specs.Resolved.{OnlyOpens};
 
 use crate::orders::sweep;
 use crate::reports::{report, trade};
+use agreed_list::SeatSide;
 use dialect::{Note, ReportKind};
 use exec_collector::{Accounts, BlankBook, Collector, Miscounted, WorkerSeat, check_count};
 use leg::{LegId, Sweep, Totals};
@@ -27,9 +28,12 @@ fn opens_in<M: Accounts>(
     rt: &impl Wait,
     alloc: Global,
     collector: &Collector<M>,
-) -> Result<(), Fail> {
+    opened: &mut SeatSide<Sweep>,
+) -> Result<(), Fail>
+    requires { opened.old.name ≡ M.sweeps }
+{
     let legs = sweep(alloc, &[(0, 100), (1, 100), (1, 30)])?;
-    collector.lend(rt, |book: &mut Book| opens(book, &legs))?;
+    collector.lend(rt, opened, |book: &mut Book| opens(book, &legs))?;
     Ok(())
 }
 
@@ -102,10 +106,10 @@ fn two_workers<M: Accounts + Send + Sync, R: Threads + Wait + Sync>(
 ) -> Result<Seen, Fail>
     requires name { blank.name ≡ M.name }
     requires parts { (blank.parts ≡ M.parts) × (M.parts ≡ 2) }
-    requires lists { blank.lists ≡ M.lists }
+    requires lists { (blank.lists ≡ M.lists) × (blank.sweeps ≡ M.sweeps) }
 {
-    let (collector, mut seats) = Collector::<M>::new(alloc, 2, blank)?;
-    opens_in(rt, alloc, &collector)?;
+    let (collector, mut seats, mut opened) = Collector::<M>::new(alloc, 2, blank)?;
+    opens_in(rt, alloc, &collector, &mut opened)?;
     let mut second = seats.pop().ok_or("a seat")?;
     let mut first = seats.pop().ok_or("a seat")?;
     let as_wanted = both_work(rt, alloc, &collector, &mut first, &mut second)?;

@@ -52,7 +52,9 @@ pub(crate) fn releases<L: Run, M: Accounts>(
     orders: Sweep,
     wanted: Result<Receipt, ReleaseFault>,
     shares: u64,
-) -> Result<(), Fail> {
+) -> Result<(), Fail>
+    requires tied { L.sweeps ≡ M.sweeps }
+{
     if lock.release(rt, collector, orders, seat) != wanted || seat.shares() != shares {
         return Err(Fail::from("the receipt and the seat"));
     }

@@ -1,5 +1,7 @@
 //! A ring and a backlog at their limits.
 
+ghost use Rattle.std.specs.Prelude.{◌≡◌};
+
 use crate::desk::{lowers, placed_at, pops_to, received, releases};
 use crate::orders::legs_of_ten;
 use exec_collector::{Accounts, Collector};
@@ -18,7 +20,9 @@ fn fills<L: Run, M: Accounts>(
     collector: &Collector<M>,
     seat: &mut CallerSeat<L>,
     numbers: Range<u64>,
-) -> Result<(), Fail> {
+) -> Result<(), Fail>
+    requires tied { L.sweeps ≡ M.sweeps }
+{
     for number in numbers {
         let receipt = lock.release(rt, collector, legs_of_ten(alloc, 32)?, seat);
         if receipt != received(number, 320) {
@@ -85,7 +89,9 @@ pub(crate) fn fills_up<L: Run, M: Accounts>(
     collector: &Collector<M>,
     seat: &mut CallerSeat<L>,
     drain: &mut VenueDrain<L>,
-) -> Result<(), Fail> {
+) -> Result<(), Fail>
+    requires tied { L.sweeps ≡ M.sweeps }
+{
     lock.raise(rt, drain)?;
     fills(rt, alloc, lock, collector, seat, 1..9)?;
     are_behind(rt, lock, drain, 192)?;
@@ -108,7 +114,9 @@ pub(crate) fn moves_on<L: Run, M: Accounts>(
     collector: &Collector<M>,
     seat: &mut CallerSeat<L>,
     drain: &mut VenueDrain<L>,
-) -> Result<(), Fail> {
+) -> Result<(), Fail>
+    requires tied { L.sweeps ≡ M.sweeps }
+{
     lock.raise(rt, drain)?;
     fills(rt, alloc, lock, collector, seat, 1..4)?;
     if !pops_to(rt, drain, 5) {

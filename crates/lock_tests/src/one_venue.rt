@@ -49,17 +49,18 @@ fn at_one_venue<L: Run, M: Accounts>(
 ) -> Result<u64, Fail>
     requires callers { (callers.name ≡ L.name) × (callers.parts ≡ L.parts) × (L.parts ≡ 1024) }
     requires workers { (workers.name ≡ M.name) × (workers.parts ≡ M.parts) × (M.parts ≡ 1) }
-    requires lists { workers.lists ≡ M.lists }
+    requires lists { (workers.lists ≡ M.lists) × (workers.sweeps ≡ M.sweeps) }
+    requires tied { L.sweeps ≡ M.sweeps }
     requires rings { (length rings.items ≡ 1) × All IsFresh rings.items }
     requires queues { L.queues ≡ map (λ ends. ends.0.table) rings.items }
 {
-    let (collector, mut workers) = Collector::<M>::new(alloc, 1, workers)?;
+    let (collector, mut workers, opened) = Collector::<M>::new(alloc, 1, workers)?;
     let mut worker = workers.pop().ok_or("a seat")?;
     let Opened {
         lock,
         mut seat,
         mut drains,
-    } = ReleaseLock::<L>::new(alloc, 1, callers, rings)?;
+    } = ReleaseLock::<L>::new(alloc, 1, callers, rings, opened)?;
     let mut drain = drains.pop().ok_or("a drain")?;
     match trial {
         Trial::ReadsBack => reads_back(

@@ -1,5 +1,7 @@
 //! What was released is read back from desk, book and ring.
 
+ghost use Rattle.std.specs.Prelude.{◌≡◌};
+
 use crate::desk::{last_sweep, pops_to, received, releases};
 use crate::orders::sweep;
 use crate::reports::{report, trade};
@@ -93,7 +95,9 @@ pub(crate) fn reads_back<L: Run, M: Accounts>(
     seat: &mut CallerSeat<L>,
     drain: &mut VenueDrain<L>,
     worker: &mut WorkerSeat<M>,
-) -> Result<(), Fail> {
+) -> Result<(), Fail>
+    requires tied { L.sweeps ≡ M.sweeps }
+{
     let down = Err(ReleaseFault::GateShut(drain.venue()));
     let one = sweep(alloc, &[(0, 10)])?;
     releases(rt, lock, collector, seat, one, down, 0)?;
@@ -113,7 +117,9 @@ fn first_sweep<L: Run, M: Accounts>(
     collector: &Collector<M>,
     seat: &mut CallerSeat<L>,
     drain: &mut VenueDrain<L>,
-) -> Result<(), Fail> {
+) -> Result<(), Fail>
+    requires tied { L.sweeps ≡ M.sweeps }
+{
     let one = sweep(alloc, &[(0, 10)])?;
     releases(rt, lock, collector, seat, one, received(1, 10), 10)?;
     let wanted = Kept {
@@ -137,7 +143,9 @@ fn second_sweep<L: Run, M: Accounts>(
     collector: &Collector<M>,
     seat: &mut CallerSeat<L>,
     drain: &mut VenueDrain<L>,
-) -> Result<(), Fail> {
+) -> Result<(), Fail>
+    requires tied { L.sweeps ≡ M.sweeps }
+{
     let two = sweep(alloc, &[(0, 10), (0, 20)])?;
     releases(rt, lock, collector, seat, two, received(2, 30), 40)?;
     let wanted = Kept {

@@ -1,8 +1,8 @@
 -- What a log says of an order.
-use Rattle.std.specs.Prelude.{ℕ, Bool, true, false, ◌&&◌, ◌||◌, not, List, codes, Option, Some, None, slice_get, nat_le, nat_lt, ◌==◌, if◌then◌else◌}
+use Rattle.std.specs.Prelude.{ℕ, Bool, true, false, ◌&&◌, ◌||◌, not, List, codes, Option, Some, None, slice_get, nat_le, nat_lt, if◌then◌else◌}
 use Rattle.log_rules.specs.declared.standing.Standing.{Standing}
 use Rattle.log_rules.specs.Order.{OrderParts}
-use Rattle.log_legs.specs.KeptLeg.{LegParts}
+use Rattle.log_legs.specs.KeptLeg.{LegParts, is_gone}
 use Rattle.log_legs.specs.Legs.{LegsParts, WatchParts}
 use Rattle.log_legs.specs.Parts.{parts_sum, totals_of}
 use Rattle.log_legs.specs.declared.fate.Fate.{Fate}
@@ -14,14 +14,10 @@ use Rattle.log_legs.specs.declared.leg_said.LegSaid.{LegSaid}
 abbrev pub is_taken : Standing → Bool → OrderParts → LegParts → Bool
 is_taken s is_old o leg = leg.is_reported || (not is_old && not o.is_withdrawn && nat_le o.number s.passed)
 
--- it was asked for again in doubt, and never sent again
-abbrev pub is_gone : OrderParts → LegParts → Bool
-is_gone o leg = o.is_withdrawn && (leg.sent == 1)
-
 -- what became of it
 abbrev pub fate_of : Standing → Bool → OrderParts → LegParts → Fate
 fate_of s is_old o leg =
-    if is_taken s is_old o leg then Taken else (if is_gone o leg then Withdrawn else Doubt)
+    if is_gone o.is_withdrawn leg then Withdrawn else (if is_taken s is_old o leg then Taken else Doubt)
 
 abbrev pub is_withdrawn : Fate → Bool
 is_withdrawn Withdrawn = true

@@ -1,11 +1,8 @@
 -- An order of a log, and what became of its shares.
-use Rattle.std.specs.Prelude.{ℕ, ◌+◌, ◌-◌, ◌^◌, min, Bool, true, false, List, [], ◌∷◌, ◌++◌, codes, Option, Some, None, option_and_then, if◌then◌else◌}
-use Rattle.std.specs.Str.{bytes_eq}
-use Rattle.fix_tags.specs.Price.{price_of}
+use Rattle.std.specs.Prelude.{ℕ, ◌+◌, ◌-◌, ◌^◌, min, Bool, true, false, ◌&&◌, List, [], ◌∷◌, ◌++◌, Option, Some, None, ◌==◌, if◌then◌else◌}
 use Rattle.leg.specs.declared.side.Side.{Side}
-use Rattle.leg.specs.declared.side.Side.TheVariants.{Buy, Sell}
 use Rattle.log_rules.specs.declared.order_said.OrderSaid.{OrderSaid}
-use Rattle.log_legs.specs.Parts.{ShareParts, all_open, moved}
+use Rattle.log_legs.specs.Parts.{ShareParts, all_open, moved, parts_sum}
 use Rattle.log_legs.specs.declared.share_move.Move.{Move}
 
 -- what an order buys or sells, as far as it can be read, how often it was sent, whether a report on it was counted, and
@@ -24,20 +21,12 @@ symbol_said None suffix = []
 symbol_said (Some symbol) None = symbol
 symbol_said (Some symbol) (Some suffix) = symbol ++ 46 ∷ suffix
 
--- the side (54)
-abbrev pub side_of : List ℕ → Option Side
-side_of text =
-    if bytes_eq text (codes "1") then Some Buy else (if bytes_eq text (codes "2") then Some Sell else None)
-
-abbrev pub side_said : Option (List ℕ) → Option Side
-side_said side = option_and_then side_of side
-
 -- an order that is sent for the first time
 abbrev pub new_leg : OrderSaid → LegParts
 new_leg said = record {
   symbol = symbol_said said.symbol said.suffix;
-  side = side_said said.side;
-  price = option_and_then price_of said.price;
+  side = said.side;
+  price = said.price;
   sent = 1;
   is_reported = false;
   parts = all_open said.shares;
@@ -47,6 +36,11 @@ new_leg said = record {
 abbrev pub sent_again : LegParts → LegParts
 sent_again leg = record leg { sent = min (leg.sent + 1) (2 ^ 64 - 1) }
 
--- a report on it is counted
-abbrev pub reported : Move → LegParts → LegParts
-reported change leg = record leg { is_reported = true; parts = moved change leg.parts }
+-- it was asked for again in doubt, and never sent again, while all of its shares were open
+abbrev pub is_gone : Bool → LegParts → Bool
+is_gone is_withdrawn leg = is_withdrawn && (leg.sent == 1) && (leg.parts.still_open == parts_sum leg.parts)
+
+-- a report on it is counted: no share of an order that is gone moves
+abbrev pub reported : Bool → Move → LegParts → LegParts
+reported is_withdrawn change leg =
+    if is_gone is_withdrawn leg then leg else record leg { is_reported = true; parts = moved change leg.parts }

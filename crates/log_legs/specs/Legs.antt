@@ -1,5 +1,5 @@
 -- The orders of a log, each with what became of its shares, in the order in which they were first sent.
-use Rattle.std.specs.Prelude.{ℕ, zero, suc, Bool, List, [], ◌∷◌, ◌++◌, length, Option, Some, None, option_map, if◌then◌else◌}
+use Rattle.std.specs.Prelude.{ℕ, zero, suc, Bool, false, List, [], ◌∷◌, ◌++◌, length, Option, Some, None, option_map, slice_get, if◌then◌else◌}
 use Rattle.std.specs.Option.{option_or}
 use Rattle.message_log.specs.declared.direction.Direction.{Direction}
 use Rattle.message_log.specs.declared.direction.Direction.TheVariants.{Sent, Received}
@@ -7,16 +7,17 @@ use Rattle.log_rules.specs.declared.entry.Entry.{Entry}
 use Rattle.log_rules.specs.declared.order_said.OrderSaid.{OrderSaid}
 use Rattle.log_rules.specs.declared.report_said.ReportSaid.{ReportSaid}
 use Rattle.log_rules.specs.declared.says.Says.{Says}
-use Rattle.log_rules.specs.declared.says.Says.TheVariants.{Logon, Order, Report}
+use Rattle.log_rules.specs.declared.says.Says.TheVariants.{Logon, Refused, Order, Report}
 use Rattle.log_rules.specs.Checker.{CheckerParts, heard, new_checker}
-use Rattle.log_rules.specs.Ledger.{newest_order}
+use Rattle.log_rules.specs.Ledger.{LedgerParts, newest_order, newest_under}
+use Rattle.log_rules.specs.Order.{OrderParts}
 use Rattle.log_rules.specs.Standing.{is_due}
 use Rattle.log_legs.specs.Close.{close_after, is_over}
 use Rattle.log_legs.specs.declared.close.Close.{Close}
 use Rattle.log_legs.specs.declared.close.Close.TheVariants.{Open}
 use Rattle.log_legs.specs.KeptLeg.{LegParts, new_leg, reported, sent_again}
 use Rattle.log_legs.specs.Parts.{move_of}
-use Rattle.log_legs.specs.declared.share_move.Move.{Move}
+use Rattle.log_legs.specs.declared.share_move.Move.TheVariants.{Ends}
 use Rattle.log_legs.specs.declared.leg_heard.LegHeard.{LegHeard}
 use Rattle.log_legs.specs.declared.leg_heard.LegHeard.TheVariants.{Nothing, Reset, First, Again, Moves}
 use Rattle.log_legs.specs.declared.leg_list.LegList.{LegList}
@@ -42,18 +43,34 @@ abbrev pub order_heard : Option ℕ → OrderSaid → LegHeard
 order_heard None said = First (new_leg said)
 order_heard (Some place) said = Again place
 
-abbrev pub report_heard : Option ℕ → Move → LegHeard
-report_heard None change = Nothing
-report_heard (Some place) change = Moves place change
+abbrev pub is_withdrawn_in : Option OrderParts → Bool
+is_withdrawn_in None = false
+is_withdrawn_in (Some o) = o.is_withdrawn
 
--- what a message does to the orders: one is sent, or again; a report on it is counted; or the numbers are reset
+-- whether the order at a place was asked for again in doubt
+abbrev pub is_withdrawn_at : List OrderParts → ℕ → Bool
+is_withdrawn_at orders place = is_withdrawn_in (slice_get orders place)
+
+abbrev pub report_heard : LedgerParts → Option ℕ → ℕ → ReportSaid → LegHeard
+report_heard l None number said = Nothing
+report_heard l (Some place) number said =
+    Moves place (is_withdrawn_at l.orders place) (move_of l.reports place number said)
+
+abbrev pub refusal_heard : LedgerParts → Option ℕ → LegHeard
+refusal_heard l None = Nothing
+refusal_heard l (Some place) = Moves place (is_withdrawn_at l.orders place) Ends
+
+-- what a message does to the orders: one is sent, or again; a report on it or its refusal is counted; or the numbers
+-- are reset
 abbrev pub heard_with : CheckerParts → Direction → Says → ℕ → LegHeard
 heard_with c Sent (Logon heart reset next) number = if reset then Reset else Nothing
 heard_with c Sent (Order said) number = order_heard (newest_order c.ledger.orders said.id) said
 heard_with c Received (Report said) number =
     if is_due c.standing.counted number
-    then report_heard (newest_order c.ledger.orders said.id) (move_of c.ledger.reports said.happened)
+    then report_heard c.ledger (newest_order c.ledger.orders said.id) number said
     else Nothing
+heard_with c Received (Refused order) number =
+    if is_due c.standing.counted number then refusal_heard c.ledger (newest_under c.ledger.orders order) else Nothing
 heard_with c direction says number = Nothing
 
 abbrev pub leg_heard : CheckerParts → Entry → LegHeard
@@ -65,7 +82,8 @@ applied Nothing l = l
 applied Reset l = record l { begun = length l.legs }
 applied (First leg) l = record l { legs = l.legs ++ leg ∷ [] }
 applied (Again place) l = record l { legs = leg_changed sent_again place l.legs }
-applied (Moves place change) l = record l { legs = leg_changed (reported change) place l.legs }
+applied (Moves place is_withdrawn change) l =
+    record l { legs = leg_changed (reported is_withdrawn change) place l.legs }
 
 -- what is known of a log: what its rules ask, its orders where they are asked for, how far the session's end is, and
 -- the place of the first order that was sent once the session had logged out

@@ -1,10 +1,11 @@
 -- What became of an order's shares by the reports on it (FIX 4.4 Volume 4, ExecType, LastQty, ExecRefID).
-use Rattle.std.specs.Prelude.{ℕ, ◌+◌, ◌-◌, ◌^◌, ◌<◌, Bool, List, Option, Some, None, nat_le, if◌then◌else◌}
+use Rattle.std.specs.Prelude.{ℕ, ◌+◌, ◌-◌, ◌^◌, ◌<◌, Bool, ◌||◌, List, length, Option, Some, None, nat_le, nat_lt, if◌then◌else◌}
 use Rattle.leg.specs.declared.totals.Totals.{Totals}
 use Rattle.log_rules.specs.declared.report_said.Happening.{Happening}
 use Rattle.log_rules.specs.declared.report_said.Happening.TheVariants as happening
+use Rattle.log_rules.specs.declared.report_said.ReportSaid.{ReportSaid}
 use Rattle.log_rules.specs.KeptReport.{ReportParts}
-use Rattle.log_rules.specs.Ledger.{shares_of_exec}
+use Rattle.log_rules.specs.Ledger.{comes_again, shares_of_exec}
 use Rattle.log_legs.specs.declared.share_move.Move.{Move}
 use Rattle.log_legs.specs.declared.share_move.Move.TheVariants.{Tells, Trades, Ends, Busts}
 
@@ -49,13 +50,23 @@ abbrev pub bust_move : Option ℕ → Move
 bust_move None = Tells
 bust_move (Some shares) = Busts shares
 
--- what a report does to the shares of its order
-abbrev pub move_of : List ReportParts → Happening → Move
-move_of reports (happening.Trade shares) = Trades shares
-move_of reports happening.Ended = Ends
-move_of reports (happening.Bust undone) = bust_move (shares_of_exec undone reports)
-move_of reports happening.New = Tells
-move_of reports happening.Other = Tells
+-- what happened does to the shares of an order, which stands at this place
+abbrev pub move_by : List ReportParts → ℕ → Happening → Move
+move_by reports place (happening.Trade shares) = Trades shares
+move_by reports place happening.Ended = Ends
+move_by reports place (happening.Bust undone) = bust_move (shares_of_exec undone (Some place) reports)
+move_by reports place happening.New = Tells
+move_by reports place happening.Other = Tells
+move_by reports place happening.Unknown = Tells
+
+-- a desk takes no report whose ExecID (17) has more than 64 bytes, or came before under another number
+abbrev pub is_dropped : List ReportParts → ℕ → List ℕ → Bool
+is_dropped reports number exec = nat_lt 64 (length exec) || comes_again exec number reports
+
+-- what a report under a number does to the shares of its order, which stands at this place
+abbrev pub move_of : List ReportParts → ℕ → ℕ → ReportSaid → Move
+move_of reports place number said =
+    if is_dropped reports number said.exec then Tells else move_by reports place said.happened
 
 -- the five parts of the shares: of a withdrawn order what is open is withdrawn
 abbrev pub totals_of : Bool → ShareParts → Totals

@@ -31,7 +31,7 @@ impl Close {
     }
 
     /// Whether the session logged out.
-    pub(crate) fn is_over(self) -> bool
+    pub fn is_over(self) -> bool
         ensures { result ≡ is_over self }
     {
         self != Close::Open

@@ -1,7 +1,7 @@
 //! What became of an order.
 
 ghost use Rattle.std.specs.Prelude.{◌≡◌};
-ghost use Rattle.log_legs.specs.Fate.{fate_of, fate_text, is_gone, is_taken, is_withdrawn};
+ghost use Rattle.log_legs.specs.Fate.{fate_of, fate_text, is_taken, is_withdrawn};
 
 use crate::kept_leg::KeptLeg;
 use log_rules::{Order, Standing};
@@ -11,7 +11,8 @@ use log_rules::{Order, Standing};
 pub enum Fate {
     /// The exchange took it.
     Taken,
-    /// The exchange asked for it again while it was in doubt, and it was never sent again.
+    /// The exchange asked for it again while it was in doubt and all of its shares were open, and it was never sent
+    /// again.
     Withdrawn,
     /// Neither is known.
     Doubt,
@@ -23,22 +24,16 @@ fn is_taken(standing: &Standing, is_old: bool, order: &Order, leg: &KeptLeg) -> 
     leg.is_reported() || (!is_old && !order.is_withdrawn() && order.number() <= standing.passed)
 }
 
-fn is_gone(order: &Order, leg: &KeptLeg) -> bool
-    ensures { result ≡ is_gone order.now leg.now }
-{
-    order.is_withdrawn() && leg.sent() == 1
-}
-
 impl Fate {
     /// What became of an order, where the two ends stand so. An old one was sent before the last Logon that reset the
     /// numbers.
     pub(crate) fn of(standing: &Standing, is_old: bool, order: &Order, leg: &KeptLeg) -> Fate
         ensures { result ≡ fate_of standing.now is_old order.now leg.now }
     {
-        if is_taken(standing, is_old, order, leg) {
-            Fate::Taken
-        } else if is_gone(order, leg) {
+        if leg.is_gone(order.is_withdrawn()) {
             Fate::Withdrawn
+        } else if is_taken(standing, is_old, order, leg) {
+            Fate::Taken
         } else {
             Fate::Doubt
         }

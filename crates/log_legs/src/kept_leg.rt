@@ -1,12 +1,11 @@
 //! An order of a log, and what became of its shares.
 
-ghost use Rattle.std.specs.Prelude.{◌≡◌, option_and_then, IfOk};
-ghost use Rattle.fix_tags.specs.Price.{price_of};
-ghost use Rattle.log_legs.specs.KeptLeg.{new_leg, reported, sent_again, side_said, symbol_said};
+ghost use Rattle.std.specs.Prelude.{◌≡◌, IfOk};
+ghost use Rattle.log_legs.specs.KeptLeg.{is_gone, new_leg, reported, sent_again, symbol_said};
 
 use crate::share_move::Move;
 use crate::share_parts::ShareParts;
-use fix_tags::{TextRef, read_price};
+use fix_tags::TextRef;
 use leg::Side;
 use log_rules::OrderSaid;
 use std::alloc::{AllocError, Global};
@@ -58,30 +57,6 @@ fn symbol_of(
     Ok(text)
 }
 
-/// The side of a value of tag 54.
-fn side_of(side: &Option<TextRef<'_>>) -> Option<Side>
-    ensures { result ≡ side_said side.now }
-{
-    let Some(side) = side else {
-        return None;
-    };
-    match side.as_bytes() {
-        b"1" => Some(Side::Buy),
-        b"2" => Some(Side::Sell),
-        _ => None,
-    }
-}
-
-/// The price of a value of tag 44.
-fn price_of(price: &Option<TextRef<'_>>) -> Option<u64>
-    ensures { result ≡ option_and_then price_of price.now }
-{
-    let Some(price) = price else {
-        return None;
-    };
-    read_price(price.as_bytes())
-}
-
 impl KeptLeg {
     /// An order that is sent for the first time: all of its shares are open.
     pub(crate) fn new(alloc: Global, said: &OrderSaid<'_>) -> Result<KeptLeg, AllocError>
@@ -89,8 +64,8 @@ impl KeptLeg {
     {
         Ok(KeptLeg {
             symbol: symbol_of(alloc, &said.symbol, &said.suffix)?,
-            side: side_of(&said.side),
-            price: price_of(&said.price),
+            side: said.side,
+            price: said.price,
             sent: 1,
             is_reported: false,
             parts: ShareParts::new(said.shares),
@@ -104,10 +79,21 @@ impl KeptLeg {
         self.sent = self.sent.saturating_add(1);
     }
 
-    /// A report on it is counted.
-    pub(crate) fn report(&mut self, change: Move)
-        ensures { self.new ≡ reported change self.old }
+    /// Whether it is withdrawn, where it was asked for again in doubt: it was never sent again, and all of its shares
+    /// are open.
+    pub(crate) fn is_gone(&self, is_withdrawn: bool) -> bool
+        ensures { result ≡ is_gone is_withdrawn self.now }
     {
+        is_withdrawn && self.sent == 1 && self.parts.is_open()
+    }
+
+    /// A report on it is counted. No share moves of an order that was asked for again in doubt and is withdrawn.
+    pub(crate) fn report(&mut self, is_withdrawn: bool, change: Move)
+        ensures { self.new ≡ reported is_withdrawn change self.old }
+    {
+        if self.is_gone(is_withdrawn) {
+            return;
+        }
         self.is_reported = true;
         self.parts.apply(change);
     }

@@ -1,9 +1,8 @@
 //! What a message does to the orders of a log.
 
 ghost use Rattle.std.specs.Prelude.{◌≡◌, IfOk};
-ghost use Rattle.log_rules.specs.Ledger.{newest_order};
-ghost use Rattle.log_legs.specs.Parts.{move_of};
-ghost use Rattle.log_legs.specs.Legs.{leg_heard, order_heard, report_heard};
+ghost use Rattle.log_rules.specs.Ledger.{newest_order, newest_under};
+ghost use Rattle.log_legs.specs.Legs.{is_withdrawn_at, leg_heard, order_heard, refusal_heard, report_heard};
 
 use crate::kept_leg::KeptLeg;
 use crate::share_move::Move;
@@ -21,8 +20,8 @@ pub(crate) enum LegHeard {
     First(KeptLeg),
     /// The order at this place is sent once more.
     Again(usize),
-    /// A report on the order at this place is counted.
-    Moves(usize, Move),
+    /// A report on the order at this place is counted, or its refusal; and whether it was asked for again in doubt.
+    Moves(usize, bool, Move),
 }
 
 fn order_heard(
@@ -38,12 +37,36 @@ fn order_heard(
     }
 }
 
-fn report_heard(checker: &Checker, said: &ReportSaid<'_>) -> LegHeard
-    ensures { result ≡ report_heard (newest_order checker.now.ledger.orders said.now.id)
-        (move_of checker.now.ledger.reports said.now.happened) }
+/// Whether the order at a place was asked for again in doubt.
+fn is_withdrawn_at(checker: &Checker, place: usize) -> bool
+    ensures { result ≡ is_withdrawn_at checker.now.ledger.orders place }
+{
+    match checker.orders().get(place) {
+        Some(order) => order.is_withdrawn(),
+        None => false,
+    }
+}
+
+fn report_heard(checker: &Checker, number: u64, said: &ReportSaid<'_>) -> LegHeard
+    ensures { result ≡ report_heard checker.now.ledger (newest_order checker.now.ledger.orders said.now.id)
+        number said.now }
 {
     match checker.place_of(said.id.as_bytes()) {
-        Some(place) => LegHeard::Moves(place, Move::of(checker, &said.happened)),
+        Some(place) => LegHeard::Moves(
+            place,
+            is_withdrawn_at(checker, place),
+            Move::of(checker, place, number, said),
+        ),
+        None => LegHeard::Nothing,
+    }
+}
+
+/// The order that was sent under this number is refused.
+fn refusal_heard(checker: &Checker, number: u64) -> LegHeard
+    ensures { result ≡ refusal_heard checker.now.ledger (newest_under checker.now.ledger.orders number) }
+{
+    match checker.place_under(number) {
+        Some(place) => LegHeard::Moves(place, is_withdrawn_at(checker, place), Move::Ends),
         None => LegHeard::Nothing,
     }
 }
@@ -63,7 +86,9 @@ impl LegHeard {
                 order_heard(alloc, checker.place_of(said.id.as_bytes()), said)
             }
             (Direction::Received, Says::Report(said)) if checker.standing().is_due(entry.number) =>
-                { Ok(report_heard(checker, said)) }
+                { Ok(report_heard(checker, entry.number, said)) }
+            (Direction::Received, Says::Refused { number })
+                if checker.standing().is_due(entry.number) => Ok(refusal_heard(checker, *number)),
             _ => Ok(LegHeard::Nothing),
         }
     }

@@ -36,19 +36,19 @@ fn send_again(legs: &mut [KeptLeg], place: usize)
 }
 
 /// A report on the order at a place is counted.
-fn report_at(legs: &mut [KeptLeg], place: usize, change: Move)
+fn report_at(legs: &mut [KeptLeg], place: usize, is_withdrawn: bool, change: Move)
     requires { place < length legs.old }
-    ensures { legs.new ≡ leg_changed (reported change) place legs.old }
+    ensures { legs.new ≡ leg_changed (reported is_withdrawn change) place legs.old }
 {
-    legs[place].report(change);
+    legs[place].report(is_withdrawn, change);
 }
 
 #[tactic(auto, using(crate::proofs::ChangedAt::none_changed))]
-fn report(legs: &mut [KeptLeg], place: usize, change: Move)
-    ensures { legs.new ≡ leg_changed (reported change) place legs.old }
+fn report(legs: &mut [KeptLeg], place: usize, is_withdrawn: bool, change: Move)
+    ensures { legs.new ≡ leg_changed (reported is_withdrawn change) place legs.old }
 {
     if place < legs.len() {
-        report_at(legs, place, change);
+        report_at(legs, place, is_withdrawn, change);
     }
 }
 
@@ -80,7 +80,9 @@ impl LegList {
             LegHeard::Reset => self.begun = self.items.len(),
             LegHeard::First(leg) => self.items.push_reserved(leg),
             LegHeard::Again(place) => send_again(&mut self.items, place),
-            LegHeard::Moves(place, change) => report(&mut self.items, place, change),
+            LegHeard::Moves(place, is_withdrawn, change) => {
+                report(&mut self.items, place, is_withdrawn, change);
+            }
         }
     }
 

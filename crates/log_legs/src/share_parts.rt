@@ -1,6 +1,6 @@
 //! What became of an order's shares by the reports on it.
 
-ghost use Rattle.std.specs.Prelude.{◌≡◌};
+ghost use Rattle.std.specs.Prelude.{◌≡◌, ◌==◌};
 ghost use Rattle.log_legs.specs.Parts.{all_open, busted, ended, moved, parts_sum, totals_of, traded};
 
 use crate::share_move::Move;
@@ -92,6 +92,13 @@ impl ShareParts {
             Move::Ends => self.end(),
             Move::Busts(shares) => self.bust(shares),
         }
+    }
+
+    /// Whether all of the order's shares are open.
+    pub(crate) fn is_open(&self) -> bool
+        ensures { result ≡ (self.now.still_open == parts_sum self.now) }
+    {
+        self.still_open == self.shares()
     }
 
     /// The order's shares.

@@ -2,7 +2,7 @@
 
 ghost use Rattle.std.specs.Prelude.{◌≡◌, Some, None, length, IfOk, OnOk, OnErr};
 ghost use Rattle.log_rules.specs.Checker.{verdicts};
-ghost use Rattle.log_rules.specs.Ledger.{newest_order};
+ghost use Rattle.log_rules.specs.Ledger.{newest_order, uncounted_of};
 ghost use Rattle.log_legs.specs.Fate.{leg_said};
 ghost use Rattle.log_legs.specs.Legs.{judged, late_by, new_watch, no_legs, watched};
 
@@ -83,7 +83,7 @@ impl Watch {
     }
 
     /// Hears a message, but for the session's end.
-    fn judge(&mut self, entry: &Entry<'_>) -> Result<[Verdict; 14], AllocError>
+    fn judge(&mut self, entry: &Entry<'_>) -> Result<[Verdict; 22], AllocError>
         ensures verdicts { IfOk result (λ said. said ≡ verdicts self.old.checker entry.now) }
         ensures ok { OnOk result (self.new ≡ judged self.old entry.now) }
         ensures err { OnErr result (self.new ≡ self.old) }
@@ -99,7 +99,7 @@ impl Watch {
     }
 
     /// What the next message says of each rule, in the order of `RULES`. Where memory is refused, nothing changes.
-    pub fn hear(&mut self, entry: &Entry<'_>) -> Result<[Verdict; 14], AllocError>
+    pub fn hear(&mut self, entry: &Entry<'_>) -> Result<[Verdict; 22], AllocError>
         ensures verdicts { IfOk result (λ said. said ≡ verdicts self.old.checker entry.now) }
         ensures ok { OnOk result (self.new ≡ watched self.old entry.now) }
         ensures err { OnErr result (self.new ≡ self.old) }
@@ -125,6 +125,13 @@ impl Watch {
         ensures { result ≡ self.now.late }
     {
         self.late
+    }
+
+    /// How many reports came under a number that isn't counted, as those behind one that is missing.
+    pub fn uncounted(&self) -> usize
+        ensures { result ≡ uncounted_of self.now.checker.standing.counted self.now.checker.ledger.reports }
+    {
+        self.checker.uncounted()
     }
 
     /// The place of the newest order of this ClOrdID (11).

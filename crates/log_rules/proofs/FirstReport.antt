@@ -7,7 +7,7 @@ use Rattle.log_rules.specs.declared.number_places.NumberPlaces.{NumberPlaces}
 use Rattle.log_rules.specs.declared.text_places.TextPlaces.{TextPlaces}
 use Rattle.log_rules.specs.Kept.{KeepsExecs, KeepsNumbers, first_report}
 use Rattle.log_rules.specs.KeptReport.{ReportParts}
-use Rattle.log_rules.specs.Ledger.{has_report_in, report_under, shares_of_exec}
+use Rattle.log_rules.specs.Ledger.{has_report_in, report_of_exec, report_under}
 use Rattle.log_rules.specs.Places.{HasPlaceIn, first_kept, number_place, text_place}
 
 kept_later : (is_last : Bool) (count : ℕ) (before : Option ℕ)
@@ -50,21 +50,13 @@ first_under number (r ∷ rs) =
     at_first (r.number == number) r rs (first_report (λ s. s.number == number) rs)
     ∙ ap (λ later. if r.number == number then Some r else later) (first_under number rs)
 
-shares_if : (is_first : Bool) (r : ReportParts) (later : Option ReportParts)
-    → option_map (λ s. s.shares) (if is_first then Some r else later)
-    ≡ (if is_first then Some r.shares else option_map (λ s. s.shares) later)
-shares_if true r later = refl
-shares_if false r later = refl
-
--- the shares of the first report of an ExecID
+-- the first report of an ExecID
 first_of_exec : (exec : List ℕ) (reports : List ReportParts)
-    → option_map (λ r. r.shares) (option_and_then (slice_get reports) (first_report (λ r. bytes_eq r.exec exec) reports))
-    ≡ shares_of_exec exec reports
+    → option_and_then (slice_get reports) (first_report (λ r. bytes_eq r.exec exec) reports) ≡ report_of_exec exec reports
 first_of_exec exec [] = refl
 first_of_exec exec (r ∷ rs) =
-    ap (option_map (λ s. s.shares)) (at_first (bytes_eq r.exec exec) r rs (first_report (λ s. bytes_eq s.exec exec) rs))
-    ∙ shares_if (bytes_eq r.exec exec) r _
-    ∙ ap (λ later. if bytes_eq r.exec exec then Some r.shares else later) (first_of_exec exec rs)
+    at_first (bytes_eq r.exec exec) r rs (first_report (λ s. bytes_eq s.exec exec) rs)
+    ∙ ap (λ later. if bytes_eq r.exec exec then Some r else later) (first_of_exec exec rs)
 
 -- the report at the place that is kept under a number
 pub found_under : (by_number : NumberPlaces) (reports : List ReportParts) (number : ℕ) (place : Option ℕ)
@@ -73,13 +65,12 @@ pub found_under : (by_number : NumberPlaces) (reports : List ReportParts) (numbe
 found_under by_number reports number place kept is =
     ap (option_and_then (slice_get reports)) (is ∙ kept number) ∙ first_under number reports
 
--- the shares of the report at the place that is kept under an ExecID
+-- the report at the place that is kept under an ExecID
 pub found_of_exec : (by_exec : TextPlaces) (reports : List ReportParts) (exec : List ℕ) (place : Option ℕ)
     → KeepsExecs by_exec reports → place ≡ text_place by_exec exec
-    → option_map (λ r. r.shares) (option_and_then (slice_get reports) place) ≡ shares_of_exec exec reports
+    → option_and_then (slice_get reports) place ≡ report_of_exec exec reports
 found_of_exec by_exec reports exec place kept is =
-    ap (λ p. option_map (λ r. r.shares) (option_and_then (slice_get reports) p)) (is ∙ kept exec)
-    ∙ first_of_exec exec reports
+    ap (option_and_then (slice_get reports)) (is ∙ kept exec) ∙ first_of_exec exec reports
 
 in_range : (from to number : ℕ) → from ≤ number → number < to → (nat_le from number && nat_lt number to) ≡ true
 in_range from to number low high = grind (arith, low, high)

@@ -6,14 +6,13 @@ use Rattle.std.proofs.lemmas.Slice.Eq.{bytes_eq-Decides}
 use Rattle.message_log.specs.declared.direction.Direction.{Direction}
 use Rattle.message_log.specs.declared.direction.Direction.TheVariants.{Sent, Received}
 use Rattle.log_rules.specs.declared.order_said.OrderSaid.{OrderSaid}
-use Rattle.log_rules.specs.declared.report_said.ReportSaid.{ReportSaid}
 use Rattle.log_rules.specs.declared.says.Says.{Says}
-use Rattle.log_rules.specs.declared.says.Says.TheVariants.{Logon, ResendRequest, Order, Report}
+use Rattle.log_rules.specs.declared.says.Says.TheVariants.{Logon, ResendRequest, Order, Report, Refused}
 use Rattle.log_rules.specs.declared.standing.Standing.{Standing}
-use Rattle.log_rules.specs.Ledger.{LedgerParts, changed_at, changed_with, newest_of, newest_order, order_of, report_under, with_order, with_report, with_sums, withdrawn_from}
-use Rattle.log_rules.specs.Order.{OrderParts, new_order, reported, withdrawn_by}
+use Rattle.log_rules.specs.Ledger.{LedgerParts, changed_at, changed_with, newest_of, newest_order, order_of, report_under, with_order, with_report, with_sums, withdrawn_from, newest_under, with_refusal}
+use Rattle.log_rules.specs.Order.{OrderParts, new_order, reported, withdrawn_by, refused}
 use Rattle.log_rules.specs.Standing.{is_due}
-use Rattle.log_rules.proofs.KeepsIds.{newest_changed, newest_mapped, summed_keeps, withdrawn_keeps}
+use Rattle.log_rules.proofs.KeepsIds.{KeepsNames, keeps_id, newest_changed, newest_mapped, refused_keeps, summed_keeps, withdrawn_keeps}
 
 -- there is an order of an id
 abbrev pub Known : List OrderParts → List ℕ → Type 0
@@ -58,13 +57,14 @@ either false a b id first second = second refl
 withdrawn_known : (settled expected : ℕ) (l : LedgerParts) (id : List ℕ) → Known l.orders id
     → Known (withdrawn_from settled expected l).orders id
 withdrawn_known settled expected l id known =
-    ap is_some (newest_mapped (withdrawn_by settled expected) l.orders id (withdrawn_keeps settled expected)) ∙ known
+    ap is_some (newest_mapped (λ o. bytes_eq o.id id) (withdrawn_by settled expected) l.orders
+    (keeps_id (withdrawn_by settled expected) id (withdrawn_keeps settled expected))) ∙ known
 
-changed_known : (said : ReportSaid) (place : Option ℕ) (orders : List OrderParts) (id : List ℕ) → Known orders id
-    → Known (changed_at (reported said) place orders) id
-changed_known said None orders id known = known
-changed_known said (Some place) orders id known =
-    ap is_some (newest_changed (reported said) place orders id (summed_keeps said.cum said.leaves)) ∙ known
+changed_known : (change : OrderParts → OrderParts) (place : Option ℕ) (orders : List OrderParts) (id : List ℕ)
+    → KeepsNames change → Known orders id → Known (changed_at change place orders) id
+changed_known change None orders id keeps known = known
+changed_known change (Some place) orders id keeps known =
+    ap is_some (newest_changed (λ o. bytes_eq o.id id) change place orders (keeps_id change id keeps)) ∙ known
 
 -- it stays known whatever comes
 pub stays : (s : Standing) (direction : Direction) (says : Says) (number : ℕ) (l : LedgerParts) (id : List ℕ)
@@ -77,7 +77,11 @@ stays s Received (Report said) number l id known =
     let still : Known kept.orders id =
     either (nat_le number s.seen && is_some (report_under number l.reports)) l _ id (λ came. known) (λ new. known) in
     either (is_due s.counted number) (with_sums said kept) kept id
-    (λ due. changed_known said (newest_order kept.orders said.id) kept.orders id still) (λ later. still)
+    (λ due. changed_known (reported said) (newest_order kept.orders said.id) kept.orders id
+    (summed_keeps said.cum said.leaves) still) (λ later. still)
+stays s Received (Refused order) number l id known =
+    either (is_due s.counted number) (with_refusal order l) l id
+    (λ due. changed_known refused (newest_under l.orders order) l.orders id refused_keeps known) (λ later. known)
 stays s Received (ResendRequest begin last) number l id known =
     either s.is_up l (withdrawn_from s.settled begin l) id (λ up. known) (λ down. withdrawn_known s.settled begin l id known)
 stays s Received (Logon heart reset None) number l id known = known

@@ -1,3 +1,4 @@
+pub mod Verdicts
 pub mod TextKeys
 pub mod KeepsIds
 pub mod NewestKept

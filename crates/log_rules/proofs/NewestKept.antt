@@ -1,8 +1,7 @@
--- The newest order of an id, by its place.
+-- The newest order that passes a test, by its place.
 use Rattle.std.proofs.Common.{◌≡◌, ℕ, suc, ◌<◌, Bool, true, false, List, [], ◌∷◌, ◌++◌, length, refl, ap, ◌∙◌, arith}
 use Rattle.std.specs.Prelude.{Option, Some, None, if◌then◌else◌}
-use Rattle.std.specs.Str.{bytes_eq}
-use Rattle.log_rules.specs.Ledger.{newest_of, newest_order}
+use Rattle.log_rules.specs.Ledger.{newest_of, newest_place}
 use Rattle.log_rules.specs.Order.{OrderParts}
 
 within_one_more : (later : Option ℕ) (is_first : Bool) (count place : ℕ)
@@ -14,11 +13,11 @@ within_one_more None true count place within found = grind (arith, found)
 within_one_more None false count place within found = cc
 
 -- it is one of the orders
-pub newest_within : (orders : List OrderParts) (id : List ℕ) (place : ℕ) → newest_order orders id ≡ Some place
-    → place < length orders
-newest_within [] id place found = cc
-newest_within (o ∷ os) id place found =
-    within_one_more (newest_order os id) (bytes_eq o.id id) (length os) place (newest_within os id) found
+pub newest_within : (test : OrderParts → Bool) (orders : List OrderParts) (place : ℕ)
+    → newest_place test orders ≡ Some place → place < length orders
+newest_within test [] place found = cc
+newest_within test (o ∷ os) place found =
+    within_one_more (newest_place test os) (test o) (length os) place (newest_within test os) found
 
 behind_one : (is_last is_first : Bool) (count : ℕ) (before : Option ℕ)
     → newest_of (if is_last then Some count else before) is_first
@@ -26,10 +25,10 @@ behind_one : (is_last is_first : Bool) (count : ℕ) (before : Option ℕ)
 behind_one true is_first count before = refl
 behind_one false is_first count before = refl
 
--- with one order more it is that one, if it has the id
-pub newest_pushed : (orders : List OrderParts) (o : OrderParts) (id : List ℕ)
-    → newest_order (orders ++ o ∷ []) id ≡ (if bytes_eq o.id id then Some (length orders) else newest_order orders id)
-newest_pushed [] o id = refl
-newest_pushed (x ∷ xs) o id =
-    ap (λ later. newest_of later (bytes_eq x.id id)) (newest_pushed xs o id)
-    ∙ behind_one (bytes_eq o.id id) (bytes_eq x.id id) (length xs) (newest_order xs id)
+-- with one order more it is that one, if it passes
+pub newest_pushed : (test : OrderParts → Bool) (orders : List OrderParts) (o : OrderParts)
+    → newest_place test (orders ++ o ∷ []) ≡ (if test o then Some (length orders) else newest_place test orders)
+newest_pushed test [] o = refl
+newest_pushed test (x ∷ xs) o =
+    ap (λ later. newest_of later (test x)) (newest_pushed test xs o)
+    ∙ behind_one (test o) (test x) (length xs) (newest_place test xs)

@@ -7,19 +7,18 @@ use Rattle.std.proofs.lemmas.Slice.Eq.{bytes_eq-Decides}
 use Rattle.message_log.specs.declared.direction.Direction.{Direction}
 use Rattle.message_log.specs.declared.direction.Direction.TheVariants.{Sent, Received}
 use Rattle.log_rules.specs.declared.entry.Entry.{Entry}
-use Rattle.log_rules.specs.declared.report_said.ReportSaid.{ReportSaid}
 use Rattle.log_rules.specs.declared.says.Says.{Says}
-use Rattle.log_rules.specs.declared.says.Says.TheVariants.{Logon, ResendRequest, Order, Report}
+use Rattle.log_rules.specs.declared.says.Says.TheVariants.{Logon, ResendRequest, Order, Report, Refused}
 use Rattle.log_rules.specs.declared.standing.Standing.{Standing}
 use Rattle.log_rules.specs.declared.verdict.Verdict.TheVariants.{Broken}
 use Rattle.log_rules.specs.Checker.{CheckerParts, heard}
-use Rattle.log_rules.specs.Ledger.{LedgerParts, changed_at, changed_with, newest_order, order_of, report_under, with_report, with_sums, withdrawn_from}
+use Rattle.log_rules.specs.Ledger.{LedgerParts, changed_at, changed_with, newest_order, order_of, report_under, with_report, with_sums, withdrawn_from, newest_under, with_refusal}
 use Rattle.log_rules.specs.LedgerRules.{known_order}
-use Rattle.log_rules.specs.Order.{OrderParts, new_order, reported, withdrawn_by}
+use Rattle.log_rules.specs.Order.{OrderParts, new_order, reported, withdrawn_by, refused}
 use Rattle.log_rules.specs.Runs.{FollowOrders, IsOn, IsOneOf, ReportKnown, sent_id}
 use Rattle.log_rules.specs.Standing.{is_due}
 use Rattle.log_rules.specs.Verdict.{held_if}
-use Rattle.log_rules.proofs.KeepsIds.{newest_changed, newest_mapped, summed_keeps, withdrawn_keeps}
+use Rattle.log_rules.proofs.KeepsIds.{KeepsNames, keeps_id, newest_changed, newest_mapped, refused_keeps, summed_keeps, withdrawn_keeps}
 use Rattle.log_rules.proofs.KnownOrders.{Known, later_or_here, some_before, some_here, some_later}
 
 -- an order that is known with one more was known before, or is that one
@@ -45,13 +44,14 @@ of_either false a b id P first second known = second known
 was_withdrawn : (settled expected : ℕ) (l : LedgerParts) (id : List ℕ)
     → Known (withdrawn_from settled expected l).orders id → Known l.orders id
 was_withdrawn settled expected l id known =
-    ap is_some (sym (newest_mapped (withdrawn_by settled expected) l.orders id (withdrawn_keeps settled expected))) ∙ known
+    ap is_some (sym (newest_mapped (λ o. bytes_eq o.id id) (withdrawn_by settled expected) l.orders
+    (keeps_id (withdrawn_by settled expected) id (withdrawn_keeps settled expected)))) ∙ known
 
-was_changed : (said : ReportSaid) (place : Option ℕ) (orders : List OrderParts) (id : List ℕ)
-    → Known (changed_at (reported said) place orders) id → Known orders id
-was_changed said None orders id known = known
-was_changed said (Some place) orders id known =
-    ap is_some (sym (newest_changed (reported said) place orders id (summed_keeps said.cum said.leaves))) ∙ known
+was_changed : (change : OrderParts → OrderParts) (place : Option ℕ) (orders : List OrderParts) (id : List ℕ)
+    → KeepsNames change → Known (changed_at change place orders) id → Known orders id
+was_changed change None orders id keeps known = known
+was_changed change (Some place) orders id keeps known =
+    ap is_some (sym (newest_changed (λ o. bytes_eq o.id id) change place orders (keeps_id change id keeps))) ∙ known
 
 -- the orders that are known are among those that were sent
 abbrev WereSent : LedgerParts → List (List ℕ) → Type 0
@@ -72,7 +72,11 @@ still_sent s l Received (Report said) number ids sent id known =
     let before : Known kept.orders id → IsOneOf id ids =
     of_either (nat_le number s.seen && is_some (report_under number l.reports)) l _ id (IsOneOf id ids) (sent id) (sent id) in
     of_either (is_due s.counted number) (with_sums said kept) kept id (IsOneOf id ids)
-    (λ summed. before (was_changed said (newest_order kept.orders said.id) kept.orders id summed)) before known
+    (λ summed. before (was_changed (reported said) (newest_order kept.orders said.id) kept.orders id
+    (summed_keeps said.cum said.leaves) summed)) before known
+still_sent s l Received (Refused order) number ids sent id known =
+    of_either (is_due s.counted number) (with_refusal order l) l id (IsOneOf id ids)
+    (λ refusal. sent id (was_changed refused (newest_under l.orders order) l.orders id refused_keeps refusal)) (sent id) known
 still_sent s l Received (ResendRequest begin last) number ids sent id known =
     of_either s.is_up l (withdrawn_from s.settled begin l) id (IsOneOf id ids) (sent id)
     (λ withdrawn. sent id (was_withdrawn s.settled begin l id withdrawn)) known

@@ -6,10 +6,11 @@ use Rattle.log_rules.specs.declared.says.Says.TheVariants.{Report}
 use Rattle.log_rules.specs.declared.standing.Standing.{Standing}
 use Rattle.log_rules.specs.declared.verdict.Verdict.{Verdict}
 use Rattle.log_rules.specs.declared.verdict.Verdict.TheVariants.{Unasked, Held, Broken}
-use Rattle.log_rules.specs.ExchangeRules.{fence_answered, logon_answered, logout_answered, resend_asked}
+use Rattle.log_rules.specs.ExchangeRules.{fence_answered, logon_answered, logout_last, numbers_rise, resend_answered, resend_asked}
 use Rattle.log_rules.specs.Ledger.{LedgerParts, changed_by, order_of}
 use Rattle.log_rules.specs.LedgerRules.{known_order, not_withdrawn, one_use, sent_once, sums_add_up}
 use Rattle.log_rules.specs.Order.{OrderParts}
+use Rattle.log_rules.specs.ReportRules.{exec_once, known_kind, limit_kept, open_order, same_terms, status_fits}
 use Rattle.log_rules.specs.SessionRules.{gap_fills, heartbeats, logon_first, sent_numbers}
 use Rattle.log_rules.specs.Standing.{after, new_standing}
 
@@ -32,20 +33,28 @@ verdicts c e =
     ∷ logon_first c.standing.phase e.direction e.says
     ∷ heartbeats c.standing e
     ∷ logon_answered c.standing.phase e.direction e.says
-    ∷ logout_answered c.standing e.direction e.says
+    ∷ logout_last c.standing e
     ∷ resend_asked c.standing e
     ∷ fence_answered c.standing e
     ∷ one_use c.standing c.ledger e
     ∷ known_order c.ledger e.direction e.says
     ∷ not_withdrawn c.ledger e.direction e.says
     ∷ sums_add_up c.standing c.ledger e
+    ∷ numbers_rise c.standing e
+    ∷ resend_answered c.standing e
+    ∷ exec_once c.standing c.ledger e
+    ∷ known_kind e.direction e.says
+    ∷ open_order c.standing c.ledger e
+    ∷ limit_kept c.standing c.ledger e
+    ∷ same_terms c.standing c.ledger e
+    ∷ status_fits e.direction e.says
     ∷ []
 
 -- what one that can't be read says of each rule
 abbrev pub unread_verdicts : List Verdict
 unread_verdicts =
     Broken ∷ Unasked ∷ Unasked ∷ Unasked ∷ Unasked ∷ Unasked ∷ Unasked ∷ Unasked ∷ Unasked ∷ Unasked ∷ Unasked ∷ Unasked
-    ∷ Unasked ∷ Unasked ∷ []
+    ∷ Unasked ∷ Unasked ∷ Unasked ∷ Unasked ∷ Unasked ∷ Unasked ∷ Unasked ∷ Unasked ∷ Unasked ∷ Unasked ∷ []
 
 -- the number under which the order was sent that a report is on
 abbrev pub number_of_report : LedgerParts → Says → Option ℕ

@@ -12,5 +12,6 @@ entry_of line message = record {
   moment = moment_of line.stamp;
   number = message.number;
   poss_dup = message.poss_dup;
+  poss_resend = message.poss_resend;
   says = said_by message.body;
 }

@@ -1,15 +1,16 @@
 -- The rules of the exchange that need no order (FIX 4.4 Volume 2).
-use Rattle.std.specs.Prelude.{ℕ, Bool, true, false, ◌&&◌, ◌||◌, Option, Some, None, nat_le, nat_lt, ◌==◌, if◌then◌else◌}
+use Rattle.std.specs.Prelude.{ℕ, ◌+◌, Bool, true, false, ◌&&◌, ◌||◌, not, Option, Some, None, nat_le, nat_lt, ◌==◌, if◌then◌else◌}
 use Rattle.message_log.specs.declared.direction.Direction.{Direction}
 use Rattle.message_log.specs.declared.direction.Direction.TheVariants.{Sent, Received}
 use Rattle.log_rules.specs.declared.entry.Entry.{Entry}
 use Rattle.log_rules.specs.declared.says.Says.{Says}
-use Rattle.log_rules.specs.declared.says.Says.TheVariants.{Logon, Answer, ResendRequest, Logout}
+use Rattle.log_rules.specs.declared.says.Says.TheVariants.{Logon, Answer, ResendRequest, GapFill, Reset, Logout}
 use Rattle.log_rules.specs.declared.standing.Phase.{Phase}
 use Rattle.log_rules.specs.declared.standing.Phase.TheVariants.{LoggingOn}
+use Rattle.log_rules.specs.declared.standing.Request.{Request}
 use Rattle.log_rules.specs.declared.standing.Standing.{Standing}
 use Rattle.log_rules.specs.declared.verdict.Verdict.{Verdict}
-use Rattle.log_rules.specs.declared.verdict.Verdict.TheVariants.{Unasked}
+use Rattle.log_rules.specs.declared.verdict.Verdict.TheVariants.{Unasked, Held, Broken}
 use Rattle.log_rules.specs.SessionRules.{is_logged_on}
 use Rattle.log_rules.specs.Standing.{was_reached}
 use Rattle.log_rules.specs.Verdict.{held_if}
@@ -25,21 +26,50 @@ logon_answered phase Received Logout = Unasked
 logon_answered phase Received (Logon heart reset next) = held_if (is_logging_on phase)
 logon_answered phase Received says = held_if (is_logged_on phase)
 
--- Logout: it comes once the session's was sent
-abbrev pub logout_answered : Standing → Direction → Says → Verdict
-logout_answered s Received Logout = if is_logged_on s.phase then held_if s.is_logged_out else Unasked
-logout_answered s direction says = Unasked
+abbrev pub new_behind : Bool → Direction → Says → Bool → Verdict
+new_behind is_out Sent says poss_dup = Unasked
+new_behind is_out Received (Logon heart reset next) poss_dup = Unasked
+new_behind is_out Received (GapFill new_number) poss_dup = Unasked
+new_behind is_out Received says true = Unasked
+new_behind is_out Received says false = held_if (not is_out)
+
+-- Logout: behind it the exchange sends nothing new in the connection, but what is asked for again
+abbrev pub logout_last : Standing → Entry → Verdict
+logout_last s e = new_behind s.is_peer_out e.direction e.says e.poss_dup
+
+-- whether a message has to have a new number: it doesn't say that it was sent before, and is no gap fill and no reset
+abbrev pub is_new : Says → Bool → Bool
+is_new (Logon heart reset next) poss_dup = not reset && not poss_dup
+is_new (GapFill new_number) poss_dup = false
+is_new (Reset new_number) poss_dup = false
+is_new says poss_dup = not poss_dup
+
+abbrev pub rises : Standing → Direction → Says → Bool → ℕ → Verdict
+rises s Sent says poss_dup number = Unasked
+rises s Received says poss_dup number = if is_new says poss_dup then held_if (nat_lt s.seen number) else Unasked
+
+-- Sequence Numbers: a new message of the exchange has a number above each that came
+abbrev pub numbers_rise : Standing → Entry → Verdict
+numbers_rise s e = rises s e.direction e.says e.poss_dup e.number
 
 -- a resend request is for a range of numbers: to its last one, or to the end
 abbrev pub is_range : ℕ → ℕ → Bool
 is_range begin last = nat_lt 0 begin && (last == 0 || nat_le begin last)
 
+-- a number was sent, or is the one after the last
+abbrev pub is_next_upto : Option ℕ → ℕ → Bool
+is_next_upto None number = false
+is_next_upto (Some last) number = nat_le number (last + 1)
+
 abbrev pub asks_rightly : Standing → Direction → Says → Verdict
 asks_rightly s Received (ResendRequest begin last) =
     held_if (is_range begin last && nat_lt s.passed begin && was_reached s.last begin)
+asks_rightly s Received (Logon heart reset (Some next)) =
+    if s.says_next then held_if (nat_lt s.passed next && is_next_upto s.last next) else Unasked
 asks_rightly s direction says = Unasked
 
--- Resend Request: it begins with a number that was sent, and that the exchange isn't known to have passed
+-- Resend Request, and what a Logon says is expected next (789): it begins with a number that was sent, and that the
+-- exchange isn't known to have passed
 abbrev pub resend_asked : Standing → Entry → Verdict
 resend_asked s e = if nat_le e.number s.seen then Unasked else asks_rightly s e.direction e.says
 
@@ -56,3 +86,13 @@ answers_rightly s direction says = Unasked
 -- Test Request: a fence is answered once it was sent, and nothing below it is asked for again
 abbrev pub fence_answered : Standing → Entry → Verdict
 fence_answered s e = if nat_le e.number s.seen then Unasked else answers_rightly s e.direction e.says
+
+abbrev pub unanswered_at : Option Request → Direction → Says → ℕ → Verdict
+unanswered_at None direction says number = Unasked
+unanswered_at (Some request) Sent says number = Unasked
+unanswered_at (Some request) Received Logout number = if nat_le number request.begin then Held else Broken
+unanswered_at (Some request) Received says number = if nat_le number request.begin then Held else Unasked
+
+-- Resend Request: the exchange answers the session's, and doesn't log out before it did
+abbrev pub resend_answered : Standing → Entry → Verdict
+resend_answered s e = unanswered_at s.request e.direction e.says e.number

@@ -4,13 +4,17 @@ use Rattle.std.specs.Str.{bytes_eq}
 use Rattle.log_rules.specs.declared.number_places.NumberPlaces.{NumberPlaces}
 use Rattle.log_rules.specs.declared.text_places.TextPlaces.{TextPlaces}
 use Rattle.log_rules.specs.KeptReport.{ReportParts}
-use Rattle.log_rules.specs.Ledger.{newest_order}
+use Rattle.log_rules.specs.Ledger.{newest_order, newest_under}
 use Rattle.log_rules.specs.Order.{OrderParts}
 use Rattle.log_rules.specs.Places.{number_place, text_place}
 
 -- under each id the place of its newest order
 abbrev pub KeepsOrders : TextPlaces → List OrderParts → Type 0
 KeepsOrders by_id orders = (id : List ℕ) → text_place by_id id ≡ newest_order orders id
+
+-- under each number the place of the newest order that was sent under it
+abbrev pub KeepsOrderNumbers : NumberPlaces → List OrderParts → Type 0
+KeepsOrderNumbers by_number orders = (number : ℕ) → number_place by_number number ≡ newest_under orders number
 
 -- the place of the first report that passes a test
 abbrev pub first_report : (ReportParts → Bool) → List ReportParts → Option ℕ

@@ -13,7 +13,7 @@ use Rattle.log_rules.specs.declared.standing.Standing.{Standing}
 use Rattle.log_rules.specs.declared.verdict.Verdict.{Verdict}
 use Rattle.log_rules.specs.declared.verdict.Verdict.TheVariants.{Unasked, Broken}
 use Rattle.log_rules.specs.KeptReport.{ReportParts}
-use Rattle.log_rules.specs.Ledger.{LedgerParts, has_report_in, order_of, report_under, shares_of_exec}
+use Rattle.log_rules.specs.Ledger.{LedgerParts, has_report_in, newest_order, order_of, report_under, shares_of_exec}
 use Rattle.log_rules.specs.Order.{OrderParts}
 use Rattle.log_rules.specs.Standing.{is_due, was_reached}
 use Rattle.log_rules.specs.Verdict.{held_if}
@@ -66,22 +66,27 @@ one_use s l e = used_once s l e.direction e.says e.number
 abbrev pub is_sum : ℕ → ℕ → ℕ → Bool
 is_sum sum a b = sum == a + b
 
--- a trade: its shares were open, and are filled
+-- a trade of one share or more: its shares were open, and are filled
 abbrev pub trade_adds_up : OrderParts → ℕ → ℕ → ℕ → Bool
-trade_adds_up o shares cum leaves = is_sum cum o.cum shares && is_sum o.leaves leaves shares
+trade_adds_up o shares cum leaves = nat_lt 0 shares && is_sum cum o.cum shares && is_sum o.leaves leaves shares
 
 -- a bust: the shares of its trade are filled no more
 abbrev pub bust_adds_up : OrderParts → Option ℕ → ℕ → ℕ → Bool
 bust_adds_up o None cum leaves = false
-bust_adds_up o (Some shares) cum leaves = is_sum o.cum cum shares && (leaves == o.leaves)
+bust_adds_up o (Some shares) cum leaves = nat_lt 0 shares && is_sum o.cum cum shares && (leaves == o.leaves)
+
+-- how many shares of this order the trade of an ExecID has
+abbrev pub shares_undone : LedgerParts → OrderParts → List ℕ → Option ℕ
+shares_undone l o undone = shares_of_exec undone (newest_order l.orders o.id) l.reports
 
 -- the sums after a report are what is made of an order's by what happened
 abbrev pub adds_up : LedgerParts → OrderParts → Happening → ℕ → ℕ → Bool
 adds_up l o happening.New cum leaves = (cum == o.cum) && (leaves == o.leaves)
 adds_up l o (happening.Trade shares) cum leaves = trade_adds_up o shares cum leaves
 adds_up l o happening.Ended cum leaves = (cum == o.cum) && (leaves == 0)
-adds_up l o (happening.Bust undone) cum leaves = bust_adds_up o (shares_of_exec undone l.reports) cum leaves
+adds_up l o (happening.Bust undone) cum leaves = bust_adds_up o (shares_undone l o undone) cum leaves
 adds_up l o happening.Other cum leaves = true
+adds_up l o happening.Unknown cum leaves = true
 
 abbrev pub sums_said : LedgerParts → OrderParts → Happening → Option ℕ → Option ℕ → Bool
 sums_said l o happened (Some cum) (Some leaves) = adds_up l o happened cum leaves

@@ -11,5 +11,6 @@ pub mod Places
 pub mod Ledger
 pub mod Kept
 pub mod LedgerRules
+pub mod ReportRules
 pub mod Checker
 pub mod Runs

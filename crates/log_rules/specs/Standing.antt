@@ -8,6 +8,7 @@ use Rattle.log_rules.specs.declared.says.Says.{Says}
 use Rattle.log_rules.specs.declared.says.Says.TheVariants.{Logon, Answer, ResendRequest, GapFill, Reset, Logout, Report}
 use Rattle.log_rules.specs.declared.standing.Phase.{Phase}
 use Rattle.log_rules.specs.declared.standing.Phase.TheVariants.{Down, LoggingOn, LoggedOn}
+use Rattle.log_rules.specs.declared.standing.Request.{Request}
 use Rattle.log_rules.specs.declared.standing.Standing.{Standing}
 use Rattle.log_rules.specs.Moment.{elapsed}
 
@@ -17,6 +18,7 @@ new_standing = record {
   phase = Down;
   is_up = false;
   is_logged_out = false;
+  is_peer_out = false;
   heart = 0;
   wrote_at = None;
   logon = 0;
@@ -28,6 +30,7 @@ new_standing = record {
   says_next = false;
   counted = None;
   seen = 0;
+  request = None;
 }
 
 -- whether a number is at most the last one
@@ -73,6 +76,12 @@ abbrev pub is_logged_out_after : Bool → Direction → Says → Bool
 is_logged_out_after is_logged_out Sent (Logon heart reset next) = false
 is_logged_out_after is_logged_out Sent Logout = true
 is_logged_out_after is_logged_out direction says = is_logged_out
+
+-- whether the exchange logged out in the connection
+abbrev pub is_peer_out_after : Bool → Direction → Says → Bool
+is_peer_out_after is_peer_out Sent (Logon heart reset next) = false
+is_peer_out_after is_peer_out Received Logout = true
+is_peer_out_after is_peer_out direction says = is_peer_out
 
 -- the heartbeat interval
 abbrev pub heart_after : ℕ → Direction → Says → ℕ
@@ -145,20 +154,22 @@ abbrev pub says_next_after : Bool → Direction → Says → Bool
 says_next_after says_next Sent (Logon heart reset next) = is_some next
 says_next_after says_next direction says = says_next
 
--- the last number that is counted once a due message came
-abbrev pub counted_due : Says → ℕ → ℕ
-counted_due (GapFill new_number) number = new_number - 1
-counted_due says number = number
+abbrev pub counted_if : Option ℕ → ℕ → Option ℕ
+counted_if counted number = if is_due counted number then Some number else counted
 
-abbrev pub counted_if : Option ℕ → Says → ℕ → Option ℕ
-counted_if counted says number = if is_due counted number then Some (counted_due says number) else counted
+-- a gap fill at the number that is due, or below it, leads on to the number before its new one, and never back
+abbrev pub counted_filled : Option ℕ → ℕ → ℕ → Option ℕ
+counted_filled None number new_number = Some (new_number - 1)
+counted_filled (Some counted) number new_number =
+    if nat_le number (counted + 1) then Some (max counted (new_number - 1)) else Some counted
 
 abbrev pub counted_by : Option ℕ → Direction → Says → ℕ → Option ℕ
 counted_by counted Sent says number = counted
 counted_by counted Received (Logon heart reset next) number =
-    if reset then Some number else counted_if counted (Logon heart reset next) number
+    if reset then Some number else counted_if counted number
 counted_by counted Received (Reset new_number) number = Some (new_number - 1)
-counted_by counted Received says number = counted_if counted says number
+counted_by counted Received (GapFill new_number) number = counted_filled counted number new_number
+counted_by counted Received says number = counted_if counted number
 
 -- the last number of the exchange that is counted
 abbrev pub counted_after : Option ℕ → Entry → Option ℕ
@@ -173,12 +184,35 @@ seen_by seen Received says number = max seen number
 abbrev pub seen_after : ℕ → Entry → ℕ
 seen_after seen e = seen_by seen e.direction e.says e.number
 
+-- a resend request of the session that isn't answered yet: a gap fill over its own number takes it back, and a message
+-- of the exchange under a number that it asks for, or one below, answers it
+abbrev pub unless_filled : Option Request → ℕ → ℕ → Option Request
+unless_filled None number new_number = None
+unless_filled (Some request) number new_number =
+    if nat_le number request.number && nat_lt request.number new_number then None else Some request
+
+abbrev pub unless_answered : Option Request → ℕ → Option Request
+unless_answered None number = None
+unless_answered (Some request) number = if nat_le number request.begin then None else Some request
+
+abbrev pub request_by : Option Request → Direction → Says → Bool → ℕ → Option Request
+request_by request Sent (Logon heart reset next) poss_dup number = None
+request_by request Sent (ResendRequest begin last) false number = Some (record { number = number; begin = begin })
+request_by request Sent (GapFill new_number) poss_dup number = unless_filled request number new_number
+request_by request Received says poss_dup number = unless_answered request number
+request_by request direction says poss_dup number = request
+
+-- the last resend request of the connection that isn't answered yet
+abbrev pub request_after : Option Request → Entry → Option Request
+request_after request e = request_by request e.direction e.says e.poss_dup e.number
+
 -- how they stand after a message; a report is on the order of this number
 abbrev pub after : Standing → Option ℕ → Entry → Standing
 after s order e = record {
   phase = phase_after s.phase e.direction e.says;
   is_up = is_up_after s e.direction e.says;
   is_logged_out = is_logged_out_after s.is_logged_out e.direction e.says;
+  is_peer_out = is_peer_out_after s.is_peer_out e.direction e.says;
   heart = heart_after s.heart e.direction e.says;
   wrote_at = wrote_at_after s e.direction e.moment;
   logon = logon_after s.logon e;
@@ -190,4 +224,5 @@ after s order e = record {
   says_next = says_next_after s.says_next e.direction e.says;
   counted = counted_after s.counted e;
   seen = seen_after s.seen e;
+  request = request_after s.request e;
 }

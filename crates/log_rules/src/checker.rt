@@ -1,14 +1,17 @@
 //! A log is gone through, message by message.
 
 ghost use Rattle.std.specs.Prelude.{◌≡◌, ◌∷◌, [], IfOk, OnOk, OnErr};
-ghost use Rattle.log_rules.specs.Ledger.{newest_order, shares_of_exec};
+ghost use Rattle.log_rules.specs.Ledger.{comes_again, newest_order, newest_under, shares_of_exec, uncounted_of};
 ghost use Rattle.log_rules.specs.Checker.{heard, new_checker, number_of_report, unread_verdicts, verdicts};
 
 use crate::entry::Entry;
-use crate::exchange_rules::{fence_answered, logon_answered, logout_answered, resend_asked};
+use crate::exchange_rules::{
+    fence_answered, logon_answered, logout_last, numbers_rise, resend_answered, resend_asked,
+};
 use crate::ledger::Ledger;
 use crate::ledger_rules::{known_order, not_withdrawn, one_use, sent_once, sums_add_up};
 use crate::order::Order;
+use crate::report_rules::{exec_once, known_kind, limit_kept, open_order, same_terms, status_fits};
 use crate::says::Says;
 use crate::session_rules::{gap_fills, heartbeats, logon_first, sent_numbers};
 use crate::standing::Standing;
@@ -44,7 +47,7 @@ impl Checker {
     }
 
     /// What a message says of each rule, in the order of `RULES`.
-    fn verdicts(&self, entry: &Entry<'_>) -> [Verdict; 14]
+    fn verdicts(&self, entry: &Entry<'_>) -> [Verdict; 22]
         ensures { result ≡ verdicts self.now entry.now }
     {
         let standing = &self.standing;
@@ -57,13 +60,21 @@ impl Checker {
             logon_first(standing, entry),
             heartbeats(standing, entry),
             logon_answered(standing, entry),
-            logout_answered(standing, entry),
+            logout_last(standing, entry),
             resend_asked(standing, entry),
             fence_answered(standing, entry),
             one_use(standing, ledger, entry),
             known_order(ledger, entry),
             not_withdrawn(ledger, entry),
             sums_add_up(standing, ledger, entry),
+            numbers_rise(standing, entry),
+            resend_answered(standing, entry),
+            exec_once(standing, ledger, entry),
+            known_kind(entry),
+            open_order(standing, ledger, entry),
+            limit_kept(standing, ledger, entry),
+            same_terms(standing, ledger, entry),
+            status_fits(entry),
         ]
     }
 
@@ -78,10 +89,10 @@ impl Checker {
     }
 
     /// What a message that can't be read says of each rule: nothing, but that it can't be read.
-    pub fn unread() -> [Verdict; 14]
+    pub fn unread() -> [Verdict; 22]
         ensures { result ≡ unread_verdicts }
     {
-        let mut verdicts = [Verdict::Unasked; 14];
+        let mut verdicts = [Verdict::Unasked; 22];
         verdicts[0] = Verdict::Broken;
         verdicts
     }
@@ -107,15 +118,36 @@ impl Checker {
         self.ledger.place_of(id)
     }
 
-    /// How many shares the first report of this ExecID (17) says were traded.
-    pub fn shares_of_exec(&self, exec: &[u8]) -> Option<u64>
-        ensures { result ≡ shares_of_exec exec.now self.now.ledger.reports }
+    /// The place of the newest order that was sent under this number.
+    pub fn place_under(&self, number: u64) -> Option<usize>
+        ensures { result ≡ newest_under self.now.ledger.orders number }
     {
-        self.ledger.shares_of_exec(exec)
+        self.ledger.place_under(number)
+    }
+
+    /// Whether this ExecID (17) was first that of a report under another number than this one.
+    pub fn comes_again(&self, exec: &[u8], number: u64) -> bool
+        ensures { result ≡ comes_again exec.now number self.now.ledger.reports }
+    {
+        self.ledger.comes_again(exec, number)
+    }
+
+    /// How many reports came under a number that isn't counted, as those behind one that is missing.
+    pub fn uncounted(&self) -> usize
+        ensures { result ≡ uncounted_of self.now.standing.counted self.now.ledger.reports }
+    {
+        self.ledger.uncounted(&self.standing)
+    }
+
+    /// How many shares the first report of this ExecID (17) says were traded, if it is on the order at this place.
+    pub fn shares_of_exec(&self, exec: &[u8], order: Option<usize>) -> Option<u64>
+        ensures { result ≡ shares_of_exec exec.now order self.now.ledger.reports }
+    {
+        self.ledger.shares_of_exec(exec, order)
     }
 
     /// What the next message says of each rule, in the order of `RULES`. Where memory is refused, nothing changes.
-    pub fn hear(&mut self, entry: &Entry<'_>) -> Result<[Verdict; 14], AllocError>
+    pub fn hear(&mut self, entry: &Entry<'_>) -> Result<[Verdict; 22], AllocError>
         ensures verdicts { IfOk result (λ said. said ≡ verdicts self.old entry.now) }
         ensures ok { OnOk result (self.new ≡ heard self.old entry.now) }
         ensures err { OnErr result (self.new ≡ self.old) }

@@ -19,6 +19,8 @@ pub struct Entry<'a> {
     pub number: u64,
     /// PossDupFlag (43).
     pub poss_dup: bool,
+    /// PossResend (97).
+    pub poss_resend: bool,
     pub says: Says<'a>,
 }
 
@@ -32,6 +34,7 @@ impl<'a> Entry<'a> {
             moment: Moment::of(&line.stamp),
             number: message.number(),
             poss_dup: message.poss_dup(),
+            poss_resend: message.poss_resend(),
             says: said_by(message.body()),
         }
     }

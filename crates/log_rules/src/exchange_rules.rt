@@ -1,7 +1,7 @@
 //! The rules of the exchange that need no order.
 
 ghost use Rattle.std.specs.Prelude.{◌≡◌};
-ghost use Rattle.log_rules.specs.ExchangeRules.{fence_answered, is_range, logon_answered, logout_answered, nothing_is_awaited, resend_asked};
+ghost use Rattle.log_rules.specs.ExchangeRules.{fence_answered, is_new, is_next_upto, is_range, logon_answered, logout_last, nothing_is_awaited, numbers_rise, resend_answered, resend_asked};
 
 use crate::entry::Entry;
 use crate::says::Says;
@@ -21,16 +21,36 @@ pub(crate) fn logon_answered(standing: &Standing, entry: &Entry<'_>) -> Verdict
     }
 }
 
-/// A Logout comes once the session's was sent. One that refuses a Logon isn't asked about.
-pub(crate) fn logout_answered(standing: &Standing, entry: &Entry<'_>) -> Verdict
-    ensures { result ≡ logout_answered standing.now entry.now.direction entry.now.says }
+/// Behind its Logout the exchange sends nothing new in the connection, but what is asked for again.
+pub(crate) fn logout_last(standing: &Standing, entry: &Entry<'_>) -> Verdict
+    ensures { result ≡ logout_last standing.now entry.now }
 {
     match (entry.direction, &entry.says) {
-        (Direction::Received, Says::Logout) if standing.phase == Phase::LoggedOn => {
-            Verdict::held_if(standing.is_logged_out)
-        }
-        _ => Verdict::Unasked,
+        (Direction::Sent, _) | (_, Says::Logon { .. } | Says::GapFill { .. }) => Verdict::Unasked,
+        _ if entry.poss_dup => Verdict::Unasked,
+        _ => Verdict::held_if(!standing.is_peer_out),
     }
+}
+
+/// Whether a message has to have a new number.
+fn is_new(says: &Says<'_>, poss_dup: bool) -> bool
+    ensures { result ≡ is_new says.now poss_dup }
+{
+    match says {
+        Says::Logon { reset, .. } => !*reset && !poss_dup,
+        Says::GapFill { .. } | Says::Reset { .. } => false,
+        _ => !poss_dup,
+    }
+}
+
+/// A new message of the exchange has a number above each that came.
+pub(crate) fn numbers_rise(standing: &Standing, entry: &Entry<'_>) -> Verdict
+    ensures { result ≡ numbers_rise standing.now entry.now }
+{
+    if entry.direction == Direction::Received && is_new(&entry.says, entry.poss_dup) {
+        return Verdict::held_if(standing.seen < entry.number);
+    }
+    Verdict::Unasked
 }
 
 /// Whether a resend request is for a range of numbers: to its last one, or to the end.
@@ -40,8 +60,18 @@ fn is_range(begin: u64, last: u64) -> bool
     0 < begin && (last == 0 || begin <= last)
 }
 
-/// A resend request begins with a number that was sent, and that the exchange isn't known to have passed. One that came
-/// before isn't asked about again.
+/// Whether a number was sent, or is the one after the last.
+fn is_next_upto(last: Option<u64>, number: u64) -> bool
+    ensures { result ≡ is_next_upto last number }
+{
+    match last {
+        Some(last) => number <= last || number - last == 1,
+        None => false,
+    }
+}
+
+/// A resend request, and what a Logon says is expected next, begins with a number that was sent, and that the exchange
+/// isn't known to have passed. One that came before isn't asked about again.
 pub(crate) fn resend_asked(standing: &Standing, entry: &Entry<'_>) -> Verdict
     ensures { result ≡ resend_asked standing.now entry.now }
 {
@@ -51,6 +81,15 @@ pub(crate) fn resend_asked(standing: &Standing, entry: &Entry<'_>) -> Verdict
     match (entry.direction, &entry.says) {
         (Direction::Received, Says::ResendRequest { begin, last }) => Verdict::held_if(
             is_range(*begin, *last) && standing.passed < *begin && standing.was_sent(*begin),
+        ),
+        (
+            Direction::Received,
+            Says::Logon {
+                next: Some(next),
+                ..
+            },
+        ) if standing.says_next => Verdict::held_if(
+            standing.passed < *next && is_next_upto(standing.last, *next),
         ),
         _ => Verdict::Unasked,
     }
@@ -80,6 +119,21 @@ pub(crate) fn fence_answered(standing: &Standing, entry: &Entry<'_>) -> Verdict
                 standing.was_sent(*fence) && nothing_is_awaited(standing.awaited, *fence),
             )
         }
+        _ => Verdict::Unasked,
+    }
+}
+
+/// The exchange answers a resend request of the session, and doesn't log out before it did.
+pub(crate) fn resend_answered(standing: &Standing, entry: &Entry<'_>) -> Verdict
+    ensures { result ≡ resend_answered standing.now entry.now }
+{
+    let Some(request) = standing.request else {
+        return Verdict::Unasked;
+    };
+    match (entry.direction, &entry.says) {
+        (Direction::Sent, _) => Verdict::Unasked,
+        _ if entry.number <= request.begin => Verdict::Held,
+        (_, Says::Logout) => Verdict::Broken,
         _ => Verdict::Unasked,
     }
 }

@@ -1,16 +1,18 @@
 //! A report that came.
 
 ghost use Rattle.std.specs.Prelude.{◌≡◌, IfOk};
-ghost use Rattle.log_rules.specs.KeptReport.{kept_report, traded_by};
+ghost use Rattle.log_rules.specs.KeptReport.{is_on, kept_report, traded_by};
 
 use crate::report_said::{Happening, ReportSaid};
 use std::alloc::{AllocError, Global};
 use std::marker::Model;
 
-/// A report that came: its number, its ExecID (17), and how many shares it says were traded.
+/// A report that came: its number, the place of the order that it is on, its ExecID (17), and how many shares it says
+/// were traded.
 #[derive(Debug, Drop)]
 pub(crate) struct KeptReport {
     number: u64,
+    order: Option<usize>,
     exec: Vec<u8>,
     shares: u64,
 }
@@ -20,7 +22,7 @@ impl Model for KeptReport {
 
     ghost Value = { ReportParts };
 
-    ghost view = { λ r. record { number = r.number; exec = r.exec.items; shares = r.shares } };
+    ghost view = { λ r. record { number = r.number; order = r.order; exec = r.exec.items; shares = r.shares } };
 }
 
 /// How many shares were traded.
@@ -37,12 +39,14 @@ impl KeptReport {
     pub(crate) fn new(
         alloc: Global,
         number: u64,
+        order: Option<usize>,
         said: &ReportSaid<'_>,
     ) -> Result<KeptReport, AllocError>
-        ensures { IfOk result (λ report. report ≡ kept_report number said.now) }
+        ensures { IfOk result (λ report. report ≡ kept_report number order said.now) }
     {
         Ok(KeptReport {
             number,
+            order,
             exec: Vec::from_slice(alloc, said.exec.as_bytes())?,
             shares: traded_by(&said.happened),
         })
@@ -52,6 +56,16 @@ impl KeptReport {
         ensures { result ≡ self.now.number }
     {
         self.number
+    }
+
+    /// Whether it is on the order at this place.
+    pub(crate) fn is_on(&self, order: Option<usize>) -> bool
+        ensures { result ≡ is_on order self.now.order }
+    {
+        match (order, self.order) {
+            (Some(order), Some(own)) => order == own,
+            _ => false,
+        }
     }
 
     pub(crate) fn exec(&self) -> &[u8]

@@ -2,7 +2,7 @@
 
 ghost use Rattle.std.specs.Prelude.{◌≡◌, [], OnOk, OnErr};
 ghost use Rattle.std.specs.Option.{option_map};
-ghost use Rattle.log_rules.specs.Ledger.{changed_by, has_report_in, newest_order, order_of, report_under, shares_of_exec, with_order, with_report};
+ghost use Rattle.log_rules.specs.Ledger.{changed_by, comes_again, has_report_in, newest_order, newest_under, order_of, report_of_exec, report_under, shares_of_exec, uncounted_of, with_order, with_refusal_heard, with_report, with_report_heard};
 
 use crate::entry::Entry;
 use crate::kept_report::KeptReport;
@@ -56,6 +56,13 @@ impl Ledger {
         self.orders.place_of(id)
     }
 
+    /// The place of the newest order that was sent under this number.
+    pub(crate) fn place_under(&self, number: u64) -> Option<usize>
+        ensures { result ≡ newest_under self.now.orders number }
+    {
+        self.orders.place_under(number)
+    }
+
     /// The order of this id.
     pub(crate) fn order(&self, id: &[u8]) -> Option<&Order>
         ensures { option_map (λ order. order.now) result ≡ order_of self.now.orders id.now }
@@ -70,11 +77,32 @@ impl Ledger {
         self.reports.under(number)
     }
 
-    /// How many shares the report of this ExecID (17) says were traded.
-    pub(crate) fn shares_of_exec(&self, exec: &[u8]) -> Option<u64>
-        ensures { result ≡ shares_of_exec exec.now self.now.reports }
+    /// The first report of this ExecID (17).
+    pub(crate) fn report_of_exec(&self, exec: &[u8]) -> Option<&KeptReport>
+        ensures { option_map (λ report. report.now) result ≡ report_of_exec exec.now self.now.reports }
     {
-        self.reports.shares_of(exec)
+        self.reports.of_exec(exec)
+    }
+
+    /// Whether this ExecID (17) was first that of a report under another number.
+    pub(crate) fn comes_again(&self, exec: &[u8], number: u64) -> bool
+        ensures { result ≡ comes_again exec.now number self.now.reports }
+    {
+        self.reports.comes_again(exec, number)
+    }
+
+    /// How many reports came under a number that isn't counted.
+    pub(crate) fn uncounted(&self, standing: &Standing) -> usize
+        ensures { result ≡ uncounted_of standing.now.counted self.now.reports }
+    {
+        self.reports.uncounted(standing)
+    }
+
+    /// How many shares the first report of this ExecID (17) says were traded, if it is on the order at this place.
+    pub(crate) fn shares_of_exec(&self, exec: &[u8], order: Option<usize>) -> Option<u64>
+        ensures { result ≡ shares_of_exec exec.now order self.now.reports }
+    {
+        self.reports.shares_of(exec, order)
     }
 
     /// Whether a report came under a number of a range.
@@ -106,7 +134,34 @@ impl Ledger {
         if number <= seen && self.report_under(number).is_some() {
             return Ok(());
         }
-        self.reports.push(number, said)
+        let order = self.place_of(said.id.as_bytes());
+        self.reports.push(number, order, said)
+    }
+
+    /// A report came: its sums count once.
+    fn hear_report(
+        &mut self,
+        standing: &Standing,
+        number: u64,
+        said: &ReportSaid<'_>,
+    ) -> Result<(), AllocError>
+        ensures ok { OnOk result (self.new ≡ with_report_heard standing.now number said.now self.old) }
+        ensures err { OnErr result (self.new ≡ self.old) }
+    {
+        self.push_report(standing.seen, number, said)?;
+        if standing.is_due(number) {
+            self.orders.sum_up(said);
+        }
+        Ok(())
+    }
+
+    /// A refusal came, of the order that was sent under this number: it counts once.
+    fn hear_refusal(&mut self, standing: &Standing, number: u64, order: u64)
+        ensures { self.new ≡ with_refusal_heard standing.now number order self.old }
+    {
+        if standing.is_due(number) {
+            self.orders.refuse(order);
+        }
     }
 
     /// Goes on behind a message. A refused growth changes nothing.
@@ -117,10 +172,10 @@ impl Ledger {
         match (entry.direction, &entry.says) {
             (Direction::Sent, Says::Order(said)) => self.push_order(entry.number, said),
             (Direction::Received, Says::Report(said)) => {
-                self.push_report(standing.seen, entry.number, said)?;
-                if standing.is_due(entry.number) {
-                    self.orders.sum_up(said);
-                }
+                self.hear_report(standing, entry.number, said)
+            }
+            (Direction::Received, Says::Refused { number }) => {
+                self.hear_refusal(standing, entry.number, *number);
                 Ok(())
             }
             (Direction::Received, Says::ResendRequest { begin, .. }) if !standing.is_up => {

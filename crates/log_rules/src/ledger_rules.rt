@@ -1,7 +1,7 @@
 //! The rules of orders and of the reports on them.
 
 ghost use Rattle.std.specs.Prelude.{◌≡◌};
-ghost use Rattle.log_rules.specs.LedgerRules.{adds_up, bust_adds_up, is_sum, known_order, not_withdrawn, one_use, repeats, sent_once, sums_add_up, sums_of, trade_adds_up};
+ghost use Rattle.log_rules.specs.LedgerRules.{adds_up, bust_adds_up, is_sum, known_order, not_withdrawn, one_use, repeats, sent_once, shares_undone, sums_add_up, sums_of, trade_adds_up};
 
 use crate::entry::Entry;
 use crate::ledger::Ledger;
@@ -86,11 +86,11 @@ fn is_sum(sum: u64, a: u64, b: u64) -> bool
     a <= sum && sum - a == b
 }
 
-/// Whether the sums of a trade add up: its shares were open, and are filled.
+/// Whether the sums of a trade of one share or more add up: its shares were open, and are filled.
 fn trade_adds_up(order: &Order, shares: u64, cum: u64, leaves: u64) -> bool
     ensures { result ≡ trade_adds_up order.now shares cum leaves }
 {
-    is_sum(cum, order.cum(), shares) && is_sum(order.leaves(), leaves, shares)
+    shares > 0 && is_sum(cum, order.cum(), shares) && is_sum(order.leaves(), leaves, shares)
 }
 
 /// Whether the sums of a bust add up: the shares of its trade are filled no more.
@@ -98,9 +98,18 @@ fn bust_adds_up(order: &Order, shares: Option<u64>, cum: u64, leaves: u64) -> bo
     ensures { result ≡ bust_adds_up order.now shares cum leaves }
 {
     match shares {
-        Some(shares) => is_sum(order.cum(), cum, shares) && leaves == order.leaves(),
+        Some(shares) => {
+            shares > 0 && is_sum(order.cum(), cum, shares) && leaves == order.leaves()
+        }
         None => false,
     }
+}
+
+/// How many shares of this order the trade of an ExecID has.
+fn shares_undone(ledger: &Ledger, order: &Order, undone: &[u8]) -> Option<u64>
+    ensures { result ≡ shares_undone ledger.now order.now undone.now }
+{
+    ledger.shares_of_exec(undone, ledger.place_of(order.id()))
 }
 
 /// Whether these sums are what is made of an order's by what happened.
@@ -112,9 +121,14 @@ fn adds_up(ledger: &Ledger, order: &Order, happened: &Happening<'_>, cum: u64, l
         Happening::Trade { shares } => trade_adds_up(order, *shares, cum, leaves),
         Happening::Ended => cum == order.cum() && leaves == 0,
         Happening::Bust { undone } => {
-            bust_adds_up(order, ledger.shares_of_exec(undone.as_bytes()), cum, leaves)
+            bust_adds_up(
+                order,
+                shares_undone(ledger, order, undone.as_bytes()),
+                cum,
+                leaves,
+            )
         }
-        Happening::Other => true,
+        Happening::Other | Happening::Unknown => true,
     }
 }
 

@@ -2,13 +2,13 @@
 //! breaks is named.
 //!
 //! Promises:
-//! - Each of the thirteen rules over readable messages is a definition (`SessionRules.antt`, `ExchangeRules.antt`,
-//!   `LedgerRules.antt`), over how the two ends stand and over the orders and reports so far (`Standing.antt`,
-//!   `Ledger.antt`).
+//! - Each of the 21 rules over readable messages is a definition (`SessionRules.antt`, `ExchangeRules.antt`,
+//!   `LedgerRules.antt`, `ReportRules.antt`), over how the two ends stand and over the orders and reports so far
+//!   (`Standing.antt`, `Ledger.antt`).
 //! - `Checker::hear` answers for a message exactly what they say of it (`verdicts`), and is then exactly what is
 //!   known behind it (`heard`). Where memory is refused it is as it was.
 //! - `Checker` tells how the two ends stand, the orders so far and the place of each by its ClOrdID: what it tells is
-//!   what it is judged by (`standing`, `orders`, `place_of`, `shares_of_exec`).
+//!   what it is judged by (`standing`, `orders`, `place_of`, `place_under`, `shares_of_exec`).
 //! - Where no message of a log breaks `sent-once`, no two of its orders have one ClOrdID (`orders_are_sent_once`).
 //!   Where none breaks `known-order`, each report is on an order that was sent before it (`reports_follow_orders`).
 //! - Not said: that memory is refused only where the system does so, and that a day of this session against an
@@ -27,6 +27,7 @@ mod number_places;
 mod order;
 mod order_said;
 mod orders;
+mod report_rules;
 mod report_said;
 mod reports;
 mod rule;
@@ -46,6 +47,6 @@ pub use order_said::OrderSaid;
 pub use report_said::{Happening, ReportSaid};
 pub use rule::{RULES, Rule};
 pub use says::Says;
-pub use standing::{Phase, Standing};
+pub use standing::{Phase, Request, Standing};
 pub use tally::Tally;
 pub use verdict::Verdict;

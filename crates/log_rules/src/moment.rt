@@ -30,7 +30,7 @@ impl Moment {
 
     /// How many milliseconds passed until a later moment, less than a day. Where the clock went back, or for a day or
     /// more, none.
-    pub(crate) fn until(&self, later: Moment) -> u64
+    pub fn until(&self, later: Moment) -> u64
         ensures { result ≡ elapsed self.now later }
     {
         if self.day == later.day {

@@ -1,6 +1,6 @@
 //! Places in a list, by numbers.
 
-ghost use Rattle.std.specs.Prelude.{◌≡◌, ℕ, ◌==◌, None, OnOk, OnErr};
+ghost use Rattle.std.specs.Prelude.{◌≡◌, ℕ, ◌==◌, Some, None, OnOk, OnErr, if◌then◌else◌};
 ghost use Rattle.log_rules.specs.Places.{HasPlaceIn, first_kept, number_place};
 
 use std::alloc::{AllocError, Global};
@@ -33,6 +33,16 @@ impl NumberPlaces {
         ensures { HasPlaceIn self.now from to result }
     {
         from <= to && self.by_number.range(from..to).next().is_some()
+    }
+
+    /// Keeps a place under a number, in place of what was kept there.
+    pub(crate) fn set(&mut self, number: u64, place: usize) -> Result<(), AllocError>
+        ensures ok { OnOk result ((other : ℕ) → number_place self.new other
+            ≡ (if number == other then Some place else number_place self.old other)) }
+        ensures err { OnErr result ((other : ℕ) → number_place self.new other ≡ number_place self.old other) }
+    {
+        self.by_number.insert(number, place)?;
+        Ok(())
     }
 
     /// Keeps a place under a number, unless one is kept there.

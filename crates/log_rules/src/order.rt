@@ -1,10 +1,13 @@
 //! An order that was sent.
 
 ghost use Rattle.std.specs.Prelude.{◌≡◌, IfOk};
-ghost use Rattle.log_rules.specs.Order.{new_order, reported, withdrawn_by};
+ghost use Rattle.std.specs.Option.{option_map};
+ghost use Rattle.log_rules.specs.Order.{new_order, refused, reported, withdrawn_by};
 
 use crate::order_said::OrderSaid;
 use crate::report_said::ReportSaid;
+use fix_tags::TextRef;
+use leg::Side;
 use std::alloc::{AllocError, Global};
 use std::marker::Model;
 
@@ -13,12 +16,16 @@ use std::marker::Model;
 pub struct Order {
     id: Vec<u8>,
     number: u64,
+    symbol: Option<Vec<u8>>,
+    side: Option<Side>,
+    price: Option<u64>,
     cum: u64,
     leaves: u64,
     is_withdrawn: bool,
 }
 
 impl Model for Order {
+    ghost use Rattle.std.specs.Option.{option_map};
     ghost use Rattle.log_rules.specs.Order.{OrderParts};
 
     ghost Value = { OrderParts };
@@ -26,10 +33,23 @@ impl Model for Order {
     ghost view = { λ o. record {
       id = o.id.items;
       number = o.number;
+      symbol = option_map (λ text. text.items) o.symbol;
+      side = o.side;
+      price = o.price;
       cum = o.cum;
       leaves = o.leaves;
       is_withdrawn = o.is_withdrawn;
     } };
+}
+
+/// A text of its own, where there is one.
+fn owned(alloc: Global, text: &Option<TextRef<'_>>) -> Result<Option<Vec<u8>>, AllocError>
+    ensures { IfOk result (λ owned. option_map (λ text. text.items) owned ≡ text.now) }
+{
+    match text {
+        Some(text) => Ok(Some(Vec::from_slice(alloc, text.as_bytes())?)),
+        None => Ok(None),
+    }
 }
 
 impl Order {
@@ -40,6 +60,9 @@ impl Order {
         Ok(Order {
             id: Vec::from_slice(alloc, said.id.as_bytes())?,
             number,
+            symbol: owned(alloc, &said.symbol)?,
+            side: said.side,
+            price: said.price,
             cum: 0,
             leaves: said.shares,
             is_withdrawn: false,
@@ -58,6 +81,30 @@ impl Order {
         ensures { result ≡ self.now.number }
     {
         self.number
+    }
+
+    /// Symbol (55).
+    pub(crate) fn symbol(&self) -> Option<&[u8]>
+        ensures { option_map (λ text. text.now) result ≡ self.now.symbol }
+    {
+        match &self.symbol {
+            Some(text) => Some(text.as_slice()),
+            None => None,
+        }
+    }
+
+    /// Side (54), where it is to buy or to sell.
+    pub(crate) fn side(&self) -> Option<Side>
+        ensures { result ≡ self.now.side }
+    {
+        self.side
+    }
+
+    /// Price (44) in ten-thousandths of a dollar, where it can be read.
+    pub(crate) fn price(&self) -> Option<u64>
+        ensures { result ≡ self.now.price }
+    {
+        self.price
     }
 
     /// The shares that were filled, and not busted.
@@ -99,5 +146,12 @@ impl Order {
             self.cum = cum;
             self.leaves = leaves;
         }
+    }
+
+    /// It was refused: nothing is open.
+    pub(crate) fn refuse(&mut self)
+        ensures { self.new ≡ refused self.old }
+    {
+        self.leaves = 0;
     }
 }

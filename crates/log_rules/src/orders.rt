@@ -2,9 +2,10 @@
 
 ghost use Rattle.std.specs.Prelude.{◌≡◌, ◌<◌, ◌++◌, ◌∷◌, [], map, length, OnOk, OnErr};
 ghost use Rattle.std.specs.Option.{option_map};
-ghost use Rattle.log_rules.specs.Ledger.{changed_at, newest_order, order_changed, order_of};
-ghost use Rattle.log_rules.specs.Order.{new_order, reported, withdrawn_by};
+ghost use Rattle.log_rules.specs.Ledger.{changed_at, newest_order, newest_under, order_changed, order_of};
+ghost use Rattle.log_rules.specs.Order.{new_order, refused, reported, withdrawn_by};
 
+use crate::number_places::NumberPlaces;
 use crate::order::Order;
 use crate::order_said::OrderSaid;
 use crate::report_said::ReportSaid;
@@ -12,12 +13,14 @@ use crate::text_places::TextPlaces;
 use std::alloc::{AllocError, Global};
 use std::marker::Model;
 
-/// The orders that were sent, in their order. Under each ClOrdID (11) the place of its newest order is kept.
+/// The orders that were sent, in their order. Under each ClOrdID (11), and under each number, the place of its newest
+/// order is kept.
 #[derive(Debug, Drop)]
 pub(crate) struct Orders {
     alloc: Global,
     items: Vec<Order>,
     by_id: TextPlaces,
+    by_number: NumberPlaces,
 }
 
 impl Model for Orders {
@@ -28,9 +31,9 @@ impl Model for Orders {
 
     ghost view = { λ o. o.items.items };
 
-    ghost use Rattle.log_rules.specs.Kept.{KeepsOrders};
+    ghost use Rattle.log_rules.specs.Kept.{KeepsOrderNumbers, KeepsOrders};
 
-    ghost invariant = { λ o. KeepsOrders o.by_id o.items.items };
+    ghost invariant = { λ o. KeepsOrders o.by_id o.items.items × KeepsOrderNumbers o.by_number o.items.items };
 }
 
 fn withdraw(orders: &mut [Order], settled: u64, expected: u64)
@@ -50,6 +53,15 @@ fn sum_up_at(orders: &mut [Order], place: usize, said: &ReportSaid<'_>)
     orders[place].report(said);
 }
 
+/// Nothing is open of the order at a place.
+#[tactic(auto, using(crate::proofs::ChangedAt::set_is_changed))]
+fn refuse_at(orders: &mut [Order], place: usize)
+    requires { place < length orders.old }
+    ensures { orders.new ≡ order_changed refused place orders.old }
+{
+    orders[place].refuse();
+}
+
 impl Orders {
     pub(crate) fn new(alloc: Global) -> Orders
         ensures { result ≡ [] }
@@ -58,6 +70,7 @@ impl Orders {
             alloc,
             items: Vec::new(alloc),
             by_id: TextPlaces::new(alloc),
+            by_number: NumberPlaces::new(alloc),
         }
     }
 
@@ -72,6 +85,13 @@ impl Orders {
         ensures { result ≡ newest_order self.now id.now }
     {
         self.by_id.get(id)
+    }
+
+    /// The place of the newest order that was sent under this number.
+    pub(crate) fn place_under(&self, number: u64) -> Option<usize>
+        ensures { result ≡ newest_under self.now number }
+    {
+        self.by_number.get(number)
     }
 
     /// The newest order of this id.
@@ -90,6 +110,7 @@ impl Orders {
         let id = Vec::from_slice(self.alloc, said.id.as_bytes())?;
         self.items.reserve(1)?;
         self.by_id.reserve()?;
+        self.by_number.set(number, self.items.len())?;
         self.by_id.set(id, self.items.len());
         self.items.push_reserved(order);
         Ok(())
@@ -101,6 +122,15 @@ impl Orders {
     {
         if let Some(place) = self.by_id.get(said.id.as_bytes()) {
             sum_up_at(&mut self.items, place, said);
+        }
+    }
+
+    /// Nothing is open of the newest order that was sent under this number.
+    pub(crate) fn refuse(&mut self, number: u64)
+        ensures { self.new ≡ changed_at refused (newest_under self.old number) self.old }
+    {
+        if let Some(place) = self.by_number.get(number) {
+            refuse_at(&mut self.items, place);
         }
     }
 

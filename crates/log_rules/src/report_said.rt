@@ -1,6 +1,7 @@
 //! What a report says.
 
 use fix_tags::TextRef;
+use leg::Side;
 
 /// What happened to an order: ExecType (150).
 #[derive(Debug, Drop)]
@@ -13,8 +14,10 @@ pub enum Happening<'a> {
     Ended,
     /// The trade whose report had this ExecID is undone: ExecRefID (19).
     Bust { undone: TextRef<'a> },
-    /// Anything else, also a trade or a bust that doesn't say of what.
+    /// Another of the standard's kinds: no shares are moved.
     Other,
+    /// None of the standard's kinds, or a trade that doesn't say how many shares, or a bust that doesn't say of what.
+    Unknown,
 }
 
 /// What an ExecutionReport says (FIX 4.4 Volume 4), as far as the rules look at it.
@@ -25,8 +28,16 @@ pub struct ReportSaid<'a> {
     /// ExecID (17).
     pub exec: TextRef<'a>,
     pub happened: Happening<'a>,
-    /// CumQty (14), where it is a number.
+    /// CumQty (14), where it can be read.
     pub cum: Option<u64>,
-    /// LeavesQty (151), where it is a number.
+    /// LeavesQty (151), where it can be read.
     pub leaves: Option<u64>,
+    /// LastPx (31) in ten-thousandths of a dollar, where it can be read.
+    pub price: Option<u64>,
+    /// Symbol (55).
+    pub symbol: Option<TextRef<'a>>,
+    /// Side (54), where it is to buy or to sell.
+    pub side: Option<Side>,
+    /// OrdStatus (39).
+    pub status: Option<TextRef<'a>>,
 }

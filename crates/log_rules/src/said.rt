@@ -2,12 +2,15 @@
 
 ghost use Rattle.std.specs.Prelude.{◌≡◌};
 ghost use Rattle.fix_text.specs.Tagged.{value_of};
-ghost use Rattle.log_rules.specs.Said.{application_said, bust_of, fence_number, happening_of, heartbeat_said, number_at, order_said, report_said, report_of, said_by, session_said, trade_of};
+ghost use Rattle.log_rules.specs.Said.{application_said, bust_of, fence_number, happening_of, heartbeat_said, is_priced, order_said, price_at, refusal_of, report_of, report_said, said_by, session_said, shares_at, side_at, trade_of};
 
 use crate::order_said::OrderSaid;
 use crate::report_said::{Happening, ReportSaid};
 use crate::says::Says;
-use fix_tags::{AppFields, Body, BodyRef, SessionBody, TextRef, read_number};
+use fix_tags::{
+    AppFields, Body, BodyRef, SessionBody, TextRef, read_number, read_price, read_shares,
+};
+use leg::Side;
 
 const CL_ORD_ID: u32 = 11;
 
@@ -17,9 +20,13 @@ const EXEC_ID: u32 = 17;
 
 const EXEC_REF_ID: u32 = 19;
 
+const LAST_PX: u32 = 31;
+
 const LAST_QTY: u32 = 32;
 
 const ORDER_QTY: u32 = 38;
+
+const ORD_STATUS: u32 = 39;
 
 const PRICE: u32 = 44;
 
@@ -32,6 +39,9 @@ const SYMBOL_SFX: u32 = 65;
 const EXEC_TYPE: u32 = 150;
 
 const LEAVES_QTY: u32 = 151;
+
+/// The most bytes of a trade's price.
+const MAX_PRICE: usize = 20;
 
 /// The number of the fence that an id names: `F` and a number with no leading zero.
 fn fence_number(id: &[u8]) -> Option<u64>
@@ -57,6 +67,16 @@ fn heartbeat_said<'a>(id: &Option<TextRef<'a>>) -> Says<'a>
     }
 }
 
+/// A refusal of the message under a number, where one is named.
+fn refusal_of<'a>(number: Option<u64>) -> Says<'a>
+    ensures { result ≡ refusal_of number }
+{
+    match number {
+        Some(number) => Says::Refused { number },
+        None => Says::Other,
+    }
+}
+
 fn session_said<'a>(body: &SessionBody<'a>) -> Says<'a>
     ensures { result ≡ session_said body.now }
 {
@@ -78,16 +98,32 @@ fn session_said<'a>(body: &SessionBody<'a>) -> Says<'a>
             new_number: *new_number,
         },
         SessionBody::Logout => Says::Logout,
-        SessionBody::TestRequest { .. }
-        | SessionBody::Reject { .. }
-        | SessionBody::BusinessReject { .. } => Says::Other,
+        SessionBody::Reject { number } => Says::Refused { number: *number },
+        SessionBody::BusinessReject { number } => refusal_of(*number),
+        SessionBody::TestRequest { .. } => Says::Other,
     }
 }
 
-fn number_at(fields: &AppFields<'_>, tag: u32) -> Option<u64>
-    ensures { result ≡ number_at fields.now tag }
+fn shares_at(fields: &AppFields<'_>, tag: u32) -> Option<u64>
+    ensures { result ≡ shares_at fields.now tag }
 {
-    read_number(fields.get(tag)?)
+    read_shares(fields.get(tag)?)
+}
+
+fn price_at(fields: &AppFields<'_>, tag: u32) -> Option<u64>
+    ensures { result ≡ price_at fields.now tag }
+{
+    read_price(fields.get(tag)?)
+}
+
+fn side_at(fields: &AppFields<'_>) -> Option<Side>
+    ensures { result ≡ side_at fields.now }
+{
+    match fields.get(SIDE)? {
+        b"1" => Some(Side::Buy),
+        b"2" => Some(Side::Sell),
+        _ => None,
+    }
 }
 
 fn text_at<'a>(fields: &AppFields<'a>, tag: u32) -> Option<TextRef<'a>>
@@ -104,20 +140,33 @@ fn order_said<'a>(fields: &AppFields<'a>) -> Says<'a>
     };
     Says::Order(OrderSaid {
         id: TextRef::new(id),
-        shares: number_at(fields, ORDER_QTY).unwrap_or(0),
+        shares: shares_at(fields, ORDER_QTY).unwrap_or(0),
         symbol: text_at(fields, SYMBOL),
         suffix: text_at(fields, SYMBOL_SFX),
-        side: text_at(fields, SIDE),
-        price: text_at(fields, PRICE),
+        side: side_at(fields),
+        price: price_at(fields, PRICE),
     })
+}
+
+/// Whether a trade's price is there, of at most 20 bytes.
+fn is_priced(fields: &AppFields<'_>) -> bool
+    ensures { result ≡ is_priced (value_of fields.now 31) }
+{
+    match fields.get(LAST_PX) {
+        Some(text) => text.len() <= MAX_PRICE,
+        None => false,
+    }
 }
 
 fn trade_of<'a>(fields: &AppFields<'a>) -> Happening<'a>
     ensures { result ≡ trade_of fields.now }
 {
-    match number_at(fields, LAST_QTY) {
+    if !is_priced(fields) {
+        return Happening::Unknown;
+    }
+    match shares_at(fields, LAST_QTY) {
         Some(shares) => Happening::Trade { shares },
-        None => Happening::Other,
+        None => Happening::Unknown,
     }
 }
 
@@ -128,7 +177,7 @@ fn bust_of<'a>(fields: &AppFields<'a>) -> Happening<'a>
         Some(undone) => Happening::Bust {
             undone: TextRef::new(undone),
         },
-        None => Happening::Other,
+        None => Happening::Unknown,
     }
 }
 
@@ -141,7 +190,10 @@ fn happening_of<'a>(fields: &AppFields<'a>) -> Happening<'a>
         Some([b'F']) => trade_of(fields),
         Some([b'4' | b'8' | b'C']) => Happening::Ended,
         Some([b'H']) => bust_of(fields),
-        _ => Happening::Other,
+        Some([b'3' | b'5' | b'6' | b'7' | b'9' | b'A' | b'B' | b'D' | b'E' | b'G' | b'I']) => {
+            Happening::Other
+        }
+        _ => Happening::Unknown,
     }
 }
 
@@ -154,8 +206,12 @@ fn report_of<'a>(fields: &AppFields<'a>) -> Option<ReportSaid<'a>>
         id: TextRef::new(id),
         exec: TextRef::new(exec),
         happened: happening_of(fields),
-        cum: number_at(fields, CUM_QTY),
-        leaves: number_at(fields, LEAVES_QTY),
+        cum: shares_at(fields, CUM_QTY),
+        leaves: shares_at(fields, LEAVES_QTY),
+        price: price_at(fields, LAST_PX),
+        symbol: text_at(fields, SYMBOL),
+        side: side_at(fields),
+        status: text_at(fields, ORD_STATUS),
     })
 }
 

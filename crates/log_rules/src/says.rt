@@ -28,6 +28,10 @@ pub enum Says<'a> {
         new_number: u64,
     },
     Logout,
+    /// A Reject or a BusinessReject of the message under this number (45).
+    Refused {
+        number: u64,
+    },
     Order(OrderSaid<'a>),
     Report(ReportSaid<'a>),
     Other,

@@ -1,7 +1,7 @@
 //! How the two ends stand, as far as the messages show it.
 
 ghost use Rattle.std.specs.Prelude.{◌≡◌};
-ghost use Rattle.log_rules.specs.Standing.{after, allowed, asked_after, counted_after, heart_after, is_due, is_late, is_logged_out_after, is_up_after, last_after, logon_after, new_standing, awaited_above, awaited_after, passed_after, phase_after, says_next_after, seen_after, settled_after, settles, was_reached, wrote_at_after};
+ghost use Rattle.log_rules.specs.Standing.{after, allowed, asked_after, counted_after, counted_filled, heart_after, is_due, is_late, is_logged_out_after, is_peer_out_after, is_up_after, last_after, logon_after, new_standing, awaited_above, awaited_after, passed_after, phase_after, request_after, says_next_after, seen_after, settled_after, settles, unless_answered, unless_filled, was_reached, wrote_at_after};
 
 use crate::entry::Entry;
 use crate::moment::Moment;
@@ -21,6 +21,13 @@ pub enum Phase {
     LoggedOn,
 }
 
+/// A resend request of the session: its own number, and the first one that it asks for.
+#[derive(Clone, Copy, Debug, PartialEq, Eq)]
+pub struct Request {
+    pub number: u64,
+    pub begin: u64,
+}
+
 /// How the two ends stand. What is said of a connection is of the present one, which the session's last Logon began.
 #[derive(Clone, Copy, Debug)]
 pub struct Standing {
@@ -29,6 +36,8 @@ pub struct Standing {
     pub is_up: bool,
     /// Whether the session logged out in the connection.
     pub is_logged_out: bool,
+    /// Whether the exchange logged out in the connection.
+    pub is_peer_out: bool,
     /// The heartbeat interval in seconds, and 0 for none.
     pub heart: u64,
     /// When the session wrote last, or was last found to be late.
@@ -51,6 +60,8 @@ pub struct Standing {
     pub counted: Option<u64>,
     /// The greatest number of the exchange that came.
     pub seen: u64,
+    /// The last resend request of the connection that isn't answered yet.
+    pub request: Option<Request>,
 }
 
 impl Standing {
@@ -62,6 +73,7 @@ impl Standing {
             phase: Phase::Down,
             is_up: false,
             is_logged_out: false,
+            is_peer_out: false,
             heart: 0,
             wrote_at: None,
             logon: 0,
@@ -73,6 +85,7 @@ impl Standing {
             says_next: false,
             counted: None,
             seen: 0,
+            request: None,
         }
     }
 
@@ -157,6 +170,16 @@ impl Standing {
             (Direction::Sent, Says::Logon { .. }) => false,
             (Direction::Sent, Says::Logout) => true,
             _ => self.is_logged_out,
+        }
+    }
+
+    fn is_peer_out_after(&self, entry: &Entry<'_>) -> bool
+        ensures { result ≡ is_peer_out_after self.now.is_peer_out entry.now.direction entry.now.says }
+    {
+        match (entry.direction, &entry.says) {
+            (Direction::Sent, Says::Logon { .. }) => false,
+            (Direction::Received, Says::Logout) => true,
+            _ => self.is_peer_out,
         }
     }
 
@@ -279,6 +302,19 @@ impl Standing {
         }
     }
 
+    /// What is counted once a gap fill of this number came: it leads on where its number is due, or below, and never
+    /// back.
+    fn counted_filled(&self, number: u64, new_number: u64) -> Option<u64>
+        ensures { result ≡ counted_filled self.now.counted number new_number }
+    {
+        let last = new_number.saturating_sub(1);
+        match self.counted {
+            None => Some(last),
+            Some(counted) if number <= counted || number - counted == 1 => Some(counted.max(last)),
+            Some(counted) => Some(counted),
+        }
+    }
+
     fn counted_after(&self, entry: &Entry<'_>) -> Option<u64>
         ensures { result ≡ counted_after self.now.counted entry.now }
     {
@@ -286,11 +322,45 @@ impl Standing {
             (Direction::Sent, _) => self.counted,
             (Direction::Received, Says::Logon { reset, .. }) if *reset => Some(entry.number),
             (Direction::Received, Says::Reset { new_number }) => Some(new_number.saturating_sub(1)),
+            (Direction::Received, Says::GapFill { new_number }) => {
+                self.counted_filled(entry.number, *new_number)
+            }
             (Direction::Received, _) if !self.is_due(entry.number) => self.counted,
-            (Direction::Received, Says::GapFill { new_number }) => Some(new_number.saturating_sub(
-                1,
-            )),
             (Direction::Received, _) => Some(entry.number),
+        }
+    }
+
+    /// The resend request that isn't answered, unless a gap fill passes over its own number.
+    fn unless_filled(&self, number: u64, new_number: u64) -> Option<Request>
+        ensures { result ≡ unless_filled self.now.request number new_number }
+    {
+        self.request.filter(|request| !(number <= request.number && request.number < new_number))
+    }
+
+    /// The resend request that isn't answered, unless a message of the exchange has a number that it asks for, or one
+    /// below.
+    fn unless_answered(&self, number: u64) -> Option<Request>
+        ensures { result ≡ unless_answered self.now.request number }
+    {
+        self.request.filter(|request| number > request.begin)
+    }
+
+    fn request_after(&self, entry: &Entry<'_>) -> Option<Request>
+        ensures { result ≡ request_after self.now.request entry.now }
+    {
+        match (entry.direction, &entry.says) {
+            (Direction::Sent, Says::Logon { .. }) => None,
+            (Direction::Sent, Says::ResendRequest { begin, .. }) if !entry.poss_dup => Some(
+                Request {
+                    number: entry.number,
+                    begin: *begin,
+                },
+            ),
+            (Direction::Sent, Says::GapFill { new_number }) => {
+                self.unless_filled(entry.number, *new_number)
+            }
+            (Direction::Sent, _) => self.request,
+            (Direction::Received, _) => self.unless_answered(entry.number),
         }
     }
 
@@ -302,6 +372,7 @@ impl Standing {
             phase: self.phase_after(entry),
             is_up: self.is_up_after(entry),
             is_logged_out: self.is_logged_out_after(entry),
+            is_peer_out: self.is_peer_out_after(entry),
             heart: self.heart_after(entry),
             wrote_at: self.wrote_at_after(entry),
             logon: self.logon_after(entry),
@@ -313,6 +384,7 @@ impl Standing {
             says_next: self.says_next_after(entry),
             counted: self.counted_after(entry),
             seen: self.seen_after(entry),
+            request: self.request_after(entry),
         }
     }
 }

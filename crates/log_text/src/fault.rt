@@ -11,7 +11,7 @@ pub enum LineFault {
     Time,
     #[error("neither ' > ' nor ' < ' behind its time")]
     Direction,
-    #[error("a byte that isn't printable")]
+    #[error("a byte that isn't printable, as the carriage return of CRLF")]
     Byte,
     #[error("a backslash before what no log has behind one")]
     Escape,

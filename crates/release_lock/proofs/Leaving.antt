@@ -5,7 +5,6 @@ use Rattle.atomic_table.specs.Seated.{TableId}
 use Rattle.leg.specs.declared.leg.Leg.{Leg}
 use Rattle.leg.specs.declared.placed_leg.PlacedLeg.{PlacedLeg}
 use Rattle.venue_queue.specs.Port.{Port, with_leg}
-use Rattle.sweep_release.specs.declared.desk_entry.DeskEntry.{DeskEntry}
 use Rattle.sweep_release.specs.declared.desk_entry.DeskEntry.TheVariants.{Taken, Dropped}
 use Rattle.sweep_release.specs.Released.{released}
 use Rattle.sweep_release.specs.Desk.{DeskParts, venue_at, gate_of, placed_legs, placed, placed_shares, is_up, one_left, leave_first, leave, next_leg}
@@ -14,7 +13,9 @@ use Rattle.sweep_release.specs.Laws.{ChangesOnly}
 use Rattle.sweep_release.proofs.AtVenue.{only-take, only-drop_next, drop-next}
 use Rattle.sweep_release.proofs.Venues.{left-one_left, gate_of-one_left}
 use Rattle.release_lock.specs.Queues.{placed_from, left_to, leaving, Pumps}
-use Rattle.release_lock.specs.Locked.{IsLocked}
+use Rattle.leg.specs.declared.sweep.Sweep.{Sweep}
+use Rattle.exec_collector.specs.Opened.{sweeps_of}
+use Rattle.release_lock.specs.Locked.{IsLocked, IsDeskSide}
 use Rattle.release_lock.proofs.Replaying.{replay-append, same_venues, leads_on}
 use Rattle.release_lock.proofs.LeftLegs.{take_next, fed_set}
 
@@ -176,4 +177,13 @@ pumped_locked queues venue before after total feeds old new locked pumps at ring
       counted = locked.counted ∙ ap (λ s. placed_shares (record before.desk { sweeps = s })) (sym only.sweeps);
       many = length-set feeds venue new ∙ locked.many;
       fed = fed_set queues before.desk after.desk feeds venue old new only at ring.0 ring.1 legs locked.fed;
+    }
+
+-- and so is the list of the sweeps
+pub pumped_side : {list name : ℕ} {items : List Sweep} (venue : ℕ) (before after : KeptDesk) → Pumps venue before after
+    → IsDeskSide list before name items → IsDeskSide list after name items
+pumped_side venue before after pumps side =
+    record {
+      named = side.named;
+      releases = side.releases ∙ ap sweeps_of (sym (only_pumped venue before after pumps).sweeps);
     }

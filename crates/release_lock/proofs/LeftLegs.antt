@@ -1,5 +1,5 @@
 -- The legs that left the desk, and the feeds, after a change.
-use Rattle.std.proofs.Common.{◌≡◌, ◌≢◌, ◌⊎◌, ℕ, zero, suc, ◌+◌, ◌<◌, ◌≤◌, inl, inr, List, [], ◌∷◌, ◌++◌, length, take, drop, set, slice_get, Some, refl, ap, sym, ◌∙◌, subst, arith, ⊎_elim}
+use Rattle.std.proofs.Common.{◌≡◌, ◌≢◌, ◌⊎◌, ℕ, zero, suc, ◌+◌, ◌≤◌, inl, inr, List, [], ◌∷◌, ◌++◌, length, take, drop, set, slice_get, Some, refl, ap, sym, ◌∙◌, subst, arith, ⊎_elim}
 use Rattle.std.proofs.lemmas.List.{take-append-le}
 use Rattle.atomic_table.specs.Seated.{TableId}
 use Rattle.leg.specs.declared.leg.Leg.{Leg}
@@ -7,7 +7,7 @@ use Rattle.leg.specs.declared.placed_leg.PlacedLeg.{PlacedLeg}
 use Rattle.leg.specs.declared.sweep.Routed.{Routed}
 use Rattle.venue_queue.specs.Port.{Port}
 use Rattle.sweep_release.specs.Released.{legs_to, released}
-use Rattle.sweep_release.specs.Desk.{DeskParts, venue_at, placed, with_sweep}
+use Rattle.sweep_release.specs.Desk.{DeskParts, venue_at, with_sweep}
 use Rattle.sweep_release.specs.Laws.{ChangesOnly, IsCounted}
 use Rattle.sweep_release.proofs.Released.{released-push}
 use Rattle.release_lock.specs.Queues.{placed_from, released_to, left_to, IsFed, AreFed}

@@ -1,5 +1,6 @@
 pub mod Replaying
 pub mod LeftLegs
+pub mod Siding
 pub mod Turning
 pub mod Placing
 pub mod Leaving

@@ -1,5 +1,5 @@
 -- A lock is made over new rings, one after the other.
-use Rattle.std.proofs.Common.{◌≡◌, ℕ, zero, suc, ◌+◌, ◌<◌, ◌≤◌, List, [], ◌∷◌, ◌++◌, length, map, take, drop, slice_get, All, Some, refl, ap, sym, ◌∙◌, subst, arith, add-one}
+use Rattle.std.proofs.Common.{◌≡◌, ℕ, zero, suc, ◌+◌, ◌≤◌, List, [], ◌∷◌, ◌++◌, length, map, take, drop, slice_get, All, Some, refl, ap, sym, ◌∙◌, subst, arith, add-one}
 use Rattle.std.proofs.lemmas.List.{length-append, length-map, length-replicate}
 use Rattle.std.proofs.lemmas.List.Elements.{All-head, All-tail}
 use Rattle.atomic_table.specs.Seated.{TableId}
@@ -7,7 +7,7 @@ use Rattle.venue_queue.specs.Port.{Port}
 use Rattle.sweep_release.specs.Desk.{new_desk, placed_shares}
 use Rattle.sweep_release.specs.History.{KeptDesk, without_room}
 use Rattle.sweep_release.proofs.Venues.{left-new_desk}
-use Rattle.release_lock.specs.Queues.{IsFresh, DrainParts, new_drains, released_to, left_to, IsFed}
+use Rattle.release_lock.specs.Queues.{IsFresh, DrainParts, new_drains, released_to, left_to}
 use Rattle.release_lock.specs.Locked.{IsLocked}
 use Rattle.release_lock.proofs.Replaying.{replays_new}
 

@@ -1,5 +1,5 @@
 -- What is kept under the lock once a sweep is placed, or refused.
-use Rattle.std.proofs.Common.{◌≡◌, ℕ, ◌+◌, ◌≤◌, inl, inr, List, [], ◌∷◌, ◌++◌, length, map, Option, Some, None, Result, Ok, Err, refl, ap, sym, ◌∙◌, subst}
+use Rattle.std.proofs.Common.{◌≡◌, ℕ, ◌+◌, ◌≤◌, inl, inr, List, [], ◌∷◌, ◌++◌, length, Option, Some, None, Result, Ok, Err, refl, ap, sym, ◌∙◌, subst}
 use Rattle.std.specs.Prelude.{MatchResult}
 use Rattle.std.proofs.lemmas.List.{append-nil}
 use Rattle.std.proofs.lemmas.List.Sums.{sum_by_push}
@@ -16,14 +16,14 @@ use Rattle.venue_queue.specs.Port.{Port}
 use Rattle.sweep_release.specs.declared.desk_entry.DeskEntry.TheVariants.{Released}
 use Rattle.sweep_release.specs.declared.receipt.Receipt.{Receipt}
 use Rattle.sweep_release.specs.declared.release_fault.ReleaseFault.{ReleaseFault}
-use Rattle.sweep_release.specs.declared.release_fault.ReleaseFault.TheVariants.{OutOfMemory, WrongBook}
+use Rattle.sweep_release.specs.declared.release_fault.ReleaseFault.TheVariants.{OutOfMemory}
 use Rattle.sweep_release.specs.Desk.{DeskParts, placed_shares, release_refusal, release_unless, release, next_number, with_sweep}
 use Rattle.sweep_release.specs.History.{replay, KeptDesk, without_room}
 use Rattle.sweep_release.specs.Place.{DeskAndBook, place_in_book, place_after, KeptDeskAndBook, kept, with_release, place_kept, PlaceAnswers}
 use Rattle.sweep_release.proofs.KeptReleased.{shares_left}
 use Rattle.release_lock.specs.Queues.{left_to}
-use Rattle.release_lock.specs.Locked.{Replays, Places, IsLocked}
-use Rattle.release_lock.proofs.Replaying.{leads_on, same_venues, is_counted}
+use Rattle.release_lock.specs.Locked.{Places, IsLocked}
+use Rattle.release_lock.proofs.Replaying.{leads_on, is_counted}
 use Rattle.release_lock.proofs.LeftLegs.{left_released, fed_as}
 use Rattle.release_lock.proofs.Turning.{turned_locked, turns_none}
 

@@ -1,11 +1,11 @@
 -- A gate is put up once every leg released to its venue was popped.
-use Rattle.std.proofs.Common.{◌≡◌, ℕ, Bool, true, false, ◌&&◌, length, Err, Result, refl, ap, sym, subst, if◌then◌else◌}
+use Rattle.std.proofs.Common.{◌≡◌, ℕ, Bool, true, false, ◌&&◌, length, Err, Result, refl}
 use Rattle.std.specs.Prelude.{nat_lt}
 use Rattle.leg.specs.Answering.{Answers}
 use Rattle.sweep_release.specs.declared.gate_fault.GateFault.{GateFault}
 use Rattle.sweep_release.specs.declared.gate_fault.GateFault.TheVariants.{NotDrained, OutOfMemory}
 use Rattle.sweep_release.specs.Released.{released}
-use Rattle.sweep_release.specs.Desk.{DeskParts, gate_of, gate_up}
+use Rattle.sweep_release.specs.Desk.{gate_of, gate_up}
 use Rattle.sweep_release.specs.History.{DeskWithHistory, with_entries, gate_up_entries}
 use Rattle.release_lock.specs.Queues.{is_down, raise}
 

@@ -17,7 +17,9 @@ use Rattle.sweep_release.specs.Desk.{DeskParts, venue_at, gate_of, placed, place
 use Rattle.sweep_release.specs.History.{again, replay, history, KeptDesk, without_room, with_entries, gate_up_entries, gate_down_entries, shut_entries}
 use Rattle.sweep_release.proofs.Calls.{replayed-history}
 use Rattle.sweep_release.proofs.Venues.{left-with_gate}
-use Rattle.release_lock.specs.Locked.{Replays, is_turn, OnlyTurns, IsLocked}
+use Rattle.leg.specs.declared.sweep.Sweep.{Sweep}
+use Rattle.exec_collector.specs.Opened.{sweeps_of}
+use Rattle.release_lock.specs.Locked.{is_turn, OnlyTurns, IsLocked, IsDeskSide}
 use Rattle.release_lock.proofs.Replaying.{leads_on, same_venues}
 use Rattle.release_lock.proofs.LeftLegs.{left_as, fed_as}
 
@@ -84,6 +86,14 @@ turned_locked queues before after total feeds locked turns =
       fed = fed_as queues before.desk after.desk feeds
           (λ venue. left_as before.desk after.desk venue sweeps (left venue)) locked.fed;
     }
+
+-- and so is the list of the sweeps
+pub turned_side : {list name : ℕ} {items : List Sweep} (before after : KeptDesk) → OnlyTurns before after
+    → IsDeskSide list before name items → IsDeskSide list after name items
+turned_side before after turns side =
+    let all = all_turned before.desk turns.calls turns.turns in
+    let sweeps : after.desk.sweeps ≡ before.desk.sweeps = ap (λ d. d.sweeps) turns.desk ∙ all.sweeps in
+    record { named = side.named; releases = side.releases ∙ ap sweeps_of (sym sweeps) }
 
 -- nothing was asked that changes the desk
 pub turns_none : (before after : KeptDesk) → without_room after ≡ without_room before → OnlyTurns before after

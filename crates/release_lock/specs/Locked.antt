@@ -3,6 +3,8 @@ use Rattle.std.specs.Prelude.{◌≡◌, ℕ, ◌≤◌, Bool, true, false, List
 use Rattle.std.specs.List.{list_all}
 use Rattle.atomic_table.specs.Seated.{TableId}
 use Rattle.leg.specs.declared.sweep.Routed.{Routed}
+use Rattle.leg.specs.declared.sweep.Sweep.{Sweep}
+use Rattle.exec_collector.specs.Opened.{sweeps_of}
 use Rattle.share_ledger.specs.Book.{BookParts}
 use Rattle.venue_queue.specs.Port.{Port}
 use Rattle.sweep_release.specs.declared.desk_entry.DeskEntry.{DeskEntry}
@@ -26,6 +28,11 @@ pub record IsLocked (queues : List TableId) (desk : KeptDesk) (total : ℕ) (fee
   pub counted : total ≡ placed_shares desk.desk
   pub many : length feeds ≡ length queues
   pub fed : AreFed queues desk.desk feeds
+
+-- this is the desk's side of the list of this name, and on it stand the sweeps that were released
+pub record IsDeskSide (list : ℕ) (desk : KeptDesk) (name : ℕ) (items : List Sweep) : Type 0 where
+  pub named : name ≡ list
+  pub releases : items ≡ sweeps_of desk.desk.sweeps
 
 -- a sweep was placed at the desk and opened in a book, or in neither: the answer, and the desk after it
 pub record Places (legs : List Routed) (before : KeptDesk) (answer : Result Receipt ReleaseFault) (after : KeptDesk)

@@ -28,6 +28,7 @@ pub fn check_queues<L: Run>(locked: LockedDesk<L>, ends: Vec<VenueEnd<L>>) -> Re
         desk,
         total: _,
         feeds,
+        sweeps: _,
     } = locked;
     let mut feeds = VecDeque::from(feeds);
     let mut ends = VecDeque::from(ends);

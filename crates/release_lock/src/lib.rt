@@ -22,6 +22,7 @@
 
 mod caller_seat;
 mod checking;
+mod comparing;
 mod counting;
 mod locked_desk;
 mod pumping;
@@ -35,6 +36,7 @@ mod venue_rings;
 
 pub use caller_seat::CallerSeat;
 pub use checking::{WrongQueue, check_queues};
+pub use comparing::compare_sweeps;
 pub use counting::{Miscounted, check_placed};
 pub use locked_desk::LockedDesk;
 pub use release_lock::{Opened, ReleaseLock};

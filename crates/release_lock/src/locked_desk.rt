@@ -16,6 +16,7 @@ ghost use Rattle.release_lock.specs.Queues.{left_to, Pumps, raise};
 use crate::pumping::{pump, pump_each};
 use crate::sweep_venues::SweepVenues;
 use crate::{CallerSeat, Run, VenueDrain};
+use agreed_list::SeatSide;
 use exec_collector::{Accounts, Collector};
 use leg::{Sweep, VenueId};
 use share_ledger::Book;
@@ -33,17 +34,19 @@ pub struct LockedDesk<L: Run> {
     pub(crate) desk: Desk,
     pub(crate) total: Total<L>,
     pub(crate) feeds: Vec<Feed>,
+    pub(crate) sweeps: SeatSide<Sweep>,
 }
 
 impl<L: Run> Model for LockedDesk<L> {
     ghost use Rattle.sweep_release.specs.History.{KeptDesk};
-    ghost use Rattle.release_lock.specs.Locked.{IsLocked};
+    ghost use Rattle.release_lock.specs.Locked.{IsLocked, IsDeskSide};
 
     ghost Value = { KeptDesk };
 
     ghost view = { λ locked. locked.desk };
 
-    ghost invariant = { λ locked. IsLocked L.queues locked.desk locked.total.total locked.feeds.items };
+    ghost invariant = { λ locked. IsLocked L.queues locked.desk locked.total.total locked.feeds.items
+        × IsDeskSide L.sweeps locked.desk locked.sweeps.name locked.sweeps.items };
 }
 
 impl<L: Run> LockedDesk<L> {
@@ -66,6 +69,7 @@ impl<L: Run> LockedDesk<L> {
         sweep: Sweep,
         seat: &mut CallerSeat<L>,
     ) -> Result<Receipt, ReleaseFault>
+        requires tied { L.sweeps ≡ M.sweeps }
         ensures released { Releases sweep.legs self.old result self.new }
         ensures replays { Replays self.old × Replays self.new }
         ensures seat { MatchResult result (λ receipt. (receipt.shares ≡ sweep_shares sweep.legs)
@@ -86,6 +90,7 @@ impl<L: Run> LockedDesk<L> {
         sweep: Sweep,
         seat: &mut CallerSeat<L>,
     ) -> Result<Receipt, ReleaseFault>
+        requires tied { L.sweeps ≡ M.sweeps }
         ensures placed { Places sweep.legs self.old result self.new }
         ensures replays { Replays self.old × Replays self.new }
         ensures seat { MatchResult result (λ receipt. (receipt.shares ≡ sweep_shares sweep.legs)
@@ -96,10 +101,14 @@ impl<L: Run> LockedDesk<L> {
             desk,
             total,
             feeds: _,
+            sweeps,
         } = self;
-        let receipt = collector.lend_beside(rt, desk, |desk: &mut Desk, book: &mut Book| {
-            place_in(desk, book, sweep)
-        })?;
+        let receipt = collector.lend_beside(
+            rt,
+            desk,
+            sweeps,
+            |desk: &mut Desk, book: &mut Book| { place_in(desk, book, sweep) },
+        )?;
         seat.count(total, receipt.shares);
         Ok(receipt)
     }
@@ -118,6 +127,7 @@ impl<L: Run> LockedDesk<L> {
             desk,
             total: _,
             feeds,
+            sweeps: _,
         } = self;
         pump(rt, desk, venue, &mut feeds[usize::from(venue.number())])
     }

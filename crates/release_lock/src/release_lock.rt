@@ -1,6 +1,6 @@
 //! The desk behind a lock.
 
-ghost use Rattle.std.specs.Prelude.{◌≡◌, ◌⊎◌, ◌+◌, ◌<◌, ◌≤◌, length, map, min, IfOk, IsOkUnless, MatchResult};
+ghost use Rattle.std.specs.Prelude.{[], ◌≡◌, ◌⊎◌, ◌+◌, ◌<◌, ◌≤◌, length, map, min, IfOk, IsOkUnless, MatchResult};
 ghost use Rattle.std.specs.List.{All};
 ghost use Rattle.std.specs.Fn.{FnOnceReturnsAtMut};
 ghost use Rattle.crossbeam_queue.specs.Fifo.{Held};
@@ -15,6 +15,7 @@ ghost use Rattle.release_lock.specs.Seats.{first_seat};
 
 use crate::venue_note::VenueNote;
 use crate::{CallerSeat, LockedDesk, Run, VenueDrain};
+use agreed_list::SeatSide;
 use exec_collector::{Accounts, Collector};
 use leg::{Sweep, VenueId};
 use std::alloc::{AllocError, Global};
@@ -49,10 +50,12 @@ impl<L: Run> ReleaseLock<L> {
         venues: u8,
         blank: Blank,
         rings: VecDeque<(Feed, Drain)>,
+        sweeps: SeatSide<Sweep>,
     ) -> Result<Opened<L>, ReleaseFault>
         requires low { 1 ≤ venues }
         requires high { venues ≤ 16 }
         requires rings { (length rings.items ≡ venues) × All IsFresh rings.items }
+        requires sweeps { (sweeps.name ≡ L.sweeps) × (sweeps.items ≡ []) }
         requires queues { L.queues ≡ map (λ ends. ends.0.table) rings.items }
         requires name { blank.name ≡ L.name }
         requires parts { (blank.parts ≡ L.parts) × (L.parts ≡ 1024) }
@@ -80,7 +83,12 @@ impl<L: Run> ReleaseLock<L> {
             });
         }
         let (total, share) = blank.open::<L>();
-        let locked = LockedDesk { desk, total, feeds };
+        let locked = LockedDesk {
+            desk,
+            total,
+            feeds,
+            sweeps,
+        };
         let lock = ReleaseLock {
             locked: Mutex::new(locked),
             notes,
@@ -103,6 +111,7 @@ impl<L: Run> ReleaseLock<L> {
         sweep: Sweep,
         seat: &mut CallerSeat<L>,
     ) -> Result<Receipt, ReleaseFault>
+        requires tied { L.sweeps ≡ M.sweeps }
         ensures placed { (before : ADesk) × (after : ADesk) × Replays before × Replays after
             × Releases sweep.legs before result after }
         ensures seat { MatchResult result (λ receipt. (receipt.shares ≡ sweep_shares sweep.legs)

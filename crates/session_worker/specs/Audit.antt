@@ -66,6 +66,8 @@ pub record AuditedDay (callers : List Seat) (queues : List Took) (seats : List S
   pub desk_replays : DeskReplays desk
   pub book_replays : BookReplays book
   pub kept : All (IsKept book) seats
+  -- the sweeps opened in the book are those that the desk released, in order
+  pub sweeps : opened book.entries ≡ desk.desk.sweeps
   pub audits : Audits (day_of desk book callers queues seats) answer
 
 abbrev pub AuditsOf : List Seat → List Took → List Seat → Result DayReport AuditFault → Type 0

@@ -7,6 +7,7 @@ ghost use Rattle.exec_collector.specs.Resolved.{Replays as BookReplays};
 ghost use Rattle.exec_collector.specs.Seats.{parts_of};
 ghost use Rattle.sweep_release.specs.History.{KeptDesk as ADesk};
 ghost use Rattle.share_ledger.specs.Book.{BookParts};
+ghost use Rattle.share_ledger.specs.Entries.{opened};
 ghost use Rattle.release_lock.specs.Locked.{Replays};
 ghost use Rattle.release_lock.specs.Queues.{AreInOrder};
 ghost use Rattle.session_worker.specs.Audit.{day_of, Audits, AuditsOf};
@@ -17,7 +18,7 @@ use crate::{AuditFault, DayReport, WorkerEnd};
 use exec_collector::{Accounts, Collector, CountedBook, WorkerSeat, check_count};
 use link::Link;
 use release_lock::{
-    CallerSeat, LockedDesk, ReleaseLock, Run, VenueEnd, check_placed, check_queues,
+    CallerSeat, LockedDesk, ReleaseLock, Run, VenueEnd, check_placed, check_queues, compare_sweeps,
 };
 use std::alloc::{AllocError, Global};
 use std::collections::VecDeque;
@@ -33,6 +34,7 @@ pub fn audit<K: Link, L: Run, M: Accounts>(
     callers: Vec<CallerSeat<L>>,
     ends: Vec<WorkerEnd<K, L, M>>,
 ) -> Result<DayReport, AuditFault>
+    requires tied { L.sweeps ≡ M.sweeps }
     ensures audits { AuditsOf callers.items (queues_of ends.items) (seats_of ends.items) result }
     ensures whole { AreInOrder (queues_of ends.items) → parts_of (seats_of ends.items) ≡ M.parts → 0 < M.parts
         → parts_of callers.items ≡ 1024 → IsOkUnless result AuditFault.OutOfMemory }
@@ -57,14 +59,17 @@ fn audit_of<L: Run, M: Accounts>(
     queues: Vec<VenueEnd<L>>,
     seats: Vec<WorkerSeat<M>>,
 ) -> Result<DayReport, AuditFault>
+    requires tied { L.sweeps ≡ M.sweeps }
     ensures audits { Audits (day_of locked counted callers.items queues.items seats.items) result }
     ensures replays { Replays locked × BookReplays counted }
     ensures kept { All (IsKept counted) seats.items }
+    ensures sweeps { opened counted.entries ≡ locked.desk.sweeps }
     ensures whole { AreInOrder queues.items → parts_of seats.items ≡ M.parts → 0 < M.parts
         → parts_of callers.items ≡ 1024 → IsOk result }
 {
     let mut locked = locked;
     let mut counted = counted;
+    compare_sweeps(&mut locked, &mut counted);
     let placed = check_placed(&mut locked, callers);
     let resolved = check_count(&mut counted, seats);
     let still_open = open_shares(counted.book());

@@ -66,7 +66,9 @@ fn calls<L: Run, M: Accounts, R: Wait + Clock>(
     collector: &Collector<M>,
     seat: CallerSeat<L>,
     orders: &[Order],
-) -> CallerEnd<L> {
+) -> CallerEnd<L>
+    requires tied { L.sweeps ≡ M.sweeps }
+{
     let mut caller = Caller::new(rt, alloc, lock, collector, seat);
     for _ in 0..SWEEPS {
         for _ in 0..MOST_TRIES {
@@ -87,7 +89,9 @@ fn all_call<L: Run + Send + Sync, M: Accounts + Send + Sync, R: Threads + Wait +
     collector: &Collector<M>,
     seats: Vec<CallerSeat<L>>,
     orders: &[Order],
-) -> Result<Vec<CallerEnd<L>>, DayFault> {
+) -> Result<Vec<CallerEnd<L>>, DayFault>
+    requires tied { L.sweeps ≡ M.sweeps }
+{
     let ends = map_vec(
         rt,
         seats,
@@ -150,7 +154,9 @@ fn in_threads<L: Run + Send + Sync, M: Accounts + Send + Sync, R: Threads + Wait
     alloc: Global,
     floor: Floor<L, M>,
     size: Size,
-) -> Result<Outcome, DayFault> {
+) -> Result<Outcome, DayFault>
+    requires tied { L.sweeps ≡ M.sweeps }
+{
     let Floor {
         lock,
         collector,
@@ -163,7 +169,9 @@ fn in_threads<L: Run + Send + Sync, M: Accounts + Send + Sync, R: Threads + Wait
     let (ends, callers) = join(
         rt,
         || run_all(rt, alloc, &lock, &collector, workers, MOST_TURNS),
-        || all_call(rt, alloc, &lock, &collector, seats, orders.as_slice()),
+        ||
+            requires { L.sweeps ≡ M.sweeps }
+        { all_call(rt, alloc, &lock, &collector, seats, orders.as_slice()) },
     );
     let (seats, receipts) = parted(alloc, callers?)?;
     day_outcome(
@@ -187,6 +195,7 @@ fn day_at<L: Run + Send + Sync, M: Accounts + Send + Sync, R: Threads + Wait + C
     requires lock { (site.callers.name ≡ L.name) × (L.parts ≡ 1024)
         × (L.queues ≡ map (λ ends. ends.0.table) site.rings.items) }
     requires book { (site.workers.name ≡ M.name) × (M.parts ≡ site.venues) × (site.workers.lists ≡ M.lists) }
+    requires sweeps { (site.workers.sweeps ≡ M.sweeps) × (L.sweeps ≡ M.sweeps) }
 {
     in_threads(rt, alloc, Floor::<L, M>::open(alloc, site)?, size)
 }

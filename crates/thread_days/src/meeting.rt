@@ -136,6 +136,7 @@ fn both_at<L: Run + Send + Sync, M: Accounts + Send + Sync, R: Threads + Wait + 
     requires lock { (site.callers.name ≡ L.name) × (L.parts ≡ 1024)
         × (L.queues ≡ map (λ ends. ends.0.table) site.rings.items) }
     requires book { (site.workers.name ≡ M.name) × (M.parts ≡ site.venues) × (site.workers.lists ≡ M.lists) }
+    requires sweeps { (site.workers.sweeps ≡ M.sweeps) × (L.sweeps ≡ M.sweeps) }
 {
     run_both(rt, alloc, Floor::<L, M>::open(alloc, site)?)
 }

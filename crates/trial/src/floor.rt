@@ -21,6 +21,7 @@ pub struct Floor<L: Run, M: Accounts> {
     pub collector: Collector<M>,
     pub seat: CallerSeat<L>,
     pub posts: Vec<Post<L, M>>,
+    ghost tied: { L.sweeps ≡ M.sweeps },
 }
 
 impl<L: Run, M: Accounts> Floor<L, M> {
@@ -29,6 +30,7 @@ impl<L: Run, M: Accounts> Floor<L, M> {
         requires lock { (site.callers.name ≡ L.name) × (L.parts ≡ 1024)
             × (L.queues ≡ map (λ ends. ends.0.table) site.rings.items) }
         requires book { (site.workers.name ≡ M.name) × (M.parts ≡ site.venues) × (site.workers.lists ≡ M.lists) }
+        requires sweeps { (site.workers.sweeps ≡ M.sweeps) × (L.sweeps ≡ M.sweeps) }
     {
         let Site {
             venues,
@@ -36,8 +38,8 @@ impl<L: Run, M: Accounts> Floor<L, M> {
             workers,
             rings,
         } = site;
-        let opened = ReleaseLock::<L>::new(alloc, venues, callers, rings)?;
-        let (collector, seats) = Collector::<M>::new(alloc, venues, workers)?;
+        let (collector, seats, sweeps) = Collector::<M>::new(alloc, venues, workers)?;
+        let opened = ReleaseLock::<L>::new(alloc, venues, callers, rings, sweeps)?;
         let Opened { lock, seat, drains } = opened;
         let posts = posts_of(alloc, drains, seats)?;
         Ok(Floor {

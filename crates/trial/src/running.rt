@@ -27,6 +27,7 @@ fn run_at<L: Run, M: Accounts, R: Wait, T: Trial<R> + Drop>(
     requires lock { (site.callers.name ≡ L.name) × (L.parts ≡ 1024)
         × (L.queues ≡ map (λ ends. ends.0.table) site.rings.items) }
     requires book { (site.workers.name ≡ M.name) × (M.parts ≡ site.venues) × (site.workers.lists ≡ M.lists) }
+    requires sweeps { (site.workers.sweeps ≡ M.sweeps) × (L.sweeps ≡ M.sweeps) }
 {
     let floor = Floor::<L, M>::open(alloc, site)?;
     Ok(trial.run(rt, floor))

@@ -1,5 +1,7 @@
 //! What an audit says of a day whose two workers dropped a leg each, and of the same day with something missing.
 
+ghost use Rattle.std.specs.Prelude.{◌≡◌};
+
 use crate::worked::COURSE;
 use day_trial::{Caller, CallerEnd, DayFault, Script, worker_of};
 use exec_collector::{Accounts, Collector};
@@ -64,7 +66,9 @@ fn releases<L: Run, M: Accounts>(
     lock: &ReleaseLock<L>,
     collector: &Collector<M>,
     seat: CallerSeat<L>,
-) -> Result<CallerSeat<L>, DayFault> {
+) -> Result<CallerSeat<L>, DayFault>
+    requires tied { L.sweeps ≡ M.sweeps }
+{
     let mut caller = Caller::new(rt, alloc, lock, collector, seat);
     if !caller.release(&BOTH) {
         return Err(DayFault::Trial(TrialFault::Refused));

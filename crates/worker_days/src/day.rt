@@ -1,5 +1,7 @@
 //! The day of one worker.
 
+ghost use Rattle.std.specs.Prelude.{◌≡◌};
+
 use crate::called_link::CalledLink;
 use crate::course::Course;
 use day_trial::{Caller, CallerEnd, DayFault, Outcome, Shown, day_outcome, worker_of};
@@ -30,7 +32,9 @@ fn early_caller<'a, R: Wait, L: Run, M: Accounts>(
     seat: CallerSeat<L>,
     post: &Post<L, M>,
     early: &[Order],
-) -> Result<Caller<'a, R, L, M>, TrialFault> {
+) -> Result<Caller<'a, R, L, M>, TrialFault>
+    requires tied { L.sweeps ≡ M.sweeps }
+{
     let mut caller = Caller::new(rt, alloc, lock, collector, seat);
     if !early.is_empty() {
         lock.raise(rt, &post.drain)?;
@@ -79,7 +83,9 @@ fn day_end<K: Shown, L: Run, M: Accounts>(
     caller: CallerEnd<L>,
     end: WorkerEnd<K, L, M>,
     calls: u64,
-) -> Result<Played, DayFault> {
+) -> Result<Played, DayFault>
+    requires tied { L.sweeps ≡ M.sweeps }
+{
     let CallerEnd {
         seat,
         receipts,

@@ -21,7 +21,9 @@ fn releases<L: Run, M: Accounts>(
     lock: &ReleaseLock<L>,
     collector: &Collector<M>,
     seat: &mut CallerSeat<L>,
-) -> bool {
+) -> bool
+    requires tied { L.sweeps ≡ M.sweeps }
+{
     for _ in 0..MAX_TURNS {
         let Ok(sweep) = worked_sweep(alloc) else {
             return false;
@@ -43,7 +45,9 @@ fn calls<L: Run, M: Accounts>(
     collector: &Collector<M>,
     seat: CallerSeat<L>,
     sweeps: u64,
-) -> u64 {
+) -> u64
+    requires tied { L.sweeps ≡ M.sweeps }
+{
     let mut seat = seat;
     for done in 0..sweeps {
         if !releases(rt, alloc, lock, collector, &mut seat) {
@@ -83,7 +87,9 @@ fn in_threads<L: Run + Send + Sync, M: Accounts + Send + Sync, R: Threads + Wait
     alloc: Global,
     floor: Floor<L, M>,
     load: Load,
-) -> Result<Outcome, TrialFault> {
+) -> Result<Outcome, TrialFault>
+    requires tied { L.sweeps ≡ M.sweeps }
+{
     let Floor {
         lock,
         collector,
@@ -99,11 +105,17 @@ fn in_threads<L: Run + Send + Sync, M: Accounts + Send + Sync, R: Threads + Wait
     let start = Instant::now(rt)?;
     let (released, popped) = join(
         rt,
-        || map_vec(
-            rt,
-            seats,
-            &|seat| calls(rt, alloc, lock, collector, seat, sweeps),
-        ),
+        ||
+            requires { L.sweeps ≡ M.sweeps }
+        {
+            map_vec(
+                rt,
+                seats,
+                &|seat|
+                    requires { L.sweeps ≡ M.sweeps }
+                { calls(rt, alloc, lock, collector, seat, sweeps) },
+            )
+        },
         || map_vec(rt, posts, &|post| pops(rt, lock, post, legs)),
     );
     Ok(Outcome::of(&released?, &popped?, start.elapsed(rt)?))
@@ -119,6 +131,7 @@ fn load_at<L: Run + Send + Sync, M: Accounts + Send + Sync, R: Threads + Wait + 
     requires lock { (site.callers.name ≡ L.name) × (L.parts ≡ 1024)
         × (L.queues ≡ map (λ ends. ends.0.table) site.rings.items) }
     requires book { (site.workers.name ≡ M.name) × (M.parts ≡ site.venues) × (site.workers.lists ≡ M.lists) }
+    requires sweeps { (site.workers.sweeps ≡ M.sweeps) × (L.sweeps ≡ M.sweeps) }
 {
     in_threads(rt, alloc, Floor::<L, M>::open(alloc, site)?, load)
 }

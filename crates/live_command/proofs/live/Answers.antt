@@ -1,7 +1,7 @@
 use Rattle.std.proofs.Common.{◌≡◌, Bool, List, ℕ, Ok, Err, inr, subst, ◌∙◌}
 use Rattle.std.specs.Prelude.{Result}
 use Rattle.std.specs.Io.KnownBytes.{Appends}
-use Rattle.live_day.specs.declared.live_plan.LivePlan.{LivePlan}
+use Rattle.live_load.specs.declared.live_plan.LivePlan.{LivePlan}
 use Rattle.live_command.specs.declared.fault.CommandFault.{CommandFault}
 use Rattle.live_command.specs.declared.fault.CommandFault.TheVariants.{NoAnswer}
 use Rattle.live_command.specs.Running.{EndsAsked, IsDay}

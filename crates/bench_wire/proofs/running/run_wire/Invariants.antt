@@ -2,7 +2,10 @@ use Rattle.std.proofs.Common.{map}
 use Rattle.bench_wire.proofs.running.run_wire.Given as goal
 
 abbrev pub ghosts-load_at-L-Run : goal.ghosts-load_at-L-Run
-ghosts-load_at-L-Run g a = record { queues = map (λ ends. ends.0.table) a.site.rings.items }
+ghosts-load_at-L-Run g a = record {
+  queues = map (λ ends. ends.0.table) a.site.rings.items;
+  sweeps = a.site.workers.sweeps;
+}
 
 abbrev pub ghosts-load_at-L-Ledger : goal.ghosts-load_at-L-Ledger
 ghosts-load_at-L-Ledger g a = record { name = a.site.callers.name; parts = a.site.callers.parts }
@@ -11,4 +14,4 @@ abbrev pub ghosts-load_at-M-Ledger : goal.ghosts-load_at-M-Ledger
 ghosts-load_at-M-Ledger g a = record { name = a.site.workers.name; parts = a.site.workers.parts }
 
 abbrev pub ghosts-load_at-M-Accounts : goal.ghosts-load_at-M-Accounts
-ghosts-load_at-M-Accounts g a = record { lists = a.site.workers.lists }
+ghosts-load_at-M-Accounts g a = record { lists = a.site.workers.lists; sweeps = a.site.workers.sweeps }

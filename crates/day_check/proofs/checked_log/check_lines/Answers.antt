@@ -3,7 +3,7 @@ use Rattle.std.specs.Prelude.{IfSome}
 use Rattle.day_check.specs.LogCheck.{log_parts}
 use Rattle.day_check.specs.LogText.{style_of}
 use Rattle.day_check.specs.Lines.{ReadsNext}
-use Rattle.day_check.proofs.LinesRead.{none_checked, one_checked, read_all}
+use Rattle.day_check.proofs.LinesRead.{none_checked, one_checked, read_all_cut}
 use Rattle.day_check.proofs.checked_log.check_lines.Goals as goal
 
 pub loop-number-init : goal.loop-number-init
@@ -30,7 +30,7 @@ returns-then-not-branch g c =
     let reads = subst (λ (b : Bool). IfSome left (ReadsNext b raw next)) c.if-not-branch.true c.in_ok-read_text.ensures in
     let so_far = c.loop-number.invariant in record {
       lines = so_far.lines;
-      read = read_all (g.R.Read.remaining c.args.input.now) left next raw so_far.lines reads so_far.read;
+      read = read_all_cut (g.R.Read.remaining c.args.input.now) left next raw so_far.lines _ (search rules) reads so_far.read;
       parts = so_far.parts;
       printed = so_far.printed;
     }

@@ -17,10 +17,11 @@ returns g c =
     let so = c.in_ok-log.ensures in
     let log = c.in_ok-log.log in record {
       lines = so.lines;
+      is_cut = log.is_cut;
       read = so.read;
       day = ap (λ (l : LogParts). l.day) so.parts;
       broken = c.is_broken.ensures ∙ ap (λ (l : LogParts). breaks_a_rule l.tallies) so.parts;
-      printed = λ off. told s c.args.printing.now.log.now so.lines (log_parts log) a b d e c.in_ok-head.head.items
+      printed = λ off. told s c.args.printing.now.log.now so.lines log.is_cut (log_parts log) a b d e c.in_ok-head.head.items
           c.in_ok-end.end.items so.parts (c.in_ok-head.ensures off) (c.in_ok-end.ensures off)
           (subst (Appends a b) c.deref.ensures.value c.in_ok-print.ensures.ok) (so.printed off)
           (subst (Appends d e) c.deref-2.ensures.value c.in_ok-print-2.ensures.ok);

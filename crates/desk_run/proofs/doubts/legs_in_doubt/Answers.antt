@@ -1,4 +1,4 @@
-use Rattle.std.proofs.Common.{◌≡◌, ◌∙◌, ap, ◌++◌, sym}
+use Rattle.std.proofs.Common.{◌∙◌, ap, ◌++◌, sym}
 use Rattle.std.specs.Prelude.{Option, option_to_list}
 use Rattle.leg.specs.declared.placed_leg.PlacedLeg.{PlacedLeg}
 use Rattle.leg.specs.declared.leg_state.LegState.{LegState}

@@ -2,6 +2,6 @@ use Rattle.std.proofs.Common.{◌∙◌, sym, ap}
 use Rattle.session_worker.specs.Places.{new_places}
 use Rattle.desk_run.proofs.running.named_day.Goals as goal
 
-pub told-requires-clause-workers : goal.told-requires-clause-workers
-told-requires-clause-workers g c =
-    c.in_ok-ended.ensures.workers ∙ (c.in_ok-ready.ensures.new ∙ ap new_places (sym c.requires.workers.2))
+pub close_day-requires-clause-workers : goal.close_day-requires-clause-workers
+close_day-requires-clause-workers g c =
+    c.in_ok-ended.ensures.workers ∙ (c.in_ok-day.ensures.workers ∙ ap new_places (sym c.requires.workers.2))

@@ -1,5 +1,9 @@
-use Rattle.std.proofs.Common.{◌≡◌, length}
+use Rattle.std.proofs.Common.{◌≡◌, length, map, take}
+use Rattle.desk_venues.specs.Venues.{plans}
 use Rattle.desk_venues.proofs.opening.open_places.Given as goal
 
 abbrev pub invariant-loop-venue : goal.invariant-loop-venue
-invariant-loop-venue g l = length l.addrs.items ≡ l.venue-index
+invariant-loop-venue g l = record {
+  plans : map (λ e. e.acceptor.plan) l.exchanges.items ≡ plans l.fn.cut (take l.venue-index l.venues);
+  each : length l.addrs.items ≡ l.venue-index;
+}

@@ -1,4 +1,4 @@
-use Rattle.std.proofs.Common.{◌≡◌, ◌<◌, length, true, true≢false, sym, refl, arith}
+use Rattle.std.proofs.Common.{◌≡◌, ◌<◌, length, true≢false, sym, refl, arith}
 use Rattle.release_lock.specs.Queues.{placed_from}
 use Rattle.release_lock.proofs.LeftLegs.{length-placed_from}
 use Rattle.release_lock.proofs.TakenLegs.{longer, prefix_from_take, begins_on, begins_wrong}

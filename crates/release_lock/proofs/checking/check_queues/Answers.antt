@@ -1,9 +1,9 @@
-use Rattle.std.proofs.Common.{◌≡◌, ◌<◌, ℕ, List, [], length, true≢false, sym, refl, ap, ◌∙◌, subst, arith}
+use Rattle.std.proofs.Common.{ℕ, true≢false, sym, refl, ◌∙◌, subst, arith}
 use Rattle.exec_collector.proofs.Counts.{venue_is}
 use Rattle.sweep_release.specs.History.{KeptDesk}
 use Rattle.release_lock.specs.Queues.{TookFirst, IsFed}
 use Rattle.release_lock.proofs.Past.{released_past}
-use Rattle.release_lock.proofs.TakenLegs.{Checking, venue_ok, no_more, end_here, is_wrong, goes_past, past_all, feed_here, venue_within, goes_on, none_first}
+use Rattle.release_lock.proofs.TakenLegs.{venue_ok, no_more, end_here, is_wrong, goes_past, past_all, feed_here, venue_within, goes_on, none_first}
 use Rattle.release_lock.proofs.checking.check_queues.Goals as goal
 use Rattle.release_lock.proofs.checking.check_queues.Goals.{in-Some-pop_front+in-Ok+else-not-took_first, in-None+else-not-took_none}
 
@@ -11,14 +11,14 @@ pub overflow_cast-place : goal.overflow_cast-place
 overflow_cast-place g c =
     let so_far = rw (c.in-Some.ensures.items, c.in-Some-pop_front.ensures.items) at c.loop-end.invariant in
     let within = venue_within _ _ _ _ _ _ _ _ so_far in
-    let few = c.locked.invariant.few in
+    let few = c.locked.invariant.0.few in
     omega (arith, within, few)
 
 pub unreachable-requires : goal.unreachable-requires
 unreachable-requires g c =
     let so_far = rw (c.in-Some.ensures.items, c.in-Some-pop_front.ensures.items) at c.loop-end.invariant in
     let within = venue_within _ _ _ _ _ _ _ _ so_far in
-    let few = c.locked.invariant.few in
+    let few = c.locked.invariant.0.few in
     c.in_default-new.not-Ok c.loop-end.place
     (c.new.ensures ∙ venue_ok c.loop-end.place (omega (arith, within, few)))
 
@@ -27,7 +27,7 @@ took_first-requires-clause-there g c =
     let so_far = rw (c.in-Some.ensures.items, c.in-Some-pop_front.ensures.items) at c.loop-end.invariant in
     let within = venue_within _ _ _ _ _ _ _ _ so_far in
     let venue = venue_is c.loop-end.place c.in-Ok.venue (sym c.new.ensures ∙ c.in-Ok.is) in
-    let venues = c.locked.invariant.venues in
+    let venues = c.locked.invariant.0.venues in
     omega (arith, within, venue, venues)
 
 pub took_first-requires-clause-fed : goal.took_first-requires-clause-fed
@@ -58,9 +58,9 @@ returns-then-not-took_none-clause-exact g c =
     let so_far = rw c.in-Some.ensures.items at c.loop-end.invariant in
     let none = no_more c.loop-end.feeds.items (c.in-None.ensures.items ∙ c.in-None.ensures.rest) in
     let past = past_all _ _ _ _ _ _ _ so_far none in
-    let venues = c.locked.invariant.venues in
+    let venues = c.locked.invariant.0.venues in
     let inside = c.locked.inside.desk in
-    let nothing = released_past inside c.loop-end.place c.locked.invariant.replays (omega (arith, past, venues)) in
+    let nothing = released_past inside c.loop-end.place c.locked.invariant.0.replays (omega (arith, past, venues)) in
     is_wrong _ _ _ _ _ _ _ so_far
     (λ took. true≢false (sym (c.if-not-took_none.ensures.exact.1
     ((none_first inside.desk c.loop-end.place c.in-Some.end nothing).1
@@ -88,9 +88,9 @@ loop-end-preserved g c =
           (let so_far = rw c.in-Some.ensures.items at c.loop-end.invariant in
           let none = no_more c.loop-end.feeds.items (w.in-None.ensures.items ∙ w.in-None.ensures.rest) in
           let past = past_all _ _ _ _ _ _ _ so_far none in
-          let venues = c.locked.invariant.venues in
+          let venues = c.locked.invariant.0.venues in
           let inside = c.locked.inside.desk in
-          let nothing = released_past inside c.loop-end.place c.locked.invariant.replays (omega (arith, past, venues)) in
+          let nothing = released_past inside c.loop-end.place c.locked.invariant.0.replays (omega (arith, past, venues)) in
           let took = (none_first inside.desk c.loop-end.place c.in-Some.end nothing).0
           (w.if-not-took_none.ensures.exact.0 refl) in
           rw (← w.in-None.ensures.items)

@@ -1,4 +1,4 @@
-use Rattle.std.proofs.Common.{◌≡◌, ◌∙◌, sym, ap, List, take}
+use Rattle.std.proofs.Common.{◌≡◌, ◌∙◌, sym, ap}
 use mathlib.Core.List.{IsPrefix}
 use Rattle.sweep_release.specs.Desk.{venue_at}
 use Rattle.release_lock.specs.Queues.{DrainParts, released_to, left_to}

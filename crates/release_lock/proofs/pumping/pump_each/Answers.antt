@@ -1,4 +1,4 @@
-use Rattle.std.proofs.Common.{◌≡◌, ◌+◌, ◌<◌, ◌≤◌, ℕ, Bool, true, false, slice_get, Some, ap, sym, refl, ◌∙◌, subst, arith}
+use Rattle.std.proofs.Common.{◌≡◌, ◌+◌, ◌<◌, true, false, slice_get, Some, ap, sym, ◌∙◌, subst, arith}
 use Rattle.exec_collector.proofs.Counts.{venue_is}
 use Rattle.sweep_release.specs.History.{KeptDesk}
 use Rattle.release_lock.specs.Locked.{Replays}

@@ -29,6 +29,7 @@ returns-in-Ok-clause-audits g c =
       desk_replays = c.audit_of.ensures.replays.0;
       book_replays = c.audit_of.ensures.replays.1;
       kept = subst (λ (s : List Seat). All (IsKept book) s) seats c.audit_of.ensures.kept;
+      sweeps = c.audit_of.ensures.sweeps;
       audits = subst (λ (q : List Took). Audits (day_of desk book callers q (seats_of c.args.ends.items)) answer) queues
           (subst (λ (s : List Seat). Audits (day_of desk book callers c.in-Ok.queues.items s) answer) seats
           c.audit_of.ensures.audits);

@@ -1,7 +1,10 @@
 use Rattle.std.proofs.Common.{◌≡◌, [], ◌∷◌, length, refl, ap, sym, subst, ◌∙◌, arith}
 use Rattle.std.proofs.lemmas.List.{length-append}
 use Rattle.exec_collector.specs.Resolved.{resolved, Replays}
+use Rattle.exec_collector.specs.Blank.{BlankParts}
+use Rattle.exec_collector.specs.Opened.{sweeps_of}
 use Rattle.exec_collector.specs.Sides.{AreWritten}
+use Rattle.share_ledger.specs.Entries.{opened}
 use Rattle.share_ledger.specs.Book.{BookParts, new_book}
 use Rattle.exec_collector.proofs.Counts.{resolved_new}
 use Rattle.exec_collector.proofs.Opening.{seats_length, side_of, next_blank, next_named, opened_next, all_opened}
@@ -66,4 +69,8 @@ invariant_of-counted g c =
       c.open-total.ensures.total ∙ sym (ap resolved new ∙ resolved_new c.args.venues),
       all_opened (omega (arith, empty, length_is)) done,
       subst (λ (b : BookParts). AreWritten b 0 sides) (sym new) done.written,
+      record {
+        named = ap (λ (b : BlankParts). b.sweeps) c.blank.view_is ∙ c.requires.lists.1;
+        opens = c.blank.invariant.3 ∙ ap (λ (b : BookParts). sweeps_of (opened b.entries)) (sym new);
+      },
     )

@@ -3,6 +3,8 @@ use Rattle.std.specs.Prelude.{IfSome}
 use Rattle.exec_collector.specs.Seats.{Seat}
 use Rattle.exec_collector.specs.Sides.{IsOneMore}
 use Rattle.exec_collector.specs.declared.booking.Booking.TheVariants.{Given}
+use Rattle.share_ledger.specs.Book.{answer_to}
+use Rattle.exec_collector.proofs.Sweeps.{side-noted}
 use Rattle.exec_collector.proofs.Booked.{written-noted}
 use Rattle.exec_collector.specs.Resolved.{resolved}
 use Rattle.exec_collector.proofs.Counts.{noted}
@@ -55,6 +57,8 @@ invariant_of-self-2 g c =
           c.self.inside.bookings.items c.add_note.new.bookings.items))
           (c.count.ensures.venue ∙ sym (ap (λ (s : Seat). s.venue) c.seat.view_is)) c.add_note.ensures.side)
           c.self.invariant.5,
+      side-noted c.self.inside.book c.apply.new.self c.seat.inside.venue c.args.note.now
+          (answer_to c.self.inside.book c.seat.inside.venue c.args.note.now) done.1 c.self.invariant.6,
     )
 
 pub returns-clause-seat : goal.returns-clause-seat

@@ -24,6 +24,7 @@ invariant_of-self g c =
       map-set_same (λ (s : VenueBookings). s.side.name) sides c.from.result new old
           (c.compare.ensures.side.0 ∙ ap (λ (s : VenueBookings). s.side.name) value) ∙ kept.4,
       written-kept c.self.inside.book 0 c.from.result sides old new there c.compare.ensures.side.1 kept.5,
+      kept.6,
     )
 
 pub returns-clause-kept : goal.returns-clause-kept

@@ -8,15 +8,19 @@ use Rattle.exec_collector.proofs.counted_book.CountedBook.lend_beside.Goals as g
 pub invariant_of-self : goal.invariant_of-self
 invariant_of-self g c =
     let kept = c.self.invariant in
-    let opens = c.requires.opens c.args.beside.now c.args.self.now c.f.result c.f.new.arg2 c.f.new.arg3
+    let opens = c.requires.opens c.args.beside.now c.args.self.now c.f-given.result c.f-given.new.arg2 c.f-given.new.arg3
     (search rules) in
-    let only = subst (λ (b : BookParts). OnlyOpens b c.f.new.arg3) (sym c.self.view_is) opens in
-    let after = only_opened c.self.inside.book c.f.new.arg3 kept.2
+    let only = subst (λ (b : BookParts). OnlyOpens b c.f-given.new.arg3) (sym c.self.view_is) opens in
+    let after = only_opened c.self.inside.book c.f-given.new.arg3 kept.2
     only in (
       kept.0 ∙ sym after.venues,
       kept.1,
       after.replays,
       kept.3 ∙ sym after.counts,
       kept.4,
-      written-opened c.self.inside.book c.f.new.arg3 c.self.inside.bookings.items kept.2 only kept.5,
+      written-opened c.self.inside.book c.f-given.new.arg3 c.self.inside.bookings.items kept.2 only kept.5,
+      record {
+        named = c.keep_opened.ensures.book.0 ∙ kept.6.named;
+        opens = c.keep_opened.ensures.book.1;
+      },
     )

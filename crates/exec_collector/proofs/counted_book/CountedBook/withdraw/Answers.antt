@@ -1,11 +1,11 @@
 use Rattle.std.proofs.Common.{ℕ, Option, length, ap, sym, subst, ◌∙◌, arith}
 use Rattle.std.specs.Prelude.{IfSome}
-use Rattle.std.specs.Result.{is_ok}
 use Rattle.exec_collector.specs.Resolved.{resolved}
 use Rattle.exec_collector.specs.Seats.{Seat}
 use Rattle.exec_collector.specs.Sides.{IsOneMore}
 use Rattle.exec_collector.specs.declared.booking.Booking.TheVariants.{Asked}
 use Rattle.exec_collector.proofs.Booked.{written-asked}
+use Rattle.exec_collector.proofs.Sweeps.{side-asked}
 use Rattle.exec_collector.proofs.Counts.{asked}
 use Rattle.exec_collector.proofs.counted_book.CountedBook.withdraw.Goals as goal
 
@@ -49,6 +49,7 @@ invariant_of-self g c =
           c.self.inside.bookings.items c.add_withdrawal.new.bookings.items))
           (c.count.ensures.venue ∙ sym (ap (λ (s : Seat). s.venue) c.seat.view_is)) c.add_withdrawal.ensures.side))
           c.self.invariant.5,
+      side-asked book after c.seat.inside.venue c.args.id result is c.self.invariant.6,
     )
 
 pub returns-clause-seat : goal.returns-clause-seat

@@ -10,7 +10,7 @@ use Rattle.log_rules.proofs.reports.Reports.push.Goals as goal
 pub invariant_of-self-2 : goal.invariant_of-self-2
 invariant_of-self-2 c =
     let reports : List ReportParts = c.self.inside.items.items in
-    let r : ReportParts = kept_report c.args.number c.args.said.now in
+    let r : ReportParts = kept_report c.args.number c.args.order c.args.said.now in
     let more : c.push_reserved.new.self.items ≡ reports ++ r ∷ [] = grind (arith, common_steps) in (
       λ number.
           let test = λ (s : ReportParts). s.number == number in

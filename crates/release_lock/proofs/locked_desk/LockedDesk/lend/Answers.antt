@@ -1,19 +1,22 @@
 use Rattle.std.proofs.Common.{rules, sym, subst}
 use Rattle.sweep_release.specs.History.{KeptDesk}
 use Rattle.release_lock.specs.Locked.{Replays, OnlyTurns}
-use Rattle.release_lock.proofs.Turning.{turned_locked}
+use Rattle.release_lock.proofs.Turning.{turned_locked, turned_side}
 use Rattle.release_lock.proofs.locked_desk.LockedDesk.lend.Goals as goal
 
 pub invariant_of-self : goal.invariant_of-self
 invariant_of-self g c =
     let turns = c.requires.turns c.args.self.now c.f.result c.f.new.arg2 (search rules) in
-    turned_locked g.L.Run.queues c.self.inside.desk c.f.new.arg2 c.self.inside.total.total c.self.inside.feeds.items
-    c.self.invariant (subst (λ (d : KeptDesk). OnlyTurns d c.f.new.arg2) (sym c.self.view_is) turns)
+    let only = subst (λ (d : KeptDesk). OnlyTurns d c.f.new.arg2) (sym c.self.view_is) turns in (
+      turned_locked g.L.Run.queues c.self.inside.desk c.f.new.arg2 c.self.inside.total.total c.self.inside.feeds.items
+          c.self.invariant.0 only,
+      turned_side c.self.inside.desk c.f.new.arg2 only c.self.invariant.1,
+    )
 
 pub returns-clause-replays : goal.returns-clause-replays
 returns-clause-replays g c =
     let turns = c.requires.turns c.args.self.now c.f.result c.f.new.arg2 (search rules) in
     let now = turned_locked g.L.Run.queues c.self.inside.desk c.f.new.arg2 c.self.inside.total.total
-    c.self.inside.feeds.items c.self.invariant
+    c.self.inside.feeds.items c.self.invariant.0
     (subst (λ (d : KeptDesk). OnlyTurns d c.f.new.arg2) (sym c.self.view_is) turns) in
-    (subst Replays c.self.view_is c.self.invariant.replays, now.replays)
+    (subst Replays c.self.view_is c.self.invariant.0.replays, now.replays)

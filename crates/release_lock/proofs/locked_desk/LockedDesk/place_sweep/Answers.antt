@@ -4,6 +4,7 @@ use Rattle.sweep_release.specs.declared.release_fault.ReleaseFault.{ReleaseFault
 use Rattle.sweep_release.specs.History.{KeptDesk}
 use Rattle.sweep_release.proofs.Answered.{err_is}
 use Rattle.release_lock.specs.Locked.{Replays, Places}
+use Rattle.release_lock.proofs.Siding.{placed_side}
 use Rattle.release_lock.proofs.Placing.{outcome, few_placed, released_locked, same_locked}
 use Rattle.release_lock.proofs.locked_desk.LockedDesk.place_sweep.Goals as goal
 
@@ -11,10 +12,13 @@ pub invariant_of-self : goal.invariant_of-self
 invariant_of-self g c =
     let gave = c.in_err-receipt.ensures in
     let places : Places c.args.sweep.legs c.self.inside.desk (Err c.in_err-receipt.field-0.0) c.lend_beside.new.beside =
-    record { book = gave.0; book_after = gave.1; placed = search rules } in
-    same_locked g.L.Run.queues c.self.inside.desk c.lend_beside.new.beside c.self.inside.total.total
-    c.self.inside.feeds.items c.self.invariant
-    (outcome c.args.sweep.legs c.self.inside.desk c.lend_beside.new.beside (Err c.in_err-receipt.field-0.0) places)
+    record { book = gave.0; book_after = gave.1; placed = search rules } in (
+      same_locked g.L.Run.queues c.self.inside.desk c.lend_beside.new.beside c.self.inside.total.total
+          c.self.inside.feeds.items c.self.invariant.0
+          (outcome c.args.sweep.legs c.self.inside.desk c.lend_beside.new.beside (Err c.in_err-receipt.field-0.0) places),
+      placed_side c.self.inside.desk c.lend_beside.new.beside gave.0 gave.1 c.args.sweep.legs
+          (Err c.in_err-receipt.field-0.0) places.placed c.requires.tied gave.3 gave.4 c.self.invariant.1,
+    )
 
 pub returns-in_err-receipt-clause-placed : goal.returns-in_err-receipt-clause-placed
 returns-in_err-receipt-clause-placed g c =
@@ -33,9 +37,9 @@ returns-in_err-receipt-clause-replays g c =
     let places : Places c.args.sweep.legs c.self.inside.desk (Err c.in_err-receipt.field-0.0) c.lend_beside.new.beside =
     record { book = gave.0; book_after = gave.1; placed = search rules } in
     let now = same_locked g.L.Run.queues c.self.inside.desk c.lend_beside.new.beside c.self.inside.total.total
-    c.self.inside.feeds.items c.self.invariant
+    c.self.inside.feeds.items c.self.invariant.0
     (outcome c.args.sweep.legs c.self.inside.desk c.lend_beside.new.beside (Err c.in_err-receipt.field-0.0) places) in
-    (subst Replays c.self.view_is c.self.invariant.replays, now.replays)
+    (subst Replays c.self.view_is c.self.invariant.0.replays, now.replays)
 
 pub count-requires : goal.count-requires
 count-requires g c =
@@ -44,7 +48,7 @@ count-requires g c =
     record { book = gave.0; book_after = gave.1; placed = search rules } in
     let it = outcome c.args.sweep.legs c.self.inside.desk c.lend_beside.new.beside (Ok c.in_ok-receipt.receipt) places in
     let few = few_placed c.args.sweep.legs c.self.inside.desk c.in_ok-receipt.receipt c.lend_beside.new.beside it in
-    let counted = c.self.invariant.counted in
+    let counted = c.self.invariant.0.counted in
     omega (arith, few, counted)
 
 pub invariant_of-self-2 : goal.invariant_of-self-2
@@ -52,9 +56,13 @@ invariant_of-self-2 g c =
     let gave = c.in_ok-receipt.ensures in
     let places : Places c.args.sweep.legs c.self.inside.desk (Ok c.in_ok-receipt.receipt) c.lend_beside.new.beside =
     record { book = gave.0; book_after = gave.1; placed = search rules } in
-    let it = outcome c.args.sweep.legs c.self.inside.desk c.lend_beside.new.beside (Ok c.in_ok-receipt.receipt) places in
-    released_locked g.L.Run.queues c.args.sweep.legs c.self.inside.desk c.in_ok-receipt.receipt c.lend_beside.new.beside
-    c.self.inside.total.total c.count.new.total.total c.self.inside.feeds.items c.self.invariant it c.count.ensures.total
+    let it = outcome c.args.sweep.legs c.self.inside.desk c.lend_beside.new.beside (Ok c.in_ok-receipt.receipt) places in (
+      released_locked g.L.Run.queues c.args.sweep.legs c.self.inside.desk c.in_ok-receipt.receipt
+          c.lend_beside.new.beside c.self.inside.total.total c.count.new.total.total c.self.inside.feeds.items
+          c.self.invariant.0 it c.count.ensures.total,
+      placed_side c.self.inside.desk c.lend_beside.new.beside gave.0 gave.1 c.args.sweep.legs
+          (Ok c.in_ok-receipt.receipt) places.placed c.requires.tied gave.3 gave.4 c.self.invariant.1,
+    )
 
 pub returns-clause-placed : goal.returns-clause-placed
 returns-clause-placed g c =
@@ -72,8 +80,8 @@ returns-clause-replays g c =
     let it = outcome c.args.sweep.legs c.self.inside.desk c.lend_beside.new.beside (Ok c.in_ok-receipt.receipt) places in
     let now = released_locked g.L.Run.queues c.args.sweep.legs c.self.inside.desk c.in_ok-receipt.receipt
     c.lend_beside.new.beside c.self.inside.total.total c.count.new.total.total c.self.inside.feeds.items
-    c.self.invariant it c.count.ensures.total in
-    (subst Replays c.self.view_is c.self.invariant.replays, now.replays)
+    c.self.invariant.0 it c.count.ensures.total in
+    (subst Replays c.self.view_is c.self.invariant.0.replays, now.replays)
 
 pub returns-clause-seat : goal.returns-clause-seat
 returns-clause-seat g c =

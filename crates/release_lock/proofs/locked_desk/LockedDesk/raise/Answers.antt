@@ -1,17 +1,19 @@
 use Rattle.std.proofs.Common.{subst}
 use Rattle.release_lock.specs.Locked.{Replays}
-use Rattle.release_lock.proofs.Turning.{turned_locked, turns_up}
+use Rattle.release_lock.proofs.Turning.{turned_locked, turned_side, turns_up}
 use Rattle.release_lock.proofs.locked_desk.LockedDesk.raise.Goals as goal
 
 pub invariant_of-self : goal.invariant_of-self
 invariant_of-self g c =
-    turned_locked g.L.Run.queues c.self.inside.desk c.gate_up.new.self c.self.inside.total.total
-    c.self.inside.feeds.items c.self.invariant
-    (turns_up c.self.inside.desk c.gate_up.new.self _ c.gate_up.result c.gate_up.ensures.answer)
+    let turns = turns_up c.self.inside.desk c.gate_up.new.self _ c.gate_up.result c.gate_up.ensures.answer in (
+      turned_locked g.L.Run.queues c.self.inside.desk c.gate_up.new.self c.self.inside.total.total
+          c.self.inside.feeds.items c.self.invariant.0 turns,
+      turned_side c.self.inside.desk c.gate_up.new.self turns c.self.invariant.1,
+    )
 
 pub returns-clause-replays : goal.returns-clause-replays
 returns-clause-replays g c =
     let now = turned_locked g.L.Run.queues c.self.inside.desk c.gate_up.new.self c.self.inside.total.total
-    c.self.inside.feeds.items c.self.invariant
+    c.self.inside.feeds.items c.self.invariant.0
     (turns_up c.self.inside.desk c.gate_up.new.self _ c.gate_up.result c.gate_up.ensures.answer) in
-    (subst Replays c.self.view_is c.self.invariant.replays, now.replays)
+    (subst Replays c.self.view_is c.self.invariant.0.replays, now.replays)

@@ -1,4 +1,5 @@
-use Rattle.std.proofs.Common.{◌≡◌, sym, ◌∙◌, arith}
+use Rattle.std.proofs.Common.{◌≡◌, sym, ap, ◌∙◌, arith}
+use Rattle.exec_collector.specs.Opened.{sweeps_of}
 use Rattle.exec_collector.proofs.Counts.{venue_is}
 use Rattle.release_lock.proofs.Opening.{drain_named, opens_on, new_locked}
 use Rattle.release_lock.proofs.release_lock.ReleaseLock.new.Goals as goal
@@ -30,6 +31,11 @@ loop-number-preserved g c =
 pub invariant_of-locked : goal.invariant_of-locked
 invariant_of-locked g c =
     let made = c.loop-number.invariant.0 in
-    let done : c.loop-number.number ≡ c.args.venues = omega arith in
-    new_locked _ _ _ c.args.rings.items _ _ _ _ _ c.requires.high c.requires.rings.0 c.requires.queues made done
-    c.in_ok-desk.ensures.ok c.open-total.ensures.total
+    let done : c.loop-number.number ≡ c.args.venues = omega arith in (
+      new_locked _ _ _ c.args.rings.items _ _ _ _ _ c.requires.high c.requires.rings.0 c.requires.queues made done
+          c.in_ok-desk.ensures.ok c.open-total.ensures.total,
+      record {
+        named = c.requires.sweeps.0;
+        releases = c.requires.sweeps.1 ∙ ap (λ d. sweeps_of d.desk.sweeps) (sym c.in_ok-desk.ensures.ok);
+      },
+    )

@@ -1,0 +1,106 @@
+//! A day whose threads have ended.
+
+ghost use Rattle.std.specs.Prelude.{◌≡◌, ◌+◌, ◌<◌, ◌++◌, map, None, option_to_list, IfOk, IfErr};
+ghost use Rattle.share_ledger.specs.Book.{BookParts};
+ghost use Rattle.exec_collector.specs.Resolved.{Replays};
+ghost use Rattle.exec_collector.specs.Seats.{parts_of as seat_parts, shares_of};
+ghost use Rattle.release_lock.specs.Queues.{AreInOrder};
+ghost use Rattle.session_worker.specs.Ends.{queues_of, seats_of};
+ghost use Rattle.session_worker.specs.Places.{place, new_places};
+ghost use Rattle.day_sweeps.specs.Sweeps.{sweeps_in};
+ghost use Rattle.desk_venues.specs.Faults.{IsNoMismatch};
+ghost use Rattle.desk_run.specs.Seats.{shared_parts};
+
+use crate::DeskDay;
+use crate::doubts::{doubts_of, is_given_up};
+use crate::followers::tell_followers;
+use day_sweeps::booked_sweeps;
+use desk_floor::{Floor, Left, TalkFault};
+use desk_threads::Ended;
+use desk_venues::DayFault;
+use exec_collector::{Accounts, Collector};
+use link::Link;
+use release_lock::{CallerSeat, ReleaseLock, Run};
+use session_worker::{AuditFault, DayReport, WorkerEnd, audit};
+use share_ledger::Book;
+use std::alloc::{AllocError, Global};
+use std::io::Write;
+use std::sync::Wait;
+
+/// What became of a day whose threads have ended, and whose callers left these seats; lines were broken off for this
+/// reason, if they were. It is audited, and those who followed it are told.
+pub fn close_day<K: Link, L: Run, M: Accounts, W: Write + Drop>(
+    rt: &impl Wait,
+    alloc: Global,
+    floor: Floor<L, M, W>,
+    ended: Ended<K, L, M>,
+    seats: Vec<CallerSeat<L>>,
+    broken_off: Option<TalkFault>,
+) -> Result<DeskDay, DayFault>
+    requires workers { map (λ e. place e.parts) ended.workers.items ≡ new_places M.parts }
+    requires some { 0 < M.parts }
+    requires seats { seat_parts seats.items + shared_parts floor.shared ≡ 1024 }
+    ensures sweeps { IfOk result (λ day. (book : BookParts) × Replays book × (day.sweeps.items ≡ sweeps_in book)) }
+    ensures placed { IfOk result (λ day. floor.shared ≡ None → day.report.placed ≡ shares_of seats.items) }
+    ensures only { IfErr result IsNoMismatch }
+{
+    let Ended { workers, followers } = ended;
+    let Left {
+        names,
+        lock,
+        collector,
+        shared,
+    } = floor.into_left();
+    let seats = with_shared(seats, shared)?;
+    let sweeps = collector.read(rt, |book: &Book| booked_sweeps(alloc, book))?;
+    let doubts = doubts_of(alloc, names.as_slice(), workers.as_slice())?;
+    let is_given_up = is_given_up(workers.as_slice());
+    let report = audited(alloc, lock, collector, seats, workers);
+    tell_followers(alloc, followers, &report);
+    Ok(DeskDay {
+        sweeps,
+        doubts,
+        is_given_up,
+        report: report?,
+        broken_off,
+    })
+}
+
+/// All seats of a day: those of its callers, and the one of the page's clients, if there is one.
+fn with_shared<L: Run>(
+    seats: Vec<CallerSeat<L>>,
+    shared: Option<CallerSeat<L>>,
+) -> Result<Vec<CallerSeat<L>>, AllocError>
+    ensures { IfOk result (λ all. all.items ≡ seats.items ++ option_to_list shared) }
+{
+    let mut seats = seats;
+    if let Some(seat) = shared {
+        seats.push(seat)?;
+    }
+    Ok(seats)
+}
+
+/// The audit of a day.
+fn audited<K: Link, L: Run, M: Accounts>(
+    alloc: Global,
+    lock: ReleaseLock<L>,
+    collector: Collector<M>,
+    seats: Vec<CallerSeat<L>>,
+    workers: Vec<WorkerEnd<K, L, M>>,
+) -> Result<DayReport, DayFault>
+    requires tied { L.sweeps ≡ M.sweeps }
+    requires order { AreInOrder (queues_of workers.items) }
+    requires shared { seat_parts (seats_of workers.items) ≡ M.parts }
+    requires some { 0 < M.parts }
+    requires seats { seat_parts seats.items ≡ 1024 }
+    ensures placed { IfOk result (λ report. report.placed ≡ shares_of seats.items) }
+    ensures only { IfErr result (λ fault. fault ≡ DayFault.OutOfMemory) }
+{
+    match audit(alloc, lock, collector, seats, workers) {
+        Ok(report) => Ok(report),
+        Err(AuditFault::MismatchQueue(_)) => Err(DayFault::MismatchQueue),
+        Err(AuditFault::MismatchShares) => Err(DayFault::MismatchShares),
+        Err(AuditFault::MismatchPlaced) => Err(DayFault::MismatchPlaced),
+        Err(AuditFault::OutOfMemory) => Err(DayFault::OutOfMemory),
+    }
+}

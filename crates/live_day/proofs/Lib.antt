@@ -1,4 +1,0 @@
-mod Callers
-mod Exchanges
-mod Orders
-mod NewWorkers

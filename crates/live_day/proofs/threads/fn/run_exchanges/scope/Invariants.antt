@@ -1,5 +1,0 @@
-use Rattle.std.proofs.Common.{length}
-use Rattle.live_day.proofs.threads.fn.run_exchanges.scope.Given as goal
-
-abbrev pub decreases-loop-exchange : goal.decreases-loop-exchange
-decreases-loop-exchange g l = length l.exchanges.items

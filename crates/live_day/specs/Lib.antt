@@ -1,4 +1,0 @@
-pub mod Faults
-pub mod Sweeps
-pub mod Venues
-pub mod Day

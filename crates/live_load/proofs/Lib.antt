@@ -1,0 +1,4 @@
+mod CallersLeft
+mod Names
+mod Orders
+mod VenuesMade

@@ -1,0 +1,4 @@
+pub mod Config
+pub mod Sweeps
+pub mod Venues
+pub mod Day

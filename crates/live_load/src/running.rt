@@ -1,0 +1,234 @@
+//! A day from its rings to its audit.
+
+ghost use Rattle.std.specs.Prelude.{◌≡◌, ◌+◌, ◌*◌, ◌<◌, ◌≤◌, length, map, sum_by, None, IfOk, IfErr};
+ghost use Rattle.std.specs.List.{All};
+ghost use Rattle.share_ledger.specs.Book.{BookParts};
+ghost use Rattle.exec_collector.specs.Resolved.{Replays};
+ghost use Rattle.day_sweeps.specs.Sweeps.{sweeps_in};
+ghost use Rattle.release_lock.specs.Queues.{IsFresh};
+ghost use Rattle.session_worker.specs.Places.{place, new_places};
+ghost use Rattle.desk_venues.specs.Faults.{IsNoMismatch};
+ghost use Rattle.live_load.specs.Day.{IsLivePlan, AllCalled, AreCalled, caller_of, left_of, shares_each};
+
+use crate::caller::{CallerEnd, split_seats};
+use crate::callers::run_callers;
+use crate::config::venues_of;
+use crate::venues::left_venues;
+use crate::{LiveDay, LivePlan, Progress};
+use clock::Clock;
+use desk_config::Venue;
+use desk_floor::{Floor, Manner, Voice};
+use desk_run::{DeskDay, Means, OpenDay, close_day, open_day};
+use desk_threads::{Cast, Ended, in_threads};
+use desk_venues::{DayFault, Serve};
+use exec_collector::{Accounts, BlankBook};
+use json_lines::Form;
+use link::Link;
+use release_lock::{CallerSeat, Run, rings};
+use std::alloc::{AllocError, Global};
+use std::collections::VecDeque;
+use std::fs::{File, Files};
+use std::io::{Sink, Write, sink};
+use std::marker::Brand;
+use std::net::{Net, TcpListener, TcpStream};
+use std::sync::Wait;
+use std::sync::ledger::Blank;
+use std::thread::{Threads, join};
+use std::time;
+use venue_queue::{Drain, Feed};
+
+/// How many seconds a day lasts at most once the callers have ended: whether open shares are waited for is decided by
+/// whether some are resolved.
+const PATIENCE: u64 = 86_400;
+
+/// Runs a desk's day over loopback, and audits it. Each caller hands its sweeps in, with an order of 10 shares for each
+/// venue. What changes is told to nobody.
+pub fn run_live<R, P>(
+    rt: &R,
+    alloc: Global,
+    plan: LivePlan,
+    progress: P,
+) -> Result<LiveDay, DayFault>
+where
+    R: Net<Listener = TcpListener, Stream = TcpStream>
+        + Files<File = File>
+        + Threads
+        + Wait
+        + time::Clock
+        + Sync,
+    P: Progress + Drop,
+    requires { IsLivePlan plan }
+    ensures sweeps { IfOk result (λ day. (book : BookParts) × Replays book × (day.sweeps.items ≡ sweeps_in book)) }
+    ensures placed { IfOk result (λ day. day.report.placed + day.unplaced * shares_each plan
+        ≡ plan.callers * (plan.sweeps * shares_each plan)) }
+    ensures only { IfErr result IsNoMismatch }
+{
+    let rings = rings(alloc, plan.venues)?;
+    let Some(venues) = venues_of(alloc, plan.venues) else {
+        return Err(DayFault::OutOfMemory);
+    };
+    let Ok(workers) = BlankBook::new(alloc, plan.venues) else {
+        return Err(DayFault::OutOfMemory);
+    };
+    let callers = Blank::new(1024);
+    named_day::<Brand, Brand, R, P>(
+        rt,
+        alloc,
+        plan,
+        venues.as_slice(),
+        callers,
+        workers,
+        rings,
+        progress,
+    )
+}
+
+/// A day whose names were picked.
+fn named_day<L, M, R, P>(
+    rt: &R,
+    alloc: Global,
+    plan: LivePlan,
+    venues: &[Venue],
+    callers: Blank,
+    workers: BlankBook,
+    rings: VecDeque<(Feed, Drain)>,
+    progress: P,
+) -> Result<LiveDay, DayFault>
+where
+    L: Run + Send + Sync,
+    M: Accounts + Send + Sync,
+    R: Net<Listener = TcpListener, Stream = TcpStream>
+        + Files<File = File>
+        + Threads
+        + Wait
+        + time::Clock
+        + Sync,
+    P: Progress + Drop,
+    requires plan { IsLivePlan plan }
+    requires venues { length venues.now ≡ plan.venues }
+    requires callers { (callers.name ≡ L.name) × (callers.parts ≡ L.parts) × (L.parts ≡ 1024) }
+    requires workers { (workers.name ≡ M.name) × (workers.parts ≡ M.parts) × (M.parts ≡ plan.venues) }
+    requires lists { (workers.lists ≡ M.lists) × (workers.sweeps ≡ M.sweeps) }
+    requires tied { L.sweeps ≡ M.sweeps }
+    requires rings { (length rings.items ≡ plan.venues) × All IsFresh rings.items }
+    requires queues { L.queues ≡ map (λ ends. ends.0.table) rings.items }
+    ensures sweeps { IfOk result (λ day. (book : BookParts) × Replays book × (day.sweeps.items ≡ sweeps_in book)) }
+    ensures placed { IfOk result (λ day. day.report.placed + day.unplaced * shares_each plan
+        ≡ plan.callers * (plan.sweeps * shares_each plan)) }
+    ensures only { IfErr result IsNoMismatch }
+{
+    let means = Means {
+        manner: Manner {
+            patience: PATIENCE,
+            tells_news: true,
+        },
+        folder: None,
+        voice: Voice::new(alloc, Form::Words, sink()),
+        servers: Vec::new(alloc),
+        cut: plan.cut,
+    };
+    let day = open_day::<L, M, R, Sink>(rt, alloc, venues, means, callers, workers, rings)?;
+    let OpenDay { floor, cast, seat } = day;
+    let seats = split_seats(alloc, seat, plan.callers)?;
+    let (ended, called) = with_callers(rt, alloc, &floor, cast, plan, seats, progress)?;
+    told(rt, alloc, plan, floor, ended, called)
+}
+
+/// Runs the threads of a day beside those of its callers.
+fn with_callers<X, K, C, L, M, W, R, P>(
+    rt: &R,
+    alloc: Global,
+    floor: &Floor<L, M, W>,
+    cast: Cast<X, K, C, L, M>,
+    plan: LivePlan,
+    seats: Vec<CallerSeat<L>>,
+    progress: P,
+) -> Result<(Ended<K, L, M>, Vec<CallerEnd<L>>), DayFault>
+where
+    X: Serve + Drop + Send,
+    K: Link + Send,
+    C: Clock + Drop + Send,
+    L: Run + Send + Sync,
+    M: Accounts + Send + Sync,
+    W: Write + Drop + Send,
+    R: Threads + Wait + time::Clock + Sync,
+    P: Progress + Drop,
+    ensures workers { IfOk result (λ day. map (λ e. place e.parts) day.0.workers.items
+        ≡ map (λ w. place w.parts) cast.workers.items) }
+    ensures callers { IfOk result (λ day. AllCalled (map (λ s. caller_of plan s) seats.items)
+        (map (λ e. left_of e.seat e.unplaced) day.1.items)) }
+    ensures only { IfErr result IsNoMismatch }
+{
+    let (ended, called) = join(
+        rt,
+        || -> Result<Ended<K, L, M>, DayFault>
+            ensures workers { IfOk result (λ ended. map (λ e. place e.parts) ended.workers.items
+                ≡ map (λ w. place w.parts) cast.workers.items) }
+            ensures only { IfErr result IsNoMismatch }
+        { in_threads(rt, alloc, floor, cast, plan.turns) },
+        || -> Result<Vec<CallerEnd<L>>, DayFault>
+            ensures called { IfOk result (λ ends. AllCalled (map (λ s. caller_of plan s) seats.items)
+                (map (λ e. left_of e.seat e.unplaced) ends.items)) }
+            ensures only { IfErr result IsNoMismatch }
+        { run_callers(rt, alloc, floor, plan, seats, progress) },
+    );
+    Ok((ended?, called?))
+}
+
+/// What became of a day whose threads have ended.
+fn told<K: Link, L: Run, M: Accounts, W: Write + Drop>(
+    rt: &impl Wait,
+    alloc: Global,
+    plan: LivePlan,
+    floor: Floor<L, M, W>,
+    ended: Ended<K, L, M>,
+    called: Vec<CallerEnd<L>>,
+) -> Result<LiveDay, DayFault>
+    requires plan { IsLivePlan plan }
+    requires page { floor.shared ≡ None }
+    requires workers { map (λ e. place e.parts) ended.workers.items ≡ new_places M.parts }
+    requires some { 0 < M.parts }
+    requires callers { AreCalled plan (map (λ e. left_of e.seat e.unplaced) called.items) }
+    ensures sweeps { IfOk result (λ day. (book : BookParts) × Replays book × (day.sweeps.items ≡ sweeps_in book)) }
+    ensures placed { IfOk result (λ day. day.report.placed + day.unplaced * shares_each plan
+        ≡ plan.callers * (plan.sweeps * shares_each plan)) }
+    ensures only { IfErr result IsNoMismatch }
+{
+    let (seats, unplaced) = parted(alloc, called)?;
+    let is_answered = ended.workers.iter().any(|end| end.session.next_in() > 1);
+    let venues = left_venues(alloc, ended.workers.as_slice())?;
+    let day = close_day(rt, alloc, floor, ended, seats, None)?;
+    let DeskDay {
+        sweeps,
+        doubts: _,
+        is_given_up: _,
+        report,
+        broken_off: _,
+    } = day;
+    Ok(LiveDay {
+        sweeps,
+        venues,
+        unplaced,
+        is_answered,
+        report,
+    })
+}
+
+/// The callers' seats, and how many sweeps they gave up in all.
+fn parted<L: Run>(
+    alloc: Global,
+    ends: Vec<CallerEnd<L>>,
+) -> Result<(Vec<CallerSeat<L>>, u64), AllocError>
+    requires { sum_by (λ e. e.unplaced) ends.items ≤ 64000000 }
+    ensures { IfOk result (λ parts. (parts.0.items ≡ map (λ e. e.seat) ends.items)
+        × (parts.1 ≡ sum_by (λ e. e.unplaced) ends.items)) }
+{
+    let mut ends = VecDeque::from(ends);
+    let mut seats = Vec::new(alloc);
+    let mut unplaced = 0;
+    while let Some(end) = ends.pop_front() {
+        unplaced += end.unplaced;
+        seats.push(end.seat)?;
+    }
+    Ok((seats, unplaced))
+}
