@@ -3,6 +3,7 @@ that runs, with what hands sweeps in at its doors."""
 
 import gzip
 import os
+import queue
 import socket
 import subprocess
 import sys
@@ -97,13 +98,47 @@ def open_page(port, looks=("/api/venues", "/api/sweeps?after=0")):
             follower.join()
 
 
+def sweep_line(venues):
+    """A line for a sweep with a leg for each venue."""
+    return ("sweep " + " + ".join(f"V{venue} IBM buy 10 10" for venue in range(venues)) + "\n").encode()
+
+
+class Lines(threading.Thread):
+    """Reads lines as they come, in a thread of its own, and notes when each was there, in nanoseconds of the monotonic
+    clock."""
+
+    def __init__(self, file):
+        super().__init__(daemon=True)
+        self.file, self.lines, self.last = file, queue.SimpleQueue(), b""
+        self.start()
+
+    def run(self):
+        for self.last in self.file:
+            self.lines.put((time.monotonic_ns(), self.last))
+
+    def wait_for(self, beginning):
+        """Waits for the next line with this beginning, and gives when it was there."""
+        with suppress(queue.Empty):
+            while True:
+                at, line = self.lines.get(timeout=10)
+                if line.startswith(beginning):
+                    return at
+        raise Doubt(f"no line {beginning.decode()}")
+
+    def rest(self):
+        """The last line, once there is no more."""
+        self.join(MOST_END)
+        return self.last
+
+
 class Desk:
     """A desk that runs on an engine (`raw`, `QuickFIX`, `threaded`, or the path of `dispatch`), before exchanges outside
     that give each order three reports; the raw sender reads none, and gets none. Orders of sweeps before the number
-    `first` are counted, and not written down. `under` is what the engine runs under."""
+    `first` are counted, and not written down. `under` is what the engine runs under. `dispatch` tells news on its standard
+    output unless it is quiet."""
 
-    def __init__(self, engine, folder, venues, sweeps=0, first=0, is_served=False, under=()):
-        self.engine, self.folder, self.venues, self.placed = engine, Path(folder), venues, 0
+    def __init__(self, engine, folder, venues, sweeps=0, first=0, is_served=False, under=(), is_quiet=True):
+        self.engine, self.folder, self.venues, self.placed, self.came = engine, Path(folder), venues, 0, {}
         port = free_ports(venues + 1)
         self.page = port + venues
         page = [self.page] if is_served else []
@@ -116,7 +151,7 @@ class Desk:
             words = ["--port", port, "--venues", venues, "--threaded", "yes" if engine == "threaded" else "no"]
             self.run = self.start("lines", *words, under=under)
         else:
-            words = ["run", "--quiet", day_file(folder, port, venues, *page)]
+            words = ["run", *(["--quiet"] if is_quiet else []), day_file(folder, port, venues, *page)]
             self.run = self.start(engine, *words, under=under)
         try:
             self.wait_until_up()
@@ -163,9 +198,8 @@ class Desk:
 
     def feed_one_by_one(self, sweeps):
         """Hands in lines, each once all that the one before led to is done, however busy the machine is."""
-        line = "sweep " + " + ".join(f"V{venue} IBM buy 10 10" for venue in range(self.venues)) + "\n"
         for _ in range(sweeps):
-            self.run.stdin.write(line.encode())
+            self.run.stdin.write(sweep_line(self.venues))
             if not self.run.stdout.readline().startswith(b"placed "):
                 raise Doubt(f"{self.engine}: a sweep isn't placed")
             self.wait_until_quiet()
@@ -184,11 +218,12 @@ class Desk:
         """Hands in sweeps over HTTP, by so many clients, each at a beat."""
         return self.hand_in(self.folder / "ask", self.page, self.venues, sweeps, clients, pause, self.folder / "sent")["beat"]
 
-    def end(self):
-        """Ends the day: it ended well, and each order has come. When the last one came is left in `last`."""
+    def end(self, lines=None):
+        """Ends the day: it ended well, and each order has come. When the last one came is left in `last`. What reads the
+        lines of its standard output, if something does, is given."""
         time.sleep(0.5)
         self.run.stdin.close()
-        said, faults = self.run.stdout.read(), self.run.stderr.read()
+        said, faults = lines.rest() if lines else self.run.stdout.read(), self.run.stderr.read()
         status = self.run.wait(MOST_END)
         words = self.sink.communicate(timeout=60)[0].split()
         if status or self.sink.returncode or (self.is_dispatch() and not said.endswith(b"audit ok\n")):
@@ -197,13 +232,17 @@ class Desk:
         if orders != self.placed * self.venues:
             raise Doubt(f"{self.engine}: {orders} orders of {self.placed} sweeps")
 
+    def arrivals(self, sweep):
+        """When each order of a sweep came, in nanoseconds of the monotonic clock; the day has ended."""
+        if not self.came:
+            self.came = {order: int(at) for order, at in map(str.split, open(self.folder / "came"))}
+        return [self.came[f"S{sweep}L{leg}"] for leg in range(1, self.venues + 1)]
+
     def times(self):
         """For each sweep of the last beat that was placed, when it was handed in, and when each of its orders came, in
         nanoseconds of the monotonic clock; the day has ended."""
-        came = dict(line.split() for line in open(self.folder / "came"))
         sent = [line.split() for line in open(self.folder / "sent")]
-        legs = range(1, self.venues + 1)
-        return [(int(at), [int(came[f"S{number}L{leg}"]) for leg in legs]) for number, at in sent]
+        return [(int(at), self.arrivals(number)) for number, at in sent]
 
     def threads(self, file, key):
         """The sum of a figure over the threads that run now: of what stands behind a word in a file of /proc."""

@@ -22,8 +22,8 @@ use std::sync::Wait;
 use std::time::{Clock, Duration};
 use sweep_text::{Answer, Refusal, write_sweep};
 
-/// How many milliseconds pass between two tellings, at least.
-const TELL_MILLIS: u64 = 100;
+/// How many milliseconds pass between two tellings, at least: what comes in a burst is told once.
+const TELL_MILLIS: u64 = 1;
 
 /// How many seconds a change is waited for.
 const LOOK_SECONDS: u64 = 1;

@@ -10,11 +10,8 @@ use std::io::Write;
 use std::sync::Wait;
 use std::time::{Clock, Duration, Instant};
 
-/// How many milliseconds pass between two tellings: a sweep is told at most every 100 ms.
-const TELL_MILLIS: u64 = 100;
-
-/// How many milliseconds pass between two looks whether a share is open, while that is waited for.
-const LOOK_MILLIS: u64 = 10;
+/// How many milliseconds pass between two tellings: so what comes in a burst is told once, and a lone change at once.
+const TELL_MILLIS: u64 = 1;
 
 /// How many seconds the keeper waits for a change before it looks by itself: what memory was wanted for is told then.
 const LOOK_SECONDS: u64 = 1;
@@ -122,30 +119,18 @@ fn awaited<L: Run, M: Accounts, W: Write + Drop>(
     }
 }
 
-/// How often, and after how many milliseconds each, it is looked between two tellings whether that has come: often only
-/// where nobody tells that it has.
-fn looks_at(until: Until) -> (u64, u64) {
-    match until {
-        Until::Resolved => (TELL_MILLIS / LOOK_MILLIS, LOOK_MILLIS),
-        Until::Closing | Until::Ended => (1, TELL_MILLIS),
-    }
-}
-
 /// Rests between two tellings, and says whether what is waited for has come.
 fn has_come_meanwhile<L: Run, M: Accounts, W: Write + Drop, R: Wait + Clock>(
     rt: &R,
     floor: &Floor<L, M, W>,
     until: Until,
 ) -> bool {
-    let (looks, millis) = looks_at(until);
-    for _ in 0..looks {
-        let seen = floor.bells.turns().count();
-        if is_reached(rt, floor, until) {
-            return true;
-        }
-        let most = Duration::from_millis(millis);
-        floor.bells.turns().wait(rt, seen, most);
+    let seen = floor.bells.turns().count();
+    if is_reached(rt, floor, until) {
+        return true;
     }
+    let most = Duration::from_millis(TELL_MILLIS);
+    floor.bells.turns().wait(rt, seen, most);
     false
 }
 

@@ -11,3 +11,4 @@ pub mod PriceLength
 pub mod ReadRanges
 pub mod StraightFrame
 pub mod Pushed
+pub mod Extras

@@ -17,3 +17,7 @@ unfolding price_four
 price_four-is_short price fits =
     let dollars = length-decimal-le 16 (price / 10_000) (omega arith) (omega arith) (omega arith) in
     simp length-append (omega (arith, dollars))
+
+pub price_four-is_long : (price : ℕ) → 5 ≤ length (price_four price)
+unfolding price_four
+price_four-is_long price = simp length-append (omega arith)

@@ -1,5 +1,5 @@
 -- What a report that was read says.
-use Rattle.std.proofs.Common.{◌≡◌, ◌==◌, ℕ, Bool, true, false, cond, List, [], ◌∷◌, Some, Result, Ok, Err, IfOk, refl, sym, ap, subst, ◌∙◌}
+use Rattle.std.proofs.Common.{◌≡◌, ◌==◌, ℕ, Bool, true, false, cond, List, [], ◌∷◌, Some, option_map, Result, Ok, Err, IfOk, refl, sym, ap, subst, ◌∙◌}
 use Rattle.std.proofs.lemmas.Bool.{eqb-true, leb-true, and_parts}
 use Rattle.std.proofs.lemmas.Option.{cond_some, option_and_then_some}
 use Rattle.fix_text.specs.Tagged.{Tagged, value_of}
@@ -17,7 +17,7 @@ use Rattle.dialect.specs.Limit.{order_shares_of}
 use Rattle.dialect.specs.Report.{IsReportKind}
 use Rattle.dialect.specs.ReportFields.{exec_type_text}
 use Rattle.dialect.specs.ReportRead.{fill_in, trade_in, bust_in, kind_of_byte, kind_of_text, kind_in, report_read_of}
-use Rattle.dialect.specs.ReportReading.{SaysFill, SaysDetail, IsReportReadingOf}
+use Rattle.dialect.specs.ReportReading.{SaysFill, SaysDetail, exec_type_read, IsReportReadingOf}
 use Rattle.dialect.specs.Spelling.{SpellingParts, IsSpelling}
 use Rattle.dialect.specs.Lemmas.StepLaws.{bind_ok, step, same_ok, was_some, required_as-Ok}
 
@@ -73,7 +73,7 @@ fill_in-Ok fields fill e =
 -- a kind in range, of this byte, as the fields say it
 record IsKindRead (fields : List Tagged) (text : List ℕ) (kind : ReportKind) : Type 0 where
   in_range : IsReportKind kind
-  text_is : text ≡ exec_type_text kind
+  text_is : exec_type_read text ≡ exec_type_text kind
   detail : SaysDetail fields kind
 
 trade_in-Ok : (fields : List Tagged) (kind : ReportKind) → trade_in fields ≡ Ok kind → IsKindRead fields (70 ∷ []) kind
@@ -111,7 +111,9 @@ kind_of_byte-Ok fields c kind e =
     (same_ok Rejected kind is) (record { in_range = tt; text_is = refl; detail = tt })) (λ e4.
     tried fields c 67 kind (c == 67) _ _ refl e4 (λ is. subst (IsKindRead fields (67 ∷ [])) (same_ok Expired kind is)
     (record { in_range = tt; text_is = refl; detail = tt })) (λ e5.
-    tried fields c 72 kind (c == 72) _ _ refl e5 (bust_in-Ok fields kind) (λ e6. cc))))))
+    tried fields c 51 kind (c == 51) _ _ refl e5 (λ is. subst (IsKindRead fields (51 ∷ [])) (same_ok Expired kind is)
+    (record { in_range = tt; text_is = refl; detail = tt })) (λ e6.
+    tried fields c 72 kind (c == 72) _ _ refl e6 (bust_in-Ok fields kind) (λ e7. cc)))))))
 
 kind_of_text-Ok : (fields : List Tagged) (text : List ℕ) (kind : ReportKind) → kind_of_text fields text ≡ Ok kind
     → IsKindRead fields text kind
@@ -133,7 +135,7 @@ parts_say s fields id exec kind laws first second third =
       in_range = record { id = id_is.0; exec = exec_read.in_range; kind = kind_read.in_range };
       id = id_read.there ∙ ap Some id_is.1;
       exec = exec_read.there;
-      kind = was_some _ _ _ there.1 ∙ ap Some kind_read.text_is;
+      kind = ap (option_map exec_type_read) (was_some _ _ _ there.1) ∙ ap Some kind_read.text_is;
       detail = kind_read.detail;
     }
 

@@ -27,4 +27,5 @@ coded = record {
   price_text = price_four;
   symbol_fields = λ symbol. field 55 (joined_text 47 symbol) ∷ [];
   symbol_in = λ fields. required_as (joined_symbol_of 47) fields 55;
+  extra = [];
 }

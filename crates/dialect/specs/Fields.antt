@@ -1,5 +1,5 @@
 -- Reading and writing one field, with its fault.
-use Rattle.std.specs.Prelude.{ℕ, Bool, false, not, ◌==◌, List, ◌++◌, ◌≡◌, Option, Some, Result}
+use Rattle.std.specs.Prelude.{ℕ, Bool, true, false, ◌&&◌, not, ◌==◌, List, [], ◌∷◌, ◌++◌, ◌≡◌, Option, Some, Result}
 use Rattle.std.specs.List.{AllByRecursion, list_all}
 use Rattle.std.specs.Option.{ok_or, option_map_or}
 use Rattle.std.specs.Str.{bytes_eq}
@@ -38,6 +38,11 @@ IsGrown old new = (more : List Tagged) × (new ≡ old ++ more)
 -- no field of the list has this tag
 abbrev pub has_no : ℕ → List Tagged → Bool
 has_no tag fields = list_all (λ f. not (tag == f.tag)) fields
+
+-- no tag stands twice
+abbrev pub has_each_once : List Tagged → Bool
+has_each_once [] = true
+has_each_once (first ∷ fields) = has_no first.tag fields && has_each_once fields
 
 -- each field is the first of its tag in this list
 abbrev pub AreIn : List Tagged → List Tagged → Type 0

@@ -16,5 +16,9 @@ pub mod PlainIdLaws
 pub mod PlainLaws
 pub mod Split4Laws
 pub mod CodedLaws
+pub mod NoJoined
+pub mod LeastPrice
+pub mod WordedLaws
+pub mod WordedPresets
 pub mod SpelledLaws
 pub mod AnyLaws

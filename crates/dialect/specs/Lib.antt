@@ -27,6 +27,7 @@ pub mod Spelled
 pub mod Plain
 pub mod Split4
 pub mod Coded
+pub mod Words
 pub mod Any
 pub mod DialectName
 -- Messages and their frames.

@@ -21,7 +21,7 @@ order_fields s leg stamp =
     field 11 (s.id_text leg.id) ∷ s.mark ∷ []
     ++ limit_fields leg.terms.shares (s.price_text leg.terms.price) leg.terms.side
     ++ s.symbol_fields leg.terms.symbol
-    ++ immediate_fields stamp
+    ++ (immediate_fields stamp ++ s.extra)
 
 -- these fields are an order for this leg, made at this moment
 pub record IsOrderOf (s : SpellingParts) (leg : Leg) (stamp : StampParts) (fields : List Tagged) : Type 0 where

@@ -35,4 +35,5 @@ plain = record {
   price_text = price_short;
   symbol_fields = λ symbol. field 55 (symbol_text symbol) ∷ [];
   symbol_in = λ fields. required_as (joined_symbol_of 46) fields 55;
+  extra = [];
 }

@@ -28,7 +28,7 @@ trade_in fields = fill_in fields >>= λ fill. Ok (Trade fill)
 abbrev pub bust_in : List Tagged → Result ReportKind DialectFault
 bust_in fields = required_as (free_text_of 64) fields 19 >>= λ cancelled_id. Ok (Bust cancelled_id)
 
--- what happened by the byte of 150: `0`, `F`, `4`, `8`, `C` or `H`
+-- what happened by the byte of 150: `0`, `F`, `4`, `8`, `C`, `3` (done for day, which ends an order as `C` does) or `H`
 abbrev pub kind_of_byte : List Tagged → ℕ → Result ReportKind DialectFault
 kind_of_byte fields c =
     if c == 48 then Ok New else (
@@ -36,7 +36,8 @@ kind_of_byte fields c =
     if c == 52 then Ok Canceled else (
     if c == 56 then Ok Rejected else (
     if c == 67 then Ok Expired else (
-    if c == 72 then bust_in fields else Err (Bad 150))))))
+    if c == 51 then Ok Expired else (
+    if c == 72 then bust_in fields else Err (Bad 150)))))))
 
 -- what happened by the text of 150, which is one byte
 abbrev pub kind_of_text : List Tagged → List ℕ → Result ReportKind DialectFault

@@ -1,5 +1,5 @@
 -- What fields say that are read as a report (FIX 4.4 Volume 4, ExecutionReport).
-use Rattle.std.specs.Prelude.{◌≡◌, List, Some}
+use Rattle.std.specs.Prelude.{◌≡◌, ◌==◌, ℕ, List, [], ◌∷◌, Some, option_map, if◌then◌else◌}
 use Rattle.fix_text.specs.Tagged.{Tagged, value_of}
 use Rattle.fix_tags.specs.Shares.{shares_of}
 use Rattle.dialect.specs.declared.report.Report.{Report}
@@ -25,10 +25,16 @@ SaysDetail fields Rejected = Unit {0}
 SaysDetail fields Expired = Unit {0}
 SaysDetail fields (Bust cancelled_id) = value_of fields 19 ≡ Some cancelled_id
 
--- what fields say that are read as this report: but for a trade's shares, each value is the one that is written
+-- the text of 150 that is written for what this one says: done for day (`3`) ends an order as expired (`C`) does
+abbrev pub exec_type_read : List ℕ → List ℕ
+exec_type_read [] = []
+exec_type_read (c ∷ cs) = (if c == 51 then 67 else c) ∷ cs
+
+-- what fields say that are read as this report: but for a trade's shares and for done for day, each value is the one
+-- that is written
 pub record IsReportReadingOf (s : SpellingParts) (report : Report) (fields : List Tagged) : Type 0 where
   pub in_range : IsReport report
   pub id : value_of fields 11 ≡ Some (s.id_text report.id)
   pub exec : value_of fields 17 ≡ Some report.exec
-  pub kind : value_of fields 150 ≡ Some (exec_type_text report.kind)
+  pub kind : option_map exec_type_read (value_of fields 150) ≡ Some (exec_type_text report.kind)
   pub detail : SaysDetail fields report.kind

@@ -9,6 +9,12 @@ pub record IsShortValue (value : List ℕ) : Type 0 where
   pub writable : is_writable_value value ≡ true
   pub short : length value ≤ 32
 
+-- a field that every order of a venue carries besides: one that an application message takes, of at most 24 bytes
+pub record IsExtraField (f : Tagged) : Type 0 where
+  pub tag : (is_writable_tag f.tag && not (is_header_tag f.tag)) ≡ true
+  pub writable : is_writable_value f.value ≡ true
+  pub short : length f.value ≤ 24
+
 -- a field that an application message takes, with such a value
 pub record IsShortField (f : Tagged) : Type 0 where
   pub tag : (is_writable_tag f.tag && not (is_header_tag f.tag)) ≡ true

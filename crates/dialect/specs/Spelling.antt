@@ -1,15 +1,15 @@
 -- What a dialect is made of, beside what all dialects share: how it spells a leg's number, the mark of a sweep, a
 -- price and a symbol.
-use Rattle.std.specs.Prelude.{◌≡◌, ◌⊎◌, true, ℕ, Bool, List, [], ◌∷◌, map, Option, Some, Result, Ok}
+use Rattle.std.specs.Prelude.{◌≡◌, ◌⊎◌, ◌≤◌, length, true, ℕ, Bool, List, [], ◌∷◌, map, Option, Some, Result, Ok}
 use Rattle.std.specs.List.{AllByRecursion}
 use Rattle.fix_text.specs.Tagged.{Tagged, value_of}
 use Rattle.fix_tags.specs.Price.{price_of}
 use Rattle.leg.specs.LegId.{LegIdParts, IsLegId}
 use Rattle.leg.specs.Symbol.{SymbolParts, IsSymbol}
 use Rattle.leg.specs.Terms.{IsPrice}
-use Rattle.dialect.specs.Fields.{AreIn, has_no}
+use Rattle.dialect.specs.Fields.{AreIn, has_no, has_each_once}
 use Rattle.dialect.specs.Mark.{CarriesMark}
-use Rattle.dialect.specs.ShortFields.{IsShortValue, IsShortField}
+use Rattle.dialect.specs.ShortFields.{IsShortValue, IsShortField, IsExtraField}
 use Rattle.dialect.specs.declared.fault.DialectFault.{DialectFault}
 
 pub record SpellingParts : Type 0 where
@@ -25,6 +25,8 @@ pub record SpellingParts : Type 0 where
   -- first fault
   pub symbol_fields : SymbolParts → List Tagged
   pub symbol_in : List Tagged → Result SymbolParts DialectFault
+  -- the fields that every order carries besides, behind the others. They aren't read
+  pub extra : List Tagged
 
 -- the tags that all dialects share, which no mark may have
 abbrev pub shared_tags : List ℕ
@@ -51,3 +53,9 @@ pub record IsSpelling (s : SpellingParts) : Type 0 where
       → s.symbol_in fields ≡ Ok symbol
   pub symbol_says : (symbol : SymbolParts) (fields : List Tagged) → s.symbol_in fields ≡ Ok symbol
       → AreIn fields (s.symbol_fields symbol)
+  -- the fields besides have none of the shared tags, nor the mark's, and no tag twice
+  pub extra_few : length s.extra ≤ 16
+  pub extra_short : AllByRecursion IsExtraField s.extra
+  pub extra_apart : AllByRecursion (λ tag. has_no tag s.extra ≡ true) shared_tags
+  pub extra_unmarked : has_no s.mark.tag s.extra ≡ true
+  pub extra_once : has_each_once s.extra ≡ true

@@ -60,4 +60,5 @@ split4 = record {
   price_text = price_four;
   symbol_fields = split4_symbol_fields;
   symbol_in = split4_symbol_in;
+  extra = [];
 }

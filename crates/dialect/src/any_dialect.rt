@@ -57,7 +57,7 @@ impl Spelling for AnyDialect {
         }
     }
 
-    fn mark(&self) -> FieldRef<'static> {
+    fn mark(&self) -> FieldRef<'_> {
         match self {
             AnyDialect::Plain => Plain.mark(),
             AnyDialect::Split4 => Split4.mark(),
@@ -91,6 +91,14 @@ impl Spelling for AnyDialect {
             AnyDialect::Plain => Plain.push_symbol(alloc, symbol, fields),
             AnyDialect::Split4 => Split4.push_symbol(alloc, symbol, fields),
             AnyDialect::Coded => Coded.push_symbol(alloc, symbol, fields),
+        }
+    }
+
+    fn push_extra<F: FieldSink>(&self, alloc: Global, fields: &mut F) -> Result<(), AllocError> {
+        match self {
+            AnyDialect::Plain => Plain.push_extra(alloc, fields),
+            AnyDialect::Split4 => Split4.push_extra(alloc, fields),
+            AnyDialect::Coded => Coded.push_extra(alloc, fields),
         }
     }
 

@@ -66,7 +66,7 @@ impl Spelling for Coded {
         read_id(text)
     }
 
-    fn mark(&self) -> FieldRef<'static> {
+    fn mark(&self) -> FieldRef<'_> {
         FieldRef::new(SWEEP_LEG, YES)
     }
 
@@ -90,6 +90,10 @@ impl Spelling for Coded {
             joined_symbol_text(SLASH, symbol).as_slice(),
             fields,
         )
+    }
+
+    fn push_extra<F: FieldSink>(&self, _alloc: Global, _fields: &mut F) -> Result<(), AllocError> {
+        Ok(())
     }
 
     fn read_symbol(&self, fields: &AppFields<'_>) -> Result<Symbol, DialectFault> {

@@ -12,6 +12,13 @@ ghost use Rattle.dialect.specs.Framed.{IsBody, envelope_of, IsFramed, IsReadAs};
 ghost use Rattle.dialect.specs.OrderView.{OrderViewParts};
 ghost use Rattle.dialect.specs.declared.outgoing.Outgoing.{Outgoing};
 ghost use Rattle.dialect.specs.Writable.{IsWritable};
+ghost use Rattle.dialect.specs.Plain.{plain};
+ghost use Rattle.dialect.specs.Split4.{split4};
+ghost use Rattle.dialect.specs.Coded.{coded};
+ghost use Rattle.dialect.specs.Words.{worded};
+ghost use Rattle.dialect.specs.Spelling.{SpellingParts, IsSpelling};
+ghost use Rattle.dialect.specs.Lemmas.NoJoined.{JoinsNothing};
+ghost use Rattle.dialect.specs.Lemmas.WordedPresets.{plain_words, split_words, coded_words};
 
 use crate::dialect::Dialect;
 
@@ -50,4 +57,16 @@ pub fn writable_messages_fit<D: Dialect>(dialect: &D)
     ensures { (stamp : StampParts) (out : Outgoing) (says : Body) → IsWritable out →
         IsBody (D.wording dialect.now).encoding stamp out.beside
         out.message.content says → envelope_refusal (envelope_of out.message says) stamp ≡ None }
+{}
+
+/// The tables of the three dialects spell all that they spell.
+pub fn presets_are_dialects()
+    ensures plain { worded plain_words ≡ plain }
+    ensures split { worded split_words ≡ split4 }
+    ensures coded { worded coded_words ≡ coded }
+{}
+
+/// No spelling writes a suffix right behind its root: `AB` with `C` and `ABC` would be one text.
+pub fn suffixes_are_parted()
+    ensures { (s : SpellingParts) → IsSpelling s → JoinsNothing s → ⊥ }
 {}

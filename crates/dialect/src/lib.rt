@@ -24,6 +24,7 @@
 //!   them.
 #![tactic(auto)]
 
+mod accepted;
 mod any_dialect;
 mod app_write;
 mod coded;
@@ -54,6 +55,7 @@ mod report;
 mod report_read;
 mod report_tag;
 mod report_write;
+mod shaped;
 mod spelled;
 mod spelling;
 mod split;
@@ -61,6 +63,8 @@ mod split4;
 mod symbol_text;
 mod tag;
 mod time;
+mod worded;
+mod words;
 
 pub use any_dialect::AnyDialect;
 pub use coded::Coded;
@@ -81,3 +85,5 @@ pub use report::{Report, ReportKind};
 pub use spelling::{IdText, Spelling};
 pub use split4::Split4;
 pub use symbol_text::read_symbol;
+pub use worded::Worded;
+pub use words::{Extra, IdShape, MAX_EXTRA, MarkValue, PriceShape, SymbolShape, Words};

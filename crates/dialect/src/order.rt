@@ -21,7 +21,7 @@ use leg::{Leg, LegId};
 use std::alloc::{AllocError, Global};
 
 /// How many fields an order has at most.
-const MAX_ORDER_LEN: usize = 10;
+const MAX_ORDER_LEN: usize = 26;
 
 /// The leg that ClOrdID (11) names. Orders and reports share it, and it is on the way of each: so it is inlined, with
 /// the spelling's reading below it.
@@ -68,7 +68,7 @@ pub(crate) fn push_order<S: Spelling, F: FieldSink>(
     requires { time.now ≡ stamp_text stamp.now }
     ensures pushed { Pushes F.Takes (order_fields (S.spelling spelling.now) leg.now stamp.now)
         fields.old fields.new result }
-    ensures full { OnErr result (F.room fields.old < 10) }
+    ensures full { OnErr result (F.room fields.old < 26) }
 {
     push_short(
         alloc,
@@ -80,7 +80,8 @@ pub(crate) fn push_order<S: Spelling, F: FieldSink>(
     push_short(alloc, mark.tag(), mark.value(), fields)?;
     push_limit(spelling, alloc, &leg.terms, fields)?;
     spelling.push_symbol(alloc, leg.terms.symbol(), fields)?;
-    push_immediate(alloc, stamp, time, fields)
+    push_immediate(alloc, stamp, time, fields)?;
+    spelling.push_extra(alloc, fields)
 }
 
 /// Appends the order to a list, or on a refused growth only a part of it.
@@ -94,13 +95,13 @@ fn list_order<S: Spelling>(
     ensures ok { OnOk result (fields.new.items
         ≡ fields.old.items ++ order_fields (S.spelling spelling.now) leg.now stamp.now) }
     ensures err { OnErr result (IsGrown fields.old.items fields.new.items) }
-    ensures full { OnErr result (vec_capacity fields.old < vec_len fields.old + 10) }
+    ensures full { OnErr result (vec_capacity fields.old < vec_len fields.old + 26) }
 {
     fields.reserve(MAX_ORDER_LEN)?;
     push_order(spelling, alloc, leg, stamp, &stamp_bytes(stamp), fields)
 }
 
-/// Appends the fields of an order, as a venue spells it. V05, which comes only where the list has no room for ten more
+/// Appends the fields of an order, as a venue spells it. V05, which comes only where the list has no room for 26 more
 /// fields, leaves it as it was.
 pub(crate) fn write_order<S: Spelling>(
     spelling: &S,
@@ -112,7 +113,7 @@ pub(crate) fn write_order<S: Spelling>(
     ensures ok { OnOk result
         (Appends (IsOrderOf (S.spelling spelling.now) leg.now stamp.now) fields.old.items fields.new.items) }
     ensures err { OnErr result (fields.new.items ≡ fields.old.items) }
-    ensures full { OnErr result (vec_capacity fields.old < vec_len fields.old + 10) }
+    ensures full { OnErr result (vec_capacity fields.old < vec_len fields.old + 26) }
 {
     // That the leg and the stamp are in range is known once they were read.
     leg.in_range();

@@ -36,7 +36,7 @@ impl Spelling for Plain {
         read_plain_id(text)
     }
 
-    fn mark(&self) -> FieldRef<'static> {
+    fn mark(&self) -> FieldRef<'_> {
         FieldRef::new(EXEC_INST, INTERMARKET_SWEEP)
     }
 
@@ -60,6 +60,10 @@ impl Spelling for Plain {
             joined_symbol_text(POINT, symbol).as_slice(),
             fields,
         )
+    }
+
+    fn push_extra<F: FieldSink>(&self, _alloc: Global, _fields: &mut F) -> Result<(), AllocError> {
+        Ok(())
     }
 
     fn read_symbol(&self, fields: &AppFields<'_>) -> Result<Symbol, DialectFault> {

@@ -79,7 +79,7 @@ fn kind_by(fields: &AppFields<'_>, byte: u8) -> Result<ReportKind, DialectFault>
         b'F' => trade_in(fields),
         b'4' => Ok(ReportKind::Canceled),
         b'8' => Ok(ReportKind::Rejected),
-        b'C' => Ok(ReportKind::Expired),
+        b'C' | b'3' => Ok(ReportKind::Expired),
         b'H' => bust_in(fields),
         _ => Err(DialectFault::Bad(EXEC_TYPE)),
     }

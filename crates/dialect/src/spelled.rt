@@ -37,7 +37,7 @@ impl<S: Spelling> Dialect for S {
         ensures ok { OnOk result
             (Appends (IsOrderOf (S.spelling self.now) leg.now stamp.now) fields.old.items fields.new.items) }
         ensures err { OnErr result (fields.new.items ≡ fields.old.items) }
-        ensures full { OnErr result (vec_capacity fields.old < vec_len fields.old + 10) }
+        ensures full { OnErr result (vec_capacity fields.old < vec_len fields.old + 26) }
     {
         write_order(self, alloc, leg, stamp, fields)
     }

@@ -33,7 +33,7 @@ pub trait Spelling {
         ensures value { result ≡ (spelling self.now).id_of text.now };
 
     /// The field that marks a leg of a sweep.
-    fn mark(&self) -> FieldRef<'static>
+    fn mark(&self) -> FieldRef<'_>
         ensures value { result ≡ (spelling self.now).mark }
         ensures short { length result.value ≤ 24 };
 
@@ -61,6 +61,12 @@ pub trait Spelling {
     /// Reads a symbol from its fields, or answers the first fault.
     fn read_symbol(&self, fields: &AppFields<'_>) -> Result<Symbol, DialectFault>
         ensures value { result ≡ (spelling self.now).symbol_in fields.now };
+
+    /// Pushes the fields that every order carries besides, sixteen at most. It wants memory only where there is no room
+    /// for sixteen more fields.
+    fn push_extra<F: FieldSink>(&self, alloc: Global, fields: &mut F) -> Result<(), AllocError>
+        ensures pushed { Pushes F.Takes (spelling self.now).extra fields.old fields.new result }
+        ensures full { OnErr result (F.room fields.old < 16) };
 
     // What is written is read back, and can be written.
     ghost is_spelling: { (d : Self) → IsSpelling (spelling d) };

@@ -90,7 +90,7 @@ impl Spelling for Split4 {
         read_id(text)
     }
 
-    fn mark(&self) -> FieldRef<'static> {
+    fn mark(&self) -> FieldRef<'_> {
         FieldRef::new(EXEC_INST, INTERMARKET_SWEEP)
     }
 
@@ -115,6 +115,10 @@ impl Spelling for Split4 {
         } else {
             push_short(alloc, SYMBOL_SFX, suffix, fields)
         }
+    }
+
+    fn push_extra<F: FieldSink>(&self, _alloc: Global, _fields: &mut F) -> Result<(), AllocError> {
+        Ok(())
     }
 
     fn read_symbol(&self, fields: &AppFields<'_>) -> Result<Symbol, DialectFault> {

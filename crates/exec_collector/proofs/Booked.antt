@@ -138,7 +138,7 @@ withdrawn-opened book replays venue sweep =
 
 -- ---- a book in which more is written
 
-abbrev grown : BookParts → List BookEntry → BookParts
+abbrev pub grown : BookParts → List BookEntry → BookParts
 grown book more = record book { entries = book.entries ++ more }
 
 grown-none : (book : BookParts) → grown book [] ≡ book
@@ -238,7 +238,7 @@ pub record Books (book after : BookParts) (venue : ℕ) (booking : Booking) : Ty
 
 -- ---- a note
 
-not_same : (a b : ℕ) → (a ≡ b → ⊥) → (a == b) ≡ false
+pub not_same : (a b : ℕ) → (a ≡ b → ⊥) → (a == b) ≡ false
 not_same a b differ =
     elim (cases_Bool (a == b)) [
       | inl same ↦ absurd (differ (eqb-true a b same))
@@ -297,11 +297,11 @@ one_venue venue other None here differ = absurd cc
 one_venue venue other (Some order) here differ =
     not_same order.venue other (λ e. differ (sym (eqb-true order.venue venue here) ∙ e))
 
-abbrev IsBookedBy : BookParts → ℕ → LegIdParts → ℕ → BookAnswer → Type 0
+abbrev pub IsBookedBy : BookParts → ℕ → LegIdParts → ℕ → BookAnswer → Type 0
 IsBookedBy book venue id entries answer =
     is_ok (withdraw_of venue book id).0 ≡ is_ok answer.0 → Books book answer.1 venue (Asked id (is_ok answer.0) entries)
 
-books_asked : (book : BookParts) (venue : ℕ) (id : LegIdParts) (entries : ℕ) → entries ≡ length book.entries
+pub books_asked : (book : BookParts) (venue : ℕ) (id : LegIdParts) (entries : ℕ) → entries ≡ length book.entries
     → IsBookedBy book venue id entries (withdraw_of venue book id)
 books_asked book venue id entries now =
     asked_cases (IsBookedBy book venue id entries) venue book id

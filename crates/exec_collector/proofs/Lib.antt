@@ -6,5 +6,7 @@ pub mod Resolving
 pub mod Asking
 pub mod Counts
 pub mod Booked
+pub mod Listing
+pub mod Telling
 pub mod Blank
 pub mod Opening

@@ -7,8 +7,9 @@ use Rattle.exec_collector.specs.declared.blank_book.BlankList.{BlankList}
 use Rattle.exec_collector.specs.declared.venue_bookings.VenueBookings.{VenueBookings}
 use Rattle.exec_collector.specs.Blank.{IsBlank, AreBlank}
 use Rattle.exec_collector.specs.Seats.{Seat, worker_seat, worker_seats}
-use Rattle.exec_collector.specs.Sides.{AreWritten}
+use Rattle.exec_collector.specs.Sides.{AreWritten, AreListed}
 use Rattle.exec_collector.proofs.Booked.{written-push}
+use Rattle.exec_collector.proofs.Listing.{listed-push}
 
 abbrev pub names_of : List VenueBookings → List ℕ
 names_of sides = map (λ venue. venue.side.name) sides
@@ -22,6 +23,7 @@ pub record HasOpened (all : List ℕ) (venues : ℕ) (sides : List VenueBookings
   pub names : names_of sides ++ names_in lists ≡ all
   pub blank : AreBlank (length sides) lists
   pub written : AreWritten (new_book venues) 0 sides
+  pub unbooked : AreListed [] 0 sides
   pub seats_are : seats ≡ worker_seats (length sides)
 
 abbrev pub side_of : BlankList → VenueBookings
@@ -83,6 +85,7 @@ opened_next {all = all} {venues = venues} {sides = sides} {seats = seats} list r
       names = names;
       blank = subst (λ n. AreBlank n rest) (sym longer) (subst (AreBlank (length sides)) is so_far.blank).1;
       written = written-push venues 0 sides (side_of list) blank.in_book so_far.written;
+      unbooked = listed-push 0 sides (side_of list) blank.in_book so_far.unbooked;
       seats_are = seated ∙ (seats_now ∙ ap worker_seats (sym longer));
     })
 

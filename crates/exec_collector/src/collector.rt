@@ -3,13 +3,14 @@
 ghost use Rattle.std.specs.Prelude.{◌≡◌, ◌≤◌, ◌++◌, ◌∷◌, [], IfOk, IsOkUnless, MatchResult, OnOk};
 ghost use Rattle.std.specs.Fn.{FnOnceReturnsAt, FnOnceReturnsAtMut};
 ghost use Rattle.share_ledger.specs.Book.{BookParts, totals};
-ghost use Rattle.exec_collector.specs.Calls.{CallGives};
+ghost use Rattle.exec_collector.specs.Calls.{CallGives, CallReads};
 ghost use Rattle.exec_collector.specs.Opened.{IsSide};
 ghost use Rattle.exec_collector.specs.Resolved.{Replays, OnlyOpens, GainsBy, GainsLeg, resolved};
 ghost use Rattle.exec_collector.specs.Seats.{worker_seats};
+ghost use Rattle.exec_collector.specs.Unbooked.{CountedParts, IsListOf};
 
 use crate::venue_bookings::VenueBookings;
-use crate::{Accounts, BlankBook, CountedBook, WorkerSeat};
+use crate::{Accounts, BlankBook, CountedBook, Unbooked, WorkerSeat};
 use agreed_list::SeatSide;
 use dialect::Note;
 use leg::{LegId, Sweep, Totals};
@@ -62,6 +63,7 @@ impl<M: Accounts> Collector<M> {
         let counted = CountedBook {
             venues,
             book,
+            unbooked: Vec::new(alloc),
             total,
             bookings,
             sweeps,
@@ -127,6 +129,17 @@ impl<M: Accounts> Collector<M> {
         ensures { (book : BookParts) × Replays book × FnOnceReturnsAt F.FnOnce f book result }
     {
         self.counted.lock(rt).read(f)
+    }
+
+    /// Lends the book, which replays from its own history, and the list of the notes that it didn't take to a closure
+    /// that reads them, as both are at one moment.
+    pub fn read_all<T, F: FnOnce(&Book, &[Unbooked]) -> T>(&self, rt: &impl Wait, f: F) -> T
+        requires call { (book : _) (unbooked : _) → Replays book.now → IsListOf book.now unbooked.now
+            → F.pre f book unbooked }
+        ensures { (counted : CountedParts) × Replays counted.book × IsListOf counted.book counted.unbooked
+            × CallReads F.FnOnce f counted.book counted.unbooked result }
+    {
+        self.counted.lock(rt).read_all(f)
     }
 
     /// Lends the book to a closure that only opens sweeps.

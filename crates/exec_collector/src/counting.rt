@@ -5,6 +5,7 @@ ghost use Rattle.std.specs.List.{All};
 ghost use Rattle.exec_collector.specs.Booked.{IsKept};
 ghost use Rattle.exec_collector.specs.Resolved.{resolved};
 ghost use Rattle.exec_collector.specs.Seats.{parts_of, shares_of};
+ghost use Rattle.exec_collector.specs.Unbooked.{WereUnbooked};
 
 use crate::{Accounts, CountedBook, WorkerSeat};
 
@@ -13,15 +14,16 @@ use crate::{Accounts, CountedBook, WorkerSeat};
 pub struct Miscounted;
 
 /// The shares of these seats, where they are those that the venues have resolved. The seats of all workers always are.
-/// In either case what stands on each seat is what the book took of its venue.
+/// In either case what stands on each seat is what the book took of its venue, and what it didn't take.
 pub fn check_count<M: Accounts>(
     counted: &mut CountedBook<M>,
     seats: Vec<WorkerSeat<M>>,
 ) -> Result<u64, Miscounted>
-    ensures exact { IsOk result ↔ (shares_of seats.items ≡ resolved counted.old) }
-    ensures shares { IfOk result (λ shares. shares ≡ resolved counted.old) }
+    ensures exact { IsOk result ↔ (shares_of seats.items ≡ resolved counted.old.book) }
+    ensures shares { IfOk result (λ shares. shares ≡ resolved counted.old.book) }
     ensures whole { parts_of seats.items ≡ M.parts → 0 < M.parts → IsOk result }
-    ensures kept { All (IsKept counted.old) seats.items }
+    ensures kept { All (IsKept counted.old.book) seats.items }
+    ensures unbooked { All (WereUnbooked counted.old.unbooked) seats.items }
     ensures same { counted.new ≡ counted.old }
 {
     let mut seats = seats;

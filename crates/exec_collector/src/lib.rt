@@ -11,12 +11,18 @@
 //!   book was asked to withdraw: the clause `asked` of `withdraw` adds the leg, whatever the book answers, and no other
 //!   call adds one. Of a note that ends a leg (cancel, reject, expire, refuse) the clause says only that the seat's
 //!   amount doesn't fall, and not by how much it rises: the exact amount is promised of `CountedBook`, under the lock.
+//! - Beside the book stands the list of the notes that it didn't take (`Unbooked`), each with the book's answer, in the
+//!   order in which they were given. `apply` writes each note in the book or in the list, or nothing in either where it
+//!   answers out of memory; no other call changes the list. Each note on a seat is an entry of the book or in the list,
+//!   exactly once (`each_note_is_told_once`).
 //! - `totals` is that of a book that replays.
-//! - `lend` and `lend_beside` take closures that only open sweeps.
+//! - `lend` and `lend_beside` take closures that only open sweeps; `read_all` lends book and list as they are at one
+//!   moment.
 //! - `check_count` is `Ok` exactly where the seats add up to what is resolved, and always is with every part of the
 //!   ledger. Whatever it answers, what stands on each seat is what the book took of its venue (clause `kept`): each
 //!   note and each withdrawal was answered by the book's rule, and what the history has of the venue are just the notes
-//!   that moved and the legs that the book withdrew.
+//!   that moved and the legs that the book withdrew. What the list has of the venue are just the notes on the seat that
+//!   didn't move (clause `unbooked`).
 //! - That a lock is ever got is claimed nowhere.
 //!
 //! See `docs/locks.md`.
@@ -28,7 +34,9 @@ mod booking;
 mod collector;
 mod counted_book;
 mod counting;
+mod laws;
 mod opened_sweeps;
+mod unbooked;
 mod venue_bookings;
 mod worker_seat;
 
@@ -38,4 +46,6 @@ pub use booking::Booking;
 pub use collector::Collector;
 pub use counted_book::CountedBook;
 pub use counting::{Miscounted, check_count};
+pub use laws::each_note_is_told_once;
+pub use unbooked::Unbooked;
 pub use worker_seat::WorkerSeat;

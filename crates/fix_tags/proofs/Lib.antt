@@ -19,3 +19,4 @@ pub mod StreamBack
 pub mod ValueFaults
 pub mod WritableFields
 pub mod Written
+pub mod Dressed

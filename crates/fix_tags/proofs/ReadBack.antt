@@ -48,7 +48,7 @@ drop-point_and [] = refl
 drop-point_and (d ∷ ds) = refl
 
 -- dollars and at most four decimals
-price_of-decimals : (dollars part : ℕ) (ds : List ℕ) → dollars < 2 ^ 64 → all_digits ds ≡ true → drop 4 ds ≡ [] → ten_thousandths ds ≡ part → 1 ≤ dollars * 10_000 + part → dollars * 10_000 + part ≤ 9_999_999_999 → price_of (decimal dollars ++ point_and ds) ≡ Some (dollars * 10_000 + part)
+pub price_of-decimals : (dollars part : ℕ) (ds : List ℕ) → dollars < 2 ^ 64 → all_digits ds ≡ true → drop 4 ds ≡ [] → ten_thousandths ds ≡ part → 1 ≤ dollars * 10_000 + part → dollars * 10_000 + part ≤ 9_999_999_999 → price_of (decimal dollars ++ point_and ds) ≡ Some (dollars * 10_000 + part)
 unfolding price_of
 price_of-decimals dollars part ds small digits short is low high =
     let dollar_digits = all_digits-decimal dollars small in

@@ -4,10 +4,20 @@ use Rattle.std.specs.List.{list_all}
 use Rattle.fix_text.specs.Tagged.{Tagged}
 use Rattle.fix_text.specs.Text.{is_writable_tag, is_writable_value}
 
--- a tag of the header that this project reads or writes
-abbrev pub is_header_tag : ℕ → Bool
-is_header_tag tag =
+-- a tag of the header that each message is read and written with
+abbrev pub is_own_header_tag : ℕ → Bool
+is_own_header_tag tag =
     tag == 35 || tag == 49 || tag == 56 || tag == 34 || tag == 43 || tag == 97 || tag == 52 || tag == 122
+
+-- a tag of the header that a venue may want beside: it is passed over where it is read
+abbrev pub is_other_header_tag : ℕ → Bool
+is_other_header_tag tag =
+    tag == 50 || tag == 57 || tag == 115 || tag == 116 || tag == 128 || tag == 129 || tag == 142 || tag == 143
+    || tag == 144 || tag == 145 || tag == 347 || tag == 369
+
+-- a tag of the header
+abbrev pub is_header_tag : ℕ → Bool
+is_header_tag tag = is_own_header_tag tag || is_other_header_tag tag
 
 -- a tag of the frame itself: BeginString, BodyLength and CheckSum
 abbrev pub is_frame_tag : ℕ → Bool

@@ -14,6 +14,7 @@ pub mod Config
 pub mod Header
 pub mod Body
 pub mod Message
+pub mod Dress
 -- Messages, as they are read.
 pub mod Reading
 pub mod Readable

@@ -1,8 +1,10 @@
 //! What is written is read back: each law is the contract of a function that does nothing.
 
-ghost use Rattle.std.specs.Prelude.{◌≡◌, ◌≤◌, ℕ, List, length, true, None, Some, Ok, decimal};
+ghost use Rattle.std.specs.List.{list_all};
+ghost use Rattle.fix_tags.specs.Dress.{is_header_extra, is_logon_extra};
+ghost use Rattle.std.specs.Prelude.{◌≡◌, ◌≤◌, ◌++◌, ℕ, List, length, true, None, Some, Ok, decimal, codes};
 ghost use Rattle.fix_text.specs.Frame.{frame_text};
-ghost use Rattle.fix_text.specs.Tagged.{Tagged};
+ghost use Rattle.fix_text.specs.Tagged.{Tagged, value_of};
 ghost use Rattle.fix_text.specs.Text.{fields_text};
 ghost use Rattle.fix_tags.specs.App.{are_app_fields};
 ghost use Rattle.fix_tags.specs.CompId.{IsCompId, comp_id_of};
@@ -22,6 +24,19 @@ ghost use Rattle.fix_tags.specs.Stamp.{StampParts, IsStamp, stamp_text, stamp_re
 use crate::comp_id::CompId;
 use crate::stamp::Stamp;
 use fix_text::MAX_FRAME;
+
+/// Fields of the header that a venue wants beside are passed over, wherever they stand: what is read is the message
+/// without them.
+pub fn header_extras_are_passed_over()
+    ensures { (front beside back : List Tagged) → list_all is_header_extra beside ≡ true →
+        envelope_read (front ++ (beside ++ back)) ≡ envelope_read (front ++ back) }
+{}
+
+/// Fields that stand behind those of a Logon are passed over too.
+pub fn logon_extras_are_passed_over()
+    ensures { (front extra : List Tagged) → list_all is_logon_extra extra ≡ true → value_of front 35 ≡ Some (codes "A")
+        → envelope_read (front ++ extra) ≡ envelope_read front }
+{}
 
 /// A number up to 999,999,999,999 that was written is read back.
 pub fn number_reads_back(number: u64)

@@ -66,5 +66,6 @@ pub use stamp::Stamp;
 pub use stamp_text::{read_stamp, stamp_bytes, write_stamp};
 pub use tag_fault::TagFault;
 pub use text_ref::TextRef;
+pub use writable::is_header_tag;
 pub use write::write_envelope;
 pub use write_fault::WriteFault;

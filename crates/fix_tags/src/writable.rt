@@ -37,7 +37,8 @@ fn is_test_id(id: &[u8]) -> bool
     can_write_value(id) && id.len() <= MAX_TEST_ID
 }
 
-pub(crate) fn is_header_tag(tag: u32) -> bool
+/// Whether a tag is one of the header.
+pub fn is_header_tag(tag: u32) -> bool
     ensures { result ≡ is_header_tag tag }
 {
     matches!(
@@ -50,6 +51,18 @@ pub(crate) fn is_header_tag(tag: u32) -> bool
             | POSS_RESEND
             | SENDING_TIME
             | ORIG_SENDING_TIME
+            | 50
+            | 57
+            | 115
+            | 116
+            | 128
+            | 129
+            | 142
+            | 143
+            | 144
+            | 145
+            | 347
+            | 369
     )
 }
 

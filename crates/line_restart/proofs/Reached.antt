@@ -13,9 +13,9 @@ use Rattle.line_notes.specs.NotesTheorem.{NotesAreOnAccepted, NoneIsOnWithdrawn}
 use Rattle.line_notes.proofs.OwnAccepted.{WholeNoted, own_new, noted_step}
 use Rattle.line_notes.proofs.NotesGiven.{notes_on, none_on_withdrawn}
 use Rattle.line_restart.specs.Lives.{Life, durable_line, moments_of, IsLife, AreLives, all_moments}
-use Rattle.line_restart.specs.RestartTheorem.{IsReached, TheReachedTheorem, TheRestartTheorem, TheNotesOverRestarts}
+use Rattle.line_restart.specs.RestartTheorem.{IsReached, TheReachedTheorem, TheRestartTheorem, TheNotesOverRestarts, AnOpenConnectionIsSafe}
 use Rattle.line_restart.proofs.Cut.{reached_new, reached_step}
-use Rattle.line_restart.proofs.Restarting.{restart_reached}
+use Rattle.line_restart.proofs.Restarting.{restart_reached, open_reached}
 
 module _ (config : ConfigParts) where
   pub durable_reached : (life : Life) → IsLife life → IsReached config life.start
@@ -71,3 +71,8 @@ the_notes_over_restarts config first lives small new is =
       All-weaker (IsReached config) NoneIsOnWithdrawn (λ w r. none_on_withdrawn w (reached_noted config small w r))
           (all_moments first lives) reached,
     )
+
+pub an_open_connection_is_safe : AnOpenConnectionIsSafe
+an_open_connection_is_safe config life next small r is restart =
+    reached_holds config small (record next { session = (durable_line life).session })
+    (open_reached config life is next restart (durable_reached config life is r))

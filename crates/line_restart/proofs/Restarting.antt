@@ -94,3 +94,19 @@ restart_reached config life is next restart reached =
     subst (IsReached config) (sym restart.is)
     (restarts_reached config d (killed_line life) restart.kept restart.forgotten restart.left restart.released from whole
     (aside_steps config n d d life.lost is.more is.wire (reached_cut config n d reached (omega arith))))
+
+-- and so it does where the connection stays
+pub open_reached : (config : ConfigParts) (life : Life) → IsLife life → (next : Line) → Restarts life next
+    → IsReached config (durable_line life)
+    → IsReached config (record next { session = (durable_line life).session })
+open_reached config life is next restart reached =
+    let d = durable_line life in
+    let n = length restart.kept in
+    let from = restart.from in
+    let whole = restart.whole in
+    let on = aside config n d (killed_line life) in
+    let gone_on = aside_steps config n d d life.lost is.more is.wire (reached_cut config n d reached (omega arith)) in
+    let legs = ap (take n) restart.released ∙ take-append_seam restart.kept restart.forgotten in
+    subst (λ (w : Line). IsReached config (record w { session = d.session })) (sym restart.is)
+    (drop_to config restart.left (record on { released = restart.kept }) from whole
+    (subst (λ l. IsReached config (record on { released = l })) legs gone_on))

@@ -9,17 +9,18 @@ use Rattle.dialect.specs.declared.note.Note.TheVariants as note
 use Rattle.session_core.specs.Session.{leg_state}
 use Rattle.session_core.specs.Example.{config, from_b, report}
 use Rattle.exchange_core.specs.Acceptance.{May}
+use Rattle.exchange_core.specs.Acceptance as rules
 use Rattle.venue_line.specs.Line.{new_line, AreSteps}
 use Rattle.venue_line.specs.Line as line
 use Rattle.venue_line.specs.LineTheorem.{IsWithdrawnLeg, LineHolds}
 use Rattle.venue_line.specs.Notes.{notes_under}
 use Rattle.venue_line.specs.Worked.{first, second, logon, fence, answer, order, asks, standing, two, four, till_up}
-use Rattle.venue_line.proofs.Worked.{no_more, plain, nothing, logs_on, answers, accepts, connects, sends, receives, exchanges, steps_up}
+use Rattle.venue_line.proofs.Worked.{step, no_more, plain, plain_two, nothing, says, logs_on, answers, accepts, connects, sends, receives, exchanges, steps_up}
 use Rattle.venue_line.proofs.Leading.{steps_more}
 use Rattle.line_restart.specs.Lives.{AreLives}
 use Rattle.line_restart.specs.Example.{three, legs, first_sent}
 use Rattle.line_restart.specs.UnsafeWire.{settling, withdrawn}
-use Rattle.line_restart.specs.UnsafeStarts.{both_sent, first_taken, both_taken, gap_left, IsGapLeft, release_lost, IsReleaseLost, dropped, dropping, drop_lost, logging_on_again, logon_taken_again, settling_again, fence_taken_again, up_again, sent_again, accepted_again, after_drop, IsDropLost, withdrawal_lost, IsWithdrawalLost, book_ahead, IsBookAhead, count_ahead, IsCountAhead, begun_anew, IsBegunAnew}
+use Rattle.line_restart.specs.UnsafeStarts.{both_sent, first_taken, both_taken, gap_left, IsGapLeft, release_lost, IsReleaseLost, dropped, dropping, drop_lost, logging_on_again, logon_taken_again, settling_again, fence_taken_again, up_again, sent_again, accepted_again, after_drop, IsDropLost, withdrawal_lost, IsWithdrawalLost, book_ahead, IsBookAhead, count_ahead, IsCountAhead, begun_anew, IsBegunAnew, counted_anew, counting, asked_early, settling_early, withdrawn_early, accepted_late, till_late, IsCountedAnew}
 use Rattle.line_restart.proofs.Cut.{reached_new}
 use Rattle.line_restart.proofs.Reached.{durable_reached, reached_holds}
 use Rattle.line_restart.proofs.Restarting.{restart_reached}
@@ -245,3 +246,58 @@ unfolding digits
 is_begun_anew holds =
     holds.withdrawn_is_missing 1 (unsent begun_anew 1 (omega arith) (omega arith) refl)
     (first_ordinal [] holds.ordinals holds.released)
+
+-- the connections
+takes_no_logon : May (standing 1 3 [] two) (Some (logon 1 4)) (standing 1 3 [] four) (logon 1 3 ∷ asks 1 4 3 ∷ [])
+takes_no_logon =
+    let s = standing 1 3 [] two in
+    let m = logon 1 4 in
+    let t = (standing 1 3 [] four).intake in
+    step s m t four (None ∷ None ∷ []) (logon 1 3 ∷ asks 1 4 3 ∷ []) (rules.stays refl) (plain_two s m t four) refl
+    (says s m t four (logon 1 3) (asks 1 4 3 ∷ [])
+    (record { from = omega arith; to = omega arith; content = inr (refl, tt) })
+    (says s m t four (asks 1 4 3) [] (record { from = omega arith; to = omega arith; content = inr (refl, refl) })
+    (nothing s m t four)))
+
+takes_late : May (standing 1 3 [] four) (Some (order 1 3 first)) (standing 1 4 (first ∷ []) four) []
+takes_late =
+    let s = standing 1 3 [] four in
+    let m = order 1 3 first in
+    let t = (standing 1 4 (first ∷ []) four).intake in
+    accepts s.intake four 1 3 first refl refl [] [] (no_more s m t four) (nothing s m t four)
+
+late_steps : AreSteps counted_anew till_late
+unfolding digits
+late_steps = (
+  connects counted_anew tt,
+  (
+    exchanges counting (logon 1 4) (standing 1 3 [] four) (logon 1 3 ∷ asks 1 4 3 ∷ []) (3, omega arith, refl)
+        takes_no_logon,
+    (
+      receives asked_early (logon 1 3) (2, omega arith, refl) refl,
+      (
+        receives settling_early (asks 1 4 3) (3, omega arith, refl) refl,
+        (
+          exchanges withdrawn_early (order 1 3 first) (standing 1 4 (first ∷ []) four) [] (2, omega arith, refl)
+              takes_late,
+          tt,
+        ),
+      ),
+    ),
+  ),
+)
+
+sent_steps : AreSteps (new_line config) (till_up legs ++ first_sent ∷ [])
+unfolding digits
+sent_steps =
+    steps_more (new_line config) (till_up legs) (first_sent ∷ []) (steps_up legs) (order_more.0, tt)
+
+late_unsafe : LineHolds accepted_late → ⊥
+unfolding digits
+late_unsafe holds =
+    holds.withdrawn_is_missing 1 (record { from = omega arith; left = omega arith; gone = inr refl })
+    (first_ordinal [] holds.ordinals holds.released)
+
+pub is_counted_anew : IsCountedAnew
+unfolding digits
+is_counted_anew = record { steps = sent_steps; start = refl; later = late_steps; unsafe = late_unsafe }

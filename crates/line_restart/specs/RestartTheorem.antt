@@ -6,7 +6,7 @@ use Rattle.venue_line.specs.Line.{Line, new_line}
 use Rattle.venue_line.specs.Leading.{Leads}
 use Rattle.venue_line.specs.LineTheorem.{LineHolds}
 use Rattle.line_notes.specs.NotesTheorem.{NotesAreOnAccepted, NoneIsOnWithdrawn}
-use Rattle.line_restart.specs.Lives.{Life, AreLives, all_moments}
+use Rattle.line_restart.specs.Lives.{Life, durable_line, IsLife, Restarts, AreLives, all_moments}
 
 -- ordinary steps lead to it, with no restart among them, from a line whose session and exchange begin at number 1
 abbrev pub IsReached : ConfigParts → Line → Type 0
@@ -26,3 +26,9 @@ abbrev pub TheNotesOverRestarts : Type 0
 TheNotesOverRestarts = (config : ConfigParts) (first : Life) (lives : List Life) → config.max_number ≤ 999999999
     → first.start ≡ new_line config → AreLives first lives
     → All NotesAreOnAccepted (all_moments first lives) × All NoneIsOnWithdrawn (all_moments first lives)
+
+-- a connection that were taken as still there would leave the line safe
+abbrev pub AnOpenConnectionIsSafe : Type 0
+AnOpenConnectionIsSafe = (config : ConfigParts) (life : Life) (next : Line) → config.max_number ≤ 999999999
+    → IsReached config life.start → IsLife life → Restarts life next
+    → LineHolds (record next { session = (durable_line life).session })

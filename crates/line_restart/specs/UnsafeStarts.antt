@@ -1,15 +1,16 @@
 -- Why the other rules of the journal are there: runs, computed, in each of which a start breaks one of them. The
 -- journal has a gap, or hasn't a release; a withdrawal is lost; the book keeps what the journal hasn't; or the session
--- begins anew, or counts what isn't in the book.
-use Rattle.std.specs.Prelude.{◌≡◌, [], ◌∷◌, ◌++◌, Some, None}
+-- begins anew, counts what isn't in the book, or counts its connections anew.
+use Rattle.std.specs.Prelude.{◌≡◌, List, [], ◌∷◌, ◌++◌, Some, None}
 use Rattle.leg.specs.declared.leg_state.LegState.TheVariants.{Doubt}
-use Rattle.resend.specs.Log.Entry.{Admin}
+use Rattle.resend.specs.Log.Entry.{Admin, Sent}
 use Rattle.session_core.specs.declared.phase.Phase.TheVariants.{Down}
 use Rattle.session_core.specs.Session.{new_session, leg_state}
+use Rattle.session_core.specs.Calling.{doubted}
 use Rattle.session_core.specs.Example.{config}
 use Rattle.venue_line.specs.Line.{Line, new_line, AreSteps}
 use Rattle.venue_line.specs.LineTheorem.{IsWithdrawnLeg, LineHolds}
-use Rattle.venue_line.specs.Worked.{first, second, logon, fence, answer, standing, connecting, sending, receiving, exchanging, two, four, till_up}
+use Rattle.venue_line.specs.Worked.{first, second, logon, fence, answer, order, asks, standing, connecting, sending, receiving, exchanging, two, four, till_up}
 use Rattle.line_restart.specs.Lives.{restarted, Life, AreLives}
 use Rattle.line_restart.specs.OverRestarts.{NeverAccepted, StaysWithdrawn}
 use Rattle.line_restart.specs.Example.{connection_of, session_of, legs, up, first_sent, again, booked}
@@ -138,3 +139,45 @@ begun_anew = record (restarted order_taken order_taken legs 1) { session = new_s
 
 abbrev pub IsBegunAnew : Type 0
 IsBegunAnew = LineHolds begun_anew → ⊥
+
+-- the connections: they are counted anew, so that the session's Logon is of a connection which the exchange has had.
+-- The exchange doesn't take it, but may write a Logon there, and ask for the order that hasn't come. The session
+-- withdraws the leg, and then the order comes
+abbrev pub kept_connection : Line
+kept_connection = restarted first_sent first_sent legs 1
+
+abbrev pub counted_anew : Line
+counted_anew = record {
+  released = legs;
+  left = 1;
+  session = session_of Down (Admin ∷ Admin ∷ Sent (doubted 1 first) ∷ []) 0 (connection_of 1 [] None) 3;
+  exchange = standing 1 3 [] two;
+  to_exchange = logon 1 1 ∷ fence 1 2 ∷ order 1 3 first ∷ [];
+  from_exchange = logon 1 1 ∷ answer 1 2 2 ∷ [];
+  waiting = None;
+  given = [];
+}
+
+abbrev pub counting : Line
+counting = connecting counted_anew
+
+abbrev pub asked_early : Line
+asked_early = exchanging (standing 1 3 [] four) (logon 1 3 ∷ asks 1 4 3 ∷ []) counting
+
+abbrev pub settling_early : Line
+settling_early = receiving (logon 1 3) asked_early
+
+abbrev pub withdrawn_early : Line
+withdrawn_early = receiving (asks 1 4 3) settling_early
+
+abbrev pub accepted_late : Line
+accepted_late = exchanging (standing 1 4 (first ∷ []) four) [] withdrawn_early
+
+abbrev pub till_late : List Line
+till_late = counting ∷ asked_early ∷ settling_early ∷ withdrawn_early ∷ accepted_late ∷ []
+
+pub record IsCountedAnew : Type 0 where
+  pub steps : AreSteps (new_line config) (till_up legs ++ first_sent ∷ [])
+  pub start : counted_anew ≡ record kept_connection { session = record kept_connection.session { connection = 0 } }
+  pub later : AreSteps counted_anew till_late
+  pub unsafe : LineHolds accepted_late → ⊥

@@ -5,9 +5,10 @@ ghost use Rattle.line_restart.specs.OverRestarts.{WhatIsAcceptedStays, WhatIsWit
 ghost use Rattle.line_restart.specs.OverRestarts.{WhatIsWithdrawnStays, AWithdrawalIsWritten};
 ghost use Rattle.line_restart.specs.Reports.{TheNotesComeAgain};
 ghost use Rattle.line_restart.specs.RestartTheorem.{TheReachedTheorem, TheRestartTheorem, TheNotesOverRestarts};
+ghost use Rattle.line_restart.specs.RestartTheorem.{AnOpenConnectionIsSafe};
 ghost use Rattle.line_restart.specs.Spared.{TheNotesSpareWithdrawn};
 ghost use Rattle.line_restart.specs.UnsafeStarts.{IsGapLeft, IsReleaseLost, IsDropLost, IsWithdrawalLost};
-ghost use Rattle.line_restart.specs.UnsafeStarts.{IsBookAhead, IsCountAhead, IsBegunAnew};
+ghost use Rattle.line_restart.specs.UnsafeStarts.{IsBookAhead, IsCountAhead, IsBegunAnew, IsCountedAnew};
 ghost use Rattle.line_restart.specs.UnsafeWire.{IsOrderLost, IsFillLost, IsCloseLost};
 
 /// Whenever the dispatcher is killed, and however often: each line that comes of it is one that ordinary steps lead to,
@@ -118,4 +119,16 @@ pub fn a_session_ahead_of_its_book_is_unsafe()
 /// A session that begins anew, with numbers from 1, where a leg was sent and accepted: the leg counts as withdrawn.
 pub fn a_session_that_begins_anew_is_unsafe()
     ensures { IsBegunAnew }
+{}
+
+/// A session that counts its connections anew, so that it connects in one which the exchange has had: the leg is
+/// accepted, and withdrawn.
+pub fn connections_that_are_counted_anew_are_unsafe()
+    ensures { IsCountedAnew }
+{}
+
+/// A session that took its connection as still there would be safe: the exchange has had nothing of it but what the
+/// journal has. So no run shows why a start ends the connection; the link of the killed process is gone with it.
+pub fn a_connection_that_stays_is_safe()
+    ensures { AnOpenConnectionIsSafe }
 {}

@@ -56,6 +56,7 @@ pub struct TcpLink<'a, N: Net + Clock> {
 impl<'a, N: Net + Clock> TcpLink<'a, N> {
     /// A link that isn't dialled yet. It waits with this poller, which watches nothing yet.
     pub fn new(rt: &'a N, addr: SocketAddr, poller: Poller, how: Rest) -> TcpLink<'a, N>
+        ensures addr { result.addr ≡ addr }
         ensures faults { result.faults ≡ 0 }
         ensures traffic { result.told.traffic ≡ [] }
     {
@@ -75,6 +76,7 @@ impl<'a, N: Net + Clock> TcpLink<'a, N> {
 
     /// From now on it tells there why a dial failed.
     pub fn tell_on(&mut self, last_dial: Arc<LastDial, Global>)
+        ensures addr { self.new.addr ≡ self.old.addr }
         ensures faults { self.new.faults ≡ self.old.faults }
         ensures traffic { self.new.told.traffic ≡ self.old.told.traffic }
     {

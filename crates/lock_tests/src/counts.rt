@@ -7,7 +7,9 @@ use crate::orders::sweep;
 use crate::reports::{report, trade};
 use agreed_list::SeatSide;
 use dialect::{Note, ReportKind};
-use exec_collector::{Accounts, BlankBook, Collector, Miscounted, WorkerSeat, check_count};
+use exec_collector::{
+    Accounts, BlankBook, Collector, Miscounted, Unbooked, WorkerSeat, check_count,
+};
 use leg::{LegId, Sweep, Totals};
 use share_ledger::{Applied, Book, BookFault};
 use std::alloc::Global;
@@ -90,10 +92,11 @@ struct Seen {
     as_wanted: (bool, bool),
     /// What each seat counts.
     seats: (u64, u64),
-    /// The sweep's totals, the shares that the book has resolved, and its entries.
+    /// The sweep's totals, the shares that the book has resolved, its entries, and the notes that it didn't take.
     totals: Option<Totals>,
     resolved: u64,
     entries: usize,
+    unbooked: usize,
     /// What is compared at the end.
     checked: Result<u64, Miscounted>,
 }
@@ -119,13 +122,16 @@ fn two_workers<M: Accounts + Send + Sync, R: Threads + Wait + Sync>(
     seats.push(second)?;
     let totals = collector.totals(rt, 1);
     let resolved = collector.resolved(rt);
-    let entries = collector.read(rt, |book: &Book| book.history().len());
+    let (entries, unbooked) = collector.read_all(rt, |book: &Book, unbooked: &[Unbooked]| {
+        (book.history().len(), unbooked.len())
+    });
     Ok(Seen {
         as_wanted,
         seats: counted,
         totals,
         resolved,
         entries,
+        unbooked,
         checked: check_count(&mut collector.into_counted(), seats),
     })
 }
@@ -147,6 +153,8 @@ fn the_seats_count_what_is_resolved(rt: HostRuntime) -> Result<(), Fail> {
         resolved: 230,
         // The sweep, 26 trades and an end at each venue, and the withdrawal.
         entries: 56,
+        // 26 trades of each venue came twice.
+        unbooked: 52,
         checked: Ok(230),
     };
     assert_eq!(rt; seen, wanted);

@@ -5,11 +5,11 @@ ghost use Rattle.std.specs.Prelude.{◌≡◌};
 use crate::desk::{last_sweep, pops_to, received, releases};
 use crate::orders::sweep;
 use crate::reports::{report, trade};
-use dialect::ReportKind;
-use exec_collector::{Accounts, Collector, WorkerSeat};
+use dialect::{Note, ReportKind};
+use exec_collector::{Accounts, Collector, Unbooked, WorkerSeat};
 use leg::Totals;
 use release_lock::{CallerSeat, ReleaseLock, Run, VenueDrain};
-use share_ledger::Applied;
+use share_ledger::{Applied, Book};
 use std::alloc::Global;
 use std::sync::Wait;
 use std::test::Fail;
@@ -60,7 +60,7 @@ const ENDED: Option<Totals> = Some(Totals {
     still_open: 0,
 });
 
-/// Whether a trade, the same again, and its end are booked.
+/// Whether a trade and its end are booked, and the same trade again is listed.
 fn trades<L: Run, M: Accounts>(
     rt: &impl Wait,
     collector: &Collector<M>,
@@ -78,7 +78,22 @@ fn trades<L: Run, M: Accounts>(
             return Ok(false);
         }
     }
-    Ok(true)
+    Ok(collector.read_all(rt, |_: &Book, unbooked: &[Unbooked]| {
+        is_left(unbooked, &trade)
+    }))
+}
+
+/// Whether this note alone wasn't taken: it had been booked behind the first sweep.
+fn is_left(unbooked: &[Unbooked], note: &Note) -> bool {
+    match unbooked {
+        [one] => {
+            one.venue.number() == 0
+                && one.note == *note
+                && one.answer == Applied::Duplicate
+                && one.entries == 2
+        }
+        _ => false,
+    }
 }
 
 /// Whether the next legs are in the ring with no pump, up to so many in all, and no other.

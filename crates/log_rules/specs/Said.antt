@@ -108,15 +108,14 @@ bust_with (Some undone) = happening.Bust undone
 abbrev pub bust_of : List Tagged → Happening
 bust_of fields = bust_with (value_of fields 19)
 
--- the bytes of ExecType (150) that end an order: `4`, `8` and `C`
+-- the bytes of ExecType (150) that end an order: `3`, `4`, `8` and `C`
 abbrev pub is_end : ℕ → Bool
-is_end c = c == 52 || c == 56 || c == 67
+is_end c = c == 51 || c == 52 || c == 56 || c == 67
 
--- those of the standard's other kinds, which move no shares here: `3`, `5`, `6`, `7`, `9`, `A`, `B`, `D`, `E`, `G`, `I`
+-- those of the standard's other kinds, which move no shares here: `5`, `6`, `7`, `9`, `A`, `B`, `D`, `E`, `G`, `I`
 abbrev pub is_other : ℕ → Bool
 is_other c =
-    c == 51 || c == 53 || c == 54 || c == 55 || c == 57 || c == 65 || c == 66 || c == 68 || c == 69 || c == 71
-    || c == 73
+    c == 53 || c == 54 || c == 55 || c == 57 || c == 65 || c == 66 || c == 68 || c == 69 || c == 71 || c == 73
 
 -- what happened by the byte of ExecType (150)
 abbrev pub happening_by : List Tagged → ℕ → Happening

@@ -161,7 +161,7 @@ fn status_says(status: u8, cum: u64, leaves: u64) -> bool
         b'0' => cum == 0,
         b'1' => 0 < cum && 0 < leaves,
         b'2' => 0 < cum && leaves == 0,
-        b'4' | b'8' | b'C' => leaves == 0,
+        b'3' | b'4' | b'8' | b'C' => leaves == 0,
         _ => true,
     }
 }

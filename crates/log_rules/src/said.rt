@@ -188,11 +188,10 @@ fn happening_of<'a>(fields: &AppFields<'a>) -> Happening<'a>
     match fields.get(EXEC_TYPE) {
         Some([b'0']) => Happening::New,
         Some([b'F']) => trade_of(fields),
-        Some([b'4' | b'8' | b'C']) => Happening::Ended,
+        Some([b'3' | b'4' | b'8' | b'C']) => Happening::Ended,
         Some([b'H']) => bust_of(fields),
-        Some([b'3' | b'5' | b'6' | b'7' | b'9' | b'A' | b'B' | b'D' | b'E' | b'G' | b'I']) => {
-            Happening::Other
-        }
+        Some([b'5' | b'6' | b'7' | b'9' | b'A' | b'B' | b'D' | b'E' | b'G' | b'I']) =>
+            Happening::Other,
         _ => Happening::Unknown,
     }
 }

@@ -9,7 +9,7 @@ use exec_collector::{Accounts, CountedBook};
 /// Changes nothing, and tells that the sweeps opened in the book are those that the desk released, in order.
 pub fn compare_sweeps<L: Run, M: Accounts>(locked: &mut LockedDesk<L>, counted: &mut CountedBook<M>)
     requires tied { L.sweeps ≡ M.sweeps }
-    ensures same_sweeps { opened counted.old.entries ≡ locked.old.desk.sweeps }
+    ensures same_sweeps { opened counted.old.book.entries ≡ locked.old.desk.sweeps }
     ensures same { (locked.new ≡ locked.old) × (counted.new ≡ counted.old) }
 {
     counted.compare_sweeps(&mut locked.sweeps);

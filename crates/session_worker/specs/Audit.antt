@@ -8,6 +8,8 @@ use Rattle.sweep_release.specs.History.{KeptDesk}
 use Rattle.exec_collector.specs.Booked.{IsKept}
 use Rattle.exec_collector.specs.Resolved.{resolved, Replays as BookReplays}
 use Rattle.exec_collector.specs.Seats.{Seat, shares_of}
+use Rattle.exec_collector.specs.Unbooked.{CountedParts, IsListOf, WereUnbooked}
+use Rattle.exec_collector.specs.declared.unbooked.Unbooked.{Unbooked}
 use Rattle.release_lock.specs.Locked.{Replays as DeskReplays}
 use Rattle.release_lock.specs.Queues.{Took, AllTookFirst, IsFirstWrong}
 use Rattle.session_worker.specs.declared.audit_fault.AuditFault.{AuditFault}
@@ -58,7 +60,8 @@ Audits day (Err MismatchPlaced) = AreQueues day × AreResolved day × (ArePlaced
 Audits day (Err OutOfMemory) = ⊥
 
 -- what it answers of a desk and a book that their own histories lead to, where on each worker's seat stands what the
--- book took of its venue; or there was no memory to take the ends apart
+-- book took of its venue, and the list has just the notes that it didn't take; or there was no memory to take the ends
+-- apart
 pub record AuditedDay (callers : List Seat) (queues : List Took) (seats : List Seat)
     (answer : Result DayReport AuditFault) : Type 0 where
   pub desk : KeptDesk
@@ -66,9 +69,26 @@ pub record AuditedDay (callers : List Seat) (queues : List Took) (seats : List S
   pub desk_replays : DeskReplays desk
   pub book_replays : BookReplays book
   pub kept : All (IsKept book) seats
+  -- the notes that the book didn't take, in the order in which they were given
+  pub unbooked : List Unbooked
+  pub list : IsListOf book unbooked
+  pub left : All (WereUnbooked unbooked) seats
   -- the sweeps opened in the book are those that the desk released, in order
   pub sweeps : opened book.entries ≡ desk.desk.sweeps
   pub audits : Audits (day_of desk book callers queues seats) answer
 
+-- its book and list
+abbrev pub counted_of : {callers : List Seat} {queues : List Took} {seats : List Seat}
+    {answer : Result DayReport AuditFault} → AuditedDay callers queues seats answer → CountedParts
+counted_of day = record { book = day.book; unbooked = day.unbooked }
+
 abbrev pub AuditsOf : List Seat → List Took → List Seat → Result DayReport AuditFault → Type 0
 AuditsOf callers queues seats answer = AuditedDay callers queues seats answer ⊎ (answer ≡ Err OutOfMemory)
+
+-- the same of this desk, this book and its list
+abbrev pub AuditsOpened : KeptDesk → CountedParts → List Seat → List Took → List Seat → Result DayReport AuditFault
+    → Type 0
+AuditsOpened desk counted callers queues seats answer =
+    ((day : AuditedDay callers queues seats answer) × (day.desk ≡ desk) × (day.book ≡ counted.book)
+    × (day.unbooked ≡ counted.unbooked))
+    ⊎ (answer ≡ Err OutOfMemory)

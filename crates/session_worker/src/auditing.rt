@@ -5,12 +5,12 @@ ghost use Rattle.std.specs.List.{All};
 ghost use Rattle.exec_collector.specs.Booked.{IsKept};
 ghost use Rattle.exec_collector.specs.Resolved.{Replays as BookReplays};
 ghost use Rattle.exec_collector.specs.Seats.{parts_of};
+ghost use Rattle.exec_collector.specs.Unbooked.{CountedParts, IsListOf, WereUnbooked};
 ghost use Rattle.sweep_release.specs.History.{KeptDesk as ADesk};
-ghost use Rattle.share_ledger.specs.Book.{BookParts};
 ghost use Rattle.share_ledger.specs.Entries.{opened};
 ghost use Rattle.release_lock.specs.Locked.{Replays};
 ghost use Rattle.release_lock.specs.Queues.{AreInOrder};
-ghost use Rattle.session_worker.specs.Audit.{day_of, Audits, AuditsOf};
+ghost use Rattle.session_worker.specs.Audit.{day_of, Audits, AuditsOf, AuditsOpened};
 ghost use Rattle.session_worker.specs.Ends.{queues_of, seats_of};
 
 use crate::open_shares::open_shares;
@@ -39,40 +39,57 @@ pub fn audit<K: Link, L: Run, M: Accounts>(
     ensures whole { AreInOrder (queues_of ends.items) → parts_of (seats_of ends.items) ≡ M.parts → 0 < M.parts
         → parts_of callers.items ≡ 1024 → IsOkUnless result AuditFault.OutOfMemory }
 {
+    let mut counted = collector.into_counted();
+    audit_opened(alloc, lock.into_locked(), &mut counted, callers, ends)
+}
+
+/// The same of a desk and a book that are out of their locks. The book and its list stay as they were, so that it can
+/// be told which were audited.
+pub fn audit_opened<K: Link, L: Run, M: Accounts>(
+    alloc: Global,
+    locked: LockedDesk<L>,
+    counted: &mut CountedBook<M>,
+    callers: Vec<CallerSeat<L>>,
+    ends: Vec<WorkerEnd<K, L, M>>,
+) -> Result<DayReport, AuditFault>
+    requires tied { L.sweeps ≡ M.sweeps }
+    ensures audits { AuditsOpened locked counted.old callers.items (queues_of ends.items) (seats_of ends.items)
+        result }
+    ensures same { counted.new ≡ counted.old }
+    ensures whole { AreInOrder (queues_of ends.items) → parts_of (seats_of ends.items) ≡ M.parts → 0 < M.parts
+        → parts_of callers.items ≡ 1024 → IsOkUnless result AuditFault.OutOfMemory }
+{
     match parted(alloc, ends) {
-        Ok((queues, seats)) => audit_of(
-            lock.into_locked(),
-            collector.into_counted(),
-            callers,
-            queues,
-            seats,
-        ),
+        Ok((queues, seats)) => audit_of(locked, counted, callers, queues, seats),
         Err(_) => Err(AuditFault::OutOfMemory),
     }
 }
 
-/// The same of an opened desk and an opened book. It takes no memory.
+/// The same of the ends taken apart. It takes no memory.
 fn audit_of<L: Run, M: Accounts>(
     locked: LockedDesk<L>,
-    counted: CountedBook<M>,
+    counted: &mut CountedBook<M>,
     callers: Vec<CallerSeat<L>>,
     queues: Vec<VenueEnd<L>>,
     seats: Vec<WorkerSeat<M>>,
 ) -> Result<DayReport, AuditFault>
     requires tied { L.sweeps ≡ M.sweeps }
-    ensures audits { Audits (day_of locked counted callers.items queues.items seats.items) result }
-    ensures replays { Replays locked × BookReplays counted }
-    ensures kept { All (IsKept counted) seats.items }
-    ensures sweeps { opened counted.entries ≡ locked.desk.sweeps }
+    ensures audits { Audits (day_of locked counted.old.book callers.items queues.items seats.items) result }
+    ensures replays { Replays locked × BookReplays counted.old.book }
+    ensures kept { All (IsKept counted.old.book) seats.items }
+    ensures unbooked { IsListOf counted.old.book counted.old.unbooked
+        × All (WereUnbooked counted.old.unbooked) seats.items }
+    ensures sweeps { opened counted.old.book.entries ≡ locked.desk.sweeps }
+    ensures same { counted.new ≡ counted.old }
     ensures whole { AreInOrder queues.items → parts_of seats.items ≡ M.parts → 0 < M.parts
         → parts_of callers.items ≡ 1024 → IsOk result }
 {
     let mut locked = locked;
-    let mut counted = counted;
-    compare_sweeps(&mut locked, &mut counted);
+    compare_sweeps(&mut locked, counted);
     let placed = check_placed(&mut locked, callers);
-    let resolved = check_count(&mut counted, seats);
+    let resolved = check_count(counted, seats);
     let still_open = open_shares(counted.book());
+    let _ = counted.unbooked();
     let _ = locked.desk();
     if let Err(wrong) = check_queues(locked, queues) {
         return Err(AuditFault::MismatchQueue(wrong.place));

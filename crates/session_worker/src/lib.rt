@@ -20,7 +20,8 @@
 //! - `audit` is `Ok` exactly where each worker took the first legs released to the venue at its place, the workers'
 //!   seats add up to what the book has resolved and the callers' to what the desk placed; else it names the first
 //!   that isn't so, or answers A04, where there is no memory to take the ends apart. With all seats and one end for
-//!   each venue, in order, it names none, whatever the threads did.
+//!   each venue, in order, it names none, whatever the threads did. The day that was audited has the list of the notes
+//!   that its book didn't take.
 //! - That a leg is ever taken, sent or settled is claimed nowhere.
 //!
 //! See `docs/worker.md`; of the audit `docs/locks.md`.
@@ -50,7 +51,7 @@ mod worker_end;
 mod worker_state;
 
 pub use audit_fault::AuditFault;
-pub use auditing::audit;
+pub use auditing::{audit, audit_opened};
 pub use day_report::DayReport;
 pub use end_reason::EndReason;
 pub use gates::shut_gate;

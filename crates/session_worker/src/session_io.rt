@@ -39,7 +39,7 @@ const LEAST_REST: u64 = 1;
 const LONGEST_REST: u64 = 1_000;
 
 /// How many it lasts at most while the session is up.
-const LONGEST_REST_UP: u64 = 5_000;
+const LONGEST_REST_UP: u64 = 30_000;
 
 /// A session, the link over which it speaks, since when nothing was written and nothing heard, when it is dialled
 /// again, and whom it tells how far it is. Contracts see the session, what the link tells, and what the reader has.

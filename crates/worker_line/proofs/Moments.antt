@@ -32,7 +32,8 @@ use Rattle.worker_line.specs.WorkerTheorem.{released_line, IsSafeLine, Worked, T
 use Rattle.worker_line.proofs.OneEvent.{event_leads}
 use Rattle.worker_line.proofs.TakenAlong.{session_along, given_along, HasTaken, taken_along, each_is_next}
 use Rattle.worker_line.proofs.AskedAlong.{events_lead, asks_along, are_gone}
-use Rattle.worker_line.proofs.SeatShares.{shares_at}
+use Rattle.session_worker.specs.Audit.{counted_of}
+use Rattle.worker_line.proofs.SeatShares.{shares_at, told_at}
 use Rattle.worker_line.proofs.Spared.{taken_within, own_ids, spared_by}
 
 module _ (read : Decoding) where
@@ -173,11 +174,13 @@ the_day_theorem w callers queues seats report day venue config events after took
     let asked = withdrawn_by w.decoding start.session (works_of events) in
     let none = ap (λ (s : Seat). s.booked) new in
     let none_asked = ap (λ (s : Seat). s.asked) new in
+    let notes = line.booked ∙ ap (λ l. l ++ end.given) none in
     record {
       line = line;
       shares = shares_at day.book seats venue after.seat end.given asked day.book_replays day.kept sits of_venue
-          (line.booked ∙ ap (λ l. l ++ end.given) none) (line.asked ∙ ap (λ l. l ++ asked) none_asked)
+          notes (line.asked ∙ ap (λ l. l ++ asked) none_asked)
           (asks.once own)
           (spared_by end asked ended own (notes_along w.decoding config legs events small may next)
           (λ id there. (asks.each id there).gone));
+      told = told_at (counted_of day) seats venue after.seat end.given day.kept day.left sits of_venue notes;
     }

@@ -5,14 +5,14 @@ use Rattle.leg.specs.declared.leg.Leg.{Leg}
 use Rattle.dialect.specs.Wording.{Wording}
 use Rattle.session_core.specs.Session.{new_session}
 use Rattle.exchange_core.specs.Acceptance.{rule_opening}
-use Rattle.share_ledger.specs.Book.{BookParts}
 use Rattle.sweep_release.specs.Released.{released}
 use Rattle.release_lock.specs.Queues.{Took}
 use Rattle.exec_collector.specs.Seats.{Seat, worker_seat}
+use Rattle.exec_collector.specs.Unbooked.{CountedParts}
 use Rattle.session_worker.specs.declared.day_report.DayReport.{DayReport}
 use Rattle.session_worker.specs.Events.{WorkerParts, calls_of, taken_of}
 use Rattle.session_worker.specs.Speaking.{Speak}
-use Rattle.session_worker.specs.Audit.{AuditedDay}
+use Rattle.session_worker.specs.Audit.{AuditedDay, counted_of}
 use Rattle.worker_line.specs.Happening.{VenueEvent, works_of}
 use Rattle.worker_line.specs.Coming.{AllCome, ExchangeKeeps, LegsAreInRange}
 use Rattle.worker_line.specs.WorkerTheorem.{released_line, Ran, IsSafeVenue}
@@ -20,11 +20,11 @@ use Rattle.worker_line.specs.WorkerTheorem.{released_line, Ran, IsSafeVenue}
 -- the worker's bytes went over its link as its calls say; and if what comes to either end came by them, and the
 -- exchange keeps the rules, then the venue is safe
 pub record IsSafeByBytes (w : Wording) (config : ConfigParts) (legs : List Leg) (events : List VenueEvent)
-    (book : BookParts) (venue : ℕ) (before after : WorkerParts) : Type 0 where
+    (counted : CountedParts) (venue : ℕ) (before after : WorkerParts) : Type 0 where
   pub speak : Speak w (new_session config) [] (calls_of (works_of events)) before.wire after.wire
   pub safe : AllCome w (λ m. ⊥) (new_session config) [] [] events before.wire after.wire speak
       → ExchangeKeeps rule_opening events
-      → IsSafeVenue w.decoding (released_line config legs) events book venue before after
+      → IsSafeVenue w.decoding (released_line config legs) events counted venue before after
 
 -- each worker of a day that was audited, which began with the new seat of its venue
 abbrev pub TheDayByBytes : Wording → Type 0
@@ -33,4 +33,5 @@ TheDayByBytes w = (callers : List Seat) (queues : List Took) (seats : List Seat)
     (after : WorkerParts) → slice_get queues venue ≡ Some after.took → slice_get seats venue ≡ Some after.seat
     → IsConfig config → (ran : Ran w config events after) → ran.before.seat ≡ worker_seat venue
     → LegsAreInRange (taken_of (works_of events))
-    → IsSafeByBytes w config (released venue day.desk.desk.sweeps) events day.book venue ran.before after
+    → IsSafeByBytes w config (released venue day.desk.desk.sweeps) events (counted_of day) venue ran.before
+    after

@@ -6,10 +6,10 @@ use Rattle.fix_tags.specs.Config.{ConfigParts}
 use Rattle.leg.specs.declared.leg.Leg.{Leg}
 use Rattle.dialect.specs.Wording.{Decoding, Wording}
 use Rattle.session_core.specs.Session.{new_session}
-use Rattle.share_ledger.specs.Book.{BookParts}
 use Rattle.sweep_release.specs.Released.{released}
 use Rattle.release_lock.specs.Queues.{Took, placed_from}
 use Rattle.exec_collector.specs.Seats.{Seat, worker_seat}
+use Rattle.exec_collector.specs.Unbooked.{CountedParts, AreToldOnce}
 use Rattle.venue_line.specs.Line.{Line, new_line}
 use Rattle.venue_line.specs.LineTheorem.{LineHolds}
 use Rattle.venue_line.specs.ForGood.{StaysSettled}
@@ -19,7 +19,7 @@ use Rattle.session_worker.specs.Booking.{booked_by}
 use Rattle.session_worker.specs.Events.{WorkerEvent, WorkerParts, calls_of, withdrawn_by, Goes}
 use Rattle.session_worker.specs.Events.WorkerEvent.{Drops}
 use Rattle.session_worker.specs.Ends.{WorkerLeft, last_calls, Runs}
-use Rattle.session_worker.specs.Audit.{AuditedDay}
+use Rattle.session_worker.specs.Audit.{AuditedDay, counted_of}
 use Rattle.worker_line.specs.Happening.{VenueEvent, works_of, after_events, moments_of, MayAllHappen, AllTakeNext}
 use Rattle.worker_line.specs.Gone.{AreGone}
 use Rattle.worker_line.specs.Shares.{AreShares}
@@ -82,12 +82,14 @@ TheRunTheorem w = (config : ConfigParts) (legs : List Leg) (events : List VenueE
     → IsSafeLine w.decoding (released_line config legs) events ran.before after
 
 -- so it is of a venue's worker, and the shares of the venue's legs in the book are as the line's notes say, and as the
--- withdrawals that the worker asked for
-pub record IsSafeVenue (read : Decoding) (start : Line) (events : List VenueEvent) (book : BookParts) (venue : ℕ)
+-- withdrawals that the worker asked for. Each of the notes is an entry of the book or is listed as one that it didn't
+-- take, exactly once
+pub record IsSafeVenue (read : Decoding) (start : Line) (events : List VenueEvent) (counted : CountedParts) (venue : ℕ)
     (before after : WorkerParts) : Type 0 where
   pub line : IsSafeLine read start events before after
-  pub shares : AreShares book venue (after_events read start events).given
+  pub shares : AreShares counted.book venue (after_events read start events).given
       (withdrawn_by read start.session (works_of events))
+  pub told : AreToldOnce counted venue (after_events read start events).given
 
 -- and of each worker of a day that was audited, where nothing need be known of its legs: it began with the new seat of
 -- its venue, and ended with the one at the venue's place
@@ -97,5 +99,5 @@ TheDayTheorem w = (callers : List Seat) (queues : List Took) (seats : List Seat)
     (after : WorkerParts) → slice_get queues venue ≡ Some after.took → slice_get seats venue ≡ Some after.seat
     → config.max_number ≤ 999999999 → (ran : Ran w config events after) → ran.before.seat ≡ worker_seat venue
     → MayAllHappen w.decoding (released_line config (released venue day.desk.desk.sweeps)) events
-    → IsSafeVenue w.decoding (released_line config (released venue day.desk.desk.sweeps)) events day.book venue
+    → IsSafeVenue w.decoding (released_line config (released venue day.desk.desk.sweeps)) events (counted_of day) venue
     ran.before after

@@ -10,7 +10,8 @@ use Rattle.venue_line.proofs.Leading.{leads_safely}
 use Rattle.line_restart.specs.RestartTheorem.{IsReached}
 use Rattle.line_restart.proofs.Reached.{reached_whole}
 use Rattle.worker_line.specs.Shares.{AreSpared}
-use Rattle.worker_line.proofs.SeatShares.{shares_at}
+use Rattle.session_worker.specs.Audit.{counted_of}
+use Rattle.worker_line.proofs.SeatShares.{shares_at, told_at}
 use Rattle.worker_line.proofs.Spared.{taken_within, own_ids}
 use Rattle.worker_restart.specs.WorkerLives.{killed_at, last_life}
 use Rattle.worker_restart.specs.WorkerRestartTheorem.{AreSafeLives, TheDayOverLives}
@@ -44,4 +45,6 @@ the_day_over_lives read config first lives callers queues seats report day venue
       shares = shares_at day.book seats venue last.ended.seat w.given last.ended.seat.asked day.book_replays day.kept sits
           stands.venue stands.booked refl (subst (IsDistinct is_same_leg) asks (stands.once own))
           (subst (AreSpared w.given) asks (stands.spared own));
+      told = told_at (counted_of day) seats venue last.ended.seat w.given day.kept day.left sits stands.venue
+          stands.booked;
     }

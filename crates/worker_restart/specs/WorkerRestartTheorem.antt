@@ -7,11 +7,11 @@ use Rattle.leg.specs.LegId.{LegIdParts}
 use Rattle.leg.specs.declared.leg.Leg.{Leg}
 use Rattle.dialect.specs.Wording.{Decoding}
 use Rattle.session_core.specs.Session.{leg_state}
-use Rattle.share_ledger.specs.Book.{BookParts}
 use Rattle.share_ledger.specs.Entries.{is_same_leg}
 use Rattle.sweep_release.specs.Released.{released}
 use Rattle.release_lock.specs.Queues.{Took, TookFirst, placed_from}
 use Rattle.exec_collector.specs.Seats.{Seat, worker_seat}
+use Rattle.exec_collector.specs.Unbooked.{CountedParts, AreToldOnce}
 use Rattle.venue_line.specs.Line.{Line}
 use Rattle.venue_line.specs.LineTheorem.{IsWithdrawnLeg, LineHolds}
 use Rattle.line_notes.specs.NotesTheorem.{NotesAreOnAccepted}
@@ -19,7 +19,7 @@ use Rattle.line_restart.specs.OverRestarts.{StaysAccepted, NeverAccepted, StaysW
 use Rattle.line_restart.specs.Reports.{GivesTheSame}
 use Rattle.session_worker.specs.declared.day_report.DayReport.{DayReport}
 use Rattle.session_worker.specs.Events.{WorkerParts, withdrawn_by}
-use Rattle.session_worker.specs.Audit.{AuditedDay}
+use Rattle.session_worker.specs.Audit.{AuditedDay, counted_of}
 use Rattle.worker_line.specs.Happening.{works_of}
 use Rattle.worker_line.specs.Gone.{HaveOwnIds, AreGone}
 use Rattle.worker_line.specs.Shares.{AreSpared, AreShares}
@@ -82,12 +82,14 @@ TheWorkerRestartTheorem = (read : Decoding) (config : ConfigParts) (legs : List 
     → AreWorkerLives read first lives → AreSafeLives read first.worker.seat first lives
 
 -- so it is of a venue's worker; and the shares of the venue's legs in the book are as the notes given say, and as the
--- withdrawals asked for, over all lives
-pub record AreSafeLivesOf (read : Decoding) (book : BookParts) (venue : ℕ) (first : WorkerLife)
+-- withdrawals asked for, over all lives. Each of the notes is an entry of the book or is listed as one that it didn't
+-- take, exactly once
+pub record AreSafeLivesOf (read : Decoding) (counted : CountedParts) (venue : ℕ) (first : WorkerLife)
     (lives : List WorkerLife) : Type 0 where
   pub safe : AreSafeLives read (worker_seat venue) first lives
-  pub shares : AreShares book venue (killed_at read (last_life first lives)).given
+  pub shares : AreShares counted.book venue (killed_at read (last_life first lives)).given
       (last_life first lives).ended.seat.asked
+  pub told : AreToldOnce counted venue (killed_at read (last_life first lives)).given
 
 -- of each worker of a day that was audited at the end of its last life: the first worker began with the new seat of its
 -- venue, and the last one ended with the legs and the seat at the venue's place. On the line of each life are the legs
@@ -102,4 +104,4 @@ TheDayOverLives = (read : Decoding) (config : ConfigParts) (first : WorkerLife) 
     → IsNewWorker config (released venue day.desk.desk.sweeps) first → first.worker.seat ≡ worker_seat venue
     → AreInTurn read (IsRunOn read (released venue day.desk.desk.sweeps)) first lives
     → AllButLast (λ life. TookFirst day.desk.desk venue life.ended.took) first lives
-    → AreSafeLivesOf read day.book venue first lives
+    → AreSafeLivesOf read (counted_of day) venue first lives

@@ -1,5 +1,5 @@
 -- Fields with short values fit a message.
-use Rattle.std.proofs.Common.{◌≡◌, ℕ, ◌+◌, ◌*◌, ◌≤◌, true, ◌&&◌, not, List, [], ◌∷◌, length, decimal, refl, arith, length-append}
+use Rattle.std.proofs.Common.{◌≡◌, ℕ, ◌+◌, ◌*◌, ◌≤◌, true, ◌&&◌, not, List, [], ◌∷◌, ◌++◌, length, decimal, refl, arith, length-append}
 use Rattle.std.specs.List.{AllByRecursion}
 use Rattle.std.proofs.lemmas.Bool.{and_parts, and_from}
 use Rattle.std.proofs.lemmas.Bool.Decides.{nat_tests}
@@ -7,9 +7,9 @@ use Rattle.std.proofs.lemmas.Fmt.{length-decimal-le}
 use Rattle.fix_text.specs.Tagged.{Tagged}
 use Rattle.fix_text.specs.Text.{field_text, fields_text, is_writable_tag, is_writable_value}
 use Rattle.fix_text.proofs.Lengths.{length-field_text}
-use Rattle.fix_tags.specs.App.{is_header_tag, are_app_fields}
+use Rattle.fix_tags.specs.App.{is_header_tag, is_app_field, are_app_fields}
 use Rattle.dialect.specs.Fields.{field}
-use Rattle.dialect.specs.ShortFields.{IsShortValue, IsShortField}
+use Rattle.dialect.specs.ShortFields.{IsShortValue, IsShortField, IsExtraField}
 use Rattle.dialect.specs.Dialect.{FitsMessage}
 
 pub short_field : (tag : ℕ) (value : List ℕ) → (is_writable_tag tag && not (is_header_tag tag)) ≡ true
@@ -67,3 +67,50 @@ pub FitsMessage-short : (fields : List Tagged) → AllByRecursion IsShortField f
     → FitsMessage fields
 FitsMessage-short fields short few =
     FitsMessage-within 6 32 fields (within_six_digits fields short) (omega arith)
+
+-- and of fields that every order carries besides
+extra_within : (fields : List Tagged) → AllByRecursion IsExtraField fields → AllByRecursion (IsFieldWithin 6 24) fields
+extra_within [] short = tt
+extra_within (first ∷ fields) short =
+    let here : IsFieldWithin 6 24 first = record {
+      tag = short.0.tag;
+      digits = length-tag first.tag (and_parts _ _ short.0.tag).0;
+      writable = short.0.writable;
+      short = short.0.short;
+    } in
+    (here, extra_within fields short.1)
+
+are_app_fields-append : (front back : List Tagged) → are_app_fields front ≡ true → are_app_fields back ≡ true
+    → are_app_fields (front ++ back) ≡ true
+are_app_fields-append [] back p q = q
+are_app_fields-append (first ∷ front) back p q =
+    let parts = and_parts (is_app_field first) (are_app_fields front) p in
+    and_from _ _ parts.0 (are_app_fields-append front back parts.1 q)
+
+length-fields_text-append : (front back : List Tagged)
+    → length (fields_text (front ++ back)) ≡ length (fields_text front) + length (fields_text back)
+length-fields_text-append [] back = omega arith
+length-fields_text-append (first ∷ front) back =
+    let more = length-fields_text-append front back in
+    let whole = length-append (field_text first) (fields_text (front ++ back)) in
+    let part = length-append (field_text first) (fields_text front) in
+    omega (arith, more, whole, part)
+
+-- up to 10 fields of at most 32 bytes, and up to 16 of at most 24: 10 * 40 + 16 * 32 is 912
+pub FitsMessage-beside : (fields extra : List Tagged) → AllByRecursion IsShortField fields → length fields ≤ 10
+    → AllByRecursion IsExtraField extra → length extra ≤ 16 → FitsMessage (fields ++ extra)
+FitsMessage-beside fields extra short few besides at_most =
+    let front = within_six_digits fields short in
+    let back = extra_within extra besides in
+    record {
+      app = are_app_fields-append fields extra (are_app_fields-within 6 32 fields front)
+          (are_app_fields-within 6 24 extra back);
+      short = omega (
+        arith,
+        length-fields_text-append fields extra,
+        length-fields_text-within 6 32 fields front,
+        length-fields_text-within 6 24 extra back,
+        few,
+        at_most,
+      );
+    }

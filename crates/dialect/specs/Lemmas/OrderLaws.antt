@@ -1,5 +1,5 @@
 -- Lemmas: what holds of an order in any spelling that meets its laws.
-use Rattle.std.proofs.Common.{◌≡◌, ◌==◌, ◌⊎◌, inl, inr, ℕ, suc, ◌≤◌, Bool, true, false, cond, ◌&&◌, not, List, [], ◌∷◌, ◌++◌, length, map, codes, decimal, Some, None, Ok, refl, sym, ap, subst, ◌∙◌, arith, length-append}
+use Rattle.std.proofs.Common.{◌≡◌, ◌==◌, ◌⊎◌, inl, inr, ℕ, suc, ◌≤◌, Bool, true, false, cond, ◌&&◌, not, List, [], ◌∷◌, ◌++◌, length, map, codes, decimal, Some, None, Ok, refl, sym, ap, subst, ◌∙◌, arith, length-append, append_assoc}
 use Rattle.std.specs.List.{AllByRecursion}
 use Rattle.std.proofs.lemmas.Bool.{and_parts, not-true, eq-eqb, cond-true}
 use Rattle.std.proofs.lemmas.Bool.Decides.{nat_tests}
@@ -10,7 +10,7 @@ use Rattle.leg.specs.Leg.{IsLeg}
 use Rattle.dialect.specs.declared.limit.Limit.{Limit}
 use Rattle.dialect.specs.Dialect.{IsMarked, FitsMessage}
 use Rattle.dialect.specs.Fields.{field, has_no}
-use Rattle.dialect.specs.Lemmas.FieldLaws.{short_field, FitsMessage-short}
+use Rattle.dialect.specs.Lemmas.FieldLaws.{short_field, FitsMessage-beside}
 use Rattle.dialect.specs.ShortFields.{IsShortField}
 use Rattle.dialect.specs.Lemmas.LimitLaws.{limit_in-written, immediate_in-written}
 use Rattle.dialect.specs.Lemmas.ValueLaws.{short_shares, short_side, short_byte, short_stamp}
@@ -123,9 +123,10 @@ looks s leg stamp laws =
     let id = s.id_text leg.id in
     let limit = limit_fields leg.terms.shares (s.price_text leg.terms.price) leg.terms.side in
     let symbol = s.symbol_fields leg.terms.symbol in
-    let last = immediate_fields stamp in
+    let last = immediate_fields stamp ++ s.extra in
     let rest = limit ++ symbol ++ last in
     let tags = laws.symbol_tags leg.terms.symbol in
+    let free = laws.extra_apart in
     record {
       id = refl;
       mark = mark_found s id rest (mark_other s 11 apart.0);
@@ -133,8 +134,8 @@ looks s leg stamp laws =
       limit = behind_mark s id rest 40 refl apart.1.1.0;
       price = behind_mark s id rest 44 refl apart.1.1.1.0;
       side = behind_mark s id rest 54 refl apart.1.1.1.1.0;
-      root = behind_mark s id rest 55 refl apart.1.1.1.1.1.0 ∙ value_of-before 55 symbol last refl;
-      suffix = behind_mark s id rest 65 refl apart.1.1.1.1.1.1.0 ∙ value_of-before 65 symbol last refl;
+      root = behind_mark s id rest 55 refl apart.1.1.1.1.1.0 ∙ value_of-before 55 symbol last free.1.1.1.1.1.0;
+      suffix = behind_mark s id rest 65 refl apart.1.1.1.1.1.1.0 ∙ value_of-before 65 symbol last free.1.1.1.1.1.1.0;
       immediate = behind_mark s id rest 59 refl apart.1.1.1.1.1.1.1.0
           ∙ value_of-behind 59 symbol last (symbol_has_no 59 symbol refl tags);
       time = behind_mark s id rest 60 refl apart.1.1.1.1.1.1.1.1.0
@@ -208,10 +209,14 @@ fits s leg stamp laws range =
     (short_field 59 _ refl (short_byte 51 (λ e. omega arith)), (short_field 60 _ refl (short_stamp stamp), tt)) in
     let back = AllByRecursion-append IsShortField symbol (immediate_fields stamp)
     (laws.symbol_short leg.terms.symbol range.terms.symbol) last in
+    let shared : List Tagged = order_front s leg ++ (symbol ++ immediate_fields stamp) in
     let all = AllByRecursion-append IsShortField (order_front s leg) (symbol ++ immediate_fields stamp)
     (short_front s leg laws range) back in
     let few = length-symbol symbol (laws.symbol_tags leg.terms.symbol) in
-    FitsMessage-short (order_fields s leg stamp) all (omega (arith, few, length-append symbol (immediate_fields stamp)))
+    let ten : length shared ≤ 10 = omega (arith, few, length-append symbol (immediate_fields stamp)) in
+    let joined : shared ++ s.extra ≡ order_fields s leg stamp =
+    ap (λ xs. order_front s leg ++ xs) (append_assoc symbol (immediate_fields stamp) s.extra) in
+    subst FitsMessage joined (FitsMessage-beside shared s.extra all ten laws.extra_short laws.extra_few)
 
 pub order_short : (s : SpellingParts) (leg : Leg) (stamp : StampParts) (fields : List Tagged) → IsSpelling s
     → IsOrderOf s leg stamp fields → FitsMessage fields

@@ -24,4 +24,9 @@ plain_is_spelling = record {
   symbol_short = λ symbol range. (short_field 55 _ refl (short_symbol 46 symbol (λ e. omega arith) range), tt);
   symbol_reads_back = λ symbol fields range root suffix. joined_symbol_back 46 symbol fields (omega arith) range root;
   symbol_says = λ symbol fields read. joined_symbol_says 46 symbol fields read;
+  extra_few = omega arith;
+  extra_short = tt;
+  extra_apart = (refl, (refl, (refl, (refl, (refl, (refl, (refl, (refl, (refl, tt)))))))));
+  extra_unmarked = refl;
+  extra_once = refl;
 }

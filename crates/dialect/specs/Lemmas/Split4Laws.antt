@@ -152,4 +152,9 @@ split4_is_spelling = record {
   symbol_short = short_symbol;
   symbol_reads_back = symbol_back;
   symbol_says = symbol_says;
+  extra_few = omega arith;
+  extra_short = tt;
+  extra_apart = (refl, (refl, (refl, (refl, (refl, (refl, (refl, (refl, (refl, tt)))))))));
+  extra_unmarked = refl;
+  extra_once = refl;
 }

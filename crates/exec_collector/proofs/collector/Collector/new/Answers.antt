@@ -1,9 +1,11 @@
-use Rattle.std.proofs.Common.{◌≡◌, [], ◌∷◌, length, refl, ap, sym, subst, ◌∙◌, arith}
+use Rattle.std.proofs.Common.{◌≡◌, List, [], ◌∷◌, length, rules, refl, ap, sym, subst, ◌∙◌, arith}
 use Rattle.std.proofs.lemmas.List.{length-append}
 use Rattle.exec_collector.specs.Resolved.{resolved, Replays}
 use Rattle.exec_collector.specs.Blank.{BlankParts}
 use Rattle.exec_collector.specs.Opened.{sweeps_of}
-use Rattle.exec_collector.specs.Sides.{AreWritten}
+use Rattle.exec_collector.specs.Sides.{AreWritten, AreListed}
+use Rattle.exec_collector.specs.Unbooked.{IsListOf}
+use Rattle.exec_collector.specs.declared.unbooked.Unbooked.{Unbooked}
 use Rattle.share_ledger.specs.Entries.{opened}
 use Rattle.share_ledger.specs.Book.{BookParts, new_book}
 use Rattle.exec_collector.proofs.Counts.{resolved_new}
@@ -62,7 +64,8 @@ invariant_of-counted g c =
     let done = c.loop-list.invariant.0 in
     let sides = c.loop-list.bookings.items in
     let empty = c.in_default.ensures.cases.0 in
-    let length_is = c.loop-list.lists.ok.0 in (
+    let length_is = c.loop-list.lists.ok.0 in
+    let none : c.new-2.result.items ≡ [] = search rules in (
       sym venues,
       c.requires.high,
       subst Replays (sym new) refl,
@@ -73,4 +76,6 @@ invariant_of-counted g c =
         named = ap (λ (b : BlankParts). b.sweeps) c.blank.view_is ∙ c.requires.lists.1;
         opens = c.blank.invariant.3 ∙ ap (λ (b : BookParts). sweeps_of (opened b.entries)) (sym new);
       },
+      subst (λ (l : List Unbooked). AreListed l 0 sides) (sym none) done.unbooked,
+      subst (IsListOf book) (sym none) tt,
     )

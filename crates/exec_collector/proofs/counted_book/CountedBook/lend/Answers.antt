@@ -1,15 +1,16 @@
 use Rattle.std.proofs.Common.{rules, sym, subst, ◌∙◌}
-use Rattle.share_ledger.specs.Book.{BookParts}
 use Rattle.exec_collector.specs.Resolved.{OnlyOpens}
 use Rattle.exec_collector.proofs.Booked.{written-opened}
+use Rattle.exec_collector.proofs.Listing.{list-opened}
+use Rattle.exec_collector.specs.Unbooked.{CountedParts}
 use Rattle.exec_collector.proofs.Counts.{only_opened}
 use Rattle.exec_collector.proofs.counted_book.CountedBook.lend.Goals as goal
 
 pub invariant_of-self : goal.invariant_of-self
 invariant_of-self g c =
     let kept = c.self.invariant in
-    let opens = c.requires.opens c.args.self.now c.f-given.result c.f-given.new.arg2 (search rules) in
-    let only = subst (λ (b : BookParts). OnlyOpens b c.f-given.new.arg2) (sym c.self.view_is) opens in
+    let opens = c.requires.opens c.args.self.now.book c.f-given.result c.f-given.new.arg2 (search rules) in
+    let only = subst (λ (b : CountedParts). OnlyOpens b.book c.f-given.new.arg2) (sym c.self.view_is) opens in
     let after = only_opened c.self.inside.book c.f-given.new.arg2 kept.2
     only in (
       kept.0 ∙ sym after.venues,
@@ -22,4 +23,6 @@ invariant_of-self g c =
         named = c.keep_opened.ensures.book.0 ∙ kept.6.named;
         opens = c.keep_opened.ensures.book.1;
       },
+      kept.7,
+      list-opened c.self.inside.book c.f-given.new.arg2 c.self.inside.unbooked.items only kept.8,
     )

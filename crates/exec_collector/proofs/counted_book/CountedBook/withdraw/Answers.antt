@@ -5,6 +5,8 @@ use Rattle.exec_collector.specs.Seats.{Seat}
 use Rattle.exec_collector.specs.Sides.{IsOneMore}
 use Rattle.exec_collector.specs.declared.booking.Booking.TheVariants.{Asked}
 use Rattle.exec_collector.proofs.Booked.{written-asked}
+use Rattle.exec_collector.proofs.Listing.{list-asked, listed-asked}
+use Rattle.exec_collector.specs.Unbooked.{CountedParts}
 use Rattle.exec_collector.proofs.Sweeps.{side-asked}
 use Rattle.exec_collector.proofs.Counts.{asked}
 use Rattle.exec_collector.proofs.counted_book.CountedBook.withdraw.Goals as goal
@@ -34,7 +36,13 @@ invariant_of-self g c =
     let now = c.resolved_in.ensures.value in
     let rises = it.rises in
     let total = c.self.invariant.3 in
-    let sum = c.count.ensures.total in (
+    let sum = c.count.ensures.total in
+    let one : IsOneMore c.seat.inside.venue (Asked c.args.id c.is_ok.result (length c.history-entries.result.now))
+    c.self.inside.bookings.items c.add_withdrawal.new.bookings.items =
+    subst (λ (v : Option ℕ). IfSome v (λ venue. IsOneMore venue
+    (Asked c.args.id c.is_ok.result (length c.history-entries.result.now))
+    c.self.inside.bookings.items c.add_withdrawal.new.bookings.items))
+    (c.count.ensures.venue ∙ sym (ap (λ (s : Seat). s.venue) c.seat.view_is)) c.add_withdrawal.ensures.side in (
       c.self.invariant.0 ∙ sym it.venues,
       c.self.invariant.1,
       it.replays,
@@ -43,13 +51,13 @@ invariant_of-self g c =
       written-asked book after c.seat.inside.venue c.args.id result _ c.self.inside.bookings.items
           c.add_withdrawal.new.bookings.items is (ap length c.history-entries.ensures)
           (subst (λ ok. IsOneMore c.seat.inside.venue (Asked c.args.id ok (length c.history-entries.result.now))
-          c.self.inside.bookings.items c.add_withdrawal.new.bookings.items) c.is_ok.ensures.value
-          (subst (λ (v : Option ℕ). IfSome v (λ venue. IsOneMore venue
-          (Asked c.args.id c.is_ok.result (length c.history-entries.result.now))
-          c.self.inside.bookings.items c.add_withdrawal.new.bookings.items))
-          (c.count.ensures.venue ∙ sym (ap (λ (s : Seat). s.venue) c.seat.view_is)) c.add_withdrawal.ensures.side))
+          c.self.inside.bookings.items c.add_withdrawal.new.bookings.items) c.is_ok.ensures.value one)
           c.self.invariant.5,
       side-asked book after c.seat.inside.venue c.args.id result is c.self.invariant.6,
+      listed-asked c.seat.inside.venue c.args.id c.is_ok.result (length c.history-entries.result.now)
+          c.self.inside.unbooked.items c.self.inside.bookings.items c.add_withdrawal.new.bookings.items one
+          c.self.invariant.7,
+      list-asked book after c.seat.inside.venue c.args.id result c.self.inside.unbooked.items is c.self.invariant.8,
     )
 
 pub returns-clause-seat : goal.returns-clause-seat
@@ -61,7 +69,7 @@ returns-clause-seat g c =
     let rises = it.rises in
     let seat = c.count.ensures.seat in
     let same = ap (λ (s : Seat). s.shares) c.add_withdrawal.ensures.seat in
-    let view = ap resolved c.self.view_is in
+    let view = ap (λ (d : CountedParts). resolved d.book) c.self.view_is in
     omega (arith, before, now, rises, seat, same, view)
 
 pub returns-clause-gains : goal.returns-clause-gains
