@@ -1,2 +1,3 @@
 mod AllSeats
+pub mod Auditing
 mod LegsInDoubt

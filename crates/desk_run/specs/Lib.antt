@@ -1,2 +1,3 @@
+pub mod Audited
 pub mod Doubts
 pub mod Seats

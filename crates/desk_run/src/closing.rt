@@ -1,14 +1,16 @@
 //! A day whose threads have ended.
 
-ghost use Rattle.std.specs.Prelude.{◌≡◌, ◌+◌, ◌<◌, ◌++◌, map, None, option_to_list, IfOk, IfErr};
+ghost use Rattle.std.specs.Prelude.{◌≡◌, ◌+◌, ◌<◌, ◌++◌, map, None, Ok, option_to_list, IfOk, IfErr};
 ghost use Rattle.share_ledger.specs.Book.{BookParts};
 ghost use Rattle.exec_collector.specs.Resolved.{Replays};
 ghost use Rattle.exec_collector.specs.Seats.{parts_of as seat_parts, shares_of};
 ghost use Rattle.release_lock.specs.Queues.{AreInOrder};
+ghost use Rattle.session_worker.specs.Audit.{AuditedDay};
 ghost use Rattle.session_worker.specs.Ends.{queues_of, seats_of};
 ghost use Rattle.session_worker.specs.Places.{place, new_places};
 ghost use Rattle.day_sweeps.specs.Sweeps.{sweeps_in};
 ghost use Rattle.desk_venues.specs.Faults.{IsNoMismatch};
+ghost use Rattle.desk_run.specs.Audited.{IsAudited};
 ghost use Rattle.desk_run.specs.Seats.{shared_parts};
 
 use crate::DeskDay;
@@ -18,19 +20,16 @@ use day_sweeps::booked_sweeps;
 use desk_floor::{Floor, Left, TalkFault};
 use desk_threads::Ended;
 use desk_venues::DayFault;
-use exec_collector::{Accounts, Collector};
+use exec_collector::{Accounts, CountedBook};
 use link::Link;
 use release_lock::{CallerSeat, ReleaseLock, Run};
-use session_worker::{AuditFault, DayReport, WorkerEnd, audit};
-use share_ledger::Book;
+use session_worker::{AuditFault, DayReport, WorkerEnd, audit_opened};
 use std::alloc::{AllocError, Global};
 use std::io::Write;
-use std::sync::Wait;
 
 /// What became of a day whose threads have ended, and whose callers left these seats; lines were broken off for this
 /// reason, if they were. It is audited, and those who followed it are told.
 pub fn close_day<K: Link, L: Run, M: Accounts, W: Write + Drop>(
-    rt: &impl Wait,
     alloc: Global,
     floor: Floor<L, M, W>,
     ended: Ended<K, L, M>,
@@ -40,6 +39,7 @@ pub fn close_day<K: Link, L: Run, M: Accounts, W: Write + Drop>(
     requires workers { map (λ e. place e.parts) ended.workers.items ≡ new_places M.parts }
     requires some { 0 < M.parts }
     requires seats { seat_parts seats.items + shared_parts floor.shared ≡ 1024 }
+    ensures audited { IfOk result (λ day. IsAudited ended.workers.items day.sweeps.items day.report) }
     ensures sweeps { IfOk result (λ day. (book : BookParts) × Replays book × (day.sweeps.items ≡ sweeps_in book)) }
     ensures placed { IfOk result (λ day. floor.shared ≡ None → day.report.placed ≡ shares_of seats.items) }
     ensures only { IfErr result IsNoMismatch }
@@ -52,10 +52,11 @@ pub fn close_day<K: Link, L: Run, M: Accounts, W: Write + Drop>(
         shared,
     } = floor.into_left();
     let seats = with_shared(seats, shared)?;
-    let sweeps = collector.read(rt, |book: &Book| booked_sweeps(alloc, book))?;
+    let mut counted = collector.into_counted();
+    let sweeps = booked_sweeps(alloc, counted.book())?;
     let doubts = doubts_of(alloc, names.as_slice(), workers.as_slice())?;
     let is_given_up = is_given_up(workers.as_slice());
-    let report = audited(alloc, lock, collector, seats, workers);
+    let report = audited(alloc, lock, &mut counted, seats, workers);
     tell_followers(alloc, followers, &report);
     Ok(DeskDay {
         sweeps,
@@ -80,11 +81,11 @@ fn with_shared<L: Run>(
     Ok(seats)
 }
 
-/// The audit of a day.
+/// The audit of a day, with this book.
 fn audited<K: Link, L: Run, M: Accounts>(
     alloc: Global,
     lock: ReleaseLock<L>,
-    collector: Collector<M>,
+    counted: &mut CountedBook<M>,
     seats: Vec<CallerSeat<L>>,
     workers: Vec<WorkerEnd<K, L, M>>,
 ) -> Result<DayReport, DayFault>
@@ -93,10 +94,12 @@ fn audited<K: Link, L: Run, M: Accounts>(
     requires shared { seat_parts (seats_of workers.items) ≡ M.parts }
     requires some { 0 < M.parts }
     requires seats { seat_parts seats.items ≡ 1024 }
+    ensures audited { IfOk result (λ report. (day : AuditedDay seats.items (queues_of workers.items)
+        (seats_of workers.items) (Ok report)) × (day.book ≡ counted.old.book)) }
     ensures placed { IfOk result (λ report. report.placed ≡ shares_of seats.items) }
     ensures only { IfErr result (λ fault. fault ≡ DayFault.OutOfMemory) }
 {
-    match audit(alloc, lock, collector, seats, workers) {
+    match audit_opened(alloc, lock.into_locked(), counted, seats, workers) {
         Ok(report) => Ok(report),
         Err(AuditFault::MismatchQueue(_)) => Err(DayFault::MismatchQueue),
         Err(AuditFault::MismatchShares) => Err(DayFault::MismatchShares),

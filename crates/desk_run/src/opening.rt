@@ -5,6 +5,7 @@ ghost use Rattle.std.specs.List.{All};
 ghost use Rattle.release_lock.specs.Queues.{IsFresh};
 ghost use Rattle.session_worker.specs.Places.{place, new_places};
 ghost use Rattle.desk_venues.specs.Faults.{IsNoMismatch};
+ghost use Rattle.desk_venues.specs.Starts.{starts_of};
 ghost use Rattle.desk_venues.specs.Venues.{plans};
 ghost use Rattle.desk_run.specs.Seats.{shared_parts};
 
@@ -79,6 +80,7 @@ where
     requires queues { L.queues ≡ map (λ ends. ends.0.table) rings.items }
     ensures plans { IfOk result (λ day. map (λ e. e.acceptor.plan) day.cast.exchanges.items
         ≡ plans means.entry.cut venues.now) }
+    ensures starts { IfOk result (λ day. day.cast.workers.items ≡ starts_of venues.now) }
     ensures workers { IfOk result (λ day. map (λ w. place w.parts) day.cast.workers.items
         ≡ new_places (length venues.now)) }
     ensures seat { IfOk result (λ day. (day.seat.shares ≡ 0)

@@ -7,8 +7,11 @@ ghost use Rattle.exec_collector.specs.Resolved.{Replays};
 ghost use Rattle.release_lock.specs.Queues.{IsFresh};
 ghost use Rattle.desk_config.specs.Apart.{AreVenues};
 ghost use Rattle.desk_venues.specs.Faults.{IsNoMismatch};
+ghost use Rattle.desk_venues.specs.Starts.{any_wording};
+ghost use Rattle.session_worker.specs.Ends.{AllRan};
 ghost use Rattle.session_worker.specs.Places.{place};
 ghost use Rattle.day_sweeps.specs.Sweeps.{sweeps_in};
+ghost use Rattle.desk_run.specs.Audited.{IsDeskDay};
 
 use crate::DeskDay;
 use crate::closing::close_day;
@@ -71,6 +74,7 @@ where
     I: Read + Drop,
     W: Write + Drop + Send,
     requires { AreVenues config.now.venues.items }
+    ensures day { IfOk result (λ day. IsDeskDay config.now.venues.items day.sweeps.items day.report) }
     ensures sweeps { IfOk result (λ day. (book : BookParts) × Replays book × (day.sweeps.items ≡ sweeps_in book)) }
     ensures only { IfErr result IsNoMismatch }
 {
@@ -128,6 +132,7 @@ where
     requires tied { L.sweeps ≡ M.sweeps }
     requires rings { (length rings.items ≡ length venues.now) × All IsFresh rings.items }
     requires queues { L.queues ≡ map (λ ends. ends.0.table) rings.items }
+    ensures day { IfOk result (λ day. IsDeskDay venues.now day.sweeps.items day.report) }
     ensures sweeps { IfOk result (λ day. (book : BookParts) × Replays book × (day.sweeps.items ≡ sweeps_in book)) }
     ensures only { IfErr result IsNoMismatch }
 {
@@ -142,7 +147,7 @@ where
     let LinesEnd { seat, broken_off } = called;
     let mut seats = Vec::new(alloc);
     seats.push(seat)?;
-    close_day(rt, alloc, floor, ended, seats, broken_off)
+    close_day(alloc, floor, ended, seats, broken_off)
 }
 
 /// Runs the threads of a day beside the caller who takes the lines of this input, in this thread.
@@ -163,6 +168,7 @@ where
     W: Write + Drop + Send,
     I: Read + Drop,
     R: Threads + Wait + time::Clock + Sync,
+    ensures ran { IfOk result (λ day. AllRan any_wording cast.workers.items day.0.workers.items) }
     ensures workers { IfOk result (λ day. map (λ e. place e.parts) day.0.workers.items
         ≡ map (λ w. place w.parts) cast.workers.items) }
     ensures seat { IfOk result (λ day. day.1.seat.parts ≡ seat.parts) }
@@ -171,6 +177,7 @@ where
     let (ended, called) = join(
         rt,
         || -> Result<Ended<K, L, M>, DayFault>
+            ensures ran { IfOk result (λ ended. AllRan any_wording cast.workers.items ended.workers.items) }
             ensures workers { IfOk result (λ ended. map (λ e. place e.parts) ended.workers.items
                 ≡ map (λ w. place w.parts) cast.workers.items) }
             ensures only { IfErr result IsNoMismatch }

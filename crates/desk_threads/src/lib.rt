@@ -2,8 +2,8 @@
 //! what writes its logs and each worker have one of their own, and the keeper has the one that starts them.
 //!
 //! Promises:
-//! - The workers that the threads leave are those that they were given, each at its place, and why threads can't be run
-//!   is no mismatch of the audit (`in_threads`).
+//! - What the threads leave is what the workers that they were given left when they ran, each at its place, and why
+//!   threads can't be run is no mismatch of the audit (`in_threads`).
 //! - That all threads end once the workers have ended, or one is refused or wants memory, is only tested.
 //!
 //! See `docs/run.md`.

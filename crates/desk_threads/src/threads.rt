@@ -2,6 +2,8 @@
 
 ghost use Rattle.std.specs.Prelude.{◌≡◌, map, IfOk, IfErr};
 ghost use Rattle.desk_venues.specs.Faults.{IsNoMismatch};
+ghost use Rattle.desk_venues.specs.Starts.{any_wording};
+ghost use Rattle.session_worker.specs.Ends.{AllRan};
 ghost use Rattle.session_worker.specs.Places.{place};
 
 use clock::Clock;
@@ -62,6 +64,7 @@ where
     M: Accounts + Send + Sync,
     W: Write + Drop + Send,
     R: Threads + Wait + time::Clock + Sync,
+    ensures ran { IfOk result (λ ended. AllRan any_wording cast.workers.items ended.workers.items) }
     ensures workers { IfOk result (λ ended. map (λ e. place e.parts) ended.workers.items
         ≡ map (λ w. place w.parts) cast.workers.items) }
     ensures only { IfErr result IsNoMismatch }
@@ -76,6 +79,7 @@ where
         rt,
         || run_servers(rt, alloc, floor, exchanges, servers, writers),
         || -> Result<Vec<WorkerEnd<K, L, M>>, DayFault>
+            ensures ran { IfOk result (λ ends. AllRan any_wording workers.items ends.items) }
             ensures workers { IfOk result (λ ends. map (λ e. place e.parts) ends.items
                 ≡ map (λ w. place w.parts) workers.items) }
             ensures only { IfErr result IsNoMismatch }
@@ -183,6 +187,7 @@ where
     M: Accounts + Send + Sync,
     W: Write + Drop + Send,
     R: Threads + Wait + time::Clock + Sync,
+    ensures ran { IfOk result (λ ends. AllRan any_wording workers.items ends.items) }
     ensures workers { IfOk result (λ ends. map (λ e. place e.parts) ends.items
         ≡ map (λ w. place w.parts) workers.items) }
     ensures only { IfErr result IsNoMismatch }

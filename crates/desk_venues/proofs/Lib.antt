@@ -1,2 +1,5 @@
+mod Addressing
 mod NoMismatch
 mod Plans
+mod Standing
+pub mod Starting

@@ -1,2 +1,4 @@
+pub mod Addresses
 pub mod Faults
+pub mod Starts
 pub mod Venues

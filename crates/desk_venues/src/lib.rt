@@ -3,12 +3,15 @@
 //!
 //! Promises:
 //! - What opens the venues, and what runs their workers, is refused for no mismatch of the audit (`IsNoMismatch`).
-//! - Each worker is made as that of the venue at its place (`open_venues`), and keeps this place while it runs
-//!   (`run_workers`).
+//! - Each worker begins with the dialect and the terms of the venue at its place, and nothing went over its link
+//!   (`open_venues`, `starts_of`). It runs from there, and what it leaves is handed on (`run_workers`, `AllRan`).
+//! - A venue's address is the IP that its host is written as, with the port; a simulated exchange's is its own
+//!   (`open_places`, private). Each link dials the address at its place, and each worker is made with a link to its
+//!   venue's (`new_links`, `new_worker`, private). What a name stands for is the system's answer.
 //! - A simulated exchange begins as one with the comp ids of its venue, and fills as the file says (`Exchange::open`);
 //!   that it has the dialect is only tested.
-//! - That the logs, where any are kept, hold the messages and lines of the day, and that a worker dials its venue's
-//!   address, is only tested. What a log is, and that no fault of it reaches a session, is said by `day_log`.
+//! - That the logs, where any are kept, hold the messages and lines of the day is only tested. What a log is, and that
+//!   no fault of it reaches a session, is said by `day_log`.
 //!
 //! See `docs/run.md`.
 #![tactic(auto)]

@@ -4,6 +4,7 @@ ghost use Rattle.std.specs.Prelude.{◌≡◌, length, map, IfOk, IfErr};
 ghost use Rattle.exec_collector.specs.Seats.{worker_seats};
 ghost use Rattle.release_lock.specs.Queues.{new_drains};
 ghost use Rattle.desk_venues.specs.Faults.{IsNoMismatch};
+ghost use Rattle.desk_venues.specs.Starts.{starts_of};
 ghost use Rattle.desk_venues.specs.Venues.{plans};
 ghost use Rattle.session_worker.specs.Places.{place, new_places};
 
@@ -11,7 +12,7 @@ use crate::day_fault::DayFault;
 use crate::exchange::Exchange;
 use crate::opening::{Places, open_places};
 use crate::views::{Sight, first_sight};
-use crate::workers::{DeskWorker, new_workers};
+use crate::workers::{DeskWorker, new_links, new_workers};
 use desk_config::Venue;
 use desk_floor::Bells;
 use exec_collector::{Accounts, WorkerSeat};
@@ -70,6 +71,7 @@ pub fn open_venues<'a, L: Run, M: Accounts, R: Net + Files<File = File> + Wait +
     ensures names { IfOk result (λ ready. ready.sight.names.items ≡ map (λ v. v.name) venues.now) }
     ensures as_many { IfOk result (λ ready. length ready.sight.names.items ≡ length venues.now) }
     ensures views { IfOk result (λ ready. length ready.sight.views.items ≡ length venues.now) }
+    ensures starts { IfOk result (λ ready. ready.workers.items ≡ starts_of venues.now) }
     ensures new { IfOk result (λ ready. map (λ w. place w.parts) ready.workers.items
         ≡ new_places (length venues.now)) }
     ensures only { IfErr result IsNoMismatch }
@@ -77,9 +79,9 @@ pub fn open_venues<'a, L: Run, M: Accounts, R: Net + Files<File = File> + Wait +
     let Places { addrs, exchanges } = open_places(rt, alloc, venues, cut)?;
     let sight = first_sight(rt, alloc, folder, venues)?;
     let mut bells = new_bells(alloc, exchanges.as_slice())?;
-    let addrs = addrs.as_slice();
     let views = sight.views.as_slice();
-    let workers = new_workers(rt, alloc, venues, addrs, views, drains, seats, &mut bells)?;
+    let links = new_links(rt, alloc, addrs.as_slice(), views, &mut bells)?;
+    let workers = new_workers(rt, alloc, venues, links, views, drains, seats)?;
     Ok(OpenVenues {
         sight,
         exchanges,

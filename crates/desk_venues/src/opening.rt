@@ -1,6 +1,7 @@
 //! Where the exchanges of a day's venues are.
 
 ghost use Rattle.std.specs.Prelude.{◌≡◌, ◌++◌, length, map, option_map, option_to_list, IfOk, IfErr, OnOk};
+ghost use Rattle.desk_venues.specs.Addresses.{IsAt, AreAt, own_addr, own_addrs};
 ghost use Rattle.desk_venues.specs.Faults.{IsNoMismatch};
 ghost use Rattle.desk_venues.specs.Venues.{cut_of, plan_in, plans};
 
@@ -36,6 +37,9 @@ pub fn open_places<'a, R: Net + Clock>(
 ) -> Result<Places<'a, R>, DayFault>
     ensures plans { IfOk result (λ places. map (λ e. e.acceptor.plan) places.exchanges.items ≡ plans cut venues.now) }
     ensures each { IfOk result (λ places. length places.addrs.items ≡ length venues.now) }
+    ensures at { IfOk result (λ places. AreAt venues.now places.addrs.items) }
+    ensures own { IfOk result (λ places. map (λ e. e.addr) places.exchanges.items
+        ≡ own_addrs venues.now places.addrs.items) }
     ensures only { IfErr result IsNoMismatch }
 {
     let mut addrs = Vec::new(alloc);
@@ -60,6 +64,9 @@ fn open_place<'a, R: Net + Clock>(
 ) -> Result<(SocketAddr, Option<Exchange<'a, R>>), DayFault>
     ensures plan { IfOk result (λ opened. option_map (λ e. e.acceptor.plan) opened.1
         ≡ plan_in cut venue.now.endpoint) }
+    ensures at { IfOk result (λ opened. IsAt venue.now.endpoint opened.0) }
+    ensures own { IfOk result (λ opened. option_map (λ e. e.addr) opened.1
+        ≡ own_addr venue.now.endpoint opened.0) }
     ensures only { IfErr result IsNoMismatch }
 {
     match &venue.endpoint {

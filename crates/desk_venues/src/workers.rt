@@ -1,10 +1,17 @@
 //! The workers of a day, each over TCP.
 
 ghost use Rattle.std.specs.Prelude.{◌≡◌, [], length, Some, IfOk, IfErr, map};
+ghost use Rattle.std.specs.List.{All};
 ghost use Rattle.exec_collector.specs.Seats.{worker_seats};
 ghost use Rattle.release_lock.specs.Queues.{new_drains};
 ghost use Rattle.desk_venues.specs.Faults.{IsNoMismatch};
-ghost use Rattle.session_worker.specs.Places.{place, place_of, new_places};
+ghost use Rattle.session_core.specs.Session.{new_session};
+ghost use Rattle.session_worker.specs.Ends.{AllRan};
+ghost use Rattle.session_worker.specs.Events.{new_worker};
+ghost use Rattle.session_worker.specs.Places.{place, new_places};
+ghost use Rattle.desk_venues.specs.Addresses.{IsAt, AreAt};
+ghost use Rattle.desk_venues.specs.Starts.{any_wording, starts_of};
+ghost use Rattle.desk_venues.specs.Venues.{desk_end};
 
 use crate::day_fault::DayFault;
 use crate::session::desk_end;
@@ -31,22 +38,45 @@ pub type DeskLink<'a, R> = LoggedLink<'a, R, TcpLink<'a, R>, UtcClock<'a, R>>;
 /// The worker of a venue.
 pub type DeskWorker<'a, R, L, M> = Worker<AnyDialect, DeskLink<'a, R>, UtcClock<'a, R>, L, M>;
 
-/// The workers of these venues, in order, each with the drain and the seat at its place, linked to its address, and
-/// seen in its view. The bell of each is added to these.
+/// Links to these addresses, in order, each seen in the view at its place. The bell of each is added to these.
+pub fn new_links<'a, R: Net + Wait + time::Clock>(
+    rt: &'a R,
+    alloc: Global,
+    addrs: &[SocketAddr],
+    views: &[VenueView],
+    bells: &mut Bells,
+) -> Result<Vec<DeskLink<'a, R>>, DayFault>
+    requires views { length views.now ≡ length addrs.now }
+    ensures addrs { IfOk result (λ links. map (λ l. l.link.addr) links.items ≡ addrs.now) }
+    ensures new { IfOk result (λ links. All (λ l. l.link.told.traffic ≡ []) links.items) }
+    ensures only { IfErr result IsNoMismatch }
+{
+    let mut links = Vec::new(alloc);
+    for addr in addrs {
+        let view = &views[links.len()];
+        links.push(new_link(rt, alloc, *addr, view, bells)?)?;
+    }
+    Ok(links)
+}
+
+/// The workers of these venues, in order, each with the link, the drain and the seat at its place, seen in its view.
+/// Each link dials its venue's address.
 pub fn new_workers<'a, L: Run, M: Accounts, R: Net + Wait + time::Clock>(
     rt: &'a R,
     alloc: Global,
     venues: &[Venue],
-    addrs: &[SocketAddr],
+    links: Vec<DeskLink<'a, R>>,
     views: &[VenueView],
     drains: Vec<VenueDrain<L>>,
     seats: Vec<WorkerSeat<M>>,
-    bells: &mut Bells,
 ) -> Result<Vec<DeskWorker<'a, R, L, M>>, DayFault>
-    requires addrs { length addrs.now ≡ length venues.now }
+    requires links { length links.items ≡ length venues.now }
+    requires at { AreAt venues.now (map (λ l. l.link.addr) links.items) }
+    requires new { All (λ l. l.link.told.traffic ≡ []) links.items }
     requires views { length views.now ≡ length venues.now }
     requires drains { drains.items ≡ new_drains (length venues.now) }
     requires seats { seats.items ≡ worker_seats (length venues.now) }
+    ensures starts { IfOk result (λ workers. workers.items ≡ starts_of venues.now) }
     ensures new { IfOk result (λ workers. map (λ w. place w.parts) workers.items
         ≡ new_places (length venues.now)) }
     ensures only { IfErr result IsNoMismatch }
@@ -54,6 +84,7 @@ pub fn new_workers<'a, L: Run, M: Accounts, R: Net + Wait + time::Clock>(
     let mut workers = Vec::new(alloc);
     let mut drains = VecDeque::from(drains);
     let mut seats = VecDeque::from(seats);
+    let mut links = VecDeque::from(links);
     for venue in venues {
         let Some(drain) = drains.pop_front() else {
             unreachable!()
@@ -61,15 +92,16 @@ pub fn new_workers<'a, L: Run, M: Accounts, R: Net + Wait + time::Clock>(
         let Some(seat) = seats.pop_front() else {
             unreachable!()
         };
-        let place = workers.len();
-        let view = &views[place];
-        let link = new_link(rt, alloc, addrs[place], view, bells)?;
+        let Some(link) = links.pop_front() else {
+            unreachable!()
+        };
+        let view = &views[workers.len()];
         workers.push(new_worker(rt, alloc, venue, view, link, drain, seat)?)?;
     }
     Ok(workers)
 }
 
-/// The worker of a venue over a link, with this drain and seat, which tells on the board of this view.
+/// The worker of a venue over a link to its address, with this drain and seat, which tells on the board of this view.
 fn new_worker<'a, L: Run, M: Accounts, R: Net + Wait + time::Clock>(
     rt: &'a R,
     alloc: Global,
@@ -81,7 +113,12 @@ fn new_worker<'a, L: Run, M: Accounts, R: Net + Wait + time::Clock>(
 ) -> Result<DeskWorker<'a, R, L, M>, AllocError>
     requires drain { drain.popped ≡ [] }
     requires seat { seat.venue ≡ Some drain.venue }
-    ensures { IfOk result (λ worker. place worker.parts ≡ place_of drain.venue seat.parts) }
+    requires link { link.link.told.traffic ≡ [] }
+    requires at { IsAt venue.now.endpoint link.link.addr }
+    ensures { IfOk result (λ worker. worker ≡ record {
+      dialect = venue.now.session.dialect;
+      parts = new_worker (new_session (desk_end venue.now)) drain.venue seat (Some []);
+    }) }
 {
     let board = view.board()?;
     let clock = UtcClock::new(rt);
@@ -100,7 +137,9 @@ fn new_link<'a, R: Net + Wait + time::Clock>(
     view: &VenueView,
     bells: &mut Bells,
 ) -> Result<DeskLink<'a, R>, DayFault>
-    ensures { IfErr result IsNoMismatch }
+    ensures addr { IfOk result (λ link. link.link.addr ≡ addr) }
+    ensures traffic { IfOk result (λ link. link.link.told.traffic ≡ []) }
+    ensures only { IfErr result IsNoMismatch }
 {
     let last_dial = view.last_dial()?;
     let recorder = new_recorder(rt, view, bells)?;
@@ -144,6 +183,7 @@ where
     M: Accounts + Send + Sync,
     R: Threads + Wait + Sync,
     W: Write + Drop + Send,
+    ensures ran { IfOk result (λ ends. AllRan any_wording workers.items ends.items) }
     ensures kept { IfOk result (λ ends. map (λ e. place e.parts) ends.items
         ≡ map (λ w. place w.parts) workers.items) }
     ensures only { IfErr result IsNoMismatch }

@@ -3,9 +3,8 @@ use Rattle.std.specs.Prelude.{◌≡◌, ◌⊎◌, ◌+◌, ◌*◌, ℕ, Bool,
 use Rattle.std.specs.Io.KnownBytes.{Appends, Keeps}
 use Rattle.clap.specs.declared.parser.matches.ArgMatches.{ArgMatches}
 use Rattle.command_line.specs.ExitStatus.{exit_status}
-use Rattle.share_ledger.specs.Book.{BookParts}
-use Rattle.exec_collector.specs.Resolved.{Replays}
-use Rattle.day_sweeps.specs.Sweeps.{sweeps_in}
+use Rattle.desk_run.specs.Audited.{IsDeskDay}
+use Rattle.live_load.specs.Config.{venues_to}
 use Rattle.live_load.specs.declared.day.LiveDay.{LiveDay}
 use Rattle.live_load.specs.declared.live_plan.LivePlan.{LivePlan}
 use Rattle.live_load.specs.Day.{shares_each}
@@ -32,12 +31,10 @@ IsOfWords (NoNumber option) = Unit {0}
 IsOfWords OutOfMemory = Unit {0}
 IsOfWords other = ⊥
 
--- the sweeps of a day are those of a book that replays from its history, and all its shares were placed but those of
--- the sweeps that were given up
+-- a day of the plan's venues was audited, with these sweeps and this report, and all its shares were placed but those
+-- of the sweeps that were given up
 pub record IsDay (plan : LivePlan) (day : LiveDay) : Type 0 where
-  pub book : BookParts
-  pub replays : Replays book
-  pub sweeps : day.sweeps.items ≡ sweeps_in book
+  pub audited : IsDeskDay (venues_to plan.venues) day.sweeps.items day.report
   pub placed : day.report.placed + day.unplaced * shares_each plan
       ≡ plan.callers * (plan.sweeps * shares_each plan)
 

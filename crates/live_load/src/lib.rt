@@ -4,7 +4,8 @@
 //! Promises:
 //! - `run_live` is refused for want of a socket, a thread or memory alone, since the audit finds no mismatch, whatever
 //!   the threads do.
-//! - The sweeps that it tells are all those of a book that its own history leads to, by crate `day_sweeps`.
+//! - The sweeps and the report that it tells are those of the day that was audited, of these venues' workers, by crate
+//!   `desk_run` (`IsDeskDay`).
 //! - The shares placed, as the audit found them, are those of the sweeps that weren't given up, 10 for each venue.
 //! - Its venues are the stated ones (`venues_of`, private), and a venue is told as its worker left it (`left_venue`,
 //!   private).

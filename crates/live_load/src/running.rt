@@ -6,7 +6,11 @@ ghost use Rattle.share_ledger.specs.Book.{BookParts};
 ghost use Rattle.exec_collector.specs.Resolved.{Replays};
 ghost use Rattle.day_sweeps.specs.Sweeps.{sweeps_in};
 ghost use Rattle.release_lock.specs.Queues.{IsFresh};
+ghost use Rattle.desk_venues.specs.Starts.{any_wording};
+ghost use Rattle.session_worker.specs.Ends.{AllRan};
 ghost use Rattle.session_worker.specs.Places.{place, new_places};
+ghost use Rattle.desk_run.specs.Audited.{IsAudited, IsDeskDay};
+ghost use Rattle.live_load.specs.Config.{venues_to};
 ghost use Rattle.desk_venues.specs.Faults.{IsNoMismatch};
 ghost use Rattle.live_load.specs.Day.{IsLivePlan, AllCalled, AreCalled, caller_of, left_of, shares_each};
 
@@ -58,6 +62,7 @@ where
         + Sync,
     P: Progress + Drop,
     requires { IsLivePlan plan }
+    ensures day { IfOk result (λ day. IsDeskDay (venues_to plan.venues) day.sweeps.items day.report) }
     ensures sweeps { IfOk result (λ day. (book : BookParts) × Replays book × (day.sweeps.items ≡ sweeps_in book)) }
     ensures placed { IfOk result (λ day. day.report.placed + day.unplaced * shares_each plan
         ≡ plan.callers * (plan.sweeps * shares_each plan)) }
@@ -112,6 +117,7 @@ where
     requires tied { L.sweeps ≡ M.sweeps }
     requires rings { (length rings.items ≡ plan.venues) × All IsFresh rings.items }
     requires queues { L.queues ≡ map (λ ends. ends.0.table) rings.items }
+    ensures day { IfOk result (λ day. IsDeskDay venues.now day.sweeps.items day.report) }
     ensures sweeps { IfOk result (λ day. (book : BookParts) × Replays book × (day.sweeps.items ≡ sweeps_in book)) }
     ensures placed { IfOk result (λ day. day.report.placed + day.unplaced * shares_each plan
         ≡ plan.callers * (plan.sweeps * shares_each plan)) }
@@ -131,7 +137,7 @@ where
     let OpenDay { floor, cast, seat } = day;
     let seats = split_seats(alloc, seat, plan.callers)?;
     let (ended, called) = with_callers(rt, alloc, &floor, cast, plan, seats, progress)?;
-    told(rt, alloc, plan, floor, ended, called)
+    told(alloc, plan, floor, ended, called)
 }
 
 /// Runs the threads of a day beside those of its callers.
@@ -153,6 +159,7 @@ where
     W: Write + Drop + Send,
     R: Threads + Wait + time::Clock + Sync,
     P: Progress + Drop,
+    ensures ran { IfOk result (λ day. AllRan any_wording cast.workers.items day.0.workers.items) }
     ensures workers { IfOk result (λ day. map (λ e. place e.parts) day.0.workers.items
         ≡ map (λ w. place w.parts) cast.workers.items) }
     ensures callers { IfOk result (λ day. AllCalled (map (λ s. caller_of plan s) seats.items)
@@ -162,6 +169,7 @@ where
     let (ended, called) = join(
         rt,
         || -> Result<Ended<K, L, M>, DayFault>
+            ensures ran { IfOk result (λ ended. AllRan any_wording cast.workers.items ended.workers.items) }
             ensures workers { IfOk result (λ ended. map (λ e. place e.parts) ended.workers.items
                 ≡ map (λ w. place w.parts) cast.workers.items) }
             ensures only { IfErr result IsNoMismatch }
@@ -177,7 +185,6 @@ where
 
 /// What became of a day whose threads have ended.
 fn told<K: Link, L: Run, M: Accounts, W: Write + Drop>(
-    rt: &impl Wait,
     alloc: Global,
     plan: LivePlan,
     floor: Floor<L, M, W>,
@@ -189,6 +196,7 @@ fn told<K: Link, L: Run, M: Accounts, W: Write + Drop>(
     requires workers { map (λ e. place e.parts) ended.workers.items ≡ new_places M.parts }
     requires some { 0 < M.parts }
     requires callers { AreCalled plan (map (λ e. left_of e.seat e.unplaced) called.items) }
+    ensures audited { IfOk result (λ day. IsAudited ended.workers.items day.sweeps.items day.report) }
     ensures sweeps { IfOk result (λ day. (book : BookParts) × Replays book × (day.sweeps.items ≡ sweeps_in book)) }
     ensures placed { IfOk result (λ day. day.report.placed + day.unplaced * shares_each plan
         ≡ plan.callers * (plan.sweeps * shares_each plan)) }
@@ -197,7 +205,7 @@ fn told<K: Link, L: Run, M: Accounts, W: Write + Drop>(
     let (seats, unplaced) = parted(alloc, called)?;
     let is_answered = ended.workers.iter().any(|end| end.session.next_in() > 1);
     let venues = left_venues(alloc, ended.workers.as_slice())?;
-    let day = close_day(rt, alloc, floor, ended, seats, None)?;
+    let day = close_day(alloc, floor, ended, seats, None)?;
     let DeskDay {
         sweeps,
         doubts: _,

@@ -1,5 +1,14 @@
 -- Faults of the words and of the file, and those of a day.
-use Rattle.run_command.specs.Running.{IfBeforeDay, IsOfDay}
+use Rattle.std.proofs.Common.{◌≡◌, ◌⊎◌, inr, ℕ, List, [], false, None, Ok, Err, subst}
+use Rattle.std.specs.Prelude.{Option, Result, IfErr, OnOk}
+use Rattle.std.specs.Io.KnownBytes.{Appends, Keeps}
+use Rattle.desk_config.specs.Config.{AnswersText}
+use Rattle.desk_config.specs.declared.config.DeskConfig.{DeskConfig}
+use Rattle.desk_run.specs.Audited.{IsDeskDay}
+use Rattle.desk_run.specs.declared.day.DeskDay.{DeskDay}
+use Rattle.json_lines.specs.declared.form.Form.{Form}
+use Rattle.run_command.specs.Ending.{end_text, PrintsDay}
+use Rattle.run_command.specs.Running.{EndsRun, IfBeforeDay, IsOfDay}
 use Rattle.run_command.specs.declared.fault.CommandFault.{CommandFault}
 use Rattle.run_command.specs.declared.fault.CommandFault.TheVariants.{
   CommandLine,
@@ -63,3 +72,30 @@ of_day said MismatchQueue it = tt
 of_day said MismatchShares it = tt
 of_day said MismatchPlaced it = tt
 of_day said GivenUp it = tt
+
+-- the text of a day that ended well is printed
+pub prints_day : (config : DeskConfig) (form : Form) (day : DeskDay) (before after : Option (List ℕ)) (bytes : List ℕ)
+    → IsDeskDay config.venues.items day.sweeps.items day.report → day.broken_off ≡ None → day.is_given_up ≡ false
+    → day.doubts.items ≡ [] → bytes ≡ end_text form day → Appends before after bytes → PrintsDay config after
+prints_day config form day before after bytes audited taken closed settled is printed = record {
+  day = day;
+  audited = audited;
+  taken = taken;
+  closed = closed;
+  settled = settled;
+  form = form;
+  held = before;
+  printed = subst (λ (text : List ℕ). Appends before after text) is printed;
+}
+
+-- a run ends as the day of its configuration does
+pub ends_as : {A : Type 0} (before after : Option (List ℕ)) (bytes : List ℕ) (config : DeskConfig)
+    (done : Result A CommandFault) → AnswersText bytes (Ok config) → OnOk done (PrintsDay config after)
+    → IfErr done IsOfDay → EndsRun before after done
+ends_as before after bytes config (Ok value) says prints faults = record {
+  bytes = bytes;
+  config = config;
+  says = says;
+  prints = inr prints;
+}
+ends_as before after bytes config (Err fault) says prints faults = of_day (Keeps before after) fault faults

@@ -1,5 +1,6 @@
 pub mod Fault
 pub mod Text
 pub mod JsonText
+pub mod Ending
 pub mod Running
 pub mod Folder

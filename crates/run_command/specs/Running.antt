@@ -2,6 +2,7 @@
 use Rattle.std.specs.Prelude.{◌≡◌, ℕ, List, Option, Result, Ok, Err}
 use Rattle.std.specs.Io.KnownBytes.{Keeps}
 use Rattle.command_line.specs.ExitStatus.{exit_status}
+use Rattle.run_command.specs.Ending.{EndsWell}
 use Rattle.run_command.specs.Fault.{fault_status}
 use Rattle.run_command.specs.declared.fault.CommandFault.{CommandFault}
 use Rattle.run_command.specs.declared.fault.CommandFault.TheVariants.{
@@ -28,9 +29,9 @@ abbrev pub IsOfDay : CommandFault → Type 0
 IsOfDay fault = IfBeforeDay ⊥ fault
 
 -- how a run ends, by the bytes that the output held before and holds after: a fault of the words or of the file prints
--- nothing
+-- nothing, and without a fault the file is told to be a day's, or its day was audited and is printed
 abbrev pub EndsRun : Option (List ℕ) → Option (List ℕ) → {A : Type 0} → Result A CommandFault → Type 0
-EndsRun before after (Ok done) = Unit {0}
+EndsRun before after (Ok done) = EndsWell before after
 EndsRun before after (Err fault) = IfBeforeDay (Keeps before after) fault
 
 -- a run that ends so has this exit status

@@ -1,5 +1,8 @@
 //! What `dispatch run FILE --check` prints.
 
+ghost use Rattle.std.specs.Prelude.{IfOk};
+ghost use Rattle.run_command.specs.Ending.{SaysOk};
+
 use desk_config::{DeskConfig, Endpoint, Venue};
 use dialect::AnyDialect;
 use std::alloc::{AllocError, Global};
@@ -42,7 +45,9 @@ impl<'a> fmt::Display for VenueLine<'a> {
 
 /// A line for each venue: where it is, its dialect and its heartbeat interval; where the page is served, if it is; and
 /// that the file is a day's.
-pub fn check_text(alloc: Global, config: &DeskConfig) -> Result<Vec<u8>, AllocError> {
+pub fn check_text(alloc: Global, config: &DeskConfig) -> Result<Vec<u8>, AllocError>
+    ensures { IfOk result (λ text. SaysOk text.items) }
+{
     let mut text = String::new(alloc);
     for venue in &config.venues {
         let line = VenueLine(venue);

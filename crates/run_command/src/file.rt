@@ -1,7 +1,8 @@
 //! A desk's file is read.
 
-ghost use Rattle.std.specs.Prelude.{◌↔◌, IsTrue, IfErr, IfOk};
+ghost use Rattle.std.specs.Prelude.{◌↔◌, ℕ, List, Ok, IsTrue, IfErr, IfOk};
 ghost use Rattle.desk_config.specs.Apart.{AreVenues};
+ghost use Rattle.desk_config.specs.Config.{AnswersText};
 ghost use Rattle.run_command.specs.Fault.{IsToldSo, WantsMemory};
 
 use crate::fault::CommandFault;
@@ -37,8 +38,25 @@ fn file_fault(name: String, fault: ConfigFault) -> CommandFault
     }
 }
 
-/// The configuration that the file of a name has.
+/// The configuration that the bytes of a file of this name spell.
+fn config_of(alloc: Global, name: &str, bytes: &[u8]) -> Result<DeskConfig, CommandFault>
+    ensures says { IfOk result (λ config. AnswersText bytes.now (Ok config)) }
+    ensures venues { IfOk result (λ config. AreVenues config.venues.items) }
+    ensures memory { IfErr result IsToldSo }
+{
+    let Ok(text) = str::from_utf8(bytes) else {
+        return Err(CommandFault::NotText(String::from_str(alloc, name)?));
+    };
+    let name = String::from_str(alloc, name)?;
+    match read_config(alloc, text) {
+        Ok(config) => Ok(config),
+        Err(fault) => Err(file_fault(name, fault)),
+    }
+}
+
+/// The configuration that the file of a name has: which bytes a file gives no contract says.
 pub fn read_file<R: Files>(rt: &R, alloc: Global, name: &str) -> Result<DeskConfig, CommandFault>
+    ensures says { IfOk result (λ config. (bytes : List ℕ) × AnswersText bytes (Ok config)) }
     ensures venues { IfOk result (λ config. AreVenues config.venues.items) }
     ensures memory { IfErr result IsToldSo }
 {
@@ -50,12 +68,5 @@ pub fn read_file<R: Files>(rt: &R, alloc: Global, name: &str) -> Result<DeskConf
         Err(_) => return Err(CommandFault::NoFile(String::from_str(alloc, name)?)),
     };
     let bytes = read_up_to(alloc, MAX_FILE, &mut file)?;
-    let Ok(text) = str::from_utf8(bytes.as_slice()) else {
-        return Err(CommandFault::NotText(String::from_str(alloc, name)?));
-    };
-    let name = String::from_str(alloc, name)?;
-    match read_config(alloc, text) {
-        Ok(config) => Ok(config),
-        Err(fault) => Err(file_fault(name, fault)),
-    }
+    config_of(alloc, name, bytes.as_slice())
 }

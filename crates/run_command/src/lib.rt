@@ -1,7 +1,10 @@
 //! `dispatch run`: the day of a desk's file runs, against real exchanges and simulated ones.
 //!
 //! Promises:
-//! - The exit status is 0, or that of the fault (`run_run`). A fault of the words or of the file prints nothing.
+//! - The exit status is 0, or that of the fault (`run_run`). A fault of the words or of the file prints nothing. At 0 a
+//!   file's bytes spell a configuration, and either it is told that they do, or a day of this configuration was audited
+//!   (`IsDeskDay`), with no leg in doubt, and its text is printed last (`EndsWell`). Which bytes a file gives, and what
+//!   the output holds when the day is over, no contract says.
 //! - What is printed behind a day is exactly the stated text of what became of it (`day_text`, or `json_text` with
 //!   `--json`).
 //! - Out of memory while the file is read is never told as a fault of the file (`file_fault`, private).
@@ -11,11 +14,10 @@
 //! See `docs/run.md`.
 #![tactic(auto)]
 
-ghost use Rattle.std.specs.Prelude.{◌≡◌, IfErr, IfOk};
+ghost use Rattle.std.specs.Prelude.{◌≡◌, IfErr, IfOk, OnOk};
 ghost use Rattle.desk_config.specs.Apart.{AreVenues};
-ghost use Rattle.run_command.specs.JsonText.{json_text};
+ghost use Rattle.run_command.specs.Ending.{end_text, PrintsDay};
 ghost use Rattle.run_command.specs.Running.{EndsRun, ExitsSo, IsOfDay};
-ghost use Rattle.run_command.specs.Text.{day_text};
 
 mod check;
 mod end_json;
@@ -125,8 +127,7 @@ fn log_folder(
 
 /// What is printed at the end of a day, in this form.
 fn end_text(alloc: Global, form: Form, day: &DeskDay) -> Result<Vec<u8>, AllocError>
-    ensures words { form ≡ Form.Words → IfOk result (λ text. text.items ≡ day_text day.now) }
-    ensures json { form ≡ Form.Json → IfOk result (λ text. text.items ≡ json_text day.now) }
+    ensures { IfOk result (λ text. text.items ≡ end_text form day.now) }
 {
     match form {
         Form::Words => day_text(alloc, day),
@@ -153,7 +154,8 @@ where
     I: Read + AsRawFd,
     W: Write + Send,
     requires { AreVenues config.now.venues.items }
-    ensures { IfErr result IsOfDay }
+    ensures ok { OnOk result (PrintsDay config.now (W.contents out.new)) }
+    ensures err { IfErr result IsOfDay }
 {
     let fd = input.as_raw_fd();
     let input = DeskInput { input, fd };

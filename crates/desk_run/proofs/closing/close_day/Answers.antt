@@ -1,4 +1,5 @@
-use Rattle.std.proofs.Common.{◌∙◌}
+use Rattle.std.proofs.Common.{◌∙◌, ap, sym}
+use Rattle.day_sweeps.specs.Sweeps.{sweeps_in}
 use Rattle.session_worker.proofs.Places.{in_order, all_parts}
 use Rattle.desk_run.proofs.AllSeats.{whole_parts, callers_shares}
 use Rattle.desk_run.proofs.closing.close_day.Goals as goal
@@ -20,3 +21,12 @@ returns-clause-placed g c =
     λ none. placed
     ∙ callers_shares c.args.seats.items _ c.args.floor.shared c.into_left-names.result.shared c.in_ok-seats.ensures
     c.into_left-names.ensures.shared none
+
+pub returns-clause-audited : goal.returns-clause-audited
+returns-clause-audited g c =
+    let told = rw c.in_ok-report.was at c.audited-report.ensures.audited in
+    record {
+      callers = c.in_ok-seats.seats.items;
+      day = told.0;
+      told = c.in_ok-sweeps.ensures.value ∙ ap sweeps_in (c.book.ensures.value ∙ sym told.1);
+    }

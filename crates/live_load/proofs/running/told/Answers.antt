@@ -25,3 +25,6 @@ returns-clause-placed g c =
     let unplaced = c.in_ok-seats.ensures.1 ∙ sym sums.1 in
     let each = ap (λ n. n * shares_each plan) unplaced in
     omega (arith, total, placed, seats, each)
+
+pub returns-clause-audited : goal.returns-clause-audited
+returns-clause-audited g c = c.in_ok-day.ensures.audited

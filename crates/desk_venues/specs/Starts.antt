@@ -1,0 +1,34 @@
+-- A day's workers before their first turns: each has its venue's dialect and terms, and nothing went over its link.
+use Rattle.std.specs.Prelude.{List, [], ◌∷◌, Some, length}
+use Rattle.dialect.specs.declared.any_dialect.AnyDialect.{AnyDialect}
+use Rattle.dialect.specs.Any.{any_spelling}
+use Rattle.dialect.specs.Spelled.{spelled}
+use Rattle.dialect.specs.Wording.{Wording}
+use Rattle.desk_config.specs.declared.venue.Venue.{Venue}
+use Rattle.exec_collector.specs.Seats.{worker_seat}
+use Rattle.release_lock.specs.Queues.{DrainParts, new_drains}
+use Rattle.session_core.specs.Session.{new_session}
+use Rattle.session_worker.specs.Ends.{WorkerStart}
+use Rattle.session_worker.specs.Events.{new_worker}
+use Rattle.desk_venues.specs.Venues.{desk_end}
+
+-- how a message of each dialect is written and read
+abbrev pub any_wording : AnyDialect → Wording
+any_wording dialect = spelled (any_spelling dialect)
+
+-- of this venue, with the drain of its ring
+abbrev pub start_of : Venue → DrainParts → WorkerStart AnyDialect
+start_of venue drain = record {
+  dialect = venue.session.dialect;
+  parts = new_worker (new_session (desk_end venue)) drain.venue (worker_seat drain.venue) (Some []);
+}
+
+-- of these venues, each with the drain at its place
+abbrev pub starts_on : List Venue → List DrainParts → List (WorkerStart AnyDialect)
+starts_on [] drains = []
+starts_on (venue ∷ venues) [] = []
+starts_on (venue ∷ venues) (drain ∷ drains) = start_of venue drain ∷ starts_on venues drains
+
+-- of a configuration's venues, in order
+abbrev pub starts_of : List Venue → List (WorkerStart AnyDialect)
+starts_of venues = starts_on venues (new_drains (length venues))
