@@ -6,7 +6,7 @@
 //! - Each worker begins with the dialect and the terms of the venue at its place, and nothing went over its link
 //!   (`open_venues`, `starts_of`). It runs from there, and what it leaves is handed on (`run_workers`, `AllRan`).
 //! - A venue's address is the IP that its host is written as, with the port; a simulated exchange's is its own
-//!   (`open_places`, private). Each link dials the address at its place, and each worker is made with a link to its
+//!   (`open_places`, private). Each link is made with the address at its place, and each worker with a link to its
 //!   venue's (`new_links`, `new_worker`, private). What a name stands for is the system's answer.
 //! - A simulated exchange begins as one with the comp ids of its venue, and fills as the file says (`Exchange::open`);
 //!   that it has the dialect is only tested.

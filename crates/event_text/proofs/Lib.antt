@@ -1,2 +1,3 @@
 pub mod SaidMore
 pub mod Heads
+pub mod SettledAgain

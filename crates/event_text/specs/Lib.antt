@@ -6,3 +6,4 @@ pub mod Idle
 pub mod Before
 pub mod Deeds
 pub mod Step
+pub mod Crash

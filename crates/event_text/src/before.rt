@@ -14,7 +14,7 @@ use sweep_release::Gate;
 
 /// How far a world had come when an event came. What there is more of afterwards, the event did.
 #[derive(Clone, Copy, Debug)]
-pub(crate) struct Before {
+pub struct Before {
     pub(crate) book_entries: usize,
     /// Why nothing comes of the event, if nothing does.
     pub(crate) idle: Option<Idle>,
@@ -41,7 +41,7 @@ pub(crate) struct AtVenue {
 
 impl Before {
     /// How far a world has come at the venue of this event, and in the book. The only refusal is out of memory.
-    pub(crate) fn of<D: Dialect + Drop>(
+    pub fn of<D: Dialect + Drop>(
         alloc: Global,
         world: &World<D>,
         event: &Event,

@@ -17,7 +17,7 @@ use std::alloc::{AllocError, Global};
 
 /// What an event did, in words. It compares the world before the event with that after it; `told` is what the event
 /// told besides, and `settled` which legs were told as settled. The only refusal is out of memory.
-pub(crate) fn print_deeds<D: Dialect + Drop>(
+pub fn print_deeds<D: Dialect + Drop>(
     alloc: Global,
     before: &Before,
     world: &World<D>,

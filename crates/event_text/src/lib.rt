@@ -12,16 +12,25 @@
 
 mod at_venue_text;
 mod before;
+mod before_crash;
+mod crash_text;
 mod deeds;
 mod frame_head;
 mod frames_text;
 mod idle;
 mod idle_text;
+mod journal_line;
+mod journal_lines;
 mod note_text;
 mod refusal_text;
 mod say;
 mod settled;
 mod telling;
 
+pub use before::Before;
+pub use before_crash::BeforeCrash;
+pub use crash_text::print_crash;
+pub use deeds::print_deeds;
+pub use journal_lines::JournalLines;
 pub use settled::Settled;
 pub use telling::tell_event;

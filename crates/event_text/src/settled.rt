@@ -1,8 +1,9 @@
 //! Which legs are told as settled.
 
-ghost use Rattle.std.specs.Prelude.{◌≡◌, IfOk, OnOk, slice_index, slice_set};
+ghost use Rattle.std.specs.Prelude.{◌≡◌, ◌<◌, IfOk, OnOk, slice_index, slice_set};
 ghost use Rattle.event_text.specs.Deeds.{is_settled, taken_phrase};
 ghost use Rattle.event_text.specs.Says.{says};
+ghost use Rattle.event_text.specs.Crash.{settled_again};
 ghost use Rattle.event_text.specs.Step.{none_settled, settled_from, taken_from};
 
 use crate::say::say;
@@ -40,6 +41,18 @@ impl Settled {
         ensures { self.new ≡ record { told = slice_set self.old.told venue count } }
     {
         self.told[usize::from(venue.number())] = count;
+    }
+
+    /// Those that are told where the dispatcher started again, and this is the world after it. A leg that was told as
+    /// taken may be in doubt again, and is then told once more; one that the start withdrew isn't told again.
+    pub fn start_again<D: Dialect + Drop>(world: &World<D>) -> Settled
+        ensures { result ≡ settled_again world.now }
+    {
+        let mut told = [0; VENUES];
+        for number in 0..VENUES {
+            told[number] = settled_at(world, number);
+        }
+        Settled { told }
     }
 
     /// Says of which legs of a venue it is settled that the exchange has them, and wasn't told before.
@@ -104,4 +117,39 @@ fn say_taken<D: Dialect + Drop>(
         }
     }
     Ok(place.max(legs.len()))
+}
+
+/// How many legs of a venue of this number are settled, up to the first that isn't.
+fn settled_at<D: Dialect + Drop>(world: &World<D>, number: usize) -> usize
+    requires { number < 16 }
+    ensures { result ≡ settled_from world.now number 0 }
+{
+    match VenueId::new(number as u8) {
+        Ok(venue) => settled_count(world, venue),
+        Err(_) => 0,
+    }
+}
+
+/// How many legs of a venue are settled, up to the first that isn't.
+fn settled_count<D: Dialect + Drop>(world: &World<D>, venue: VenueId) -> usize
+    ensures { result ≡ settled_from world.now venue 0 }
+{
+    let legs = world.released(venue).len();
+    for at in 0..legs {
+        if !has_settled(world.state(venue, at as u64 + 1)) {
+            return at;
+        }
+    }
+    legs
+}
+
+/// Whether it is settled what became of a leg in this state.
+fn has_settled(state: Option<LegState>) -> bool
+    ensures { result ≡ is_settled state }
+{
+    match state {
+        Some(LegState::Taken) => true,
+        Some(LegState::Withdrawn) => true,
+        _ => false,
+    }
 }

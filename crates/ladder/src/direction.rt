@@ -9,6 +9,8 @@ use venue_replay::Frame;
 #[derive(Debug, Drop)]
 pub(crate) struct Direction {
     pub(crate) arrows: Vec<Arrow>,
+    /// The frames that a crash took away.
+    pub(crate) gone: Vec<Arrow>,
     /// The place of the last frame, of those that came, counted from 1.
     last: u64,
 }
@@ -18,6 +20,7 @@ impl Direction {
     pub(crate) fn new(alloc: Global) -> Direction {
         Direction {
             arrows: Vec::new(alloc),
+            gone: Vec::new(alloc),
             last: 0,
         }
     }
@@ -42,6 +45,17 @@ impl Direction {
             slot = slot.saturating_add(1);
         }
         Ok(slot)
+    }
+
+    /// All frames behind so many were lost in a crash.
+    pub(crate) fn lose(&mut self, kept: usize) -> Result<(), AllocError> {
+        for _ in kept..self.arrows.len() {
+            if let Some(arrow) = self.arrows.pop() {
+                self.gone.push(arrow)?;
+            }
+        }
+        self.last = self.last.min(kept as u64);
+        Ok(())
     }
 
     /// The frame of a number, counted from 1, came to the other end in a slot, if there is such a frame.

@@ -1,5 +1,6 @@
 //! A venue, as it is drawn.
 
+mod crash;
 mod marks;
 
 use crate::arrow::Arrow;
@@ -19,6 +20,8 @@ pub(crate) struct Lane {
     pub(crate) from: Direction,
     pub(crate) bands: Vec<Band>,
     pub(crate) marks: Vec<Mark>,
+    /// The slots in which the dispatcher was killed.
+    pub(crate) bars: Vec<u64>,
     /// How many legs are told as settled, in the order of their ordinals.
     settled: usize,
 }
@@ -31,6 +34,7 @@ impl Lane {
             from: Direction::new(alloc),
             bands: Vec::new(alloc),
             marks: Vec::new(alloc),
+            bars: Vec::new(alloc),
             settled: 0,
         }
     }
@@ -66,9 +70,7 @@ impl Lane {
     /// A connection began or ended, if one did.
     fn connect(&mut self, before: &Counts, now: &Counts, slot: u64) -> Result<(), AllocError> {
         if before.phase.is_connected() && !now.phase.is_connected() {
-            if let Some(band) = self.bands.last_mut() {
-                band.last = Some(slot);
-            }
+            self.end_band(slot);
         }
         if before.connection < now.connection {
             self.bands.push(Band {
@@ -78,6 +80,13 @@ impl Lane {
             })?;
         }
         Ok(())
+    }
+
+    /// The last connection ended in a slot.
+    fn end_band(&mut self, slot: u64) {
+        if let Some(band) = self.bands.last_mut() {
+            band.last = Some(slot);
+        }
     }
 
     /// Marks something in a slot. It gives the next slot.

@@ -201,6 +201,15 @@ fn add_mark(alloc: Global, svg: &mut Vec<u8>, venue: u64, mark: &Mark) -> Result
     )
 }
 
+/// Appends the bar of a crash, across the session's life line.
+fn add_bar(alloc: Global, svg: &mut Vec<u8>, venue: u64, slot: u64) -> Result<(), AllocError> {
+    let at = Point {
+        x: session_x(venue).saturating_sub(12),
+        y: y_of(slot) - 3,
+    };
+    add_rect(alloc, svg, "bad", at, 60, 6)
+}
+
 /// Appends the life line of an end, with its name.
 fn add_life(
     alloc: Global,
@@ -242,8 +251,23 @@ pub(crate) fn add_lane(
     for arrow in &lane.to.arrows {
         add_arrow(alloc, svg, End::Session, venue, &lane.bands, arrow)?;
     }
+    for arrow in &lane.to.gone {
+        add_label(
+            alloc,
+            svg,
+            End::Session,
+            venue,
+            arrow.slot,
+            None,
+            &arrow.label,
+        )?;
+        add_broken(alloc, svg, End::Session, venue, arrow.slot, true)?;
+    }
     for arrow in &lane.from.arrows {
         add_arrow(alloc, svg, End::Exchange, venue, &lane.bands, arrow)?;
+    }
+    for slot in &lane.bars {
+        add_bar(alloc, svg, venue, *slot)?;
     }
     for mark in &lane.marks {
         add_mark(alloc, svg, venue, mark)?;

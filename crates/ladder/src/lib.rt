@@ -14,6 +14,7 @@
 mod arrow;
 mod band;
 mod counts;
+mod crash_seen;
 mod direction;
 mod elements;
 mod escape;

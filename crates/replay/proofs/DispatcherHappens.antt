@@ -16,7 +16,7 @@ use Rattle.venue_replay.specs.declared.inbound.Inbound.{Inbound}
 use Rattle.venue_replay.specs.Hearing.{turn_on, heard, inbound_of, confirmed}
 use Rattle.venue_replay.proofs.WorldAfter.{at_there, is_there, with_same}
 
-set_again : {A : Type 0} (xs : List A) (k : ℕ) (x y : A) → slice_set (slice_set xs k x) k y ≡ slice_set xs k y
+pub set_again : {A : Type 0} (xs : List A) (k : ℕ) (x y : A) → slice_set (slice_set xs k x) k y ≡ slice_set xs k y
 set_again [] k x y = refl
 set_again (z ∷ zs) zero x y = refl
 set_again (z ∷ zs) (suc k) x y = ap (λ l. z ∷ l) (set_again zs k x y)

@@ -6,3 +6,13 @@ pub mod Theorem
 mod AtVenue
 mod Tells
 mod Placed
+mod Redone
+mod JournalLines
+mod NotedEvents
+mod DayHappens
+mod DayStarts
+mod OpenDesks
+mod BookAgain
+mod StoodAgain
+mod Upto
+mod StartAll

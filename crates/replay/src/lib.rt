@@ -17,13 +17,26 @@
 //! - Not said: that memory is wanted only where a growth was refused. A world whose run wanted memory is gone.
 #![tactic(auto)]
 
+mod book_again;
+mod day;
+mod deed;
+mod desk_again;
 mod event_outcome;
+mod loss_fault;
+mod mark;
+mod noted;
+mod redo;
 mod refusal;
+mod ruling;
 mod running;
+mod starting;
 mod telling;
+mod venue_journal;
 mod world;
 
+pub use day::Day;
 pub use event_outcome::EventOutcome;
+pub use loss_fault::LossFault;
 pub use refusal::Refusal;
 pub use running::run;
 pub use world::{World, venue_of};

@@ -8,6 +8,7 @@ ghost use Rattle.schedule.specs.World.{accepted, closed_at, given, made, release
 ghost use Rattle.venue_replay.specs.Network.{all_said};
 
 mod act_events;
+mod beginning_again;
 mod delivery_events;
 mod desk_events;
 mod end_events;
@@ -112,7 +113,7 @@ impl<D: Dialect + Drop> World<D> {
     }
 
     /// How far the leg of an ordinal is settled, if it was sent.
-    fn sent(&self, venue: VenueId, ordinal: u64) -> Option<LegState>
+    pub(crate) fn sent(&self, venue: VenueId, ordinal: u64) -> Option<LegState>
         ensures { result ≡ of_venue self.now venue None (λ at. leg_state at.session ordinal) }
     {
         match self.venue(venue) {

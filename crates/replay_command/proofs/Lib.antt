@@ -1,7 +1,10 @@
 pub mod Grown
 pub mod InputBegins
 pub mod InputLines
+pub mod InputLeft
 pub mod InputRuns
 pub mod StepsPrinted
 pub mod DayEnds
 pub mod PictureEnds
+pub mod Crashes
+pub mod Reached

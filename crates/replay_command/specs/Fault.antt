@@ -4,6 +4,7 @@ use Rattle.replay_command.specs.declared.fault.CommandFault.{CommandFault}
 use Rattle.replay_command.specs.declared.fault.CommandFault.TheVariants.{
   CommandLine,
   BadLine,
+  Impossible,
   NoFile,
   PictureIsThere,
   PictureFailed,
@@ -16,6 +17,7 @@ use Rattle.replay_command.specs.declared.fault.CommandFault.TheVariants.{
 abbrev pub fault_status : CommandFault → ℕ
 fault_status (CommandLine error) = 2
 fault_status (BadLine number) = 3
+fault_status (Impossible line why) = 3
 fault_status NoFile = 4
 fault_status (PictureIsThere name) = 4
 fault_status (PictureFailed name) = 4

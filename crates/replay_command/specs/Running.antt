@@ -2,20 +2,21 @@
 use Rattle.std.specs.Prelude.{◌≡◌, ◌⊎◌, ℕ, List, true, Option, IfSome, is_none, Result, Ok, Err}
 use Rattle.std.specs.Io.KnownBytes.{Keeps}
 use Rattle.clap.specs.declared.parser.matches.ArgMatches.{ArgMatches}
-use Rattle.schedule.specs.Script.{script_of}
+use Rattle.script.specs.DayScript.{bad_line_of}
 use Rattle.command_line.specs.ExitStatus.{exit_status}
 use Rattle.replay_command.specs.declared.asked.Asked.{Asked}
 use Rattle.replay_command.specs.declared.asked.Task.{Task}
 use Rattle.replay_command.specs.declared.asked.Task.TheVariants.{Check, Run}
 use Rattle.replay_command.specs.declared.fault.CommandFault.{CommandFault}
 use Rattle.replay_command.specs.Asked.{IsAsked}
+use Rattle.replay_command.specs.Days.{end_of}
 use Rattle.replay_command.specs.Fault.{IsOfCommandLine, IsOfPicture, fault_status}
 use Rattle.replay_command.specs.Stream.{EndsCheck, EndsRun}
 
 -- how what is asked for ends on a text
 abbrev pub EndsTask : Task → Option (List ℕ) → Option (List ℕ) → List ℕ → {A : Type 0} → Result A CommandFault → Type 0
-EndsTask Check before after text done = EndsCheck before after (script_of text) done
-EndsTask (Run shown) before after text done = EndsRun shown text before after (script_of text) done
+EndsTask Check before after text done = EndsCheck before after (bad_line_of text) done
+EndsTask (Run shown) before after text done = EndsRun shown text before after (end_of text) done
 
 -- the words are refused, and nothing is printed
 abbrev pub IsRefused : Option (List ℕ) → Option (List ℕ) → {A : Type 0} → Result A CommandFault → Type 0

@@ -1,7 +1,7 @@
 //! The first line of a script.
-ghost use Rattle.std.specs.Prelude.{IfOk, IfSome};
-ghost use Rattle.schedule.specs.Script.{script_of};
-ghost use Rattle.replay_command.specs.Stream.{Begins, LeavesLines};
+ghost use Rattle.std.specs.Prelude.{IfSome};
+ghost use Rattle.script.specs.DayScript.{begun_of};
+ghost use Rattle.replay_command.specs.Stream.{Begins};
 
 use crate::fault::CommandFault;
 use crate::input::read_line;
@@ -18,10 +18,7 @@ pub struct Begun {
 /// The first line of a script, behind blank lines and remarks. `BadLine`: it isn't of its form, or the input ends
 /// before it.
 pub fn begin<R: BufRead>(input: &mut R, buffer: &mut Vec<u8>) -> Result<Begun, CommandFault>
-    ensures begun { IfSome (R.remaining input.old) (λ bytes.
-        Begins result (R.remaining input.new) (script_of bytes)) }
-    ensures lines { IfOk result (λ begun. IfSome (R.remaining input.old) (λ bytes.
-        LeavesLines begun (R.remaining input.new) bytes)) }
+    ensures { IfSome (R.remaining input.old) (λ bytes. Begins result (R.remaining input.new) (begun_of bytes)) }
 {
     for number in 1..u64::MAX {
         if !read_line(input, buffer)? {

@@ -1,6 +1,7 @@
 //! A script is read, and not run.
 ghost use Rattle.std.specs.Prelude.{◌≤◌, IfSome};
-ghost use Rattle.schedule.specs.Script.{events_of_lines, lines_of, script_of};
+ghost use Rattle.schedule.specs.Script.{lines_of};
+ghost use Rattle.script.specs.DayScript.{bad_line, bad_line_of};
 ghost use Rattle.replay_command.specs.Stream.{Checks};
 
 use crate::begun::{Begun, begin};
@@ -21,7 +22,7 @@ fn check_lines<R: BufRead>(
 ) -> Result<(), CommandFault>
     requires low { 1 ≤ venues }
     requires high { venues ≤ 16 }
-    ensures { IfSome (R.remaining input.old) (λ bytes. Checks result (events_of_lines venues first (lines_of bytes))) }
+    ensures { IfSome (R.remaining input.old) (λ bytes. Checks result (bad_line venues first (lines_of bytes))) }
 {
     for number in first..u64::MAX {
         if !read_line(input, buffer)? {
@@ -36,7 +37,7 @@ fn check_lines<R: BufRead>(
 /// Reads an input to see that it is a script, and runs nothing. `BadLine`: the first line that isn't of its form, or
 /// one above the last where the first is missing.
 pub fn check_input<R: BufRead>(alloc: Global, input: &mut R) -> Result<(), CommandFault>
-    ensures { IfSome (R.remaining input.old) (λ bytes. Checks result (script_of bytes)) }
+    ensures { IfSome (R.remaining input.old) (λ bytes. Checks result (bad_line_of bytes)) }
 {
     let mut buffer = Vec::new(alloc);
     let Begun { head, number } = begin(input, &mut buffer)?;

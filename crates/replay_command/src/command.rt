@@ -41,6 +41,8 @@ Lines of the script:
   test V                              it asks for a sign of life
   quiet V, silent V                   the session wrote, or heard, nothing for a while
   close V, abandon V                  the session logs out, or is given up
+  crash [lost [sweeps S] [lines L ..]]  the dispatcher is killed and starts again from its disk, without
+                                      the last S sweeps and the last L lines of each venue's journal
 V counts from 0, K, I and J from 1. Blank lines and lines that begin with # are passed over.
 
 Examples:

@@ -18,6 +18,9 @@ pub enum CommandFault {
     /// last.
     #[error("line {0}")]
     BadLine(u64),
+    /// The crash of this line loses what can't be lost, and why not.
+    #[error("line {line}: {why}")]
+    Impossible { line: u64, why: String },
     /// The file that the words name can't be opened.
     #[error("read failed")]
     NoFile,
@@ -41,7 +44,7 @@ impl Fault for CommandFault {
     fn status(&self) -> u8 {
         match self {
             CommandFault::CommandLine(_) => 2,
-            CommandFault::BadLine(_) => 3,
+            CommandFault::BadLine(_) | CommandFault::Impossible { .. } => 3,
             CommandFault::NoFile | CommandFault::ReadFailed | CommandFault::WriteFailed => 4,
             CommandFault::PictureIsThere(_) | CommandFault::PictureFailed(_) => 4,
             CommandFault::OutOfMemory => 5,

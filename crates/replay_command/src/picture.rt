@@ -7,7 +7,7 @@ use dialect::AnyDialect;
 use ladder::Ladder;
 use replay::World;
 use schedule::Event;
-use script::Line;
+use script::{Line, Loss};
 use std::alloc::{AllocError, Global};
 use std::fs::{Files, OpenOptions};
 use std::io::{ErrorKind, Write};
@@ -36,6 +36,32 @@ pub fn draw(
 ) -> Result<(), AllocError> {
     match picture {
         Some(ladder) => ladder.draw(alloc, world, line.number, line.text),
+        None => Ok(()),
+    }
+}
+
+/// A world in which the dispatcher is to be killed is seen, where there is a picture.
+pub fn see_crash(
+    alloc: Global,
+    picture: &mut Option<Ladder>,
+    world: &World<AnyDialect>,
+) -> Result<(), AllocError> {
+    match picture {
+        Some(ladder) => ladder.see_crash(alloc, world),
+        None => Ok(()),
+    }
+}
+
+/// The crash that was seen, which a line says, is drawn, where there is a picture.
+pub fn draw_crash(
+    alloc: Global,
+    picture: &mut Option<Ladder>,
+    world: &World<AnyDialect>,
+    loss: &Loss,
+    line: &Line<'_>,
+) -> Result<(), AllocError> {
+    match picture {
+        Some(ladder) => ladder.draw_crash(alloc, world, loss.lines(), line.number, line.text),
         None => Ok(()),
     }
 }

@@ -1,7 +1,8 @@
 //! What is printed of a script.
 ghost use Rattle.std.specs.Prelude.{◌≡◌, [], false, IfOk, IfSome};
-ghost use Rattle.schedule.specs.Script.{script_of};
-ghost use Rattle.replay_command.specs.Stream.{Checks, EndsCheck, EndsRun, RunsScript, ShowsLast, last_lines};
+ghost use Rattle.script.specs.DayScript.{bad_line_of};
+ghost use Rattle.replay_command.specs.Days.{end_of};
+ghost use Rattle.replay_command.specs.Stream.{Checks, EndsCheck, EndsRun, RunsTo, ShowsLast, last_lines};
 
 use crate::check::check_input;
 use crate::day::run_input;
@@ -23,7 +24,7 @@ pub fn print_check<R: Read, W: Write>(
     out: &mut W,
 ) -> Result<(), CommandFault>
     ensures { IfSome (R.remaining input.old) (λ bytes.
-        EndsCheck (W.contents out.old) (W.contents out.new) (script_of bytes) result) }
+        EndsCheck (W.contents out.old) (W.contents out.new) (bad_line_of bytes) result) }
 {
     let Ok(mut input) = BufReader::new(alloc, input) else {
         return Err(CommandFault::OutOfMemory);
@@ -42,13 +43,13 @@ pub fn print_day<R: Read, W: Write>(
     out: &mut W,
 ) -> Result<(), CommandFault>
     ensures { IfSome (R.remaining input.old) (λ bytes.
-        EndsRun shown bytes (W.contents out.old) (W.contents out.new) (script_of bytes) result) }
+        EndsRun shown bytes (W.contents out.old) (W.contents out.new) (end_of bytes) result) }
 {
     let Ok(mut input) = BufReader::new(alloc, input) else {
         return Err(CommandFault::OutOfMemory);
     };
-    let world = run_input(alloc, shown.steps, picture, &mut input, out)?;
-    let text = end_of_day(alloc, shown, &world)?;
+    let day = run_input(alloc, shown.steps, picture, &mut input, out)?;
+    let text = end_of_day(alloc, shown, day.world())?;
     Ok(print(&text, out)?)
 }
 

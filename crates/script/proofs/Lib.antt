@@ -4,5 +4,7 @@ mod SoFar
 mod LegsSoFar
 pub mod EventsSoFar
 mod Venues
+mod Lost
+mod Goes
 mod Names
 mod Printable

@@ -4,7 +4,7 @@ use std::sync::atomic::{AtomicBool, Ordering};
 
 /// Tells workers to stop, from any thread. Told once, a worker shuts its gate and closes its session in order. Told
 /// twice, or once its patience is over, it gives its session up, and legs in doubt stay so. A worker that rests hears
-/// of it when its bell is rung, or five seconds later.
+/// of it when its bell is rung, or thirty seconds later.
 #[derive(Drop)]
 pub struct Stop {
     closes: AtomicBool,

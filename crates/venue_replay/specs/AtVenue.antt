@@ -1,9 +1,9 @@
 -- What becomes of a venue by what its two ends do.
-use Rattle.std.specs.Prelude.{ℕ, List, [], ◌∷◌, map, Ok, Err}
+use Rattle.std.specs.Prelude.{ℕ, Bool, List, [], ◌∷◌, map, Ok, Err}
 use Rattle.std.specs.Global.{Vec}
 use Rattle.dialect.specs.FreeText.{IsFreeText}
 use Rattle.dialect.specs.declared.message.Message.{Message}
-use Rattle.session_core.specs.Session.{SessionParts}
+use Rattle.session_core.specs.Session.{SessionParts, new_session}
 use Rattle.session_core.specs.Turn.{StepParts}
 use Rattle.session_core.specs.Calling.{SessionAnswer, quiet, silent, close}
 use Rattle.exchange_core.specs.Acts.{ActAnswer}
@@ -13,12 +13,20 @@ use Rattle.venue_replay.specs.declared.step_call.StepCall.{StepCall}
 use Rattle.venue_replay.specs.declared.step_call.StepCall.TheVariants.{Quiet, Silent, Close}
 use Rattle.schedule.specs.declared.act.Act.{Act}
 use Rattle.schedule.specs.declared.act.Act.TheVariants as act
-use Rattle.schedule.specs.World.{VenueParts}
+use Rattle.schedule.specs.World.{VenueParts, session_config}
 use Rattle.schedule.specs.Happening.{session_wrote, exchange_did}
 
 -- the frames of what was written into a connection
 abbrev pub written_in : ℕ → List (Vec ℕ) → List Frame
 written_in connection written = map (λ bytes. record { connection = connection; bytes = bytes }) written
+
+-- the dispatcher's side is that of a new venue: the exchange and the frames that it wrote are as they were
+abbrev pub begun_again : ℕ → Bool → VenueParts → VenueParts
+begun_again max_number next venue = record venue {
+  session = new_session (session_config max_number next);
+  to_exchange = [];
+  given = [];
+}
 
 -- a call of the session that writes one message
 abbrev pub sent : VenueParts → SessionAnswer Message → VenueParts

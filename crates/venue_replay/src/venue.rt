@@ -57,6 +57,7 @@ impl<D: Dialect + Drop> Venue<D> {
     ghost use Rattle.dialect.specs.Wording.{Decoding};
     ghost use Rattle.session_core.specs.Session.{leg_state};
     ghost use Rattle.venue_replay.specs.Network.{all_said};
+    ghost use Rattle.venue_replay.specs.AtVenue.{begun_again};
 
     /// A venue where nothing was written. `max_number`, which no message of the session has, is 16 to 999,999,999;
     /// `next` says whether the session's Logons say which number it expects next (789).
@@ -73,6 +74,19 @@ impl<D: Dialect + Drop> Venue<D> {
             from_exchange: Vec::new(alloc),
             given: Vec::new(alloc),
         }
+    }
+
+    /// The session is a new one again, which wrote nothing and handed nothing to the book; the exchange and the frames
+    /// that it wrote are as they were. `max_number` and `next` as for a new venue.
+    pub fn begin_again(&mut self, next: bool, max_number: u64)
+        requires low { 16 ≤ max_number }
+        requires high { max_number ≤ 999999999 }
+        ensures { self.new ≡ begun_again max_number next self.old }
+    {
+        let alloc = *self.given.allocator();
+        self.session = Session::new(alloc, session_end(max_number, next));
+        self.to_exchange = Vec::new(alloc);
+        self.given = Vec::new(alloc);
     }
 
     /// How far the session has come.

@@ -3,14 +3,15 @@
 ghost use Rattle.std.specs.Prelude.{◌≡◌, ◌<◌, length, IfOk, OnOk};
 ghost use Rattle.schedule.specs.declared.event.Event.TheVariants as event;
 ghost use Rattle.schedule.specs.Happening.{happens};
+ghost use Rattle.sweep_release.specs.Desk.{drop_next};
 ghost use Rattle.replay.specs.Telling.{told};
 
 use super::World;
 use crate::EventOutcome;
 use dialect::Dialect;
-use leg::{Sweep, VenueId};
+use leg::{PlacedLeg, Sweep, VenueId};
 use std::alloc::AllocError;
-use sweep_release::{GateFault, ReleaseFault, place};
+use sweep_release::{Gate, GateFault, ReleaseFault, place};
 
 impl<D: Dialect + Drop> World<D> {
     /// A sweep is released at the desk and opened in the book, or neither.
@@ -56,6 +57,18 @@ impl<D: Dialect + Drop> World<D> {
         if let Some(placed) = self.desk.drop_next(venue) {
             // A leg that the book has as moved stays as it is.
             let _ = self.book.withdraw(placed.leg.id);
+        }
+    }
+
+    /// The next leg of a venue that would be dropped: there is none while the gate is up.
+    pub(crate) fn leg_to_drop(&self, venue: VenueId) -> Option<PlacedLeg>
+        requires { venue < length self.now.venues }
+        ensures { result ≡ (drop_next self.now.desk venue).0 }
+    {
+        match self.desk.gate(venue) {
+            Gate::Up => None,
+            Gate::Down => self.desk.next_leg(venue),
+            Gate::Shut => self.desk.next_leg(venue),
         }
     }
 }

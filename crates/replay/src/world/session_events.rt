@@ -63,7 +63,7 @@ impl<D: Dialect + Drop> World<D> {
     }
 
     /// Whether a session may connect: the gate isn't up and nothing is placed.
-    fn may_connect(&self, venue: VenueId) -> bool
+    pub(crate) fn may_connect(&self, venue: VenueId) -> bool
         requires { venue < length self.now.venues }
         ensures { result ≡ may_connect self.now.desk venue }
     {

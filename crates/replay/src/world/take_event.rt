@@ -44,7 +44,7 @@ impl<D: Dialect + Drop> World<D> {
     }
 
     /// The next leg of a venue that can be taken and sent: there is none unless both the session and the gate are up.
-    fn leg_to_send(&self, venue: VenueId) -> Option<PlacedLeg>
+    pub(crate) fn leg_to_send(&self, venue: VenueId) -> Option<PlacedLeg>
         requires { venue < length self.now.venues }
         ensures { result ≡ leg_to_send self.now venue }
     {

@@ -2,7 +2,7 @@ use Rattle.std.proofs.Common.{◌≡◌, ◌+◌, Bool, ◌∷◌, refl, sym, ap
 use Rattle.std.specs.Prelude.{IfSome}
 use Rattle.schedule.specs.Script.{lines_of}
 use Rattle.replay_command.specs.Stream.{ReadsLine}
-use Rattle.replay_command.proofs.InputBegins.{bad, found, found_lines, passed_over}
+use Rattle.replay_command.proofs.InputBegins.{bad, found, passed_over}
 use Rattle.replay_command.proofs.begun.begin.Goals as goal
 
 pub loop-number-preserved : goal.loop-number-preserved
@@ -15,8 +15,8 @@ loop-number-preserved g c =
     (lines_of c.first_line.result.1.now) reads (ap lines_of (sym c.deref.ensures.value) ∙ c.first_line.ensures.lines)
     (sym c.is_passed_over.ensures ∙ c.if-is_passed_over.true) c.loop-number.invariant
 
-pub returns-in_default-clause-begun : goal.returns-in_default-clause-begun
-returns-in_default-clause-begun g c =
+pub returns-in_default : goal.returns-in_default
+returns-in_default g c =
     let left = g.R.Read.remaining c.loop-number.input in
     let behind = g.R.Read.remaining c.read_line.new.input in
     let read = c.read_line.new.buffer.items in
@@ -25,8 +25,8 @@ returns-in_default-clause-begun g c =
     (lines_of c.first_line.result.1.now) reads (ap lines_of (sym c.deref.ensures.value) ∙ c.first_line.ensures.lines)
     (sym c.is_passed_over.ensures ∙ c.if-is_passed_over.false) (sym c.in_default.ensures) c.loop-number.invariant
 
-pub returns-in-loop-number-clause-begun : goal.returns-in-loop-number-clause-begun
-returns-in-loop-number-clause-begun g c =
+pub returns-in-loop-number : goal.returns-in-loop-number
+returns-in-loop-number g c =
     let left = g.R.Read.remaining c.loop-number.input in
     let behind = g.R.Read.remaining c.read_line.new.input in
     let read = c.read_line.new.buffer.items in
@@ -34,13 +34,3 @@ returns-in-loop-number-clause-begun g c =
     found c.loop-number.number left behind (g.R.Read.remaining c.args.input.now) read c.first_line.result.0.now
     (lines_of c.first_line.result.1.now) _ reads (ap lines_of (sym c.deref.ensures.value) ∙ c.first_line.ensures.lines)
     (sym c.is_passed_over.ensures ∙ c.if-is_passed_over.false) (sym c.in-Some.ensures) refl c.loop-number.invariant
-
-pub returns-in-loop-number-clause-lines : goal.returns-in-loop-number-clause-lines
-returns-in-loop-number-clause-lines g c =
-    let left = g.R.Read.remaining c.loop-number.input in
-    let behind = g.R.Read.remaining c.read_line.new.input in
-    let read = c.read_line.new.buffer.items in
-    let reads = subst (λ (b : Bool). IfSome left (ReadsLine b read behind)) c.if-not-branch.false c.in_ok-read_line.ensures.line in
-    found_lines c.loop-number.number left behind (g.R.Read.remaining c.args.input.now) read c.first_line.result.0.now
-    (lines_of c.first_line.result.1.now) (record { head = c.in-Some.head; number = c.loop-number.number + 1 }) reads (ap lines_of (sym c.deref.ensures.value) ∙ c.first_line.ensures.lines)
-    (sym c.is_passed_over.ensures ∙ c.if-is_passed_over.false) refl c.loop-number.invariant

@@ -1,6 +1,7 @@
 use Rattle.std.proofs.Common.{rules, ◌≡◌, Bool, ◌∷◌, Result, Err, sym, ap, subst, ◌∙◌}
 use Rattle.std.specs.Prelude.{IfSome}
-use Rattle.schedule.specs.Script.{events_of_lines, lines_of}
+use Rattle.schedule.specs.Script.{lines_of}
+use Rattle.script.specs.DayScript.{bad_line}
 use Rattle.replay_command.specs.Stream.{Checks, ReadsLine}
 use Rattle.replay_command.specs.declared.fault.CommandFault.{CommandFault}
 use Rattle.replay_command.proofs.InputRuns.{check_ended, check_fails, check_goes_on}
@@ -26,7 +27,7 @@ returns-in_err-event_of_line g c =
     (ap lines_of (sym c.deref.ensures.value) ∙ c.first_line.ensures.lines) c.in_err-event_of_line.ensures c.loop-number.invariant in
     let same : Err c.in_err-event_of_line.field-0.0 ≡ c.from_residual-in_err-event_of_line.result = search rules in
     subst (λ (r : Result (Unit {0}) CommandFault). IfSome (g.R.Read.remaining c.args.input.now)
-    (λ bytes. Checks r (events_of_lines c.args.venues c.args.first (lines_of bytes)))) same fails
+    (λ bytes. Checks r (bad_line c.args.venues c.args.first (lines_of bytes)))) same fails
 
 pub loop-number-preserved : goal.loop-number-preserved
 loop-number-preserved g c =

@@ -1,12 +1,9 @@
-"""gen.py FOLDER COUNT SEED: random scripts with crashes, steered by the model so that much happens."""
-import os, random, sys
-from model import World, Fault, UP, DOWN, CONNECTED
-
-folder, count, seed = sys.argv[1], int(sys.argv[2]), int(sys.argv[3])
-os.makedirs(folder, exist_ok=True)
+"""Random scripts with crashes, steered by the model so that much happens, and what the model says of each."""
+from model import CONNECTED, DOWN, UP, Fault, World
 
 
-def one(r):
+def make_script(r):
+    """The lines of a random script, the model's world behind it, and the fault that ended it, if one did."""
     venues = r.choice([1, 1, 1, 2, 2, 3])
     top = r.choice([1000, 1000, 1000, r.randint(16, 40)])
     chose = [r.random() < 0.3 for _ in range(venues)]
@@ -129,27 +126,18 @@ def one(r):
         fault = str(f)
     return lines, w, fault
 
-
-if __name__ == "__main__":
-    r = random.Random(seed)
-    crashes = faults = 0
-    for i in range(count):
-        lines, w, fault = one(r)
-        with open("%s/c%05d" % (folder, i), "w") as f:
-            f.write("\n".join(lines) + "\n")
-        with open("%s/../want/c%05d" % (folder, i), "w") as f:
-            if fault is None:
-                for way, at, k, conn, m in w.frames():
-                    tags = ["%s=%s" % (t, m[t]) for t in ("34", "35", "43", "7", "36", "112", "789") if t in m]
-                    if "leg" in m:
-                        tags.append("leg=S%dL%d" % m["leg"][0])
-                    if "report" in m:
-                        tags.append("exec=" + m["report"]["exec"])
-                        tags.append("leg=S%dL%d" % m["report"]["leg"])
-                    f.write("%s %d %d connection %d %s\n" % (way, at, k, conn, " ".join(tags)))
-                f.write("\n".join(w.printed()) + "\n")
-            else:
-                f.write("fault line %d %s\n" % (len(lines), fault))
-        crashes += sum(l.startswith("crash") for l in lines)
-        faults += fault is not None
-    print("scripts", count, "crashes", crashes, "faults", faults)
+def said_by_model(lines, world, fault):
+    """What the model says of a script: the lines that `replay --frames` prints, or the line, rule and venue of the fault."""
+    if fault is not None:
+        rule, *venue = fault.split()
+        return len(lines), rule, venue[0] if venue else None
+    said = []
+    for way, at, number, connection, message in world.frames():
+        tags = [f"{tag}={message[tag]}" for tag in ("34", "35", "43", "7", "36", "112", "789") if tag in message]
+        if "report" in message:
+            tags.append("exec=" + message["report"]["exec"])
+            tags.append("leg=S%dL%d" % message["report"]["leg"])
+        elif "leg" in message:
+            tags.append("leg=S%dL%d" % message["leg"][0])
+        said.append(f"{way} {at} {number} connection {connection} {' '.join(tags)}")
+    return said + world.printed()

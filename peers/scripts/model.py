@@ -1,5 +1,5 @@
-"""An independent model of a script's world, with crashes, written from docs/script.md, docs/session.md, docs/exchange.md and
-docs/desk_and_book.md alone."""
+"""A model of a script's world, with crashes, written after docs/script.md, docs/session.md, docs/exchange.md and
+docs/desk_and_book.md, and not after the code."""
 import copy
 
 DOWN, LOGON, SETTLING, UP, CLOSING, LOGOUT, CLOSED = "down", "logon", "settling", "up", "closing", "logout", "closed"
