@@ -1,11 +1,12 @@
 //! The seat on which the clients of a day's page count.
 
-ghost use Rattle.std.specs.Prelude.{◌≡◌, ◌≢◌};
+ghost use Rattle.std.specs.Prelude.{◌≡◌, IfErr, IfOk};
 ghost use Rattle.sweep_release.specs.History.{KeptDesk};
 ghost use Rattle.release_lock.specs.Locked.{Replays, Releases};
-ghost use Rattle.desk_floor.specs.Release.{answer_of};
+ghost use Rattle.desk_floor.specs.Release.{answer_of, placed_after, told};
 
 use crate::floor::Floor;
+use crate::signals::Closing;
 use day_log::LineLog;
 use exec_collector::Accounts;
 use leg::Sweep;
@@ -30,23 +31,25 @@ impl<L: Run> Counter<L> {
         Counter { seat }
     }
 
-    /// Hands a sweep in on this seat, as `Floor::hand_in` does.
-    pub(crate) fn hand_in<'a, M, W, R, C>(
+    /// Hands a sweep in on this seat, as `Floor::hand_in` does: the seat gains it where it is placed.
+    pub(crate) fn hand_in<'f, 'a, M, W, R, C>(
         &mut self,
         rt: &'a R,
-        floor: &Floor<L, M, W>,
+        floor: &'f Floor<L, M, W>,
         log: &mut LineLog<'a, R, C>,
         line: &[u8],
         sweep: Sweep,
-    ) -> Answer
+    ) -> Result<Answer, Closing<'f>>
     where
         M: Accounts,
         W: Write + Drop,
         R: Wait + Clock,
         C: clock::Clock + Drop,
-        ensures { result ≢ Answer.Closing → (before : KeptDesk) × (after : KeptDesk) × (done : _)
+        ensures answer { IfOk result (λ answer. (before : KeptDesk) × (after : KeptDesk) × (done : _)
             × Replays before × Replays after × Releases sweep.legs before done after
-            × (result ≡ answer_of floor.now.names.items done) }
+            × (answer ≡ answer_of floor.now.names.items done)) }
+        ensures closing { IfErr result (λ shown. shown.of ≡ floor.now.signals.closing.id) }
+        ensures placed { self.new.seat.placed ≡ placed_after self.old.seat.placed (told result) sweep.legs }
     {
         floor.hand_in(rt, &mut self.seat, log, line, sweep)
     }

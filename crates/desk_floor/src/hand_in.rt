@@ -1,11 +1,12 @@
 //! A sweep is handed in, and answered.
 
-ghost use Rattle.std.specs.Prelude.{◌≡◌, ◌≢◌, ◌+◌, slice_get};
+ghost use Rattle.std.specs.Prelude.{◌≡◌, ◌≢◌, ◌+◌, slice_get, IfErr, IfOk};
 ghost use Rattle.sweep_release.specs.History.{KeptDesk};
 ghost use Rattle.release_lock.specs.Locked.{Replays, Releases};
-ghost use Rattle.desk_floor.specs.Release.{refusal_of, answer_of, placed_shares};
+ghost use Rattle.desk_floor.specs.Release.{refusal_of, answer_of, placed_after, placed_shares, told};
 
 use crate::floor::Floor;
+use crate::signals::Closing;
 use day_log::{LineLog, moment};
 use desk_words::VenueName;
 use exec_collector::Accounts;
@@ -74,8 +75,9 @@ fn venues_of(legs: &[Routed]) -> [bool; VENUES] {
 
 impl<L: Run, M: Accounts, W: Write + Drop> Floor<L, M, W> {
     /// Hands a sweep in that this line asks for, for a caller who counts on this seat, and answers with what became of
-    /// it, or that the day is closing. The line and its answer stand behind one another in the log. It may wait for the
-    /// locks; once those of the desk and the book are given up it wakes the workers of the sweep's venues.
+    /// it; or shows that the day is closing. The seat gains the sweep under the number that is answered, and else
+    /// nothing. The line and its answer stand behind one another in the log. It may wait for the locks; once those of
+    /// the desk and the book are given up it wakes the workers of the sweep's venues.
     pub fn hand_in<'a, R: Wait + Clock, C: clock::Clock + Drop>(
         &self,
         rt: &'a R,
@@ -83,24 +85,36 @@ impl<L: Run, M: Accounts, W: Write + Drop> Floor<L, M, W> {
         log: &mut LineLog<'a, R, C>,
         line: &[u8],
         sweep: Sweep,
-    ) -> Answer
-        ensures answer { result ≢ Answer.Closing → (before : KeptDesk) × (after : KeptDesk) × (done : _)
+    ) -> Result<Answer, Closing<'_>>
+        ensures answer { IfOk result (λ answer. (before : KeptDesk) × (after : KeptDesk) × (done : _)
             × Replays before × Replays after × Releases sweep.legs before done after
-            × (result ≡ answer_of self.now.names.items done) }
+            × (answer ≡ answer_of self.now.names.items done)) }
+        ensures closing { IfErr result (λ shown. shown.of ≡ self.now.signals.closing.id) }
         ensures parts { seat.new.parts ≡ seat.old.parts }
-        ensures counted { seat.new.shares ≡ seat.old.shares + placed_shares result sweep.legs }
+        ensures counted { seat.new.shares ≡ seat.old.shares + placed_shares (told result) sweep.legs }
+        ensures placed { seat.new.placed ≡ placed_after seat.old.placed (told result) sweep.legs }
     {
         let _turn = self.turn.lock(rt);
         log.taken(line);
-        let answer = if self.signals.is_closing() {
-            Answer::Closing
-        } else {
-            self.release(rt, seat, sweep)
-        };
-        log.answered(&answer);
-        self.refusals.note(rt, &answer);
+        if let Some(shown) = self.signals.closing() {
+            self.note_answer(rt, log, &Answer::Closing);
+            return Err(shown);
+        }
+        let answer = self.release(rt, seat, sweep);
+        self.note_answer(rt, log, &answer);
+        Ok(answer)
+    }
+
+    /// Notes an answer to a sweep in the log, and a refusal among the refusals, and tells that there is news.
+    fn note_answer<'a, R: Wait, C: clock::Clock + Drop>(
+        &self,
+        rt: &'a R,
+        log: &mut LineLog<'a, R, C>,
+        answer: &Answer,
+    ) {
+        log.answered(answer);
+        self.refusals.note(rt, answer);
         self.bells.news().tell();
-        answer
     }
 
     /// Hands a sweep in for a client of the page, who has no seat of their own, as `hand_in` does. Where the day has no
@@ -117,7 +131,10 @@ impl<L: Run, M: Accounts, W: Write + Drop> Floor<L, M, W> {
             × (result ≡ answer_of self.now.names.items done) }
     {
         match &self.shared {
-            Some(counter) => counter.lock(rt).hand_in(rt, self, log, line, sweep),
+            Some(counter) => match counter.lock(rt).hand_in(rt, self, log, line, sweep) {
+                Ok(answer) => answer,
+                Err(_) => Answer::Closing,
+            },
             None => Answer::Closing,
         }
     }
@@ -129,6 +146,7 @@ impl<L: Run, M: Accounts, W: Write + Drop> Floor<L, M, W> {
             × (result ≡ answer_of self.now.names.items done) }
         ensures parts { seat.new.parts ≡ seat.old.parts }
         ensures counted { seat.new.shares ≡ seat.old.shares + placed_shares result sweep.legs }
+        ensures placed { seat.new.placed ≡ placed_after seat.old.placed result sweep.legs }
     {
         let now = moment(rt);
         let venues = venues_of(sweep.legs.as_slice());

@@ -3,9 +3,11 @@
 //!
 //! Promises:
 //! - A sweep that is handed in is answered with what the desk and the book did, under the name of the venue that is to
-//!   blame, unless it is told that the day is closing. The caller's seat keeps its parts, and gains the shares of the
-//!   sweep where that is placed, and none else (`Floor::hand_in`). The clients of the page count on a seat of their
-//!   own, which has one part of the run whenever its lock is free (`Counter`).
+//!   blame; or it is shown that the day is closing, by what only its own flag gives (`Closing`). The caller's seat
+//!   keeps its parts. Where the sweep is placed, the seat gains it, once, under the number that is answered, and its
+//!   shares; else it gains nothing (`Floor::hand_in`).
+//!   The clients of the page count on a seat of their own, which has one part of the run whenever its lock is free
+//!   (`Counter`).
 //! - How a venue stands follows from what its worker told last, its gate and the dial that failed last, by the stated
 //!   definition, and so does what is told of it (`standing_of`, `Standing::state`). How a leg stands follows from the
 //!   book and from how far its venue's worker is (`state_of`). What a look finds there isn't said, as other threads
@@ -44,7 +46,7 @@ pub use counter::Counter;
 pub use floor::{Floor, Left};
 pub use legs::{LegStanding, leg_now, sweep_legs};
 pub use refusals::{Refusals, RefusedCounts, RefusedSince};
-pub use signals::{Begun, Manner, Signals};
+pub use signals::{Begun, Closing, Manner, Signals};
 pub use standing::Standing;
 pub use status::venue_status;
 pub use talk_fault::TalkFault;

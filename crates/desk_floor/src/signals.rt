@@ -1,6 +1,9 @@
 //! How a day is held, and what its threads tell one another.
 
+ghost use Rattle.std.specs.Prelude.{◌≡◌, IfSome};
+
 use std::sync::atomic::{AtomicBool, AtomicU64, Ordering};
+use std::sync::{OnceLock, OnceToken};
 use std::thread;
 use std::time::{Clock, Duration};
 
@@ -17,6 +20,8 @@ pub struct Manner {
     pub patience: u64,
     /// Whether changes are told while they come.
     pub tells_news: bool,
+    /// Whether executions are.
+    pub tells_executions: bool,
 }
 
 /// Whether threads that others rest on have begun.
@@ -30,6 +35,9 @@ impl Begun {
     }
 }
 
+/// Shows that no sweep is taken any more, for good.
+pub type Closing<'a> = OnceToken<'a, ()>;
+
 /// What the threads of a day tell one another.
 #[derive(Drop)]
 pub struct Signals {
@@ -39,8 +47,8 @@ pub struct Signals {
     pub workers: Begun,
     // How many shares were placed.
     placed: AtomicU64,
-    // Whether no sweep is taken any more.
-    is_closing: AtomicBool,
+    // Is written once no sweep is taken any more.
+    pub(crate) closing: OnceLock<()>,
     // Whether the workers were told to stop.
     is_stopped: AtomicBool,
     // Whether the workers have ended.
@@ -56,7 +64,7 @@ impl Signals {
             exchanges: Begun(AtomicBool::new(false)),
             workers: Begun(AtomicBool::new(false)),
             placed: AtomicU64::new(0),
-            is_closing: AtomicBool::new(false),
+            closing: OnceLock::new(),
             is_stopped: AtomicBool::new(false),
             is_ending: AtomicBool::new(false),
             is_over: AtomicBool::new(false),
@@ -90,12 +98,19 @@ impl Signals {
 
     /// The day is to close, and no sweep is taken any more. It says whether the day was closing already.
     pub fn close(&self) -> bool {
-        self.is_closing.swap(true, Ordering::SeqCst)
+        self.closing.try_set(()).is_err()
+    }
+
+    /// What shows that no sweep is taken any more, if that is so.
+    pub fn closing(&self) -> Option<Closing<'_>>
+        ensures { IfSome result (λ shown. shown.of ≡ self.now.closing.id) }
+    {
+        self.closing.witness()
     }
 
     /// Whether no sweep is taken any more.
     pub fn is_closing(&self) -> bool {
-        self.is_closing.load(Ordering::SeqCst)
+        self.closing.witness().is_some()
     }
 
     /// The workers are told to stop. It says whether they were told already.

@@ -3,9 +3,11 @@ use Rattle.std.specs.Prelude.{ℕ, zero, suc, List, [], ◌∷◌, ◌++◌, Opt
 use Rattle.leg.specs.LegId.{LegIdParts}
 use Rattle.dialect.specs.declared.note.Note.{Note}
 use Rattle.exec_collector.specs.declared.booking.Booking.{Booking}
+use Rattle.exec_collector.specs.declared.placed_sweep.PlacedSweep.{PlacedSweep}
 
 -- a seat: its parts of the count, the shares counted on it, the venue whose worker has it, if one has, the notes booked
--- and the legs asked to be withdrawn on it, in order, and all of these with what the book made of them
+-- and the legs asked to be withdrawn on it, in order, all of these with what the book made of them, and the sweeps that
+-- a caller placed, in order
 pub record Seat : Type 0 where
   pub parts : ℕ
   pub shares : ℕ
@@ -13,10 +15,11 @@ pub record Seat : Type 0 where
   pub booked : List Note
   pub asked : List LegIdParts
   pub bookings : List Booking
+  pub placed : List PlacedSweep
 
 -- a seat of one part on which nothing was counted yet
 abbrev pub new_seat : Seat
-new_seat = record { parts = 1; shares = 0; venue = None; booked = []; asked = []; bookings = [] }
+new_seat = record { parts = 1; shares = 0; venue = None; booked = []; asked = []; bookings = []; placed = [] }
 
 -- such a seat for the worker of a venue, on which nothing was asked of the book yet
 abbrev pub worker_seat : ℕ → Seat

@@ -15,6 +15,15 @@ pub record CountedParts : Type 0 where
   pub book : BookParts
   pub unbooked : List Unbooked
 
+-- the same, and for how many notes the list has room
+pub record KeptCounted : Type 0 where
+  pub book : BookParts
+  pub unbooked : List Unbooked
+  pub room : ℕ
+
+abbrev pub without_room : KeptCounted → CountedParts
+without_room kept = record { book = kept.book; unbooked = kept.unbooked }
+
 -- a note to which the book, of so many entries, answered this: it is listed, if the book didn't take it
 abbrev pub unbooked_by : ℕ → Note → Applied → ℕ → List Unbooked
 unbooked_by venue note answer entries =

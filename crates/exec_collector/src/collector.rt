@@ -7,7 +7,7 @@ ghost use Rattle.exec_collector.specs.Calls.{CallGives, CallReads};
 ghost use Rattle.exec_collector.specs.Opened.{IsSide};
 ghost use Rattle.exec_collector.specs.Resolved.{Replays, OnlyOpens, GainsBy, GainsLeg, resolved};
 ghost use Rattle.exec_collector.specs.Seats.{worker_seats};
-ghost use Rattle.exec_collector.specs.Unbooked.{CountedParts, IsListOf};
+ghost use Rattle.exec_collector.specs.Unbooked.{KeptCounted, IsListOf};
 
 use crate::venue_bookings::VenueBookings;
 use crate::{Accounts, BlankBook, CountedBook, Unbooked, WorkerSeat};
@@ -136,7 +136,7 @@ impl<M: Accounts> Collector<M> {
     pub fn read_all<T, F: FnOnce(&Book, &[Unbooked]) -> T>(&self, rt: &impl Wait, f: F) -> T
         requires call { (book : _) (unbooked : _) → Replays book.now → IsListOf book.now unbooked.now
             → F.pre f book unbooked }
-        ensures { (counted : CountedParts) × Replays counted.book × IsListOf counted.book counted.unbooked
+        ensures { (counted : KeptCounted) × Replays counted.book × IsListOf counted.book counted.unbooked
             × CallReads F.FnOnce f counted.book counted.unbooked result }
     {
         self.counted.lock(rt).read_all(f)

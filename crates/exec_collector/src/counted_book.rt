@@ -1,14 +1,14 @@
 //! The book, and the count of what its venues have resolved.
 
-ghost use Rattle.std.specs.Prelude.{◌≡◌, ◌+◌, ◌≤◌, ◌++◌, ◌∷◌, [], IfSome, IsOkUnless, MatchResult, OnOk};
+ghost use Rattle.std.specs.Prelude.{◌≡◌, ◌⊎◌, ◌+◌, ◌≤◌, ◌++◌, ◌∷◌, [], length, IfSome, IsOkUnless, MatchResult, OnErr, OnOk};
 ghost use Rattle.std.specs.Fn.{FnOnceReturnsAt, FnOnceReturnsAtMut};
 ghost use Rattle.leg.specs.Answering.{Answers};
-ghost use Rattle.share_ledger.specs.Book.{BookParts};
+ghost use Rattle.share_ledger.specs.Book.{BookParts, answer_to};
 ghost use Rattle.exec_collector.specs.Booked.{IsKept, withdraw_of};
 ghost use Rattle.exec_collector.specs.Calls.{CallGives, CallReads};
 ghost use Rattle.exec_collector.specs.Opened.{IsSide};
 ghost use Rattle.exec_collector.specs.Resolved.{Replays, OnlyOpens, GainsBy, GainsLeg, resolved, sum_below};
-ghost use Rattle.exec_collector.specs.Unbooked.{IsListOf, WereUnbooked, give};
+ghost use Rattle.exec_collector.specs.Unbooked.{IsListOf, WereUnbooked, give, without_room};
 
 use crate::opened_sweeps::keep_opened;
 use crate::unbooked::{Unbooked, give_note};
@@ -21,7 +21,8 @@ use share_ledger::{Applied, Book, BookFault};
 use std::marker::Model;
 use std::sync::ledger::Book as Total;
 
-/// What lies under the collector's lock. Contracts see the book and the list of the notes that it didn't take. The book
+/// What lies under the collector's lock. Contracts see the book, the list of the notes that it didn't take, and for how
+/// many notes that has room. The book
 /// replays from its own history, the seats add up to the shares that its venues have resolved, and each venue's notes
 /// and withdrawals in it are those that the book took on the seat of the venue. The notes given on that seat that it
 /// didn't take are those of the list.
@@ -36,15 +37,19 @@ pub struct CountedBook<M: Accounts> {
 }
 
 impl<M: Accounts> Model for CountedBook<M> {
-    ghost use Rattle.std.specs.Prelude.{◌≡◌, ◌≤◌, map};
+    ghost use Rattle.std.specs.Prelude.{◌≡◌, ◌≤◌, map, vec_capacity};
     ghost use Rattle.exec_collector.specs.Resolved.{Replays, resolved};
     ghost use Rattle.exec_collector.specs.Sides.{AreWritten, AreListed};
-    ghost use Rattle.exec_collector.specs.Unbooked.{CountedParts, IsListOf};
+    ghost use Rattle.exec_collector.specs.Unbooked.{KeptCounted, IsListOf};
     ghost use Rattle.exec_collector.specs.Opened.{IsSide};
 
-    ghost Value = { CountedParts };
+    ghost Value = { KeptCounted };
 
-    ghost view = { λ counted. record { book = counted.book; unbooked = counted.unbooked.items } };
+    ghost view = { λ counted. record {
+      book = counted.book;
+      unbooked = counted.unbooked.items;
+      room = vec_capacity counted.unbooked;
+    } };
 
     ghost invariant = { λ counted. (counted.venues ≡ counted.book.venues) × (counted.venues ≤ 16)
         × Replays counted.book × (counted.total.total ≡ resolved counted.book)
@@ -76,16 +81,21 @@ impl<M: Accounts> CountedBook<M> {
         ensures value { result ≡ resolved self.now.book }
         ensures few { result ≤ 1000000000000000000 }
         ensures replays { Replays self.now.book }
+        ensures list { IsListOf self.now.book self.now.unbooked }
     {
         resolved_in(&self.book, self.venues)
     }
 
     /// Applies a note of the seat's venue, and lists it where the book doesn't take it; the seat gains the shares that
-    /// cease to be open, and the note as one that was booked. B02, and the note may be applied again.
+    /// cease to be open, and the note as one that was booked. B02, and the note may be applied again: only where the
+    /// book takes it, or the list has no room for it.
     pub fn apply(&mut self, note: &Note, seat: &mut WorkerSeat<M>) -> Result<Applied, BookFault>
         ensures book { IfSome seat.old.venue (λ venue.
-            Answers BookFault.OutOfMemory self.old (give self.old venue note.now) result self.new) }
+            Answers BookFault.OutOfMemory (without_room self.old) (give (without_room self.old) venue note.now) result
+            (without_room self.new)) }
         ensures only { IsOkUnless result BookFault.OutOfMemory }
+        ensures wanting { IfSome seat.old.venue (λ venue. OnErr result
+            ((answer_to self.old.book venue note.now ≡ Applied.Moved) ⊎ (self.old.room ≤ length self.old.unbooked))) }
         ensures seat { seat.new.shares + resolved self.old.book ≡ seat.old.shares + resolved self.new.book }
         ensures gains { MatchResult result (λ applied. GainsBy note.now applied seat.old.shares seat.new.shares)
             (λ _. seat.new ≡ seat.old) }
@@ -107,7 +117,7 @@ impl<M: Accounts> CountedBook<M> {
     /// where the leg is none of the venue's. It takes no memory.
     pub fn withdraw(&mut self, id: LegId, seat: &mut WorkerSeat<M>) -> Result<(), BookFault>
         ensures book { IfSome seat.old.venue (λ venue. (result, self.new.book) ≡ withdraw_of venue self.old.book id) }
-        ensures unbooked { self.new.unbooked ≡ self.old.unbooked }
+        ensures unbooked { (self.new.unbooked ≡ self.old.unbooked) × (self.new.room ≡ self.old.room) }
         ensures seat { seat.new.shares + resolved self.old.book ≡ seat.old.shares + resolved self.new.book }
         ensures gains { MatchResult result (λ _. GainsLeg id seat.old.shares seat.new.shares)
             (λ fault. (fault ≡ BookFault.AlreadyMoved) × (seat.new.shares ≡ seat.old.shares)) }
@@ -162,7 +172,7 @@ impl<M: Accounts> CountedBook<M> {
         requires call { F.IsAlwaysCallable f }
         requires opens { (b : BookParts) (r : T) (c : BookParts) → FnOnceReturnsAtMut F.FnOnce f b r c → OnlyOpens b c }
         ensures call { FnOnceReturnsAtMut F.FnOnce f self.old.book result self.new.book }
-        ensures unbooked { self.new.unbooked ≡ self.old.unbooked }
+        ensures unbooked { (self.new.unbooked ≡ self.old.unbooked) × (self.new.room ≡ self.old.room) }
         ensures agreed { IsSide M.sweeps self.old.book side.old.name side.old.items }
         ensures side { IsSide M.sweeps self.new.book side.new.name side.new.items }
     {
@@ -183,7 +193,7 @@ impl<M: Accounts> CountedBook<M> {
         requires opens { (x : D) (b : BookParts) (r : T) (y : D) (c : BookParts) →
             CallGives F.FnOnce f x b r y c → OnlyOpens b c }
         ensures call { CallGives F.FnOnce f beside.old self.old.book result beside.new self.new.book }
-        ensures unbooked { self.new.unbooked ≡ self.old.unbooked }
+        ensures unbooked { (self.new.unbooked ≡ self.old.unbooked) × (self.new.room ≡ self.old.room) }
         ensures agreed { IsSide M.sweeps self.old.book side.old.name side.old.items }
         ensures side { IsSide M.sweeps self.new.book side.new.name side.new.items }
     {

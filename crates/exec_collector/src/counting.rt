@@ -3,9 +3,9 @@
 ghost use Rattle.std.specs.Prelude.{◌≡◌, ◌<◌, ◌↔◌, IfOk, IsOk};
 ghost use Rattle.std.specs.List.{All};
 ghost use Rattle.exec_collector.specs.Booked.{IsKept};
-ghost use Rattle.exec_collector.specs.Resolved.{resolved};
+ghost use Rattle.exec_collector.specs.Resolved.{Replays, resolved};
 ghost use Rattle.exec_collector.specs.Seats.{parts_of, shares_of};
-ghost use Rattle.exec_collector.specs.Unbooked.{WereUnbooked};
+ghost use Rattle.exec_collector.specs.Unbooked.{IsListOf, WereUnbooked};
 
 use crate::{Accounts, CountedBook, WorkerSeat};
 
@@ -24,6 +24,8 @@ pub fn check_count<M: Accounts>(
     ensures whole { parts_of seats.items ≡ M.parts → 0 < M.parts → IsOk result }
     ensures kept { All (IsKept counted.old.book) seats.items }
     ensures unbooked { All (WereUnbooked counted.old.unbooked) seats.items }
+    ensures replays { Replays counted.old.book }
+    ensures list { IsListOf counted.old.book counted.old.unbooked }
     ensures same { counted.new ≡ counted.old }
 {
     let mut seats = seats;

@@ -1,7 +1,8 @@
 //! A note that the book didn't take.
 
-ghost use Rattle.std.specs.Prelude.{◌≡◌, ◌++◌, MatchResult};
+ghost use Rattle.std.specs.Prelude.{◌≡◌, ◌⊎◌, ◌≤◌, ◌++◌, vec_capacity, vec_len, MatchResult, OnErr};
 ghost use Rattle.leg.specs.Answering.{Answers};
+ghost use Rattle.share_ledger.specs.Book.{answer_to};
 ghost use Rattle.exec_collector.specs.Unbooked.{CountedParts, give};
 
 use dialect::Note;
@@ -22,16 +23,18 @@ pub struct Unbooked {
 }
 
 /// Gives a note of a venue to the book, and lists it where the book doesn't take it. B02, and the note may be given
-/// again.
+/// again: only where the book takes it, or the list has no room for it.
 pub(crate) fn give_note(
     book: &mut Book,
     unbooked: &mut Vec<Unbooked>,
     venue: VenueId,
     note: &Note,
 ) -> Result<Applied, BookFault>
-    ensures { let before : CountedParts = record { book = book.old; unbooked = unbooked.old.items } in
+    ensures answer { let before : CountedParts = record { book = book.old; unbooked = unbooked.old.items } in
         let after : CountedParts = record { book = book.new; unbooked = unbooked.new.items } in
         Answers BookFault.OutOfMemory before (give before venue note.now) result after }
+    ensures wanting { OnErr result ((answer_to book.old venue note.now ≡ Applied.Moved)
+        ⊎ (vec_capacity unbooked.old ≤ vec_len unbooked.old)) }
 {
     let entries = book.history().len();
     let answer = book.apply(venue, note)?;

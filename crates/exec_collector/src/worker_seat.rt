@@ -22,7 +22,7 @@ pub struct WorkerSeat<M: Accounts> {
 }
 
 impl<M: Accounts> Model for WorkerSeat<M> {
-    ghost use Rattle.std.specs.Prelude.{◌≡◌, ◌<◌, Some, min, slice_get};
+    ghost use Rattle.std.specs.Prelude.{◌≡◌, ◌<◌, [], Some, min, slice_get};
     ghost use Rattle.exec_collector.specs.Booked.{notes_of, asked_of};
     ghost use Rattle.exec_collector.specs.Seats.{Seat};
 
@@ -35,6 +35,7 @@ impl<M: Accounts> Model for WorkerSeat<M> {
       booked = notes_of seat.bookings.items;
       asked = asked_of seat.bookings.items;
       bookings = seat.bookings.items;
+      placed = [];
     } };
 
     ghost invariant = { λ seat. (0 < seat.share.parts) × (seat.shares ≡ min seat.share.amount 18446744073709551615)

@@ -9,3 +9,4 @@ pub mod Opening
 pub mod Past
 pub mod TakenLegs
 pub mod Raising
+pub mod Shares

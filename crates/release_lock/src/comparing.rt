@@ -2,6 +2,7 @@
 
 ghost use Rattle.std.specs.Prelude.{◌≡◌};
 ghost use Rattle.share_ledger.specs.Entries.{opened};
+ghost use Rattle.release_lock.specs.Locked.{Replays};
 
 use crate::{LockedDesk, Run};
 use exec_collector::{Accounts, CountedBook};
@@ -10,6 +11,7 @@ use exec_collector::{Accounts, CountedBook};
 pub fn compare_sweeps<L: Run, M: Accounts>(locked: &mut LockedDesk<L>, counted: &mut CountedBook<M>)
     requires tied { L.sweeps ≡ M.sweeps }
     ensures same_sweeps { opened counted.old.book.entries ≡ locked.old.desk.sweeps }
+    ensures replays { Replays locked.old }
     ensures same { (locked.new ≡ locked.old) × (counted.new ≡ counted.old) }
 {
     counted.compare_sweeps(&mut locked.sweeps);

@@ -3,6 +3,7 @@
 ghost use Rattle.std.specs.Prelude.{◌≡◌, ◌↔◌, IfOk, IsOk};
 ghost use Rattle.exec_collector.specs.Seats.{parts_of, shares_of};
 ghost use Rattle.sweep_release.specs.Desk.{placed_shares};
+ghost use Rattle.release_lock.specs.Seats.{shares_placed};
 
 use crate::{CallerSeat, LockedDesk, Run};
 
@@ -10,7 +11,9 @@ use crate::{CallerSeat, LockedDesk, Run};
 #[derive(Clone, Copy, Debug, PartialEq, Eq)]
 pub struct Miscounted;
 
-/// The shares of these seats, where they are those of all sweeps released. The seats of all callers always are.
+/// The shares of these seats, where they are those of all sweeps released. The seats of all callers always are. In
+/// either case they are those of the sweeps on the seats.
+#[tactic(auto, using(crate::proofs::Shares::shares_append))]
 pub fn check_placed<L: Run>(
     locked: &mut LockedDesk<L>,
     seats: Vec<CallerSeat<L>>,
@@ -18,6 +21,7 @@ pub fn check_placed<L: Run>(
     ensures exact { IsOk result ↔ (shares_of seats.items ≡ placed_shares locked.old.desk) }
     ensures shares { IfOk result (λ shares. shares ≡ placed_shares locked.old.desk) }
     ensures whole { parts_of seats.items ≡ 1024 → IsOk result }
+    ensures placed { shares_placed seats.items ≡ shares_of seats.items }
     ensures same { locked.new ≡ locked.old }
 {
     let mut seats = seats;

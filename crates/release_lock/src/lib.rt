@@ -5,12 +5,16 @@
 //! - What lies under the lock, `LockedDesk`, replays from its own history, its seats add up to the shares of all
 //!   sweeps released, and what was pushed to a venue's ring is the first of the legs released to it, just as many as
 //!   left the desk, each time the lock is got (its invariant).
-//! - `release` is `place` under both locks, with its answers, and the seat gains exactly the sweep's shares, by a
-//!   refusal nothing; then each venue of the sweep's legs is pumped, by a refusal none.
+//! - `release` is `place` under both locks, with its answers. The seat gains exactly this sweep, under the number of
+//!   the receipt, and its shares, and by a refusal nothing. Then each venue of the sweep's legs is pumped, by a refusal
+//!   none.
+//! - A seat's shares are those of its sweeps (`CallerSeat::shares`); a seat that is split off has none, and one that is
+//!   joined hands its own on. That the sweeps of all seats are the desk's, each once, is promised nowhere.
 //! - `pump` moves placed legs into the ring, in order, and stops only where none is placed or the ring was full;
 //!   `raise` puts a gate up, and answers G01 until every released leg was popped.
 //! - `with` takes closures that only turn gates.
-//! - `check_placed` is `Ok` exactly where the seats add up to the shares placed, and always is with all 1,024 parts.
+//! - `check_placed` is `Ok` exactly where the seats add up to the shares placed, and always is with all 1,024 parts. In
+//!   either case what the seats count are the shares of their sweeps.
 //! - `check_queues` is `Ok` exactly where each worker took the first legs released to the venue at its place, names
 //!   the first that didn't, and always is `Ok` with the ends in order.
 //! - `is_shut` and `is_behind` tell without the lock what the last call that had it noted of a venue; that the note
@@ -25,6 +29,7 @@ mod checking;
 mod comparing;
 mod counting;
 mod locked_desk;
+mod placings;
 mod pumping;
 mod release_lock;
 mod run;

@@ -1,9 +1,10 @@
 //! The desk, the count of what its callers placed, and the feeds of the venues' rings.
 
-ghost use Rattle.std.specs.Prelude.{◌≡◌, ◌⊎◌, ◌+◌, ◌<◌, ◌≤◌, length, min, MatchResult};
+ghost use Rattle.std.specs.Prelude.{◌≡◌, ◌⊎◌, ◌+◌, ◌<◌, ◌≤◌, ◌++◌, ◌∷◌, [], List, length, min, IfOk, MatchResult};
 ghost use Rattle.std.specs.Fn.{FnOnceReturnsAtMut};
 ghost use Rattle.crossbeam_queue.specs.Fifo.{Held};
 ghost use Rattle.leg.specs.Answering.{Answers};
+ghost use Rattle.leg.specs.declared.sweep.Routed.{Routed};
 ghost use Rattle.venue_queue.specs.Rule.{EndsWith};
 ghost use Rattle.share_ledger.specs.Entries.{sweep_shares};
 ghost use Rattle.sweep_release.specs.Desk.{placed};
@@ -12,6 +13,7 @@ ghost use Rattle.sweep_release.specs.Place.{kept, place_kept, PlaceAnswers};
 ghost use Rattle.exec_collector.specs.Resolved.{OnlyOpens};
 ghost use Rattle.release_lock.specs.Locked.{Replays, Places, Releases, OnlyTurns};
 ghost use Rattle.release_lock.specs.Queues.{left_to, Pumps, raise};
+ghost use Rattle.release_lock.specs.Seats.{placing};
 
 use crate::pumping::{pump, pump_each};
 use crate::sweep_venues::SweepVenues;
@@ -60,8 +62,9 @@ impl<L: Run> LockedDesk<L> {
     }
 
     /// Releases a sweep at the desk and opens it in the collector's book, under one number, or does neither; the seat
-    /// gains its shares. Then each venue of its legs is pumped, in the order of the venues' numbers. R01 to R08 in the
-    /// order of `place`; a refused sweep is dropped, no venue is pumped, and nothing else changes.
+    /// gains the sweep under that number, and its shares. Then each venue of its legs is pumped, in the order of the
+    /// venues' numbers. R01 to R08 in the order of `place`; a refused sweep is dropped, no venue is pumped, and nothing
+    /// else changes.
     pub fn release<M: Accounts>(
         &mut self,
         rt: &impl Wait,
@@ -74,6 +77,8 @@ impl<L: Run> LockedDesk<L> {
         ensures replays { Replays self.old × Replays self.new }
         ensures seat { MatchResult result (λ receipt. (receipt.shares ≡ sweep_shares sweep.legs)
             × (seat.new.shares ≡ seat.old.shares + receipt.shares)) (λ _. seat.new ≡ seat.old) }
+        ensures noted { IfOk result (λ receipt. seat.new.placed
+            ≡ seat.old.placed ++ placing receipt.number sweep.legs ∷ []) }
         ensures parts { seat.new.parts ≡ seat.old.parts }
     {
         let venues = SweepVenues::of(sweep.legs.as_slice());
@@ -82,7 +87,7 @@ impl<L: Run> LockedDesk<L> {
         Ok(receipt)
     }
 
-    /// Releases a sweep and opens it in the book, or does neither; the seat gains its shares.
+    /// Releases a sweep of these legs and opens it in the book, or does neither; the seat gains it, and its shares.
     fn place_sweep<M: Accounts>(
         &mut self,
         rt: &impl Wait,
@@ -90,11 +95,15 @@ impl<L: Run> LockedDesk<L> {
         sweep: Sweep,
         seat: &mut CallerSeat<L>,
     ) -> Result<Receipt, ReleaseFault>
+        ghost legs: { List Routed }
         requires tied { L.sweeps ≡ M.sweeps }
+        requires legs { legs ≡ sweep.legs }
         ensures placed { Places sweep.legs self.old result self.new }
         ensures replays { Replays self.old × Replays self.new }
         ensures seat { MatchResult result (λ receipt. (receipt.shares ≡ sweep_shares sweep.legs)
             × (seat.new.shares ≡ seat.old.shares + receipt.shares)) (λ _. seat.new ≡ seat.old) }
+        ensures noted { IfOk result (λ receipt. seat.new.placed
+            ≡ seat.old.placed ++ placing receipt.number sweep.legs ∷ []) }
         ensures parts { seat.new.parts ≡ seat.old.parts }
     {
         let LockedDesk {
@@ -109,7 +118,7 @@ impl<L: Run> LockedDesk<L> {
             sweeps,
             |desk: &mut Desk, book: &mut Book| { place_in(desk, book, sweep) },
         )?;
-        seat.count(total, receipt.shares);
+        seat.count(total, receipt);
         Ok(receipt)
     }
 

@@ -1,6 +1,6 @@
 //! The desk behind a lock.
 
-ghost use Rattle.std.specs.Prelude.{[], ◌≡◌, ◌⊎◌, ◌+◌, ◌<◌, ◌≤◌, length, map, min, IfOk, IsOkUnless, MatchResult};
+ghost use Rattle.std.specs.Prelude.{[], ◌∷◌, ◌++◌, ◌≡◌, ◌⊎◌, ◌+◌, ◌<◌, ◌≤◌, length, map, min, IfOk, IsOkUnless, MatchResult};
 ghost use Rattle.std.specs.List.{All};
 ghost use Rattle.std.specs.Fn.{FnOnceReturnsAtMut};
 ghost use Rattle.crossbeam_queue.specs.Fifo.{Held};
@@ -11,8 +11,9 @@ ghost use Rattle.sweep_release.specs.Desk.{placed};
 ghost use Rattle.sweep_release.specs.History.{KeptDesk as ADesk, without_room};
 ghost use Rattle.release_lock.specs.Locked.{Replays, Releases, OnlyTurns};
 ghost use Rattle.release_lock.specs.Queues.{IsFresh, new_drains, left_to, Pumps, raise};
-ghost use Rattle.release_lock.specs.Seats.{first_seat};
+ghost use Rattle.release_lock.specs.Seats.{first_seat, placing};
 
+use crate::placings::Placings;
 use crate::venue_note::VenueNote;
 use crate::{CallerSeat, LockedDesk, Run, VenueDrain};
 use agreed_list::SeatSide;
@@ -97,13 +98,15 @@ impl<L: Run> ReleaseLock<L> {
             parts: 1024,
             shares: 0,
             share,
+            placings: Placings::new(),
         };
         Ok(Opened { lock, seat, drains })
     }
 
     /// Releases a sweep under both locks, the desk's first: at the desk and in the collector's book, under one number,
-    /// or in neither; the seat gains its shares. Before it gives up the lock, each venue of the sweep's legs is pumped,
-    /// so that a worker finds them without it. R01 to R08 in the order of `place`, and no venue is pumped.
+    /// or in neither; the seat gains the sweep under that number, and its shares. Before it gives up the lock, each
+    /// venue of the sweep's legs is pumped, so that a worker finds them without it. R01 to R08 in the order of `place`,
+    /// and no venue is pumped.
     pub fn release<M: Accounts>(
         &self,
         rt: &impl Wait,
@@ -116,6 +119,8 @@ impl<L: Run> ReleaseLock<L> {
             × Releases sweep.legs before result after }
         ensures seat { MatchResult result (λ receipt. (receipt.shares ≡ sweep_shares sweep.legs)
             × (seat.new.shares ≡ seat.old.shares + receipt.shares)) (λ _. seat.new ≡ seat.old) }
+        ensures noted { IfOk result (λ receipt. seat.new.placed
+            ≡ seat.old.placed ++ placing receipt.number sweep.legs ∷ []) }
         ensures parts { seat.new.parts ≡ seat.old.parts }
     {
         let mut locked = self.locked.lock(rt);

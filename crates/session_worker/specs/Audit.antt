@@ -8,10 +8,11 @@ use Rattle.sweep_release.specs.History.{KeptDesk}
 use Rattle.exec_collector.specs.Booked.{IsKept}
 use Rattle.exec_collector.specs.Resolved.{resolved, Replays as BookReplays}
 use Rattle.exec_collector.specs.Seats.{Seat, shares_of}
-use Rattle.exec_collector.specs.Unbooked.{CountedParts, IsListOf, WereUnbooked}
+use Rattle.exec_collector.specs.Unbooked.{CountedParts, KeptCounted, IsListOf, WereUnbooked}
 use Rattle.exec_collector.specs.declared.unbooked.Unbooked.{Unbooked}
 use Rattle.release_lock.specs.Locked.{Replays as DeskReplays}
 use Rattle.release_lock.specs.Queues.{Took, AllTookFirst, IsFirstWrong}
+use Rattle.release_lock.specs.Seats.{shares_placed}
 use Rattle.session_worker.specs.declared.audit_fault.AuditFault.{AuditFault}
 use Rattle.session_worker.specs.declared.audit_fault.AuditFault.TheVariants.{MismatchQueue, MismatchShares, MismatchPlaced, OutOfMemory}
 use Rattle.session_worker.specs.declared.day_report.DayReport.{DayReport}
@@ -75,6 +76,8 @@ pub record AuditedDay (callers : List Seat) (queues : List Took) (seats : List S
   pub left : All (WereUnbooked unbooked) seats
   -- the sweeps opened in the book are those that the desk released, in order
   pub sweeps : opened book.entries ≡ desk.desk.sweeps
+  -- the shares that the callers count are those of the sweeps on their seats
+  pub placed : shares_placed callers ≡ shares_of callers
   pub audits : Audits (day_of desk book callers queues seats) answer
 
 -- its book and list
@@ -86,7 +89,7 @@ abbrev pub AuditsOf : List Seat → List Took → List Seat → Result DayReport
 AuditsOf callers queues seats answer = AuditedDay callers queues seats answer ⊎ (answer ≡ Err OutOfMemory)
 
 -- the same of this desk, this book and its list
-abbrev pub AuditsOpened : KeptDesk → CountedParts → List Seat → List Took → List Seat → Result DayReport AuditFault
+abbrev pub AuditsOpened : KeptDesk → KeptCounted → List Seat → List Took → List Seat → Result DayReport AuditFault
     → Type 0
 AuditsOpened desk counted callers queues seats answer =
     ((day : AuditedDay callers queues seats answer) × (day.desk ≡ desk) × (day.book ≡ counted.book)

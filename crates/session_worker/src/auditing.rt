@@ -4,12 +4,13 @@ ghost use Rattle.std.specs.Prelude.{◌≡◌, ◌<◌, IfOk, IsOk, IsOkUnless};
 ghost use Rattle.std.specs.List.{All};
 ghost use Rattle.exec_collector.specs.Booked.{IsKept};
 ghost use Rattle.exec_collector.specs.Resolved.{Replays as BookReplays};
-ghost use Rattle.exec_collector.specs.Seats.{parts_of};
+ghost use Rattle.exec_collector.specs.Seats.{parts_of, shares_of};
 ghost use Rattle.exec_collector.specs.Unbooked.{CountedParts, IsListOf, WereUnbooked};
 ghost use Rattle.sweep_release.specs.History.{KeptDesk as ADesk};
 ghost use Rattle.share_ledger.specs.Entries.{opened};
 ghost use Rattle.release_lock.specs.Locked.{Replays};
 ghost use Rattle.release_lock.specs.Queues.{AreInOrder};
+ghost use Rattle.release_lock.specs.Seats.{shares_placed};
 ghost use Rattle.session_worker.specs.Audit.{day_of, Audits, AuditsOf, AuditsOpened};
 ghost use Rattle.session_worker.specs.Ends.{queues_of, seats_of};
 
@@ -80,6 +81,7 @@ fn audit_of<L: Run, M: Accounts>(
     ensures unbooked { IsListOf counted.old.book counted.old.unbooked
         × All (WereUnbooked counted.old.unbooked) seats.items }
     ensures sweeps { opened counted.old.book.entries ≡ locked.desk.sweeps }
+    ensures placed { shares_placed callers.items ≡ shares_of callers.items }
     ensures same { counted.new ≡ counted.old }
     ensures whole { AreInOrder queues.items → parts_of seats.items ≡ M.parts → 0 < M.parts
         → parts_of callers.items ≡ 1024 → IsOk result }
@@ -89,8 +91,6 @@ fn audit_of<L: Run, M: Accounts>(
     let placed = check_placed(&mut locked, callers);
     let resolved = check_count(counted, seats);
     let still_open = open_shares(counted.book());
-    let _ = counted.unbooked();
-    let _ = locked.desk();
     if let Err(wrong) = check_queues(locked, queues) {
         return Err(AuditFault::MismatchQueue(wrong.place));
     }

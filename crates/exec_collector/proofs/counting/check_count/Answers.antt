@@ -4,7 +4,7 @@ use Rattle.std.proofs.lemmas.List.Elements.{All-push}
 use Rattle.std.proofs.lemmas.List.Sums.{sum_by_push}
 use Rattle.exec_collector.specs.Booked.{IsKept}
 use Rattle.exec_collector.specs.Seats.{Seat, parts_of, shares_of}
-use Rattle.exec_collector.specs.Unbooked.{CountedParts, WereUnbooked}
+use Rattle.exec_collector.specs.Unbooked.{KeptCounted, WereUnbooked}
 use Rattle.exec_collector.proofs.counting.check_count.Goals as goal
 
 pub loop-seat-preserved : goal.loop-seat-preserved
@@ -25,8 +25,8 @@ loop-seat-preserved g c =
     let same_shares = ap (λ (s : Seat). s.shares) c.compare-in-Some-pop.ensures.same.1 in
     let parts_before = so_far.0 in
     let shares_before = so_far.1 in
-    let kept : P seat = subst (λ (b : CountedParts). IsKept b.book seat) so_far.2 c.compare-in-Some-pop.ensures.kept in
-    let left : Q seat = subst (λ (b : CountedParts). WereUnbooked b.unbooked seat) so_far.2
+    let kept : P seat = subst (λ (b : KeptCounted). IsKept b.book seat) so_far.2 c.compare-in-Some-pop.ensures.kept in
+    let left : Q seat = subst (λ (b : KeptCounted). WereUnbooked b.unbooked seat) so_far.2
     c.compare-in-Some-pop.ensures.unbooked in (
       omega (arith, parts, parts_sum, more_parts, same_parts, parts_before),
       omega (arith, shares, shares_sum, more_shares, same_shares, shares_before),

@@ -7,14 +7,14 @@ use Rattle.share_ledger.specs.Book.{BookParts, answer_to, after_note}
 use Rattle.exec_collector.proofs.Sweeps.{side-noted}
 use Rattle.exec_collector.proofs.Booked.{written-noted}
 use Rattle.exec_collector.proofs.Listing.{list-noted, listed-noted}
-use Rattle.exec_collector.specs.Unbooked.{CountedParts, unbooked_by}
+use Rattle.exec_collector.specs.Unbooked.{CountedParts, KeptCounted, unbooked_by}
 use Rattle.exec_collector.specs.Resolved.{resolved}
 use Rattle.exec_collector.proofs.Counts.{noted}
 use Rattle.exec_collector.proofs.counted_book.CountedBook.apply.Goals as goal
 
 pub overflow_sub-gained : goal.overflow_sub-gained
 overflow_sub-gained g c =
-    let done = c.in_ok-applied.ensures in
+    let done = c.in_ok-applied.ensures.answer in
     let next = ap (λ (d : CountedParts). d.book) done.1 in
     let it = noted c.self.inside.book c.give_note.new.book c.seat.inside.venue c.args.note.now c.in_ok-applied.applied
     c.self.invariant.2 done.0 next in
@@ -25,7 +25,7 @@ overflow_sub-gained g c =
 
 pub count-requires : goal.count-requires
 count-requires g c =
-    let done = c.in_ok-applied.ensures in
+    let done = c.in_ok-applied.ensures.answer in
     let next = ap (λ (d : CountedParts). d.book) done.1 in
     let it = noted c.self.inside.book c.give_note.new.book c.seat.inside.venue c.args.note.now c.in_ok-applied.applied
     c.self.invariant.2 done.0 next in
@@ -39,7 +39,7 @@ count-requires g c =
 
 pub invariant_of-self-2 : goal.invariant_of-self-2
 invariant_of-self-2 g c =
-    let done = c.in_ok-applied.ensures in
+    let done = c.in_ok-applied.ensures.answer in
     let next = ap (λ (d : CountedParts). d.book) done.1 in
     let it = noted c.self.inside.book c.give_note.new.book c.seat.inside.venue c.args.note.now c.in_ok-applied.applied
     c.self.invariant.2 done.0 next in
@@ -84,7 +84,7 @@ invariant_of-self-2 g c =
 
 pub returns-clause-seat : goal.returns-clause-seat
 returns-clause-seat g c =
-    let done = c.in_ok-applied.ensures in
+    let done = c.in_ok-applied.ensures.answer in
     let next = ap (λ (d : CountedParts). d.book) done.1 in
     let it = noted c.self.inside.book c.give_note.new.book c.seat.inside.venue c.args.note.now c.in_ok-applied.applied
     c.self.invariant.2 done.0 next in
@@ -94,12 +94,12 @@ returns-clause-seat g c =
     let rises = it.rises in
     let seat = c.count.ensures.seat in
     let same = ap (λ (s : Seat). s.shares) c.add_note.ensures.seat in
-    let view = ap (λ (d : CountedParts). resolved d.book) c.self.view_is in
+    let view = ap (λ (d : KeptCounted). resolved d.book) c.self.view_is in
     omega (arith, before, now, counts, rises, seat, same, view)
 
 pub returns-clause-gains : goal.returns-clause-gains
 returns-clause-gains g c =
-    let done = c.in_ok-applied.ensures in
+    let done = c.in_ok-applied.ensures.answer in
     let next = ap (λ (d : CountedParts). d.book) done.1 in
     let it = noted c.self.inside.book c.give_note.new.book c.seat.inside.venue c.args.note.now c.in_ok-applied.applied
     c.self.invariant.2 done.0 next in

@@ -7,7 +7,7 @@ use Rattle.exec_collector.specs.Seats.{Seat}
 use Rattle.exec_collector.specs.declared.venue_bookings.VenueBookings.{VenueBookings}
 use Rattle.exec_collector.proofs.Booked.{written-kept, written-at}
 use Rattle.exec_collector.proofs.Listing.{listed-kept, listed-at}
-use Rattle.exec_collector.specs.Unbooked.{CountedParts, WereUnbooked, unbooked_of, unbooked_among}
+use Rattle.exec_collector.specs.Unbooked.{KeptCounted, WereUnbooked, unbooked_of, unbooked_among}
 use Rattle.exec_collector.specs.declared.booking.Booking.{Booking}
 use Rattle.exec_collector.proofs.counted_book.CountedBook.compare.Goals as goal
 
@@ -47,7 +47,7 @@ returns-clause-kept g c =
     record {
       venue = venue;
       of_venue = sym (ap (λ (s : Seat). s.venue) seen);
-      booked = subst (λ (b : CountedParts). AreBooked venue b.book c.args.seat.now.bookings) c.self.view_is
+      booked = subst (λ (b : KeptCounted). AreBooked venue b.book c.args.seat.now.bookings) c.self.view_is
           (subst (λ v. AreBooked v c.self.inside.book c.args.seat.now.bookings) at
           (subst (AreBooked c.from.result c.self.inside.book) c.compare.ensures.agreed booked));
       notes = subst (λ (s : Seat). s.booked ≡ notes_of s.bookings) seen refl;
@@ -67,7 +67,7 @@ returns-clause-unbooked g c =
     record {
       venue = venue;
       of_venue = sym (ap (λ (s : Seat). s.venue) c.seat.view_is);
-      listed = subst (λ (b : CountedParts). unbooked_of venue b.unbooked
+      listed = subst (λ (b : KeptCounted). unbooked_of venue b.unbooked
           ≡ unbooked_among venue c.args.seat.now.bookings) c.self.view_is
           (subst (λ v. unbooked_of v c.self.inside.unbooked.items ≡ unbooked_among v c.args.seat.now.bookings) at
           (subst (λ (items : List Booking). unbooked_of c.from.result c.self.inside.unbooked.items

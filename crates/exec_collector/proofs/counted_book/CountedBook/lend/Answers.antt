@@ -2,7 +2,7 @@ use Rattle.std.proofs.Common.{rules, sym, subst, ◌∙◌}
 use Rattle.exec_collector.specs.Resolved.{OnlyOpens}
 use Rattle.exec_collector.proofs.Booked.{written-opened}
 use Rattle.exec_collector.proofs.Listing.{list-opened}
-use Rattle.exec_collector.specs.Unbooked.{CountedParts}
+use Rattle.exec_collector.specs.Unbooked.{KeptCounted}
 use Rattle.exec_collector.proofs.Counts.{only_opened}
 use Rattle.exec_collector.proofs.counted_book.CountedBook.lend.Goals as goal
 
@@ -10,7 +10,7 @@ pub invariant_of-self : goal.invariant_of-self
 invariant_of-self g c =
     let kept = c.self.invariant in
     let opens = c.requires.opens c.args.self.now.book c.f-given.result c.f-given.new.arg2 (search rules) in
-    let only = subst (λ (b : CountedParts). OnlyOpens b.book c.f-given.new.arg2) (sym c.self.view_is) opens in
+    let only = subst (λ (b : KeptCounted). OnlyOpens b.book c.f-given.new.arg2) (sym c.self.view_is) opens in
     let after = only_opened c.self.inside.book c.f-given.new.arg2 kept.2
     only in (
       kept.0 ∙ sym after.venues,

@@ -1,7 +1,7 @@
 use Rattle.std.proofs.Common.{rules, sym, subst, ◌∙◌}
 use Rattle.exec_collector.specs.Calls.{CallGives}
 use Rattle.exec_collector.specs.Resolved.{OnlyOpens}
-use Rattle.exec_collector.specs.Unbooked.{CountedParts}
+use Rattle.exec_collector.specs.Unbooked.{KeptCounted}
 use Rattle.exec_collector.proofs.Booked.{written-opened}
 use Rattle.exec_collector.proofs.Listing.{list-opened}
 use Rattle.exec_collector.proofs.Counts.{only_opened}
@@ -32,5 +32,5 @@ pub returns-clause-call : goal.returns-clause-call
 returns-clause-call g c =
     let call : CallGives g.F.FnOnce c.args.f c.args.beside.now c.self.inside.book c.f-given.result c.f-given.new.arg2
     c.f-given.new.arg3 = search rules in
-    subst (λ (b : CountedParts). CallGives g.F.FnOnce c.args.f c.args.beside.now b.book c.f-given.result
+    subst (λ (b : KeptCounted). CallGives g.F.FnOnce c.args.f c.args.beside.now b.book c.f-given.result
     c.f-given.new.arg2 c.f-given.new.arg3) c.self.view_is call

@@ -6,7 +6,7 @@ use Rattle.exec_collector.specs.Sides.{IsOneMore}
 use Rattle.exec_collector.specs.declared.booking.Booking.TheVariants.{Asked}
 use Rattle.exec_collector.proofs.Booked.{written-asked}
 use Rattle.exec_collector.proofs.Listing.{list-asked, listed-asked}
-use Rattle.exec_collector.specs.Unbooked.{CountedParts}
+use Rattle.exec_collector.specs.Unbooked.{KeptCounted}
 use Rattle.exec_collector.proofs.Sweeps.{side-asked}
 use Rattle.exec_collector.proofs.Counts.{asked}
 use Rattle.exec_collector.proofs.counted_book.CountedBook.withdraw.Goals as goal
@@ -69,7 +69,7 @@ returns-clause-seat g c =
     let rises = it.rises in
     let seat = c.count.ensures.seat in
     let same = ap (λ (s : Seat). s.shares) c.add_withdrawal.ensures.seat in
-    let view = ap (λ (d : CountedParts). resolved d.book) c.self.view_is in
+    let view = ap (λ (d : KeptCounted). resolved d.book) c.self.view_is in
     omega (arith, before, now, rises, seat, same, view)
 
 pub returns-clause-gains : goal.returns-clause-gains

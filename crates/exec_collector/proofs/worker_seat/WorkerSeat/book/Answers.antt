@@ -17,6 +17,7 @@ returns-clause-seat g c =
       booked = notes_of items;
       asked = asked_of items;
       bookings = items;
+      placed = [];
     } in
     let more : seen (items ++ last) ≡ record (seen items) {
       booked = notes_of items ++ notes_of last;
