@@ -9,7 +9,7 @@ use Rattle.day_check.specs.declared.finding.Printing.{Printing}
 use Rattle.day_check.specs.declared.checked_log.CheckedLog.{CheckedLog}
 use Rattle.day_check.proofs.LinesRead.{behind, nothing}
 use Rattle.check_command.specs.PathName.{is_sweeps, venue_paths}
-use Rattle.check_command.specs.Runs.{ChecksExactly, ChecksLogs, ChecksPath, LogRead, ReadsNext, any_broken, logs_text, paths_asked, paths_before, read_text, style_asked, text_of_exact, venues_of}
+use Rattle.check_command.specs.Runs.{ChecksExactly, ChecksLogs, ChecksPath, LogRead, ReadsNext, any_broken, holds_exactly, logs_text, paths_asked, paths_before, read_text, style_asked, text_of_exact, venues_of}
 use Rattle.check_command.specs.declared.command.Request.{Request}
 use Rattle.check_command.specs.declared.day.Day.{Day}
 
@@ -76,15 +76,18 @@ one_read r of_day path out after day later log other reads noted pushed pathed r
 
 -- a log that was read, and what is said of it exactly
 pub log_read : {input : Option (List ℕ)} (r : Request) (of_day : Bool) (p : Printing) (path : List ℕ)
-    (before between after : Option (List ℕ)) (first : CheckedLog) (other : Bool) → style_of p ≡ style_asked r of_day → p.log.now ≡ path → p.is_json ≡ r.is_json
-    → ChecksLog p input before between first → ChecksExactly p (is_some r.exact) between after other
-    → ChecksPath r of_day path before after (record { day = first.day; is_broken = first.is_broken || other })
-log_read r of_day p path before between after first other style is_path json checks exactly =
+    (before between after : Option (List ℕ)) (first : CheckedLog) (asked other : Bool) → style_of p ≡ style_asked r of_day → p.log.now ≡ path → p.is_json ≡ r.is_json
+    → ChecksLog p input before between first → asked ≡ holds_exactly r of_day first.is_own
+    → ChecksExactly p asked between after other
+    → ChecksPath r of_day path before after
+    (record { day = first.day; is_broken = first.is_broken || other; is_own = first.is_own })
+log_read r of_day p path before between after first asked other style is_path json checks is_asked exactly =
     let read : LogRead = record { path = path; lines = checks.lines; is_cut = checks.is_cut; exact = exactly.said } in
     let s = style_asked r of_day in record {
       read = read;
       path_is = refl;
-      held = exactly.held;
+      held = exactly.held ∙ (is_asked ∙ ap (holds_exactly r of_day)
+          (checks.own ∙ ap (λ (t : Style). (checked t checks.lines).is_own) style));
       day = checks.day ∙ ap (λ (t : Style). (checked t checks.lines).day) style;
       broken = ap (λ (b : Bool). b || other)
           (checks.broken ∙ ap (λ (t : Style). breaks_a_rule (checked t checks.lines).tallies) style)

@@ -21,7 +21,7 @@ check_status (Err fault) = fault_status fault
 -- the logs of venues were read, each for itself: whether one of them is broken, and what was printed
 pub record ChecksEach (r : Request) (before after : Option (List ℕ)) (broken : Bool) : Type 0 where
   pub logs : List LogRead
-  pub read : AreRead r [] logs
+  pub read : AreRead r false [] logs
   pub is_so : broken ≡ any_broken (style_asked r false) logs
   pub printed : r.is_json ≡ false → Appends before after (logs_text (style_asked r false) logs)
 
@@ -38,7 +38,7 @@ day_of r logs path desk = record {
 -- they were read, and then these lines of that of a desk, of which the last one stands first; and the day was judged
 pub record ChecksDay (r : Request) (path : List ℕ) (before after : Option (List ℕ)) (broken : Bool) : Type 0 where
   pub logs : List LogRead
-  pub read : AreRead r [] logs
+  pub read : AreRead r true [] logs
   pub names : List (List ℕ)
   pub are_names : AreNames names (paths_asked r)
   pub lines : List (List ℕ)

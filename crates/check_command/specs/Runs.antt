@@ -1,11 +1,13 @@
 -- What the logs of venues come to that were checked, and what is printed of them.
-use Rattle.std.specs.Prelude.{◌≡◌, ℕ, Bool, true, false, ◌||◌, List, [], ◌∷◌, ◌++◌, map, Option, Some, None, is_some}
+use Rattle.std.specs.Prelude.{◌≡◌, ℕ, Bool, true, false, ◌&&◌, ◌||◌, List, [], ◌∷◌, ◌++◌, map, Option, Some, None, is_some}
 use Rattle.std.specs.Io.KnownBytes.{Appends}
 use Rattle.day_rules.specs.VenueDay.{VenueParts}
 use Rattle.day_check.specs.Exact.{exact_text}
 use Rattle.day_check.specs.LogText.{Style, checked, log_text}
 use Rattle.day_check.specs.Tallies.{breaks_a_rule}
 use Rattle.day_check.specs.declared.finding.Printing.{Printing}
+use Rattle.day_check.specs.declared.form.Form.{Form}
+use Rattle.day_check.specs.declared.form.Form.TheVariants.{Own, Quickfix}
 use Rattle.day_check.specs.declared.checked_log.CheckedLog.{CheckedLog}
 use Rattle.check_command.specs.PathName.{venue_paths}
 use Rattle.check_command.specs.declared.command.Request.{Request}
@@ -61,11 +63,6 @@ abbrev pub paths_before : List LogRead → List (List ℕ) → List (List ℕ)
 paths_before [] paths = paths
 paths_before (log ∷ earlier) paths = paths_before earlier (log.path ∷ paths)
 
--- each of them is held against what its session writes, or none is
-abbrev pub AreHeld : Bool → List LogRead → Type 0
-AreHeld asked [] = Unit {0}
-AreHeld asked (log ∷ earlier) = (is_some log.exact ≡ asked) × AreHeld asked earlier
-
 -- how the logs are told that the words name, as those of a day where the day is judged
 abbrev pub style_asked : Request → Bool → Style
 style_asked r of_day = record {
@@ -74,6 +71,22 @@ style_asked r of_day = record {
   tells_legs = r.tells_legs;
   keeps_legs = r.tells_legs || of_day;
 }
+
+abbrev pub is_own_form : Form → Bool
+is_own_form Own = true
+is_own_form (Quickfix desk) = false
+
+-- a log is held against what its session writes where that is asked for, and of a day where its first line says that
+-- this program wrote it
+abbrev pub holds_exactly : Request → Bool → Bool → Bool
+holds_exactly r of_day is_own = is_some r.exact || (of_day && is_own && is_own_form r.form)
+
+abbrev pub is_held : Request → Bool → List (List ℕ) → Bool
+is_held r of_day lines = holds_exactly r of_day (checked (style_asked r of_day) lines).is_own
+
+abbrev pub AreHeld : Request → Bool → List LogRead → Type 0
+AreHeld r of_day [] = Unit {0}
+AreHeld r of_day (log ∷ earlier) = (is_some log.exact ≡ is_held r of_day log.lines) × AreHeld r of_day earlier
 
 -- what is said of a log exactly, where that is asked for
 pub record ChecksExactly (p : Printing) (asked : Bool) (before after : Option (List ℕ)) (broken : Bool) : Type 0 where
@@ -87,7 +100,7 @@ pub record ChecksPath (r : Request) (of_day : Bool) (path : List ℕ) (before af
     : Type 0 where
   pub read : LogRead
   pub path_is : read.path ≡ path
-  pub held : is_some read.exact ≡ is_some r.exact
+  pub held : is_some read.exact ≡ is_held r of_day read.lines
   pub day : log.day ≡ (checked (style_asked r of_day) read.lines).day
   pub broken : log.is_broken ≡ is_broken (style_asked r of_day) read
   pub printed : r.is_json ≡ false → Appends before after (read_text (style_asked r of_day) read)
@@ -97,15 +110,15 @@ abbrev pub paths_asked : Request → List (List ℕ)
 paths_asked r = map (λ path. path.now) r.paths.items
 
 -- these are the logs of venues that the words name, each in its turn, but for those among these paths, which are left
-pub record AreRead (r : Request) (rest : List (List ℕ)) (logs : List LogRead) : Type 0 where
+pub record AreRead (r : Request) (of_day : Bool) (rest : List (List ℕ)) (logs : List LogRead) : Type 0 where
   pub paths : paths_before logs (venue_paths rest) ≡ venue_paths (paths_asked r)
-  pub held : AreHeld (is_some r.exact) logs
+  pub held : AreHeld r of_day logs
 
 -- they were read, and this is what they come to; of a day they are kept
 pub record ChecksLogs (r : Request) (of_day : Bool) (rest : List (List ℕ)) (before after : Option (List ℕ)) (day : Day)
     : Type 0 where
   pub logs : List LogRead
-  pub read : AreRead r rest logs
+  pub read : AreRead r of_day rest logs
   pub broken : day.is_broken ≡ any_broken (style_asked r of_day) logs
   pub venues : of_day ≡ true → day.venues.items ≡ venues_of (style_asked r of_day) logs
   pub named : of_day ≡ true → map (λ path. path.now) day.paths.items ≡ paths_before logs []

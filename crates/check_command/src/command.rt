@@ -4,6 +4,7 @@ ghost use Rattle.clap.specs.Matches.{found_of, matched_of};
 ghost use Rattle.clap.specs.declared.parser.matches.ArgMatches.{ArgMatches};
 ghost use Rattle.check_command.specs.Fault.{IsOfCommandLine};
 ghost use Rattle.check_command.specs.Request.{IsForm, IsRequest, values_of};
+ghost use Rattle.check_command.specs.Runs.{is_own_form};
 
 use crate::fault::CommandFault;
 use clap::{Arg, ArgAction, ArgMatches, Command};
@@ -45,9 +46,10 @@ and with --legs, for each order and then for each sweep:
 and with --exact, behind the rules, the first line that isn't what the session writes, and a line for this rule:
   line N exact: the session writes 8=FIX.4.4|9=..|
 The dialect is that of the log's orders; auto stands for the one that the log's first line names, as dispatch run
-writes it.
+writes it. What follows from a break that was named is counted alone, as broken again.
 With sweeps.log among the logs, behind all of them what the day came to, for each sweep that was placed, and then
-whether each sentence of the sweep theorem holds, or where it doesn't:
+whether each sentence of the sweep theorem holds, or where it doesn't; each log whose first line says that dispatch
+run wrote it is held against what its session writes, as with --exact auto:
   sentence order holds                or `broken PATH line N: what it says`, and the line below it
 
 The exit status is 0, or 8 where a rule or a sentence is broken.
@@ -71,9 +73,17 @@ pub(crate) struct Request<'a> {
     pub exact: Option<DialectBy>,
 }
 
+/// Whether the logs are this program's.
+fn is_own_form(form: &Form) -> bool
+    ensures { result ≡ is_own_form form.now }
+{
+    matches!(form, Form::Own)
+}
+
 impl<'a> Request<'a> {
     ghost use Rattle.day_check.specs.LogText.{style_of};
-    ghost use Rattle.check_command.specs.Runs.{style_asked};
+    ghost use Rattle.std.specs.Prelude.{is_some};
+    ghost use Rattle.check_command.specs.Runs.{holds_exactly, style_asked};
 
     /// How what is said of a log is printed, of a day's where the day is judged too.
     pub(crate) fn printing<'b>(&'b self, log: &'b str, is_of_day: bool) -> Printing<'b>
@@ -88,6 +98,18 @@ impl<'a> Request<'a> {
             is_json: self.is_json,
             tells_legs: self.tells_legs,
             keeps_legs: self.tells_legs || is_of_day,
+        }
+    }
+
+    /// The dialect in which a log is held against what its session writes, if it is: of a day also where its first line
+    /// says that this program wrote it.
+    pub(crate) fn exact_of(&self, is_of_day: bool, is_own: bool) -> Option<DialectBy>
+        ensures { is_some result ≡ holds_exactly self.now is_of_day is_own }
+    {
+        match self.exact {
+            Some(dialect) => Some(dialect),
+            None if is_of_day && is_own && is_own_form(&self.form) => Some(DialectBy::Head),
+            None => None,
         }
     }
 }

@@ -4,12 +4,14 @@
 //! - `check_run` ends with the status of what it did (`ExitsSo`): 8 where something is broken, 0 where nothing is, or
 //!   that of its fault; where its words are refused, the names of logs among them, nothing is printed. Broken is a rule
 //!   in the lines that were read of the logs it took (`ChecksEach`), or, with a desk's log, a sentence (`ChecksDay`).
+//! - A log is held against what its session writes where that is asked for, and of a day where its first line says that
+//!   this program wrote it (`holds_exactly`).
 //! - What is printed as text is exactly what those lines come to: of each log of a venue `log_text` of `day_check`, in
 //!   their order, and then `day_text` of the day, with each sentence as `judged` of `day_rules` has it.
 //! - Not said: that the logs are those of the words, whose parse no clause pins, so that a body which takes none meets
 //!   it; that lines are those of files; that a line shown beside a broken sentence stands in its log; which words stand
-//!   for a rule; what is printed with `--json` or before a fault; and what `explain` of `session_trace` said of a log
-//!   with `--exact`, whose answer is printed.
+//!   for a rule; what is printed with `--json` or before a fault; and what `explain` of `session_trace` said of a log,
+//!   whose answer is printed.
 #![tactic(auto)]
 
 ghost use Rattle.std.specs.Prelude.{◌≡◌, IfErr, IfOk};

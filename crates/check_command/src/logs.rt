@@ -8,7 +8,7 @@ use crate::day::Day;
 use crate::fault::CommandFault;
 use crate::files::open;
 use crate::path_name::is_sweeps;
-use day_check::{CheckedLog, LogFault, Printing, print_exact, print_log};
+use day_check::{CheckedLog, DialectBy, LogFault, Printing, print_exact, print_log};
 use std::alloc::Global;
 use std::fs::Files;
 use std::io::Write;
@@ -17,14 +17,14 @@ use std::io::Write;
 fn check_exactly<F: Files, W: Write>(
     files: &F,
     alloc: Global,
-    request: &Request<'_>,
+    by: Option<DialectBy>,
     printing: &Printing<'_>,
     out: &mut W,
 ) -> Result<bool, LogFault>
     ensures { IfOk result
-        (ChecksExactly printing.now (is_some request.now.exact) (W.contents out.old) (W.contents out.new)) }
+        (ChecksExactly printing.now (is_some by) (W.contents out.old) (W.contents out.new)) }
 {
-    match request.exact {
+    match by {
         None => Ok(false),
         Some(dialect) => {
             let mut input = open(files, alloc, printing.log)?;
@@ -49,9 +49,11 @@ fn check_path<F: Files, W: Write>(
     let printing = request.printing(path, is_of_day);
     let mut input = open(files, alloc, path)?;
     let first = print_log(alloc, &printing, &mut input, out)?;
-    let is_other = check_exactly(files, alloc, request, &printing, out)?;
+    let by = request.exact_of(is_of_day, first.is_own);
+    let is_other = check_exactly(files, alloc, by, &printing, out)?;
     Ok(CheckedLog {
         is_broken: first.is_broken | is_other,
+        is_own: first.is_own,
         day: first.day,
     })
 }

@@ -1,5 +1,5 @@
 -- A message that was judged is counted and told.
-use Rattle.std.proofs.Common.{◌≡◌, ℕ, List, Option, Result, Ok, Err, ap}
+use Rattle.std.proofs.Common.{◌≡◌, ℕ, Bool, List, Option, Result, Ok, Err, ap}
 use Rattle.log_rules.specs.declared.entry.Entry.{Entry}
 use Rattle.log_rules.specs.declared.tally.Tally.{Tally}
 use Rattle.log_rules.specs.declared.verdict.Verdict.{Verdict}
@@ -12,11 +12,11 @@ use Rattle.day_check.specs.LogText.{Style, entry_findings}
 use Rattle.day_check.specs.Tallies.{tallied_upto}
 
 pub counted : (number : ℕ) (entry : Result (Option Entry) LineFault) (log : LogParts) (day : VenueParts)
-    (tallies between : List Tally) (said : List Verdict) → Judges number entry log.day day (Ok said)
-    → tallies ≡ tallied_upto 22 said between → between ≡ log.tallies
-    → record { day = day; tallies = tallies } ≡ entry_checked number entry log
-counted number (Err fault) log day tallies between said judges is same = absurd judges
-counted number (Ok entry) log day tallies between said judges is same = cc
+    (tallies between : List Tally) (own : Bool) (said : List Verdict) → Judges number entry log.day day (Ok said)
+    → tallies ≡ tallied_upto 22 said between → between ≡ log.tallies → own ≡ log.is_own
+    → record { day = day; tallies = tallies; is_own = own } ≡ entry_checked number entry log
+counted number (Err fault) log day tallies between own said judges is same still = absurd judges
+counted number (Ok entry) log day tallies between own said judges is same still = cc
 
 pub told : (s : Style) (number : ℕ) (line : List ℕ) (entry : Result (Option Entry) LineFault) (old day : VenueParts)
     (said : List Verdict) → Judges number entry old day (Ok said)

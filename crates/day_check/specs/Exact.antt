@@ -7,18 +7,29 @@ use Rattle.day_check.specs.declared.finding.Printing.{Printing}
 use Rattle.day_check.specs.Finding.{tally_line}
 
 -- what the session writes in the place of a line, as it is logged, or nothing
+abbrev pub written_instead : ℕ → List ℕ → List ℕ
+written_instead number [] =
+    codes "line " ++ decimal number ++ codes " exact: the session writes nothing, or the dialect is another"
+written_instead number (c ∷ cs) =
+    codes "line " ++ decimal number ++ codes " exact: the session writes " ++ c ∷ cs
+
+-- what to do where it writes this in the place of a line, or nothing
+abbrev pub advice_on : List ℕ → List ℕ
+advice_on [] =
+    codes "name the dialect of the venue's orders with --exact; if it is this one, find what changed the log"
+advice_on (c ∷ cs) =
+    codes "find what lost or changed a line of this log; if nothing did, stop the desk and report it with the log"
+
+-- what the session writes in the place of a line, and what to do
 abbrev pub difference_line : ℕ → List ℕ → List ℕ
-difference_line number [] =
-    codes "line " ++ decimal number ++ codes " exact: the session writes nothing, or the dialect is another\n"
-difference_line number (c ∷ cs) =
-    codes "line " ++ decimal number ++ codes " exact: the session writes " ++ c ∷ cs ++ 10 ∷ []
+difference_line number logged = written_instead number logged ++ codes "\n  " ++ advice_on logged ++ 10 ∷ []
 
 abbrev pub difference_text : ℕ → List ℕ → List ℕ
 difference_text number frame = difference_line number (logged frame)
 
 -- how many frames are what the session writes, and whether one isn't
 abbrev pub exact_tally : ℕ → ℕ → List ℕ
-exact_tally held broken = tally_line (codes "exact") (record { held = held; broken = broken })
+exact_tally held broken = tally_line (codes "exact") (record { held = held; broken = broken; again = 0 })
 
 -- what is printed of that many frames, and of the first line that isn't what the session writes, if there is one
 abbrev pub exact_text : ℕ → Option (ℕ × List ℕ) → List ℕ

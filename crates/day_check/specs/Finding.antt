@@ -29,12 +29,17 @@ findings_upto words form number line said (suc n) =
     findings_upto words form number line said n
     ++ finding_if form number line (slice_get words n) (breaks said n)
 
+-- how often it was broken again, where it was
+abbrev pub again_text : ℕ → List ℕ
+again_text zero = []
+again_text (suc n) = codes " again " ++ decimal (suc n)
+
 -- how often a rule was held and broken
 abbrev pub tally_line : List ℕ → Tally → List ℕ
 tally_line name tally =
     if tally.held == 0 && tally.broken == 0 then codes "rule " ++ name ++ codes " not seen\n"
     else codes "rule " ++ name ++ codes " held " ++ decimal tally.held ++ codes " broken "
-    ++ decimal tally.broken ++ 10 ∷ []
+    ++ decimal tally.broken ++ again_text tally.again ++ 10 ∷ []
 
 abbrev pub tally_if : Option RuleWords → Option Tally → List ℕ
 tally_if None tally = []

@@ -4,6 +4,7 @@ pub mod Json
 pub mod Lines
 pub mod Tallies
 pub mod Finding
+pub mod Head
 pub mod LogChecked
 pub mod LogText
 pub mod LogCheck

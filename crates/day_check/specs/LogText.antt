@@ -90,4 +90,5 @@ pub record ChecksLog (p : Printing) (input before after : Option (List ℕ)) (lo
   pub read : AreCutLines input lines is_cut
   pub day : log.day ≡ (checked (style_of p) lines).day
   pub broken : log.is_broken ≡ breaks_a_rule (checked (style_of p) lines).tallies
+  pub own : log.is_own ≡ (checked (style_of p) lines).is_own
   pub printed : p.is_json ≡ false → Appends before after (log_text (style_of p) p.log.now lines is_cut)

@@ -20,6 +20,8 @@ pub struct CheckedLog {
     pub day: VenueDay,
     /// Whether one of them breaks a rule.
     pub is_broken: bool,
+    /// Whether its first line is the head that this program writes.
+    pub is_own: bool,
 }
 
 /// Checks the lines of a log, and prints the rules that they break.
@@ -74,6 +76,7 @@ pub fn print_log<R: BufRead, W: Write>(
     print(&end, out)?;
     Ok(CheckedLog {
         is_broken: log.is_broken(),
+        is_own: log.is_own,
         day: log.day,
     })
 }

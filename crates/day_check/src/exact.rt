@@ -1,7 +1,7 @@
 //! A log is held against what the session itself writes.
 
 ghost use Rattle.std.specs.Prelude.{◌≡◌, false, IfOk};
-ghost use Rattle.day_check.specs.Exact.{HoldsExactly, difference_line, difference_text, exact_tally, said_text};
+ghost use Rattle.day_check.specs.Exact.{HoldsExactly, advice_on, difference_line, difference_text, exact_tally, said_text, written_instead};
 
 use crate::fault::LogFault;
 use crate::finding::{Printing, number, tally_line, text};
@@ -159,6 +159,21 @@ fn judge_exactly(alloc: Global, dialect: AnyDialect, log: &ShownLog) -> Result<S
     }
 }
 
+/// What to do where the session writes another frame in the place of a line.
+const CHANGED: &str =
+    "find what lost or changed a line of this log; if nothing did, stop the desk and report it with the log";
+
+/// What to do where it writes nothing there.
+const NOTHING: &str =
+    "name the dialect of the venue's orders with --exact; if it is this one, find what changed the log";
+
+/// What to do where the session writes this frame in the place of a line, or nothing.
+fn advice_on(logged: &[u8]) -> &'static str
+    ensures { result.now ≡ advice_on logged.now }
+{
+    if logged.is_empty() { NOTHING } else { CHANGED }
+}
+
 /// What the session writes in the place of a line, as it is logged; as an object of JSON.
 fn difference_json(
     alloc: Global,
@@ -174,22 +189,33 @@ fn difference_json(
             name: "writes",
             value: Value::Text(logged),
         },
+        text("advice", advice_on(logged)),
     ];
     json_line(alloc, &members)
 }
 
 /// What the session writes in the place of a line, as it is logged.
-fn difference_line(alloc: Global, place: u64, logged: &[u8]) -> Result<Vec<u8>, AllocError>
-    ensures { IfOk result (λ text. text.items ≡ difference_line place logged.now) }
+fn written_instead(alloc: Global, place: u64, logged: &[u8]) -> Result<Vec<u8>, AllocError>
+    ensures { IfOk result (λ text. text.items ≡ written_instead place logged.now) }
 {
     if logged.is_empty() {
         let line = format!(in alloc;
-            "line {place} exact: the session writes nothing, or the dialect is another\n"
+            "line {place} exact: the session writes nothing, or the dialect is another"
         )?;
         return Ok(line.into_bytes());
     }
     let mut line = format!(in alloc; "line {place} exact: the session writes ")?.into_bytes();
     line.extend_from_slice(logged)?;
+    Ok(line)
+}
+
+/// What the session writes in the place of a line, as it is logged, and what to do.
+fn difference_line(alloc: Global, place: u64, logged: &[u8]) -> Result<Vec<u8>, AllocError>
+    ensures { IfOk result (λ text. text.items ≡ difference_line place logged.now) }
+{
+    let mut line = written_instead(alloc, place, logged)?;
+    line.extend_from_slice(b"\n  ")?;
+    line.extend_from_slice(advice_on(logged).as_bytes())?;
     line.push(b'\n')?;
     Ok(line)
 }
@@ -229,7 +255,15 @@ fn tally_text(
         ];
         return json_line(alloc, &members);
     }
-    tally_line(alloc, EXACT, Tally { held, broken })
+    tally_line(
+        alloc,
+        EXACT,
+        Tally {
+            held,
+            broken,
+            again: 0,
+        },
+    )
 }
 
 /// What is printed of a log that was explained or not.

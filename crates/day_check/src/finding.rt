@@ -1,7 +1,7 @@
 //! What is printed of a rule.
 ghost use Rattle.std.specs.Prelude.{◌≡◌, false, IfOk};
 ghost use Rattle.day_rules.specs.VenueDay.{breaks};
-ghost use Rattle.day_check.specs.Finding.{finding_head, finding_if, finding_lines, findings_upto, summary_upto, tally_if, tally_line};
+ghost use Rattle.day_check.specs.Finding.{again_text, finding_head, finding_if, finding_lines, findings_upto, summary_upto, tally_if, tally_line};
 ghost use Rattle.day_check.specs.LogText.{cut_text, uncounted_text};
 ghost use Rattle.day_check.specs.Shown.{line_shown};
 ghost use Rattle.std.specs.Prelude.{slice_get};
@@ -158,17 +158,32 @@ pub(crate) fn findings(
     Ok(text)
 }
 
+/// How often a rule was broken again, where it was.
+fn again_text(alloc: Global, again: u64) -> Result<Vec<u8>, AllocError>
+    ensures { IfOk result (λ text. text.items ≡ again_text again) }
+{
+    if again == 0 {
+        return Ok(Vec::new(alloc));
+    }
+    Ok(format!(in alloc; " again {again}")?.into_bytes())
+}
+
 /// How often the rule of this name was held and broken.
 pub(crate) fn tally_line(alloc: Global, name: &str, tally: Tally) -> Result<Vec<u8>, AllocError>
     ensures { IfOk result (λ text. text.items ≡ tally_line name.now tally) }
 {
-    let Tally { held, broken } = tally;
-    let text = if held == 0 && broken == 0 {
-        format!(in alloc; "rule {name} not seen\n")?
-    } else {
-        format!(in alloc; "rule {name} held {held} broken {broken}\n")?
-    };
-    Ok(text.into_bytes())
+    let Tally {
+        held,
+        broken,
+        again,
+    } = tally;
+    if held == 0 && broken == 0 {
+        return Ok(format!(in alloc; "rule {name} not seen\n")?.into_bytes());
+    }
+    let mut text = format!(in alloc; "rule {name} held {held} broken {broken}")?.into_bytes();
+    text.extend_from_slice(&again_text(alloc, again)?)?;
+    text.push(b'\n')?;
+    Ok(text)
 }
 
 fn tally_json(
@@ -182,6 +197,7 @@ fn tally_json(
         text("rule", words.name),
         number("held", tally.held),
         number("broken", tally.broken),
+        number("again", tally.again),
     ];
     json_line(alloc, &members)
 }

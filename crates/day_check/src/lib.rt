@@ -30,6 +30,7 @@ mod rule_words;
 mod shown;
 mod sweeps_log;
 mod tallies;
+mod told_fault;
 
 pub use checked_log::{CheckedLog, print_log};
 pub use exact::{DialectBy, print_exact};
@@ -40,3 +41,4 @@ pub use input::read_line_at;
 pub use print_day::{LinePlace, broken_sentence, print_sweeps, verdict_text};
 pub use rule_words::RuleWords;
 pub use sweeps_log::read_sweeps;
+pub use told_fault::{ToldFault, fault_json};

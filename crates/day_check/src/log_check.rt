@@ -2,6 +2,7 @@
 ghost use Rattle.std.specs.Prelude.{◌≡◌, false, IfErr, IfOk, Ok, OnOk};
 ghost use Rattle.day_check.specs.Judge.{Checks, ChecksAs, Judges, NamesBadLine, line_entry};
 ghost use Rattle.day_check.specs.LogChecked.{entry_checked, line_checked, new_day, new_log};
+ghost use Rattle.day_check.specs.Head.{is_own_head, own_after};
 ghost use Rattle.day_check.specs.LogCheck.{log_parts};
 ghost use Rattle.day_check.specs.LogText.{entry_findings, legs_if, line_findings, log_end, style_of, uncounted_in};
 ghost use Rattle.day_check.specs.Tallies.{breaks_a_rule};
@@ -25,6 +26,8 @@ pub(crate) struct LogCheck {
     pub tallies: [Tally; 22],
     /// Whether the log ends within a line.
     pub is_cut: bool,
+    /// Whether its first line is the head that this program writes.
+    pub is_own: bool,
 }
 
 /// What is known before any line; the orders are kept where they are asked for.
@@ -38,6 +41,23 @@ fn new_day(alloc: Global, keeps_legs: bool) -> VenueDay
     }
 }
 
+/// Whether a line is the head that this program writes.
+fn is_own_head(line: &[u8]) -> bool
+    ensures { result ≡ is_own_head line.now }
+{
+    line.starts_with(b"# venue ")
+}
+
+/// Whether the first line is, behind the line of a number.
+fn own_after(number: u64, line: &[u8], is_own: bool) -> bool
+    ensures { result ≡ own_after number line.now is_own }
+{
+    if number == 1 {
+        return is_own_head(line);
+    }
+    is_own
+}
+
 impl LogCheck {
     /// Nothing is read yet; the orders are kept where they are asked for.
     pub(crate) fn new(alloc: Global, keeps_legs: bool) -> LogCheck
@@ -48,6 +68,7 @@ impl LogCheck {
             message: Vec::new(alloc),
             tallies: [Tally::new(); 22],
             is_cut: false,
+            is_own: false,
         }
     }
 
@@ -62,6 +83,7 @@ impl LogCheck {
         ensures judged { IfOk result (λ said.
             Judges number (line_entry printing.now.form.now line.now) self.old.day self.new.day (Ok said)) }
         ensures tallies { self.new.tallies ≡ self.old.tallies }
+        ensures own { self.new.is_own ≡ self.old.is_own }
         ensures named { IfErr result (NamesBadLine printing.now.form.now number line.now) }
     {
         match judge_line(
@@ -115,6 +137,7 @@ impl LogCheck {
             ≡ line_findings (style_of printing.now) number line.now self.old.day) }
         ensures named { IfErr result (NamesBadLine printing.now.form.now number line.now) }
     {
+        self.is_own = own_after(number, line, self.is_own);
         if is_passed_over(line) {
             return Ok(Vec::new(alloc));
         }

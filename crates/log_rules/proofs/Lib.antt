@@ -8,3 +8,4 @@ pub mod ChangedAt
 pub mod KnownOrders
 pub mod SentOnce
 pub mod ReportsFollow
+pub mod Heard

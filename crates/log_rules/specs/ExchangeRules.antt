@@ -12,19 +12,20 @@ use Rattle.log_rules.specs.declared.standing.Standing.{Standing}
 use Rattle.log_rules.specs.declared.verdict.Verdict.{Verdict}
 use Rattle.log_rules.specs.declared.verdict.Verdict.TheVariants.{Unasked, Held, Broken}
 use Rattle.log_rules.specs.SessionRules.{is_logged_on}
-use Rattle.log_rules.specs.Standing.{was_reached}
+use Rattle.log_rules.specs.Standing.{begins_anew, was_reached}
 use Rattle.log_rules.specs.Verdict.{held_if}
 
 abbrev pub is_logging_on : Phase → Bool
 is_logging_on LoggingOn = true
 is_logging_on _ = false
 
--- Logon: the first message of a connection is one that answers the session's, and no other comes
-abbrev pub logon_answered : Phase → Direction → Says → Verdict
-logon_answered phase Sent says = Unasked
-logon_answered phase Received Logout = Unasked
-logon_answered phase Received (Logon heart reset next) = held_if (is_logging_on phase)
-logon_answered phase Received says = held_if (is_logged_on phase)
+-- Logon: the first message of a connection is one that answers the session's, and no other comes. It resets the numbers
+-- (141=Y) only where the session's does
+abbrev pub logon_answered : Standing → Direction → Says → Verdict
+logon_answered s Sent says = Unasked
+logon_answered s Received Logout = Unasked
+logon_answered s Received (Logon heart reset next) = held_if (is_logging_on s.phase && (not reset || s.resets))
+logon_answered s Received says = held_if (is_logged_on s.phase)
 
 abbrev pub new_behind : Bool → Direction → Says → Bool → Verdict
 new_behind is_out Sent says poss_dup = Unasked
@@ -38,15 +39,15 @@ abbrev pub logout_last : Standing → Entry → Verdict
 logout_last s e = new_behind s.is_peer_out e.direction e.says e.poss_dup
 
 -- whether a message has to have a new number: it doesn't say that it was sent before, and is no gap fill and no reset
-abbrev pub is_new : Says → Bool → Bool
-is_new (Logon heart reset next) poss_dup = not reset && not poss_dup
-is_new (GapFill new_number) poss_dup = false
-is_new (Reset new_number) poss_dup = false
-is_new says poss_dup = not poss_dup
+abbrev pub is_new : Says → ℕ → Bool → Bool
+is_new (Logon heart reset next) number poss_dup = not (begins_anew reset number) && not poss_dup
+is_new (GapFill new_number) number poss_dup = false
+is_new (Reset new_number) number poss_dup = false
+is_new says number poss_dup = not poss_dup
 
 abbrev pub rises : Standing → Direction → Says → Bool → ℕ → Verdict
 rises s Sent says poss_dup number = Unasked
-rises s Received says poss_dup number = if is_new says poss_dup then held_if (nat_lt s.seen number) else Unasked
+rises s Received says poss_dup number = if is_new says number poss_dup then held_if (nat_lt s.seen number) else Unasked
 
 -- Sequence Numbers: a new message of the exchange has a number above each that came
 abbrev pub numbers_rise : Standing → Entry → Verdict

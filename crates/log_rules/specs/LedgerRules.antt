@@ -15,7 +15,7 @@ use Rattle.log_rules.specs.declared.verdict.Verdict.TheVariants.{Unasked, Broken
 use Rattle.log_rules.specs.KeptReport.{ReportParts}
 use Rattle.log_rules.specs.Ledger.{LedgerParts, has_report_in, newest_order, order_of, report_under, shares_of_exec}
 use Rattle.log_rules.specs.Order.{OrderParts}
-use Rattle.log_rules.specs.Standing.{is_due, was_reached}
+use Rattle.log_rules.specs.Standing.{begins_anew, is_due, was_reached}
 use Rattle.log_rules.specs.Verdict.{held_if}
 
 -- New Order - Single: an order's id was never sent before
@@ -47,7 +47,7 @@ repeats counted reports number said = is_repeat (report_under number reports) (w
 
 abbrev pub used_again : Option ℕ → List ReportParts → Says → ℕ → Verdict
 used_again counted reports (Logon heart reset next) number =
-    if reset then Unasked else held_if (is_none (report_under number reports))
+    if begins_anew reset number then Unasked else held_if (is_none (report_under number reports))
 used_again counted reports (Reset new_number) number = Unasked
 used_again counted reports (Report said) number = repeats counted reports number said
 used_again counted reports (GapFill new_number) number = held_if (not (has_report_in number new_number reports))

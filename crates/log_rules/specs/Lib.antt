@@ -12,5 +12,6 @@ pub mod Ledger
 pub mod Kept
 pub mod LedgerRules
 pub mod ReportRules
+pub mod Chains
 pub mod Checker
 pub mod Runs

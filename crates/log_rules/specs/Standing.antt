@@ -28,6 +28,7 @@ new_standing = record {
   asked = None;
   awaited = None;
   says_next = false;
+  resets = false;
   counted = None;
   seen = 0;
   request = None;
@@ -154,6 +155,15 @@ abbrev pub says_next_after : Bool → Direction → Says → Bool
 says_next_after says_next Sent (Logon heart reset next) = is_some next
 says_next_after says_next direction says = says_next
 
+-- whether it resets the numbers (141=Y)
+abbrev pub resets_after : Bool → Direction → Says → Bool
+resets_after resets Sent (Logon heart reset next) = reset
+resets_after resets direction says = resets
+
+-- a Logon of the exchange begins its numbers anew with number 1
+abbrev pub begins_anew : Bool → ℕ → Bool
+begins_anew reset number = reset && number == 1
+
 abbrev pub counted_if : Option ℕ → ℕ → Option ℕ
 counted_if counted number = if is_due counted number then Some number else counted
 
@@ -166,7 +176,7 @@ counted_filled (Some counted) number new_number =
 abbrev pub counted_by : Option ℕ → Direction → Says → ℕ → Option ℕ
 counted_by counted Sent says number = counted
 counted_by counted Received (Logon heart reset next) number =
-    if reset then Some number else counted_if counted number
+    if begins_anew reset number then Some 1 else counted_if counted number
 counted_by counted Received (Reset new_number) number = Some (new_number - 1)
 counted_by counted Received (GapFill new_number) number = counted_filled counted number new_number
 counted_by counted Received says number = counted_if counted number
@@ -177,7 +187,7 @@ counted_after counted e = counted_by counted e.direction e.says e.number
 
 abbrev pub seen_by : ℕ → Direction → Says → ℕ → ℕ
 seen_by seen Sent says number = seen
-seen_by seen Received (Logon heart reset next) number = if reset then number else max seen number
+seen_by seen Received (Logon heart reset next) number = if begins_anew reset number then 1 else max seen number
 seen_by seen Received says number = max seen number
 
 -- the greatest number of the exchange that came
@@ -222,6 +232,7 @@ after s order e = record {
   asked = asked_after s e.direction e.says;
   awaited = awaited_after s.awaited e;
   says_next = says_next_after s.says_next e.direction e.says;
+  resets = resets_after s.resets e.direction e.says;
   counted = counted_after s.counted e;
   seen = seen_after s.seen e;
   request = request_after s.request e;

@@ -4,6 +4,7 @@ ghost use Rattle.std.specs.Prelude.{◌≡◌, ◌∷◌, [], IfOk, OnOk, OnErr}
 ghost use Rattle.log_rules.specs.Ledger.{comes_again, newest_order, newest_under, shares_of_exec, uncounted_of};
 ghost use Rattle.log_rules.specs.Checker.{heard, new_checker, number_of_report, unread_verdicts, verdicts};
 
+use crate::chains::{Chains, order_named};
 use crate::entry::Entry;
 use crate::exchange_rules::{
     fence_answered, logon_answered, logout_last, numbers_rise, resend_answered, resend_asked,
@@ -23,8 +24,10 @@ use std::marker::Model;
 /// its number, its ExecID (17) and the shares that it traded.
 #[derive(Debug, Drop)]
 pub struct Checker {
+    alloc: Global,
     standing: Standing,
     ledger: Ledger,
+    chains: Chains,
 }
 
 impl Model for Checker {
@@ -32,7 +35,7 @@ impl Model for Checker {
 
     ghost Value = { CheckerParts };
 
-    ghost view = { λ c. record { standing = c.standing; ledger = c.ledger } };
+    ghost view = { λ c. record { standing = c.standing; ledger = c.ledger; chains = c.chains } };
 }
 
 impl Checker {
@@ -41,8 +44,10 @@ impl Checker {
         ensures { result ≡ new_checker }
     {
         Checker {
+            alloc,
             standing: Standing::new(),
             ledger: Ledger::new(alloc),
+            chains: Chains::new(),
         }
     }
 
@@ -52,22 +57,23 @@ impl Checker {
     {
         let standing = &self.standing;
         let ledger = &self.ledger;
+        let chains = &self.chains;
         [
             Verdict::Held,
             sent_numbers(standing, entry),
             sent_once(ledger, entry),
             gap_fills(standing, entry),
-            logon_first(standing, entry),
+            chains.of_first(logon_first(standing, entry)),
             heartbeats(standing, entry),
-            logon_answered(standing, entry),
+            chains.of_answered(entry, logon_answered(standing, entry)),
             logout_last(standing, entry),
             resend_asked(standing, entry),
             fence_answered(standing, entry),
             one_use(standing, ledger, entry),
-            known_order(ledger, entry),
-            not_withdrawn(ledger, entry),
+            chains.of_known(entry, known_order(ledger, entry)),
+            chains.of_withdrawn(entry, not_withdrawn(ledger, entry)),
             sums_add_up(standing, ledger, entry),
-            numbers_rise(standing, entry),
+            chains.of_numbers(numbers_rise(standing, entry)),
             resend_answered(standing, entry),
             exec_once(standing, ledger, entry),
             known_kind(entry),
@@ -154,8 +160,10 @@ impl Checker {
     {
         let verdicts = self.verdicts(entry);
         let number = self.number_of_report(entry);
+        let order = order_named(self.alloc, &verdicts, entry)?;
         self.ledger.hear(&self.standing, entry)?;
         self.standing = self.standing.after(number, entry);
+        self.chains.go_on(&verdicts, order);
         Ok(verdicts)
     }
 }

@@ -10,13 +10,15 @@ use crate::verdict::Verdict;
 use message_log::Direction;
 
 /// The first message of a connection is a Logon that answers the session's, and no other Logon comes; a Logout may
-/// refuse it.
+/// refuse it. It resets the numbers only where the session's does.
 pub(crate) fn logon_answered(standing: &Standing, entry: &Entry<'_>) -> Verdict
-    ensures { result ≡ logon_answered standing.now.phase entry.now.direction entry.now.says }
+    ensures { result ≡ logon_answered standing.now entry.now.direction entry.now.says }
 {
     match (entry.direction, &entry.says) {
         (Direction::Sent, _) | (_, Says::Logout) => Verdict::Unasked,
-        (_, Says::Logon { .. }) => Verdict::held_if(standing.phase == Phase::LoggingOn),
+        (_, Says::Logon { reset, .. }) => Verdict::held_if(
+            standing.phase == Phase::LoggingOn && (!*reset || standing.resets),
+        ),
         _ => Verdict::held_if(standing.phase == Phase::LoggedOn),
     }
 }
@@ -33,11 +35,11 @@ pub(crate) fn logout_last(standing: &Standing, entry: &Entry<'_>) -> Verdict
 }
 
 /// Whether a message has to have a new number.
-fn is_new(says: &Says<'_>, poss_dup: bool) -> bool
-    ensures { result ≡ is_new says.now poss_dup }
+fn is_new(says: &Says<'_>, number: u64, poss_dup: bool) -> bool
+    ensures { result ≡ is_new says.now number poss_dup }
 {
     match says {
-        Says::Logon { reset, .. } => !*reset && !poss_dup,
+        Says::Logon { reset, .. } => !(*reset && number == 1) && !poss_dup,
         Says::GapFill { .. } | Says::Reset { .. } => false,
         _ => !poss_dup,
     }
@@ -47,7 +49,7 @@ fn is_new(says: &Says<'_>, poss_dup: bool) -> bool
 pub(crate) fn numbers_rise(standing: &Standing, entry: &Entry<'_>) -> Verdict
     ensures { result ≡ numbers_rise standing.now entry.now }
 {
-    if entry.direction == Direction::Received && is_new(&entry.says, entry.poss_dup) {
+    if entry.direction == Direction::Received && is_new(&entry.says, entry.number, entry.poss_dup) {
         return Verdict::held_if(standing.seen < entry.number);
     }
     Verdict::Unasked

@@ -69,7 +69,7 @@ pub(crate) fn one_use(standing: &Standing, ledger: &Ledger, entry: &Entry<'_>) -
         return Verdict::Unasked;
     }
     match &entry.says {
-        Says::Logon { reset, .. } if *reset => Verdict::Unasked,
+        Says::Logon { reset, .. } if *reset && entry.number == 1 => Verdict::Unasked,
         Says::Reset { .. } => Verdict::Unasked,
         Says::Report(said) => repeats(standing, ledger, entry.number, said),
         Says::GapFill { new_number } => {

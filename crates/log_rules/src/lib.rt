@@ -9,12 +9,14 @@
 //!   known behind it (`heard`). Where memory is refused it is as it was.
 //! - `Checker` tells how the two ends stand, the orders so far and the place of each by its ClOrdID: what it tells is
 //!   what it is judged by (`standing`, `orders`, `place_of`, `place_under`, `shares_of_exec`).
+//! - What follows from a break that was named is told as broken again (`again_if`, over `Chains.antt`).
 //! - Where no message of a log breaks `sent-once`, no two of its orders have one ClOrdID (`orders_are_sent_once`).
 //!   Where none breaks `known-order`, each report is on an order that was sent before it (`reports_follow_orders`).
 //! - Not said: that memory is refused only where the system does so, and that a day of this session against an
 //!   exchange that keeps the rules breaks none.
 #![tactic(auto)]
 
+mod chains;
 mod checker;
 mod entry;
 mod exchange_rules;

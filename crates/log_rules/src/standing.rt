@@ -1,7 +1,7 @@
 //! How the two ends stand, as far as the messages show it.
 
 ghost use Rattle.std.specs.Prelude.{◌≡◌};
-ghost use Rattle.log_rules.specs.Standing.{after, allowed, asked_after, counted_after, counted_filled, heart_after, is_due, is_late, is_logged_out_after, is_peer_out_after, is_up_after, last_after, logon_after, new_standing, awaited_above, awaited_after, passed_after, phase_after, request_after, says_next_after, seen_after, settled_after, settles, unless_answered, unless_filled, was_reached, wrote_at_after};
+ghost use Rattle.log_rules.specs.Standing.{after, allowed, asked_after, counted_after, counted_filled, heart_after, is_due, is_late, is_logged_out_after, is_peer_out_after, is_up_after, last_after, logon_after, new_standing, awaited_above, awaited_after, passed_after, phase_after, request_after, resets_after, says_next_after, seen_after, settled_after, settles, unless_answered, unless_filled, was_reached, wrote_at_after};
 
 use crate::entry::Entry;
 use crate::moment::Moment;
@@ -56,6 +56,8 @@ pub struct Standing {
     pub awaited: Option<u64>,
     /// Whether the session's Logon says which number it expects next (789).
     pub says_next: bool,
+    /// Whether the session's Logon resets the numbers (141=Y).
+    pub resets: bool,
     /// The last number of the exchange that is counted.
     pub counted: Option<u64>,
     /// The greatest number of the exchange that came.
@@ -83,6 +85,7 @@ impl Standing {
             asked: None,
             awaited: None,
             says_next: false,
+            resets: false,
             counted: None,
             seen: 0,
             request: None,
@@ -292,12 +295,21 @@ impl Standing {
         }
     }
 
+    fn resets_after(&self, entry: &Entry<'_>) -> bool
+        ensures { result ≡ resets_after self.now.resets entry.now.direction entry.now.says }
+    {
+        match (entry.direction, &entry.says) {
+            (Direction::Sent, Says::Logon { reset, .. }) => *reset,
+            _ => self.resets,
+        }
+    }
+
     fn seen_after(&self, entry: &Entry<'_>) -> u64
         ensures { result ≡ seen_after self.now.seen entry.now }
     {
         match (entry.direction, &entry.says) {
             (Direction::Sent, _) => self.seen,
-            (Direction::Received, Says::Logon { reset, .. }) if *reset => entry.number,
+            (Direction::Received, Says::Logon { reset, .. }) if *reset && entry.number == 1 => 1,
             (Direction::Received, _) => self.seen.max(entry.number),
         }
     }
@@ -320,7 +332,9 @@ impl Standing {
     {
         match (entry.direction, &entry.says) {
             (Direction::Sent, _) => self.counted,
-            (Direction::Received, Says::Logon { reset, .. }) if *reset => Some(entry.number),
+            (Direction::Received, Says::Logon { reset, .. }) if *reset && entry.number == 1 => Some(
+                1,
+            ),
             (Direction::Received, Says::Reset { new_number }) => Some(new_number.saturating_sub(1)),
             (Direction::Received, Says::GapFill { new_number }) => {
                 self.counted_filled(entry.number, *new_number)
@@ -382,6 +396,7 @@ impl Standing {
             asked: self.asked_after(entry),
             awaited: self.awaited_after(entry),
             says_next: self.says_next_after(entry),
+            resets: self.resets_after(entry),
             counted: self.counted_after(entry),
             seen: self.seen_after(entry),
             request: self.request_after(entry),

@@ -21,6 +21,7 @@ returns g c =
       read = so.read;
       day = ap (λ (l : LogParts). l.day) so.parts;
       broken = c.is_broken.ensures ∙ ap (λ (l : LogParts). breaks_a_rule l.tallies) so.parts;
+      own = ap (λ (l : LogParts). l.is_own) so.parts;
       printed = λ off. told s c.args.printing.now.log.now so.lines log.is_cut (log_parts log) a b d e c.in_ok-head.head.items
           c.in_ok-end.end.items so.parts (c.in_ok-head.ensures off) (c.in_ok-end.ensures off)
           (subst (Appends a b) c.deref.ensures.value c.in_ok-print.ensures.ok) (so.printed off)

@@ -1,6 +1,6 @@
 use Rattle.std.proofs.Common.{refl, ap, ◌∙◌}
 use Rattle.log_rules.specs.Checker.{CheckerParts, verdicts}
-use Rattle.log_rules.proofs.Verdicts.{one_by_one}
+use Rattle.log_rules.proofs.Verdicts.{named, one_by_one}
 use Rattle.log_rules.proofs.checker.Checker.verdicts.Goals as goal
 
 pub returns : goal.returns
@@ -9,17 +9,17 @@ returns c =
     (one_by_one c.sent_numbers.ensures
     (one_by_one c.sent_once.ensures
     (one_by_one c.gap_fills.ensures
-    (one_by_one c.logon_first.ensures
+    (one_by_one (named _ c.of_first.ensures c.logon_first.ensures)
     (one_by_one c.heartbeats.ensures
-    (one_by_one c.logon_answered.ensures
+    (one_by_one (named _ c.of_answered.ensures c.logon_answered.ensures)
     (one_by_one c.logout_last.ensures
     (one_by_one c.resend_asked.ensures
     (one_by_one c.fence_answered.ensures
     (one_by_one c.one_use.ensures
-    (one_by_one c.known_order.ensures
-    (one_by_one c.not_withdrawn.ensures
+    (one_by_one (named _ c.of_known.ensures c.known_order.ensures)
+    (one_by_one (named _ c.of_withdrawn.ensures c.not_withdrawn.ensures)
     (one_by_one c.sums_add_up.ensures
-    (one_by_one c.numbers_rise.ensures
+    (one_by_one (named _ c.of_numbers.ensures c.numbers_rise.ensures)
     (one_by_one c.resend_answered.ensures
     (one_by_one c.exec_once.ensures
     (one_by_one c.known_kind.ensures
