@@ -3,10 +3,12 @@ use Rattle.std.specs.Prelude.{◌≡◌, ◌⊎◌, ℕ, List, Option, Some, Non
 use Rattle.leg.specs.declared.sweep.Routed.{Routed}
 use Rattle.desk_json.specs.declared.outcome.Outcome.{Outcome}
 use Rattle.desk_json.specs.declared.outcome.Outcome.TheVariants as outcome
+use Rattle.desk_json.specs.declared.standing.ExecutionsPage.{ExecutionsPage}
 use Rattle.desk_json.specs.declared.standing.SweepLegs.{SweepLegs}
 use Rattle.desk_json.specs.declared.standing.SweepsPage.{SweepsPage}
 use Rattle.desk_json.specs.declared.standing.VenueRow.{VenueRow}
 use Rattle.desk_json.specs.declared.sweep_fault.BodyFault.{BodyFault}
+use Rattle.desk_json.specs.Executions.{executions_json}
 use Rattle.desk_json.specs.FaultJson.{body_fault_json, said_json}
 use Rattle.desk_json.specs.Legs.{legs_json}
 use Rattle.desk_json.specs.Outcome.{outcome_json}
@@ -72,6 +74,13 @@ pub record ShowsLegs {S : Type 0} (shows : S → ℕ → Option SweepLegs → S 
   pub said : Option SweepLegs
   pub by_the_day : shows old number said new
   pub answer : IsLegs reply said
+
+-- the answer is the page of executions that the day said
+pub record ShowsExecutions {S : Type 0} (reports : S → ℕ → ℕ → ExecutionsPage → S → Type 0) (after most : ℕ) (old : S)
+    (reply : Reply) (new : S) : Type 0 where
+  pub said : ExecutionsPage
+  pub by_the_day : reports old after most said new
+  pub answer : IsReply reply status.Ok Json (executions_json said)
 
 -- the answer is the venues that the day said
 pub record ShowsVenues {S : Type 0} (lists : S → List VenueRow → S → Type 0) (old : S) (reply : Reply) (new : S)

@@ -26,22 +26,34 @@ abbrev pub place_of : List ℕ → Option Place
 place_of path =
     if bytes_eq path (codes "/") then Some place.Page
     else (if bytes_eq path (codes "/api/sweeps") then Some place.Sweeps
+    else (if bytes_eq path (codes "/api/executions") then Some place.Executions
     else (if bytes_eq path (codes "/api/venues") then Some place.Venues
     else (if bytes_eq path (codes "/api/events") then Some place.Events
     else (if bytes_eq path (codes "/api/close") then Some place.Close
     else (if bytes_eq path (codes "/metrics") then Some place.Metrics
-    else sweep_place path)))))
+    else sweep_place path))))))
 
 -- the sweeps of a window
 abbrev pub window_call : Option Window → Result Call Refused
 window_call None = Err BadQuery
 window_call (Some window) = Ok (call.Sweeps window.after window.most)
 
+-- the executions of a window
+abbrev pub executions_in : Option Window → Result Call Refused
+executions_in None = Err BadQuery
+executions_in (Some window) = Ok (call.Executions window.after window.most)
+
 -- what is asked of the sweeps
 abbrev pub sweeps_call : Method → List ℕ → Result Call Refused
 sweeps_call Get query = window_call (window_of query)
 sweeps_call Post query = Ok call.Place
 sweeps_call Other query = Err (NoMethod allow.Both)
+
+-- what is asked of the executions
+abbrev pub executions_call : Method → List ℕ → Result Call Refused
+executions_call Get query = executions_in (window_of query)
+executions_call Post query = Err (NoMethod allow.Get)
+executions_call Other query = Err (NoMethod allow.Get)
 
 -- a call by GET alone
 abbrev pub by_get : Method → Call → Result Call Refused
@@ -60,6 +72,7 @@ abbrev pub call_at : Place → Method → List ℕ → Result Call Refused
 call_at place.Page method query = by_get method call.Page
 call_at place.Sweeps method query = sweeps_call method query
 call_at (place.Sweep number) method query = by_get method (call.Sweep number)
+call_at place.Executions method query = executions_call method query
 call_at place.Venues method query = by_get method call.Venues
 call_at place.Events method query = by_get method call.Events
 call_at place.Close method query = by_post method call.Close
@@ -71,6 +84,7 @@ changes_the_day call.Page = false
 changes_the_day call.Place = true
 changes_the_day (call.Sweeps after most) = false
 changes_the_day (call.Sweep number) = false
+changes_the_day (call.Executions after most) = false
 changes_the_day call.Venues = false
 changes_the_day call.Events = false
 changes_the_day call.Close = true

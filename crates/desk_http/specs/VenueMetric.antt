@@ -7,12 +7,13 @@ use Rattle.desk_json.specs.declared.standing.OrderWaits.{OrderWaits}
 use Rattle.desk_json.specs.declared.standing.WaitCount.{WaitCount}
 use Rattle.desk_json.specs.Venues.{accepted}
 use Rattle.desk_http.specs.declared.venue_metric.VenueMetric.{VenueMetric}
-use Rattle.desk_http.specs.declared.venue_metric.VenueMetric.TheVariants.{State, Legs, LinesLost, Connections, FailedDials, Messages, Bytes, Waits}
+use Rattle.desk_http.specs.declared.venue_metric.VenueMetric.TheVariants.{State, Legs, Unbooked, LinesLost, Connections, FailedDials, Messages, Bytes, Waits}
 
 -- the name of a metric, with its type
 abbrev pub venue_type : VenueMetric → List ℕ
 venue_type State = codes "# TYPE dispatch_venue_state gauge\n"
 venue_type Legs = codes "# TYPE dispatch_legs gauge\n"
+venue_type Unbooked = codes "# TYPE dispatch_unbooked_reports_total counter\n"
 venue_type LinesLost = codes "# TYPE dispatch_log_lines_lost_total counter\n"
 venue_type Connections = codes "# TYPE dispatch_connections_total counter\n"
 venue_type FailedDials = codes "# TYPE dispatch_failed_dials_total counter\n"
@@ -41,6 +42,18 @@ legs_samples row =
     ++ venue_sample (codes "dispatch_legs") row.status.venue (codes ",state=\"settled\"") row.settled
     ++ venue_sample (codes "dispatch_legs") row.status.venue (codes ",state=\"accepted\"") (accepted row)
     ++ venue_sample (codes "dispatch_legs") row.status.venue (codes ",state=\"withdrawn\"") row.withdrawn
+
+-- the samples of what the book didn't take of a venue
+abbrev pub unbooked_samples : VenueRow → List ℕ
+unbooked_samples row =
+    venue_sample (codes "dispatch_unbooked_reports_total") row.status.venue (codes ",kind=\"duplicate\"")
+    row.unbooked.duplicates
+    ++ venue_sample (codes "dispatch_unbooked_reports_total") row.status.venue (codes ",kind=\"overfill\"")
+    row.unbooked.overfills
+    ++ venue_sample (codes "dispatch_unbooked_reports_total") row.status.venue (codes ",kind=\"stray\"")
+    row.unbooked.strays
+    ++ venue_sample (codes "dispatch_unbooked_reports_total") row.status.venue (codes ",kind=\"unread\"")
+    row.unbooked.unread
 
 -- the samples of what went both ways
 abbrev pub ways_samples : List ℕ → List ℕ → ℕ → ℕ → List ℕ
@@ -71,6 +84,7 @@ waits_samples venue waits =
 abbrev pub samples : VenueMetric → VenueRow → List ℕ
 samples State row = venue_sample (codes "dispatch_venue_state") row.status.venue (state_label row.status.state) 1
 samples Legs row = legs_samples row
+samples Unbooked row = unbooked_samples row
 samples LinesLost row = venue_sample (codes "dispatch_log_lines_lost_total") row.status.venue [] row.status.lost
 samples Connections row = venue_sample (codes "dispatch_connections_total") row.status.venue [] row.connections
 samples FailedDials row = venue_sample (codes "dispatch_failed_dials_total") row.status.venue [] row.refused_dials
@@ -91,5 +105,6 @@ metric_text metric rows = venue_type metric ++ samples_at_each metric rows
 -- each metric of venues
 unfoldable pub venues_text : List VenueRow → List ℕ
 venues_text rows =
-    metric_text State rows ++ metric_text Legs rows ++ metric_text LinesLost rows ++ metric_text Connections rows
-    ++ metric_text FailedDials rows ++ metric_text Messages rows ++ metric_text Bytes rows ++ metric_text Waits rows
+    metric_text State rows ++ metric_text Legs rows ++ metric_text Unbooked rows ++ metric_text LinesLost rows
+    ++ metric_text Connections rows ++ metric_text FailedDials rows ++ metric_text Messages rows
+    ++ metric_text Bytes rows ++ metric_text Waits rows

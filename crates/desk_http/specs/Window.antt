@@ -1,4 +1,4 @@
--- Which sweeps a query asks for.
+-- Which sweeps or executions a query asks for.
 use Rattle.std.specs.Prelude.{ℕ, List, [], ◌∷◌, drop, length, min, Option, Some, None, option_and_then, ◌==◌, codes, nat_eq, if◌then◌else◌}
 use Rattle.std.specs.Option.{option_map}
 use Rattle.std.specs.List.{starts_with}

@@ -2,7 +2,7 @@
 
 ghost use Rattle.std.specs.Prelude.{◌≡◌, ℕ, IfOk, codes};
 ghost use Rattle.desk_json.specs.FaultJson.{said_json};
-ghost use Rattle.desk_http.specs.Answer.{Closes, Handles, Placed, ShowsLegs, ShowsMetrics, ShowsSweeps, ShowsVenues, outcome_status};
+ghost use Rattle.desk_http.specs.Answer.{Closes, Handles, Placed, ShowsExecutions, ShowsLegs, ShowsMetrics, ShowsSweeps, ShowsVenues, outcome_status};
 ghost use Rattle.desk_http.specs.Reply.{IsReply};
 
 use crate::call::Call;
@@ -11,8 +11,8 @@ use crate::metrics::metrics_text;
 use crate::reply::{Kind, Reply, json_reply};
 use crate::status::Status;
 use desk_json::{
-    Outcome, body_fault_json, legs_json, outcome_json, read_sweep, said_json, sweeps_json,
-    venues_json,
+    Outcome, body_fault_json, executions_json, legs_json, outcome_json, read_sweep, said_json,
+    sweeps_json, venues_json,
 };
 use leg::Sweep;
 use std::alloc::{AllocError, Global};
@@ -78,6 +78,19 @@ fn sweep_reply<D: Day>(alloc: Global, day: &mut D, number: u64) -> Result<Reply,
     }
 }
 
+fn executions_reply<D: Day>(
+    alloc: Global,
+    day: &mut D,
+    after: u64,
+    most: u64,
+) -> Result<Reply, AllocError>
+    ensures { IfOk result (λ reply. ShowsExecutions D.reports after most day.old reply day.new) }
+{
+    let page = day.executions(after, most)?;
+    let body = executions_json(alloc, &page)?;
+    Ok(json_reply(Status::Ok, body))
+}
+
 fn venues_reply<D: Day>(alloc: Global, day: &mut D) -> Result<Reply, AllocError>
     ensures { IfOk result (λ reply. ShowsVenues D.lists day.old reply day.new) }
 {
@@ -141,6 +154,8 @@ pub(crate) fn answer<D: Day>(
         → IfOk result (λ reply. ShowsSweeps D.pages after most day.old reply day.new) }
     ensures sweep { (number : ℕ) → call ≡ Call.Sweep number
         → IfOk result (λ reply. ShowsLegs D.shows number day.old reply day.new) }
+    ensures executions { (after most : ℕ) → call ≡ Call.Executions after most
+        → IfOk result (λ reply. ShowsExecutions D.reports after most day.old reply day.new) }
     ensures venues { call ≡ Call.Venues → IfOk result (λ reply. ShowsVenues D.lists day.old reply day.new) }
     ensures events { call ≡ Call.Events → IfOk result (λ reply.
         IsReply reply Status.Unavailable Kind.Json (said_json (codes "too many streams")) × (day.new ≡ day.old)) }
@@ -153,6 +168,7 @@ pub(crate) fn answer<D: Day>(
         Call::Place => place_reply(alloc, day, body),
         Call::Sweeps { after, most } => sweeps_reply(alloc, day, after, most),
         Call::Sweep(number) => sweep_reply(alloc, day, number),
+        Call::Executions { after, most } => executions_reply(alloc, day, after, most),
         Call::Venues => venues_reply(alloc, day),
         Call::Events => busy_reply(alloc),
         Call::Close => close_reply(alloc, day),

@@ -1,7 +1,7 @@
 //! What a request asks for.
 
 ghost use Rattle.std.specs.Prelude.{◌≡◌};
-ghost use Rattle.desk_http.specs.Call.{by_get, by_post, call_at, changes_the_day, place_of, sweep_place, sweeps_call};
+ghost use Rattle.desk_http.specs.Call.{by_get, by_post, call_at, changes_the_day, executions_call, place_of, sweep_place, sweeps_call};
 
 use crate::refused::Refused;
 use crate::request::Method;
@@ -16,6 +16,7 @@ pub(crate) enum Place {
     Sweeps,
     /// The sweep of a number.
     Sweep(u64),
+    Executions,
     Venues,
     Events,
     Close,
@@ -32,6 +33,8 @@ pub enum Call {
     Sweeps { after: u64, most: u64 },
     /// The legs of a sweep.
     Sweep(u64),
+    /// The executions behind a number, at most so many.
+    Executions { after: u64, most: u64 },
     Venues,
     Events,
     Close,
@@ -47,6 +50,9 @@ pub(crate) fn place_of(path: &[u8]) -> Option<Place>
     }
     if path == b"/api/sweeps".as_slice() {
         return Some(Place::Sweeps);
+    }
+    if path == b"/api/executions".as_slice() {
+        return Some(Place::Executions);
     }
     if path == b"/api/venues".as_slice() {
         return Some(Place::Venues);
@@ -91,6 +97,22 @@ fn sweeps_call(method: Method, query: &[u8]) -> Result<Call, Refused>
     }
 }
 
+/// What is asked of the executions.
+fn executions_call(method: Method, query: &[u8]) -> Result<Call, Refused>
+    ensures { result ≡ executions_call method query.now }
+{
+    match method {
+        Method::Get => match window_of(query) {
+            Some(window) => Ok(Call::Executions {
+                after: window.after,
+                most: window.most,
+            }),
+            None => Err(Refused::BadQuery),
+        },
+        Method::Post | Method::Other => Err(Refused::NoMethod(Allow::Get)),
+    }
+}
+
 /// A call by GET alone.
 fn by_get(method: Method, call: Call) -> Result<Call, Refused>
     ensures { result ≡ by_get method call }
@@ -119,6 +141,7 @@ pub(crate) fn call_at(place: Place, method: Method, query: &[u8]) -> Result<Call
         Place::Page => by_get(method, Call::Page),
         Place::Sweeps => sweeps_call(method, query),
         Place::Sweep(number) => by_get(method, Call::Sweep(number)),
+        Place::Executions => executions_call(method, query),
         Place::Venues => by_get(method, Call::Venues),
         Place::Events => by_get(method, Call::Events),
         Place::Close => by_post(method, Call::Close),

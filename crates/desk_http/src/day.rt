@@ -4,6 +4,7 @@ ghost use Rattle.std.specs.Prelude.{◌≡◌, ◌≤◌, ℕ, List, Option, len
 ghost use Rattle.std.specs.Option.{option_map};
 ghost use Rattle.leg.specs.declared.sweep.Routed.{Routed};
 ghost use Rattle.desk_json.specs.declared.outcome.Outcome.{Outcome};
+ghost use Rattle.desk_json.specs.declared.standing.ExecutionsPage.{ExecutionsPage};
 ghost use Rattle.desk_json.specs.declared.standing.SweepLegs.{SweepLegs};
 ghost use Rattle.desk_json.specs.declared.standing.SweepsPage.{SweepsPage};
 ghost use Rattle.desk_json.specs.declared.standing.VenueRow.{VenueRow};
@@ -12,7 +13,7 @@ ghost use Rattle.desk_http.specs.declared.refusal_counts.RefusalCounts.{RefusalC
 
 use crate::day_sums::DaySums;
 use crate::refusal_counts::RefusalCounts;
-use desk_json::{Event, Outcome, SweepLegs, SweepsPage, VenueRow};
+use desk_json::{Event, ExecutionsPage, Outcome, SweepLegs, SweepsPage, VenueRow};
 use desk_words::VenueName;
 use leg::Sweep;
 use std::alloc::AllocError;
@@ -40,6 +41,8 @@ pub trait Day {
 
     ghost shows: { Self → ℕ → Option SweepLegs → Self → Type 0 };
 
+    ghost reports: { Self → ℕ → ℕ → ExecutionsPage → Self → Type 0 };
+
     ghost lists: { Self → List VenueRow → Self → Type 0 };
 
     ghost sums_up: { Self → DaySums → Self → Type 0 };
@@ -64,6 +67,10 @@ pub trait Day {
     /// The legs of a sweep, or none where no sweep has this number.
     fn sweep(&mut self, number: u64) -> Result<Option<SweepLegs>, AllocError>
         ensures { IfOk result (λ legs. shows self.old number legs self.new) };
+
+    /// The executions behind a number, at most so many.
+    fn executions(&mut self, after: u64, most: u64) -> Result<ExecutionsPage, AllocError>
+        ensures { IfOk result (λ page. reports self.old after most page self.new) };
 
     /// How the venues stand, by their places.
     fn venues(&mut self) -> Result<Vec<VenueRow>, AllocError>

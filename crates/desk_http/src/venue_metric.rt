@@ -1,7 +1,7 @@
 //! The metrics of venues.
 
 ghost use Rattle.std.specs.Prelude.{◌≡◌, [], ◌++◌, OnOk, codes, string_bytes};
-ghost use Rattle.desk_http.specs.VenueMetric.{legs_samples, metric_text, samples, samples_at_each, state_label, venue_sample, venue_type, venues_text, wait_sample, wait_samples, waits_samples, ways_samples};
+ghost use Rattle.desk_http.specs.VenueMetric.{legs_samples, metric_text, samples, samples_at_each, state_label, unbooked_samples, venue_sample, venue_type, venues_text, wait_sample, wait_samples, waits_samples, ways_samples};
 
 use desk_json::{OrderWaits, VenueRow, WaitCount};
 use desk_news::VenueState;
@@ -13,6 +13,7 @@ use std::alloc::AllocError;
 enum VenueMetric {
     State,
     Legs,
+    Unbooked,
     LinesLost,
     Connections,
     FailedDials,
@@ -28,6 +29,7 @@ fn venue_type(metric: VenueMetric) -> &'static str
     match metric {
         VenueMetric::State => "# TYPE dispatch_venue_state gauge\n",
         VenueMetric::Legs => "# TYPE dispatch_legs gauge\n",
+        VenueMetric::Unbooked => "# TYPE dispatch_unbooked_reports_total counter\n",
         VenueMetric::LinesLost => "# TYPE dispatch_log_lines_lost_total counter\n",
         VenueMetric::Connections => "# TYPE dispatch_connections_total counter\n",
         VenueMetric::FailedDials => "# TYPE dispatch_failed_dials_total counter\n",
@@ -75,6 +77,36 @@ fn write_legs(text: &mut String, venue: &VenueRow) -> Result<(), AllocError>
     write_sample(text, metric, name, ",state=\"settled\"", venue.settled)?;
     write_sample(text, metric, name, ",state=\"accepted\"", venue.accepted())?;
     write_sample(text, metric, name, ",state=\"withdrawn\"", venue.withdrawn)
+}
+
+/// Appends the samples of what the book didn't take of a venue.
+fn write_unbooked(text: &mut String, venue: &VenueRow) -> Result<(), AllocError>
+    ensures { OnOk result (string_bytes text.new ≡ string_bytes text.old ++ unbooked_samples venue.now) }
+{
+    let metric = "dispatch_unbooked_reports_total";
+    let name = &venue.status.venue;
+    write_sample(
+        text,
+        metric,
+        name,
+        ",kind=\"duplicate\"",
+        venue.unbooked.duplicates,
+    )?;
+    write_sample(
+        text,
+        metric,
+        name,
+        ",kind=\"overfill\"",
+        venue.unbooked.overfills,
+    )?;
+    write_sample(text, metric, name, ",kind=\"stray\"", venue.unbooked.strays)?;
+    write_sample(
+        text,
+        metric,
+        name,
+        ",kind=\"unread\"",
+        venue.unbooked.unread,
+    )
 }
 
 /// Appends the samples of what went both ways.
@@ -139,6 +171,7 @@ fn write_samples(text: &mut String, metric: VenueMetric, venue: &VenueRow) -> Re
             write_sample(text, "dispatch_venue_state", name, label, 1)
         }
         VenueMetric::Legs => write_legs(text, venue),
+        VenueMetric::Unbooked => write_unbooked(text, venue),
         VenueMetric::LinesLost => {
             let metric = "dispatch_log_lines_lost_total";
             write_sample(text, metric, name, "", venue.status.lost)
@@ -197,6 +230,7 @@ pub(crate) fn write_venues(text: &mut String, venues: &[VenueRow]) -> Result<(),
 {
     write_metric(text, VenueMetric::State, venues)?;
     write_metric(text, VenueMetric::Legs, venues)?;
+    write_metric(text, VenueMetric::Unbooked, venues)?;
     write_metric(text, VenueMetric::LinesLost, venues)?;
     write_metric(text, VenueMetric::Connections, venues)?;
     write_metric(text, VenueMetric::FailedDials, venues)?;

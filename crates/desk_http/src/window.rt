@@ -1,4 +1,4 @@
-//! Which sweeps are asked for.
+//! Which sweeps or executions are asked for.
 
 ghost use Rattle.std.specs.Prelude.{◌≡◌};
 ghost use Rattle.desk_http.specs.Window.{window_of, with_piece};
@@ -6,10 +6,10 @@ ghost use Rattle.desk_http.specs.Window.{window_of, with_piece};
 use crate::parts::parts_at;
 use fix_tags::read_number;
 
-/// The most sweeps of one answer.
+/// The most sweeps or executions of one answer.
 pub const MOST_SWEEPS: u64 = 200;
 
-/// The sweeps behind a number, at most so many.
+/// Those behind a number, at most so many.
 #[derive(Clone, Copy, Debug, PartialEq, Eq)]
 pub struct Window {
     pub after: u64,

@@ -9,3 +9,4 @@ pub mod Sweeps
 pub mod Legs
 pub mod Venues
 pub mod Event
+pub mod Executions

@@ -8,6 +8,7 @@ use Rattle.desk_news.specs.declared.cause.Cause.TheVariants as cause
 use Rattle.desk_news.specs.declared.venue_state.VenueState.{VenueState}
 use Rattle.desk_news.specs.declared.venue_state.VenueState.TheVariants.{Dialled, Up, Down, Unreachable, Closed}
 use Rattle.desk_json.specs.declared.standing.VenueRow.{VenueRow}
+use Rattle.desk_json.specs.Executions.{unbooked_json}
 use Rattle.desk_json.specs.Parted.{parted}
 
 -- why a session ended its connection; "it" is the exchange
@@ -82,17 +83,26 @@ heard_json (Some ms) = decimal ms ++ codes "}"
 abbrev pub accepted : VenueRow → ℕ
 accepted venue = venue.settled - venue.withdrawn
 
--- the counts of a venue, with the key of what stands behind them
-unfoldable pub counts_json : VenueRow → List ℕ
-counts_json venue =
+-- the counts of a venue's legs, and of the lines that its log lost
+unfoldable pub leg_counts_json : VenueRow → List ℕ
+leg_counts_json venue =
     codes ",\"unsent\":" ++ decimal venue.status.unsent ++ codes ",\"doubt\":" ++ decimal venue.status.doubt
     ++ codes ",\"settled\":" ++ decimal venue.settled ++ codes ",\"accepted\":" ++ decimal (accepted venue)
-    ++ codes ",\"withdrawn\":" ++ decimal venue.withdrawn
-    ++ codes ",\"lost\":" ++ decimal venue.status.lost ++ codes ",\"connections\":" ++ decimal venue.connections
-    ++ codes ",\"refused_dials\":" ++ decimal venue.refused_dials ++ codes ",\"sent\":" ++ decimal venue.messages_sent
+    ++ codes ",\"withdrawn\":" ++ decimal venue.withdrawn ++ codes ",\"lost\":" ++ decimal venue.status.lost
+
+-- the counts of what went both ways, with the key of what stands behind them
+unfoldable pub traffic_json : VenueRow → List ℕ
+traffic_json venue =
+    codes ",\"connections\":" ++ decimal venue.connections ++ codes ",\"refused_dials\":"
+    ++ decimal venue.refused_dials ++ codes ",\"sent\":" ++ decimal venue.messages_sent
     ++ codes ",\"received\":" ++ decimal venue.messages_received
     ++ codes ",\"bytes_sent\":" ++ decimal venue.bytes_sent
     ++ codes ",\"bytes_received\":" ++ decimal venue.bytes_received ++ codes ",\"heard_ms_ago\":"
+
+-- the counts of a venue, with the key of what stands behind them
+unfoldable pub counts_json : VenueRow → List ℕ
+counts_json venue =
+    leg_counts_json venue ++ codes ",\"unbooked\":" ++ unbooked_json venue.unbooked ++ traffic_json venue
 
 -- as `{"venue":"ARCA","state":"down","text":"it was silent","code":"E10","unsent":0,..,"heard_ms_ago":64000}`
 abbrev pub venue_json : VenueRow → List ℕ

@@ -6,14 +6,15 @@
 //!   with its leg and key, or says that it is no JSON in UTF-8 (`BodySays`). Where in such a body the reader stood
 //!   isn't said, and of a key that stands twice the last value counts.
 //! - Each text that is written is the stated one, over the values that it is written of: `outcome_json`,
-//!   `body_fault_json`, `sweeps_json`, `legs_json`, `venues_json`, `event_text`. Texts of others stand in them as
-//!   strings of JSON (`quoted`). That a whole text is JSON is only tested.
+//!   `body_fault_json`, `sweeps_json`, `legs_json`, `executions_json`, `venues_json`, `event_text`. Texts of others
+//!   stand in them as strings of JSON (`quoted`). That a whole text is JSON is only tested.
 //! - Each call refuses for lack of memory alone; that memory was wanted isn't said.
 //!
 //! See `docs/api.md`.
 #![tactic(auto)]
 
 mod event;
+mod executions_written;
 mod fault_written;
 mod key;
 mod key_fault;
@@ -29,12 +30,15 @@ mod sweeps_written;
 mod venues_written;
 
 pub use event::{Audit, Event, event_text};
+pub use executions_written::{execution_json, executions_json, unbooked_json};
 pub use fault_written::{body_fault_json, said_json};
 pub use key::Key;
 pub use key_fault::KeyFault;
 pub use legs_written::legs_json;
 pub use outcome::{Outcome, outcome_json, refusal_json};
-pub use standing::{LegRow, OrderWaits, SweepLegs, SweepsPage, VenueRow, WaitCount};
+pub use standing::{
+    ExecutionsPage, LegRow, OrderWaits, SweepLegs, SweepsPage, VenueRow, WaitCount,
+};
 pub use sweep_fault::{BodyFault, SweepFault};
 pub use sweep_in::read_sweep;
 pub use sweeps_written::{day_json, sweep_json, sweeps_json};

@@ -1,8 +1,9 @@
-//! How sweeps, legs, venues and the day stand.
+//! How sweeps, legs, executions, venues and the day stand.
 
 ghost use Rattle.std.specs.Prelude.{◌≡◌};
 ghost use Rattle.desk_json.specs.Venues.{accepted};
 
+use desk_executions::{Execution, UnbookedCounts};
 use desk_news::{DayTotals, SweepParts, VenueStatus};
 use desk_words::VenueName;
 use leg::{LegId, LegState, Terms, Totals};
@@ -15,6 +16,8 @@ pub struct VenueRow {
     pub settled: u64,
     /// How many of these were withdrawn.
     pub withdrawn: u64,
+    /// How many of its reports the book didn't take.
+    pub unbooked: UnbookedCounts,
     /// How many connections it had in this day.
     pub connections: u64,
     /// How many dials failed.
@@ -76,6 +79,15 @@ pub struct SweepsPage {
     pub sweeps: Vec<SweepParts>,
     pub day: DayTotals,
     pub is_closing: bool,
+}
+
+/// Some of the day's executions.
+#[derive(Debug, Drop)]
+pub struct ExecutionsPage {
+    /// By rising number.
+    pub executions: Vec<Execution>,
+    /// How many the day has until now: the number of the last one.
+    pub last: u64,
 }
 
 /// The legs of a sweep.

@@ -3,8 +3,9 @@
 ghost use Rattle.std.specs.Prelude.{◌≡◌, [], ◌++◌, IfOk, OnOk, codes, string_bytes};
 ghost use Rattle.desk_news.specs.Cause.{ending_text};
 ghost use Rattle.desk_json.specs.Parted.{parted};
-ghost use Rattle.desk_json.specs.Venues.{cause_json, counts_json, ended_json, ending_code, ending_words, failed_dial_json, heard_json, lost_json, state_json, unreachable_json, venue_json, venues_json};
+ghost use Rattle.desk_json.specs.Venues.{cause_json, counts_json, ended_json, ending_code, ending_words, failed_dial_json, heard_json, leg_counts_json, lost_json, state_json, traffic_json, unreachable_json, venue_json, venues_json};
 
+use crate::executions_written::write_unbooked;
 use crate::quoted::quoted;
 use crate::standing::VenueRow;
 use desk_news::{Cause, VenueState};
@@ -142,9 +143,9 @@ fn write_heard(text: &mut String, heard_ms_ago: Option<u64>) -> Result<(), Alloc
     }
 }
 
-/// Appends the counts of a venue.
-fn write_counts(text: &mut String, venue: &VenueRow) -> Result<(), AllocError>
-    ensures { OnOk result (string_bytes text.new ≡ string_bytes text.old ++ counts_json venue.now) }
+/// Appends the counts of a venue's legs, and of the lines that its log lost.
+fn write_leg_counts(text: &mut String, venue: &VenueRow) -> Result<(), AllocError>
+    ensures { OnOk result (string_bytes text.new ≡ string_bytes text.old ++ leg_counts_json venue.now) }
 {
     let unsent = venue.status.unsent;
     let doubt = venue.status.doubt;
@@ -152,12 +153,6 @@ fn write_counts(text: &mut String, venue: &VenueRow) -> Result<(), AllocError>
     let accepted = venue.accepted();
     let withdrawn = venue.withdrawn;
     let lost = venue.status.lost;
-    let connections = venue.connections;
-    let refused_dials = venue.refused_dials;
-    let sent = venue.messages_sent;
-    let received = venue.messages_received;
-    let bytes_sent = venue.bytes_sent;
-    let bytes_received = venue.bytes_received;
     write!(
         text,
         ",\"unsent\":{unsent},\"doubt\":{doubt},\"settled\":{settled}"
@@ -165,7 +160,19 @@ fn write_counts(text: &mut String, venue: &VenueRow) -> Result<(), AllocError>
     write!(
         text,
         ",\"accepted\":{accepted},\"withdrawn\":{withdrawn},\"lost\":{lost}"
-    )?;
+    )
+}
+
+/// Appends the counts of what went both ways, and the key of what stands behind them.
+fn write_traffic(text: &mut String, venue: &VenueRow) -> Result<(), AllocError>
+    ensures { OnOk result (string_bytes text.new ≡ string_bytes text.old ++ traffic_json venue.now) }
+{
+    let connections = venue.connections;
+    let refused_dials = venue.refused_dials;
+    let sent = venue.messages_sent;
+    let received = venue.messages_received;
+    let bytes_sent = venue.bytes_sent;
+    let bytes_received = venue.bytes_received;
     write!(
         text,
         ",\"connections\":{connections},\"refused_dials\":{refused_dials}"
@@ -175,6 +182,16 @@ fn write_counts(text: &mut String, venue: &VenueRow) -> Result<(), AllocError>
         text,
         ",\"bytes_sent\":{bytes_sent},\"bytes_received\":{bytes_received},\"heard_ms_ago\":"
     )
+}
+
+/// Appends the counts of a venue.
+fn write_counts(text: &mut String, venue: &VenueRow) -> Result<(), AllocError>
+    ensures { OnOk result (string_bytes text.new ≡ string_bytes text.old ++ counts_json venue.now) }
+{
+    write_leg_counts(text, venue)?;
+    text.push_str(",\"unbooked\":")?;
+    write_unbooked(text, &venue.unbooked)?;
+    write_traffic(text, venue)
 }
 
 /// Appends a venue behind a mark.

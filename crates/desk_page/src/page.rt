@@ -5,7 +5,7 @@ pub const PAGE: &str = r###"<!doctype html>
 <html lang="en">
 <head>
 <meta charset="utf-8">
-<meta http-equiv="Content-Security-Policy" content="default-src 'none'; script-src 'sha256-Z2suP12d/f5Xr4MQQDefVavtP/LwoHvutv625TMRWqM='; style-src 'sha256-2mbSyYzqcY1YgLaeiAYmyC1mstWFpzRhxROK5nEIUoo='; connect-src 'self'; base-uri 'none'; form-action 'none'; require-trusted-types-for 'script'; trusted-types 'none'">
+<meta http-equiv="Content-Security-Policy" content="default-src 'none'; script-src 'sha256-sYau4cVWdszromwKb/ParlmDXgE/ngMmDshGLMrcfj4='; style-src 'sha256-0qjEFkkSesv6BzSjmetRvEM4XrfV9ppqU5wvqz2THMc='; connect-src 'self'; base-uri 'none'; form-action 'none'; require-trusted-types-for 'script'; trusted-types 'none'">
 <meta name="viewport" content="width=device-width, initial-scale=1">
 <meta name="referrer" content="no-referrer">
 <meta name="color-scheme" content="light dark">
@@ -105,6 +105,7 @@ section { min-width: 0; }
 .facts dd { font-weight: 600; white-space: nowrap; }
 .facts .heed { color: var(--warn); }
 .facts .heed::before { content: "! "; }
+.facts .alarm { color: var(--bad); }
 
 .roll { overflow-x: auto; }
 table { border-collapse: collapse; width: 100%; }
@@ -402,7 +403,8 @@ function paint(element, state) {
 
 // ---- Venues.
 
-const FACTS = ["In doubt", "Waiting", "Heard", "Reconnects", "Failed dials", "Log lost"];
+const FACTS = ["In doubt", "Unbooked", "Waiting", "Heard", "Reconnects", "Failed dials", "Log lost"];
+const HEEDED = ["In doubt", "Unbooked", "Log lost"];
 const cards = new Map();
 
 function makeCard(name) {
@@ -443,11 +445,13 @@ function drawVenue(venue) {
   const reconnects = venue.connections === undefined ? undefined : Math.max(0, venue.connections - 1);
   const heard = venue.heard_ms_ago === undefined || venue.heard_ms_ago === null ? "–"
     : lasting((venue.heard_ms_ago + Date.now() - venue.read) / 1000);
-  const facts = [venue.doubt, venue.unsent, heard, reconnects, venue.refused_dials, venue.lost];
+  const unbooked = venue.unbooked && Object.values(venue.unbooked).reduce((sum, count) => sum + count, 0);
+  const facts = [venue.doubt, unbooked, venue.unsent, heard, reconnects, venue.refused_dials, venue.lost];
   const places = card.querySelectorAll("dd");
   facts.forEach((fact, i) => {
     setText(places[i], FACTS[i] === "Heard" ? fact : digits(fact));
-    places[i].classList.toggle("heed", (FACTS[i] === "In doubt" || FACTS[i] === "Log lost") && fact > 0);
+    places[i].classList.toggle("heed", HEEDED.includes(FACTS[i]) && fact > 0);
+    places[i].classList.toggle("alarm", FACTS[i] === "Unbooked" && fact > 0);
   });
   setText(card.querySelector(".note"), `Messages: ${digits(venue.sent)} sent, ${digits(venue.received)} received`);
 }

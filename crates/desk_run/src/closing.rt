@@ -12,24 +12,30 @@ ghost use Rattle.day_sweeps.specs.Sweeps.{sweeps_in};
 ghost use Rattle.desk_venues.specs.Faults.{IsNoMismatch};
 ghost use Rattle.desk_run.specs.Audited.{IsAudited};
 ghost use Rattle.desk_run.specs.Seats.{shared_parts};
+ghost use Rattle.desk_run.specs.Unbooked.{AreUnbooked};
 
 use crate::DeskDay;
 use crate::doubts::{doubts_of, is_given_up};
 use crate::followers::tell_followers;
+use day_executions::{Executions, named};
 use day_sweeps::booked_sweeps;
+use desk_executions::Execution;
 use desk_floor::{Floor, Left, TalkFault};
 use desk_threads::Ended;
 use desk_venues::DayFault;
-use exec_collector::{Accounts, CountedBook};
+use desk_words::VenueName;
+use exec_collector::{Accounts, Collector, CountedBook};
 use link::Link;
 use release_lock::{CallerSeat, ReleaseLock, Run};
 use session_worker::{AuditFault, DayReport, WorkerEnd, audit_opened};
 use std::alloc::{AllocError, Global};
 use std::io::Write;
+use std::sync::Wait;
 
 /// What became of a day whose threads have ended, and whose callers left these seats; lines were broken off for this
 /// reason, if they were. It is audited, and those who followed it are told.
 pub fn close_day<K: Link, L: Run, M: Accounts, W: Write + Drop>(
+    rt: &impl Wait,
     alloc: Global,
     floor: Floor<L, M, W>,
     ended: Ended<K, L, M>,
@@ -41,6 +47,7 @@ pub fn close_day<K: Link, L: Run, M: Accounts, W: Write + Drop>(
     requires seats { seat_parts seats.items + shared_parts floor.shared ≡ 1024 }
     ensures audited { IfOk result (λ day. IsAudited ended.workers.items day.sweeps.items day.report) }
     ensures sweeps { IfOk result (λ day. (book : BookParts) × Replays book × (day.sweeps.items ≡ sweeps_in book)) }
+    ensures unbooked { IfOk result (λ day. AreUnbooked floor.names.items day.unbooked.items) }
     ensures placed { IfOk result (λ day. floor.shared ≡ None → day.report.placed ≡ shares_of seats.items) }
     ensures only { IfErr result IsNoMismatch }
 {
@@ -52,6 +59,7 @@ pub fn close_day<K: Link, L: Run, M: Accounts, W: Write + Drop>(
         shared,
     } = floor.into_left();
     let seats = with_shared(seats, shared)?;
+    let unbooked = unbooked_executions(rt, alloc, &collector, names.as_slice())?;
     let mut counted = collector.into_counted();
     let sweeps = booked_sweeps(alloc, counted.book())?;
     let doubts = doubts_of(alloc, names.as_slice(), workers.as_slice())?;
@@ -61,10 +69,27 @@ pub fn close_day<K: Link, L: Run, M: Accounts, W: Write + Drop>(
     Ok(DeskDay {
         sweeps,
         doubts,
+        unbooked,
         is_given_up,
         report: report?,
         broken_off,
     })
+}
+
+/// What exchanges said and the book didn't take, with the names of their venues. It may wait for the book's lock. The
+/// only refusal is out of memory.
+fn unbooked_executions<M: Accounts>(
+    rt: &impl Wait,
+    alloc: Global,
+    collector: &Collector<M>,
+    names: &[VenueName],
+) -> Result<Vec<Execution>, AllocError>
+    ensures { IfOk result (λ executions. AreUnbooked names.now executions.items) }
+{
+    let mut executions = Executions::new(alloc);
+    let lent = executions.untaken_now(rt, alloc, collector, 0)?;
+    let unbooked = named(alloc, names, lent.notes)?;
+    Ok(unbooked)
 }
 
 /// All seats of a day: those of its callers, and the one of the page's clients, if there is one.

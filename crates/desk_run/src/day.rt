@@ -1,5 +1,6 @@
 //! What became of a day.
 
+use desk_executions::Execution;
 use desk_floor::TalkFault;
 use desk_news::SweepParts;
 use desk_words::VenueName;
@@ -21,6 +22,8 @@ pub struct DeskDay {
     pub sweeps: Vec<SweepParts>,
     /// The venues with legs that stay in doubt, in the order of the file.
     pub doubts: Vec<VenueDoubt>,
+    /// What exchanges said and the book didn't take, by rising numbers.
+    pub unbooked: Vec<Execution>,
     /// Whether a session was given up that couldn't be closed in order.
     pub is_given_up: bool,
     /// What the audit tells.

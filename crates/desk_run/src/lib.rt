@@ -8,8 +8,9 @@
 //!   day that was audited (`IsDeskDay`): the worker of each venue ran from its start, and the audit was of what these
 //!   workers left, and of the book that the sweeps are read from.
 //! - The two halves of it serve whoever calls. `open_day` gives the callers a seat with all parts of the run but that
-//!   of the page's clients. `close_day` audits what the workers left (`IsAudited`), and has placed what the callers'
-//!   seats count, where there is no page.
+//!   of the page's clients. `close_day` audits what the workers left (`IsAudited`), has placed what the callers' seats
+//!   count, where there is no page, and lists what exchanges said and a book that its own history leads to didn't take
+//!   (`AreUnbooked`).
 //! - Of a worker the legs told in doubt are those that its session has so (`legs_in_doubt`, private).
 //! - What is promised of the venues and their workers is said by `desk_venues`, what is answered and told while the day
 //!   runs by `desk_talk`, and of the threads by `desk_threads`. That a day ends is only tested.

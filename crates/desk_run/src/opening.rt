@@ -81,6 +81,7 @@ where
     ensures plans { IfOk result (λ day. map (λ e. e.acceptor.plan) day.cast.exchanges.items
         ≡ plans means.entry.cut venues.now) }
     ensures starts { IfOk result (λ day. day.cast.workers.items ≡ starts_of venues.now) }
+    ensures names { IfOk result (λ day. day.floor.names.items ≡ map (λ v. v.name) venues.now) }
     ensures workers { IfOk result (λ day. map (λ w. place w.parts) day.cast.workers.items
         ≡ new_places (length venues.now)) }
     ensures seat { IfOk result (λ day. (day.seat.shares ≡ 0)

@@ -12,6 +12,7 @@ ghost use Rattle.session_worker.specs.Ends.{AllRan};
 ghost use Rattle.session_worker.specs.Places.{place};
 ghost use Rattle.day_sweeps.specs.Sweeps.{sweeps_in};
 ghost use Rattle.desk_run.specs.Audited.{IsDeskDay};
+ghost use Rattle.desk_run.specs.Unbooked.{AreUnbooked};
 
 use crate::DeskDay;
 use crate::closing::close_day;
@@ -76,6 +77,8 @@ where
     requires { AreVenues config.now.venues.items }
     ensures day { IfOk result (λ day. IsDeskDay config.now.venues.items day.sweeps.items day.report) }
     ensures sweeps { IfOk result (λ day. (book : BookParts) × Replays book × (day.sweeps.items ≡ sweeps_in book)) }
+    ensures unbooked { IfOk result (λ day.
+        AreUnbooked (map (λ v. v.name) config.now.venues.items) day.unbooked.items) }
     ensures only { IfErr result IsNoMismatch }
 {
     let venues = config.venues.as_slice();
@@ -134,6 +137,7 @@ where
     requires queues { L.queues ≡ map (λ ends. ends.0.table) rings.items }
     ensures day { IfOk result (λ day. IsDeskDay venues.now day.sweeps.items day.report) }
     ensures sweeps { IfOk result (λ day. (book : BookParts) × Replays book × (day.sweeps.items ≡ sweeps_in book)) }
+    ensures unbooked { IfOk result (λ day. AreUnbooked (map (λ v. v.name) venues.now) day.unbooked.items) }
     ensures only { IfErr result IsNoMismatch }
 {
     let day = open_day::<L, M, R, W>(rt, alloc, venues, means, callers, workers, rings)?;
@@ -147,7 +151,7 @@ where
     let LinesEnd { seat, broken_off } = called;
     let mut seats = Vec::new(alloc);
     seats.push(seat)?;
-    close_day(alloc, floor, ended, seats, broken_off)
+    close_day(rt, alloc, floor, ended, seats, broken_off)
 }
 
 /// Runs the threads of a day beside the caller who takes the lines of this input, in this thread.

@@ -11,6 +11,7 @@ use Rattle.desk_floor.specs.declared.legs.LegStanding.{LegStanding}
 use Rattle.desk_floor.specs.Legs.{AreLegs}
 use Rattle.desk_floor.specs.Status.{IsStatus}
 use Rattle.day_sweeps.specs.Sweeps.{AddsUp, IsBooked, IsDay}
+use Rattle.day_executions.specs.Counts.{AreCounts}
 use Rattle.desk_json.specs.declared.standing.LegRow.{LegRow}
 use Rattle.desk_json.specs.declared.standing.SweepLegs.{SweepLegs}
 use Rattle.desk_json.specs.declared.standing.SweepsPage.{SweepsPage}
@@ -70,10 +71,12 @@ pub record IsSweep (names : List (List ℕ)) (venues number : ℕ) (shown : Opti
   pub stand : AreLegs venues number legs
   pub rows : AreShown number (filter_map (row_of names) legs) shown
 
--- the venue at a place is shown so: of the legs that its worker took, no more were withdrawn than are settled
+-- the venue at a place is shown so: of the legs that its worker took, no more were withdrawn than are settled, and what
+-- the book didn't take of its notes is counted by the reason
 pub record IsVenue (names : List (List ℕ)) (place : ℕ) (row : VenueRow) : Type 0 where
   pub status : IsStatus names place row.status
   pub withdrawn : row.withdrawn ≤ row.settled
+  pub unbooked : AreCounts place row.unbooked
 
 -- so are these, the first of them at this place and each at the next one
 abbrev pub AreVenues : List (List ℕ) → ℕ → List VenueRow → Type 0

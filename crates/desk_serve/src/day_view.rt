@@ -2,6 +2,7 @@
 
 ghost use Rattle.std.specs.Prelude.{◌≡◌, ⊤, IfOk, filter_map, length};
 ghost use Rattle.desk_serve.specs.Answered.{IsAnswered, outcome_of};
+ghost use Rattle.desk_serve.specs.Executions.{IsExecutions};
 ghost use Rattle.desk_serve.specs.Shown.{AreAll, AreShown, IsPage, IsSums, IsSweep};
 
 use crate::follower::Follower;
@@ -11,7 +12,7 @@ use clock::UtcClock;
 use day_log::LineLog;
 use desk_floor::{Floor, sweep_legs};
 use desk_http::{Changes, Day, DaySums, RefusalCounts};
-use desk_json::{LegRow, Outcome, SweepLegs, SweepsPage, VenueRow};
+use desk_json::{ExecutionsPage, LegRow, Outcome, SweepLegs, SweepsPage, VenueRow};
 use desk_words::VenueName;
 use exec_collector::Accounts;
 use leg::Sweep;
@@ -132,6 +133,8 @@ impl<'a, L: Run, M: Accounts, W: Write + Drop, R: Wait + Clock> Day for DayView<
     ghost shows = { λ day number shown _.
         IsSweep day.floor.now.names.items (length day.floor.now.views.items) number shown };
 
+    ghost reports = { λ day after most page _. IsExecutions day.floor.now.names.items after most page };
+
     ghost lists = { λ day rows _. AreAll day.floor.now.names.items (length day.floor.now.views.items) rows };
 
     ghost sums_up = { λ _ sums _. IsSums sums };
@@ -169,6 +172,18 @@ impl<'a, L: Run, M: Accounts, W: Write + Drop, R: Wait + Clock> Day for DayView<
         let legs = sweep_legs(self.rt, self.alloc, self.floor, number)?;
         let rows = leg_rows(self.alloc, self.floor.names.as_slice(), legs)?;
         Ok(shown(number, rows))
+    }
+
+    fn executions(&mut self, after: u64, most: u64) -> Result<ExecutionsPage, AllocError> {
+        let names = self.floor.names.as_slice();
+        self.page.executions(
+            self.rt,
+            self.alloc,
+            names,
+            &self.floor.collector,
+            after,
+            most,
+        )
     }
 
     fn venues(&mut self) -> Result<Vec<VenueRow>, AllocError> {

@@ -9,8 +9,12 @@
 //!   there, the terms with which a desk of such a history released it, and its venue's name. One is left out only where
 //!   such a desk released no such leg, or its venue has no view or no name (`IsSweep`, for `shows`).
 //! - Each venue that has a name and a view is shown, by its place, with how many legs such a desk released to it beyond
-//!   those that its worker told as taken (`AreAll`, for `lists`). The number of sweeps is such a book's, and what
-//!   became of their shares are sums over sweeps as such books had them (`IsSums`, for `sums_up`).
+//!   those that its worker told as taken, and how many of its notes such a book didn't take, by the reason (`AreAll`,
+//!   for `lists`). The number of sweeps is such a book's, and what became of their shares are sums over sweeps as such
+//!   books had them (`IsSums`, for `sums_up`).
+//! - The executions of a page are what such a book heard behind the number that was asked for, at most so many, taken
+//!   or not, each with its number, all that it says, the book's answer, and the name at its venue's place, where what
+//!   earlier looks found is an index of that day (`IsExecutions`, for `reports`).
 //! - Each look is at some book or desk: which moment's, and that two looks are at the same one, isn't said. Nothing is
 //!   known of the counts and states that workers tell, of the shares placed, or of whether the day is closing.
 //! - What a request may ask, and the texts of the answers, are said by `desk_http`. That the events are those of the

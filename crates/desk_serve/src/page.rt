@@ -2,11 +2,15 @@
 
 ghost use Rattle.std.specs.Prelude.{IfOk};
 ghost use Rattle.desk_serve.specs.Sums.{AreParts};
+ghost use Rattle.desk_serve.specs.Executions.{IsExecutions, IsPageOf};
 
 use crate::entrance::Entrance;
 use crate::part_sums::PartSums;
+use day_executions::{Executions, LentNotes, named};
 use desk_config::{Address, TokenText};
 use desk_http::Door;
+use desk_json::ExecutionsPage;
+use desk_words::VenueName;
 use exec_collector::{Accounts, Collector};
 use leg::Totals;
 use std::alloc::{AllocError, Global};
@@ -30,6 +34,7 @@ pub(crate) struct Page {
     // How often a server waited for a client.
     clients: AtomicU64,
     sums: Mutex<PartSums>,
+    executions: Mutex<Executions>,
 }
 
 /// HTTP's own port, which a browser leaves out of `Host`.
@@ -59,6 +64,21 @@ fn authorization(alloc: Global, token: Option<&TokenText>) -> Result<String, All
     }
 }
 
+/// Executions that were lent, as they are told.
+fn executions_page(
+    alloc: Global,
+    names: &[VenueName],
+    lent: LentNotes,
+) -> Result<ExecutionsPage, AllocError>
+    ensures { IfOk result (IsPageOf names.now lent) }
+{
+    let LentNotes { notes, last } = lent;
+    Ok(ExecutionsPage {
+        executions: named(alloc, names, notes)?,
+        last,
+    })
+}
+
 impl Page {
     /// The page that is served under this address of a file, which is this one, to those who come in there.
     pub fn new(
@@ -78,6 +98,7 @@ impl Page {
             followers: AtomicU64::new(0),
             clients: AtomicU64::new(0),
             sums: Mutex::new(PartSums::new(alloc)),
+            executions: Mutex::new(Executions::new(alloc)),
         })
     }
 
@@ -90,6 +111,27 @@ impl Page {
         ensures { IfOk result AreParts }
     {
         self.sums.lock(rt).now(rt, collector)
+    }
+
+    /// The executions behind a number, at most so many, with the names of their venues. It may wait for locks. The only
+    /// refusal is out of memory.
+    pub fn executions<M: Accounts>(
+        &self,
+        rt: &impl Wait,
+        alloc: Global,
+        names: &[VenueName],
+        collector: &Collector<M>,
+        after: u64,
+        most: u64,
+    ) -> Result<ExecutionsPage, AllocError>
+        ensures { IfOk result (IsExecutions names.now after most) }
+    {
+        let lent = self
+            .executions
+            .lock(rt)
+            .now(rt, alloc, collector, after, most)?;
+        let page = executions_page(alloc, names, lent)?;
+        Ok(page)
     }
 
     /// Looks at what became of the shares, for each hundredth client and where none came, so that no client waits for a

@@ -4,6 +4,7 @@ ghost use Rattle.std.specs.Prelude.{◌≡◌, ◌⊎◌, ◌<◌, ◌≤◌, le
 ghost use Rattle.desk_serve.specs.Shown.{IsVenue, row_of, totals_of};
 
 use clock::Clock;
+use day_executions::unbooked_now;
 use day_log::{BOUNDS, OrderTimes};
 use desk_floor::{Floor, LegStanding, venue_status};
 use desk_json::{LegRow, OrderWaits, VenueRow, WaitCount};
@@ -54,6 +55,7 @@ pub(crate) fn venue_row<L: Run, M: Accounts, W: Write + Drop>(
         status,
         settled,
         withdrawn: view.withdrawn_legs().min(settled),
+        unbooked: unbooked_now(rt, &floor.collector, place),
         connections: traffic.connections(),
         refused_dials: traffic.refused_dials(),
         messages_sent: traffic.messages_sent(),

@@ -136,7 +136,8 @@ where
     let line = lines.line();
     match read_line(alloc, floor.names.as_slice(), line) {
         Ok(Command::Sweep(sweep)) => {
-            let answer = floor.hand_in(rt, seat, log, line, sweep);
+            let handed = floor.hand_in(rt, seat, log, line, sweep);
+            let answer = handed.unwrap_or(Answer::Closing);
             floor.voice.say(rt, &answer)
         }
         Ok(Command::Nothing) => {

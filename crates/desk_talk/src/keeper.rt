@@ -27,24 +27,25 @@ enum Until {
     Ended,
 }
 
-/// Tells what changes until the workers have ended. Once the day is closing it waits until no share is open, as long as
-/// the patience goes; then it tells once more what changed, and the workers are told to stop.
+/// Tells what changes until the workers have ended, and executions to the last one. Once the day is closing it waits
+/// until no share is open, as long as the patience goes; then it tells once more what changed, and the workers are told
+/// to stop.
 pub fn keep<L: Run, M: Accounts, W: Write + Drop, R: Wait + Clock>(
     rt: &R,
     alloc: Global,
     floor: &Floor<L, M, W>,
 ) {
-    let mut told = if floor.manner.tells_news {
-        Some(Told::new(alloc))
-    } else {
-        None
-    };
+    let mut told = Some(Told::new(alloc, floor.manner));
     watch(rt, floor, &mut told, Until::Closing, None);
     let patience = Some(floor.manner.patience);
     watch(rt, floor, &mut told, Until::Resolved, patience);
     tell(rt, floor, &mut told);
     floor.stop();
     watch(rt, floor, &mut told, Until::Ended, None);
+    if let Some(told) = &mut told {
+        // No worker books any more.
+        let _ = told.tell_executions(rt, floor);
+    }
 }
 
 /// Whether what is waited for has come.

@@ -4,8 +4,9 @@ ghost use Rattle.std.specs.Prelude.{◌≡◌};
 ghost use Rattle.desk_news.specs.declared.news.News.TheVariants as news;
 ghost use Rattle.desk_floor.specs.Standing.{state_of};
 
+use crate::executions::ToldExecutions;
 use day_sweeps::sweep_now;
-use desk_floor::{Changes, Floor, Standing, TalkFault};
+use desk_floor::{Changes, Floor, Manner, Standing, TalkFault};
 use desk_news::News;
 use desk_words::VenueName;
 use exec_collector::Accounts;
@@ -24,6 +25,10 @@ pub struct Told {
     sweeps: Vec<Totals>,
     // The sweeps that changed since then.
     changes: Changes,
+    // Which executions were told.
+    executions: ToldExecutions,
+    // Whether changes of venues and sweeps are to be told.
+    tells_news: bool,
 }
 
 /// The news of how a venue stands, where the pause before its next dial lasts so many seconds, and the venue said this
@@ -72,12 +77,14 @@ fn tell_sweep<L: Run, M: Accounts, W: Write + Drop>(
 }
 
 impl Told {
-    /// Nothing yet.
-    pub fn new(alloc: Global) -> Told {
+    /// Nothing yet, of a day that is held so.
+    pub fn new(alloc: Global, manner: Manner) -> Told {
         Told {
             venues: Vec::new(alloc),
             sweeps: Vec::new(alloc),
             changes: Changes::new(alloc),
+            executions: ToldExecutions::new(alloc, manner.tells_executions),
+            tells_news: manner.tells_news,
         }
     }
 
@@ -127,6 +134,8 @@ impl Told {
             venues: _,
             sweeps,
             changes,
+            executions: _,
+            tells_news: _,
         } = self;
         changes.look(rt, &floor.collector)?;
         for number in changes.sweeps() {
@@ -136,6 +145,15 @@ impl Told {
         Ok(())
     }
 
+    /// Tells the executions that weren't told yet and are to be: all, or those that the book didn't take.
+    pub fn tell_executions<L: Run, M: Accounts, W: Write + Drop>(
+        &mut self,
+        rt: &impl Wait,
+        floor: &Floor<L, M, W>,
+    ) -> Result<(), TalkFault> {
+        self.executions.tell(rt, floor)
+    }
+
     /// Tells what changed: of venues until the workers are told to stop. What wasn't told for lack of memory is told
     /// the next time, if it differs then from what was told before.
     pub fn tell<L: Run, M: Accounts, W: Write + Drop>(
@@ -143,9 +161,13 @@ impl Told {
         rt: &impl Wait,
         floor: &Floor<L, M, W>,
     ) -> Result<(), TalkFault> {
-        if !floor.signals.are_stopped() {
+        if self.tells_news && !floor.signals.are_stopped() {
             self.tell_venues(rt, floor)?;
         }
-        self.tell_sweeps(rt, floor)
+        self.tell_executions(rt, floor)?;
+        if self.tells_news {
+            self.tell_sweeps(rt, floor)?;
+        }
+        Ok(())
     }
 }

@@ -2,8 +2,10 @@
 
 use crate::open_sweeps::OpenSweeps;
 use clock::Clock;
+use day_executions::unbooked_now;
 use day_log::LineLog;
 use day_sweeps::sweep_now;
+use desk_executions::{UnbookedCounts, UnbookedStatus};
 use desk_floor::{Floor, TalkFault, venue_status};
 use desk_news::Status;
 use exec_collector::Accounts;
@@ -11,8 +13,33 @@ use release_lock::Run;
 use std::io::Write;
 use std::sync::Wait;
 
-/// Answers `status`: a line for each venue, and one for each sweep that isn't whole. It looks at what changed since the
-/// last one.
+/// That the book took all.
+const NOTHING: UnbookedCounts = UnbookedCounts {
+    duplicates: 0,
+    overfills: 0,
+    strays: 0,
+    unread: 0,
+};
+
+/// What the book didn't take of the venue at a place, if there is any.
+fn unbooked_at<L: Run, M: Accounts, W: Write + Drop>(
+    rt: &impl Wait,
+    floor: &Floor<L, M, W>,
+    place: usize,
+) -> Option<UnbookedStatus> {
+    let name = floor.names.get(place)?;
+    let counts = unbooked_now(rt, &floor.collector, place);
+    if counts == NOTHING {
+        return None;
+    }
+    Some(UnbookedStatus {
+        venue: name.clone().unwrap(),
+        counts,
+    })
+}
+
+/// Answers `status`: a line for each venue, one for each of which the book didn't take something, and one for each
+/// sweep that isn't whole. It looks at what changed since the last one.
 pub fn tell_status<'a, L: Run, M: Accounts, W: Write + Drop, R: Wait, C: Clock + Drop>(
     rt: &'a R,
     floor: &Floor<L, M, W>,
@@ -22,6 +49,11 @@ pub fn tell_status<'a, L: Run, M: Accounts, W: Write + Drop, R: Wait, C: Clock +
     for place in 0..floor.names.len() {
         if let Some(status) = venue_status(rt, floor, place) {
             floor.answer(rt, log, &Status::Venue(status))?;
+        }
+    }
+    for place in 0..floor.names.len() {
+        if let Some(status) = unbooked_at(rt, floor, place) {
+            floor.answer(rt, log, &status)?;
         }
     }
     open.look(rt, &floor.collector)?;

@@ -32,7 +32,7 @@ Examples:
 
 The exit status is 0, or 2 for the command line, 3 for a bad value, line or frame, 4 for a failed read or write or where
 there is no socket or thread, 5 for memory, 6 for an audit that fails, 7 for a day that is given up, 8 for a rule that
-is broken. Help has status 2.";
+is broken, 9 for reports that the book didn't take. Help has status 2.";
 
 /// The program with its commands, each with what it is for.
 fn program<'a>(alloc: Global) -> Result<Command<'a>, AllocError> {

@@ -1,5 +1,5 @@
 -- The lines of a desk's day in JSON, an object each.
-use Rattle.std.specs.Prelude.{ℕ, List, [], ◌∷◌, ◌++◌, codes, decimal}
+use Rattle.std.specs.Prelude.{ℕ, List, [], ◌++◌, codes, decimal}
 use Rattle.json.specs.Print.{quoted}
 use Rattle.leg.specs.LegId.{LegIdParts, leg_id_text}
 use Rattle.sweep_text.specs.declared.answer.Answer.{Answer}
@@ -16,6 +16,8 @@ use Rattle.desk_news.specs.declared.status.Status.{Status}
 use Rattle.desk_news.specs.declared.status.Status.TheVariants as status
 use Rattle.desk_news.specs.declared.status.VenueStatus.{VenueStatus}
 use Rattle.desk_news.specs.declared.day_totals.DayTotals.{DayTotals}
+use Rattle.desk_executions.specs.declared.counts.UnbookedStatus.{UnbookedStatus}
+use Rattle.desk_json.specs.Executions.{unbooked_json}
 use Rattle.desk_json.specs.Outcome.{refusal_json, closing_json}
 use Rattle.desk_json.specs.Parted.{parted}
 use Rattle.desk_json.specs.Sweeps.{sweep_json, day_json}
@@ -74,6 +76,12 @@ venue_status_json row =
 abbrev pub status_json : Status → List ℕ
 status_json (status.Venue row) = venue_status_json row
 status_json (status.Sweep parts) = codes "{\"status\":" ++ sweep_json parts ++ codes "}"
+
+-- how much of what a venue said the book didn't take, as `{"status":{"unbooked":"NYSE","counts":{..}}}`
+abbrev pub unbooked_line : UnbookedStatus → List ℕ
+unbooked_line row =
+    codes "{\"status\":{\"unbooked\":\"" ++ row.venue ++ codes "\",\"counts\":" ++ unbooked_json row.counts
+    ++ codes "}}"
 
 -- a leg's number, in quotes
 abbrev pub leg_json : LegIdParts → List ℕ

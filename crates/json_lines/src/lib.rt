@@ -1,5 +1,5 @@
-//! The lines of a desk's day in JSON, for programs that read them: an object for each answer, each change, each line of
-//! `status` and each of the end.
+//! The lines of a desk's day in JSON, for programs that read them: an object for each answer, each change, each
+//! execution, each line of `status` and each of the end.
 //!
 //! Promises:
 //! - Each text is the stated one, over the value that it is written of (`Line::json`, `doubt_json`, `totals_json`).
@@ -11,6 +11,7 @@
 
 mod answer_line;
 mod end_lines;
+mod execution_line;
 mod form;
 mod line;
 mod news_line;

@@ -96,7 +96,10 @@ fn hands_in<'a, L: Run, M: Accounts, W: Write + Drop, R: Wait + Clock>(
     let Some(sweep) = one_sweep(alloc, plan.venues) else {
         return false;
     };
-    match floor.hand_in(rt, seat, log, b"", sweep) {
+    let Ok(answer) = floor.hand_in(rt, seat, log, b"", sweep) else {
+        return false;
+    };
+    match answer {
         Answer::Placed { .. } => true,
         Answer::Refused(_) => false,
         Answer::Closing => false,

@@ -127,6 +127,7 @@ where
         manner: Manner {
             patience: PATIENCE,
             tells_news: true,
+            tells_executions: false,
         },
         folder: None,
         voice: Voice::new(alloc, Form::Words, sink()),
@@ -137,7 +138,7 @@ where
     let OpenDay { floor, cast, seat } = day;
     let seats = split_seats(alloc, seat, plan.callers)?;
     let (ended, called) = with_callers(rt, alloc, &floor, cast, plan, seats, progress)?;
-    told(alloc, plan, floor, ended, called)
+    told(rt, alloc, plan, floor, ended, called)
 }
 
 /// Runs the threads of a day beside those of its callers.
@@ -185,6 +186,7 @@ where
 
 /// What became of a day whose threads have ended.
 fn told<K: Link, L: Run, M: Accounts, W: Write + Drop>(
+    rt: &impl Wait,
     alloc: Global,
     plan: LivePlan,
     floor: Floor<L, M, W>,
@@ -205,10 +207,11 @@ fn told<K: Link, L: Run, M: Accounts, W: Write + Drop>(
     let (seats, unplaced) = parted(alloc, called)?;
     let is_answered = ended.workers.iter().any(|end| end.session.next_in() > 1);
     let venues = left_venues(alloc, ended.workers.as_slice())?;
-    let day = close_day(alloc, floor, ended, seats, None)?;
+    let day = close_day(rt, alloc, floor, ended, seats, None)?;
     let DeskDay {
         sweeps,
         doubts: _,
+        unbooked: _,
         is_given_up: _,
         report,
         broken_off: _,

@@ -4,11 +4,14 @@ ghost use Rattle.std.specs.Prelude.{⊤};
 ghost use Rattle.play_api.specs.Names.{names_of};
 
 use crate::venues::Venues;
+use desk_executions::Execution;
 use desk_http::{Changes, Day, DaySums, RefusalCounts};
-use desk_json::{Audit, Event, LegRow, Outcome, SweepLegs, SweepsPage, VenueRow};
+use desk_json::{Audit, Event, ExecutionsPage, LegRow, Outcome, SweepLegs, SweepsPage, VenueRow};
 use desk_news::{DayTotals, SweepParts};
 use desk_words::VenueName;
+use dialect::Note;
 use leg::{LegId, LegState, MAX_PLACE, MAX_SWEEP, Routed, Sweep, Totals};
+use share_ledger::Applied;
 use std::alloc::{AllocError, Global};
 use sweep_text::{Refusal, write_sweep};
 
@@ -20,6 +23,7 @@ pub struct MadeUpDay {
     /// What becomes of the next sweep.
     pub outcome: Outcome,
     pub sweeps: Vec<SweepParts>,
+    pub executions: Vec<Execution>,
     pub day: DayTotals,
     /// How many sweeps weren't placed until now.
     pub refusals: RefusalCounts,
@@ -107,6 +111,7 @@ impl MadeUpDay {
             venues: Venues::new(alloc),
             outcome: Outcome::Refused(Refusal::NoLegs),
             sweeps: Vec::new(alloc),
+            executions: Vec::new(alloc),
             day: NO_SHARES,
             refusals: NO_REFUSALS,
             is_closing: false,
@@ -129,6 +134,23 @@ impl MadeUpDay {
     fn ask(&mut self, words: &str) -> Result<(), AllocError> {
         self.asked.push_str(words)?;
         self.asked.push('\n')
+    }
+
+    /// One execution more, under the next number.
+    pub fn report(
+        &mut self,
+        venue: VenueName,
+        note: Note,
+        answer: Applied,
+    ) -> Result<(), AllocError> {
+        let number = (self.executions.len() as u64).saturating_add(1);
+        self.executions.push(Execution {
+            number,
+            venue,
+            note,
+            answer,
+        })?;
+        Ok(())
     }
 
     /// Keeps the legs of a sweep.
@@ -176,6 +198,8 @@ impl Day for MadeUpDay {
     ghost pages = { λ _ _ _ _ _. ⊤ };
 
     ghost shows = { λ _ _ _ _. ⊤ };
+
+    ghost reports = { λ _ _ _ _ _. ⊤ };
 
     ghost lists = { λ _ _ _. ⊤ };
 
@@ -226,6 +250,21 @@ impl Day for MadeUpDay {
             sweep: number,
             legs,
         }))
+    }
+
+    fn executions(&mut self, after: u64, most: u64) -> Result<ExecutionsPage, AllocError> {
+        let line = format!(in self.alloc; "executions after {after} most {most}")?;
+        self.ask(line.as_str())?;
+        let mut executions = Vec::new(self.alloc);
+        for execution in self.executions.iter() {
+            if execution.number > after && (executions.len() as u64) < most {
+                executions.push(same_as(execution)?)?;
+            }
+        }
+        Ok(ExecutionsPage {
+            executions,
+            last: self.executions.len() as u64,
+        })
     }
 
     fn venues(&mut self) -> Result<Vec<VenueRow>, AllocError> {
@@ -295,5 +334,18 @@ fn copy_of(leg: &LegRow) -> Result<LegRow, AllocError> {
         terms: leg.terms.clone()?,
         totals: leg.totals,
         state: leg.state,
+    })
+}
+
+fn same_as(execution: &Execution) -> Result<Execution, AllocError> {
+    Ok(Execution {
+        number: execution.number,
+        venue: execution.venue.clone()?,
+        note: match &execution.note {
+            Note::Report(report) => Note::Report(report.clone()?),
+            Note::Refused(leg) => Note::Refused(*leg),
+            Note::Unread(fault) => Note::Unread(*fault),
+        },
+        answer: execution.answer,
     })
 }

@@ -1,11 +1,13 @@
 //! The commands of a case, and what they work on.
 
+use crate::executions::{answered, named_venue, note, unbooked_counts};
 use crate::made_up_day::MadeUpDay;
 use crate::still::Still;
 use crate::talk::Talk;
 use crate::words::{day_totals, outcome, refusal_counts, sweep_parts};
 use case_text::{Answers, PlayFault, Player, number};
 use desk_http::{Door, serve};
+use share_ledger::Applied;
 use std::alloc::Global;
 use std::str;
 
@@ -121,6 +123,15 @@ impl ApiPlayer {
         Ok(())
     }
 
+    /// Tells the executions of the day in words.
+    fn tell_words(&self, answers: &mut Answers) -> Result<(), PlayFault> {
+        for execution in self.day.executions.iter() {
+            let text = format!(in self.alloc; "{execution}")?;
+            answers.say(text.as_str())?;
+        }
+        Ok(())
+    }
+
     /// A GET as any client sends it.
     fn get(&mut self, path: &str, answers: &mut Answers) -> Result<(), PlayFault> {
         let head = format!(in self.alloc; "GET {path} HTTP/1.1\r\nHost: 127.0.0.1:8080\r\n\r\n")?;
@@ -162,6 +173,23 @@ impl ApiPlayer {
                 self.day.sweeps.push(parts)?;
                 Ok(())
             }
+            "execution" => {
+                let (venue, text) = named_venue(text)?;
+                let note = note(self.alloc, text)?;
+                self.day.report(venue, note, Applied::Moved)?;
+                Ok(())
+            }
+            "unbooked" => {
+                let (answer, text) = answered(text)?;
+                let (venue, text) = named_venue(text)?;
+                let note = note(self.alloc, text)?;
+                self.day.report(venue, note, answer)?;
+                Ok(())
+            }
+            "counts" => {
+                self.day.venues.unbooked = unbooked_counts(self.alloc, text)?;
+                Ok(())
+            }
             "day" => {
                 self.day.day = day_totals(self.alloc, text)?;
                 Ok(())
@@ -194,6 +222,7 @@ impl Player for ApiPlayer {
             "<" => return self.say_line(""),
             "served" => return self.tell_whole(false, answers),
             "late" => return self.tell_whole(true, answers),
+            "words" => return self.tell_words(answers),
             "crowded" => {
                 self.day.is_crowded = true;
                 return Ok(());

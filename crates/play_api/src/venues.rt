@@ -4,6 +4,7 @@ ghost use Rattle.std.specs.Prelude.{◌≡◌, ◌≤◌, length};
 ghost use Rattle.play_api.specs.Names.{names_of};
 
 use case_text::PlayFault;
+use desk_executions::UnbookedCounts;
 use desk_json::{OrderWaits, VenueRow, WaitCount};
 use desk_news::{Cause, VenueState, VenueStatus};
 use desk_words::{VenueName, shown};
@@ -21,6 +22,8 @@ pub struct Venues {
     /// The venue that stands otherwise, by its place, and its state's word.
     amiss: Option<usize>,
     word: String,
+    /// How many notes of each the book didn't take.
+    pub unbooked: UnbookedCounts,
 }
 
 /// A state of which a case has the word.
@@ -48,6 +51,12 @@ impl Venues {
             names: Vec::new(alloc),
             amiss: None,
             word: String::new(alloc),
+            unbooked: UnbookedCounts {
+                duplicates: 0,
+                overfills: 0,
+                strays: 0,
+                unread: 0,
+            },
         }
     }
 
@@ -114,6 +123,7 @@ impl Venues {
             },
             settled: 5,
             withdrawn: 2,
+            unbooked: self.unbooked,
             connections: 1,
             refused_dials: 0,
             messages_sent: 3,

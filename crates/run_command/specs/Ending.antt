@@ -1,9 +1,10 @@
 -- What `dispatch run` prints last, where it ends well.
-use Rattle.std.specs.Prelude.{◌≡◌, ◌⊎◌, ℕ, List, [], ◌++◌, false, Option, None, Ok, codes}
+use Rattle.std.specs.Prelude.{◌≡◌, ◌⊎◌, ℕ, List, [], ◌++◌, map, false, Option, None, Ok, codes}
 use Rattle.std.specs.Io.KnownBytes.{Appends}
 use Rattle.desk_config.specs.Config.{AnswersText}
 use Rattle.desk_config.specs.declared.config.DeskConfig.{DeskConfig}
 use Rattle.desk_run.specs.Audited.{IsDeskDay}
+use Rattle.desk_run.specs.Unbooked.{AreUnbooked}
 use Rattle.desk_run.specs.declared.day.DeskDay.{DeskDay}
 use Rattle.json_lines.specs.declared.form.Form.{Form}
 use Rattle.json_lines.specs.declared.form.Form.TheVariants.{Words, Json}
@@ -24,12 +25,15 @@ abbrev pub PrintsOk : Option (List ℕ) → Option (List ℕ) → Type 0
 PrintsOk before after = (text : List ℕ) × SaysOk text × Appends before after text
 
 -- a day of this configuration was audited with these sweeps and this report, its lines were taken to their end, each
--- session was closed in order, and no leg stays in doubt; and its text is printed behind what the output held then
+-- session was closed in order, nothing is listed that its book didn't take, and no leg stays in doubt; and its text is
+-- printed behind what the output held then
 pub record PrintsDay (config : DeskConfig) (after : Option (List ℕ)) : Type 0 where
   pub day : DeskDay
   pub audited : IsDeskDay config.venues.items day.sweeps.items day.report
   pub taken : day.broken_off ≡ None
   pub closed : day.is_given_up ≡ false
+  pub unbooked : AreUnbooked (map (λ v. v.name) config.venues.items) day.unbooked.items
+  pub booked : day.unbooked.items ≡ []
   pub settled : day.doubts.items ≡ []
   pub form : Form
   pub held : Option (List ℕ)

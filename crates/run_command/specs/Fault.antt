@@ -31,6 +31,7 @@ use Rattle.run_command.specs.declared.fault.CommandFault.TheVariants.{
   MismatchShares,
   MismatchPlaced,
   GivenUp,
+  Unbooked,
 }
 
 -- the status that tells why the logs of a day can't be begun
@@ -62,6 +63,7 @@ fault_status MismatchQueue = 6
 fault_status MismatchShares = 6
 fault_status MismatchPlaced = 6
 fault_status GivenUp = 7
+fault_status Unbooked = 9
 
 -- a fault of the command line, or out of memory
 abbrev pub IsOfCommandLine : CommandFault → Type 0

@@ -2,6 +2,8 @@
 use Rattle.std.specs.Prelude.{ℕ, List, ◌∷◌, [], ◌++◌, codes}
 use Rattle.std.specs.List.{flat_map}
 use Rattle.desk_news.specs.declared.sweep_parts.SweepParts.{SweepParts}
+use Rattle.desk_executions.specs.declared.execution.Execution.{Execution}
+use Rattle.desk_json.specs.Executions.{execution_json}
 use Rattle.desk_json.specs.Sweeps.{sweep_json}
 use Rattle.json_lines.specs.Lines.{doubt_json, totals_json}
 use Rattle.desk_run.specs.declared.day.DeskDay.{DeskDay}
@@ -17,9 +19,16 @@ sweep_line sweep = sweep_json sweep ++ 10 ∷ []
 abbrev pub doubt_line : VenueDoubt → List ℕ
 doubt_line doubt = doubt_json doubt.venue doubt.legs.items ++ 10 ∷ []
 
--- a line for each sweep, and one for each venue with legs that stay in doubt
+-- the line of what the book didn't take
+abbrev pub unbooked_line : Execution → List ℕ
+unbooked_line execution = execution_json execution ++ 10 ∷ []
+
+-- a line for each sweep, one for each execution that the book didn't take, and one for each venue with legs that stay
+-- in doubt
 abbrev pub booked_json : DeskDay → List ℕ
-booked_json day = flat_map sweep_line day.sweeps.items ++ flat_map doubt_line day.doubts.items
+booked_json day =
+    flat_map sweep_line day.sweeps.items ++ flat_map unbooked_line day.unbooked.items
+    ++ flat_map doubt_line day.doubts.items
 
 -- the shares of a day, and that the audit found nothing wrong
 abbrev pub totals_lines : DayReport → List ℕ

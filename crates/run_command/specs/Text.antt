@@ -6,6 +6,8 @@ use Rattle.desk_news.specs.Doubt.{doubt_text}
 use Rattle.desk_news.specs.Day.{day_text as totals_text}
 use Rattle.desk_news.specs.declared.sweep_parts.SweepParts.{SweepParts}
 use Rattle.desk_news.specs.declared.day_totals.DayTotals.{DayTotals}
+use Rattle.desk_executions.specs.declared.execution.Execution.{Execution}
+use Rattle.desk_executions.specs.Execution.{execution_text}
 use Rattle.desk_run.specs.declared.day.DeskDay.{DeskDay}
 use Rattle.desk_run.specs.declared.day.VenueDoubt.{VenueDoubt}
 use Rattle.session_worker.specs.declared.day_report.DayReport.{DayReport}
@@ -22,9 +24,16 @@ doubt_line doubt = doubt_text doubt.venue doubt.legs.items ++ 10 ∷ []
 abbrev pub totals_of : DayReport → DayTotals
 totals_of report = record { placed = report.placed; resolved = report.resolved; still_open = report.still_open }
 
--- a line for each sweep, and one for each venue with legs that stay in doubt
+-- the line of what the book didn't take
+abbrev pub unbooked_line : Execution → List ℕ
+unbooked_line execution = execution_text execution ++ 10 ∷ []
+
+-- a line for each sweep, one for each execution that the book didn't take, and one for each venue with legs that stay
+-- in doubt
 abbrev pub booked_text : DeskDay → List ℕ
-booked_text day = flat_map sweep_line day.sweeps.items ++ flat_map doubt_line day.doubts.items
+booked_text day =
+    flat_map sweep_line day.sweeps.items ++ flat_map unbooked_line day.unbooked.items
+    ++ flat_map doubt_line day.doubts.items
 
 -- the shares of a day, and that the audit found nothing wrong
 abbrev pub totals_lines : DayReport → List ℕ

@@ -67,6 +67,9 @@ pub enum CommandFault {
     /// Legs stay in doubt, or a session was given up.
     #[error("the day was given up")]
     GivenUp,
+    /// The book didn't take all that exchanges said.
+    #[error("not all reports were booked")]
+    Unbooked,
 }
 
 /// The status that tells why the logs of a day can't be begun: 3 where the file asks for what can't be, 4 where the
@@ -113,6 +116,7 @@ impl Fault for CommandFault {
             | CommandFault::MismatchShares
             | CommandFault::MismatchPlaced => 6,
             CommandFault::GivenUp => 7,
+            CommandFault::Unbooked => 9,
         }
     }
 
@@ -125,6 +129,9 @@ impl Fault for CommandFault {
             CommandFault::NoLogs(fault) => log_reason(fault),
             CommandFault::GivenUp => Some(
                 "a session didn't log out in time, or legs stay in doubt",
+            ),
+            CommandFault::Unbooked => Some(
+                "the lines that begin with unbooked have them: ask the venues what stands",
             ),
             _ => None,
         }

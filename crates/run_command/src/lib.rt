@@ -3,8 +3,9 @@
 //! Promises:
 //! - The exit status is 0, or that of the fault (`run_run`). A fault of the words or of the file prints nothing. At 0 a
 //!   file's bytes spell a configuration, and either it is told that they do, or a day of this configuration was audited
-//!   (`IsDeskDay`), with no leg in doubt, and its text is printed last (`EndsWell`). Which bytes a file gives, and what
-//!   the output holds when the day is over, no contract says.
+//!   (`IsDeskDay`), with no leg in doubt, and with nothing on the list of what its book didn't take. The day's text
+//!   is printed last (`EndsWell`). Which bytes a file gives, and what the output holds when the day is over, no
+//!   contract says.
 //! - What is printed behind a day is exactly the stated text of what became of it (`day_text`, or `json_text` with
 //!   `--json`).
 //! - Out of memory while the file is read is never told as a fault of the file (`file_fault`, private).
@@ -52,9 +53,9 @@ pub use text::day_text;
 /// Runs `dispatch run` on its words, of which the first is the command's own name.
 ///
 /// It reads the file that they name, and runs its day: the lines of `input` are taken and answered, changes are told,
-/// and at the end each sweep's line is written, the legs that stay in doubt, the shares of the day, and that the audit
-/// found nothing wrong. With `--check` it says what it would do. Faults go to `err`. The answer is the exit status: 0,
-/// or that of the fault.
+/// and at the end each sweep's line is written, what the book didn't take, the legs that stay in doubt, the shares of
+/// the day, and that the audit found nothing wrong. With `--check` it says what it would do. Faults go to `err`. The
+/// answer is the exit status: 0, or that of the fault.
 pub fn run_run<S, R, I, W, E>(
     rt: &R,
     alloc: Global,
@@ -163,6 +164,7 @@ where
     print(&end_text(alloc, options.form, &day)?, out)?;
     match day.broken_off {
         Some(fault) => Err(CommandFault::from(fault)),
+        None if !day.unbooked.is_empty() => Err(CommandFault::Unbooked),
         None if day.is_given_up || !day.doubts.is_empty() => Err(CommandFault::GivenUp),
         None => Ok(()),
     }

@@ -9,6 +9,8 @@ use json_lines::Form;
 use std::alloc::{AllocError, Global};
 use std::convert::AsStr;
 
+const EXECUTIONS: &str = "executions";
+
 const FILE: &str = "FILE";
 
 const CHECK: &str = "check";
@@ -71,6 +73,7 @@ pub fn run_command<'a>(alloc: Global) -> Result<Command<'a>, AllocError> {
         .arg(file)?
         .arg(flag(alloc, CHECK, "reads the file, and says what it would do"))?
         .arg(patience)?
+        .arg(flag(alloc, EXECUTIONS, "tells each execution, with its number"))?
         .arg(flag(alloc, QUIET, "tells no changes while they come"))?
         .arg(flag(alloc, JSON, "writes each line as an object of JSON"))
 }
@@ -105,6 +108,7 @@ pub fn read_options<'a, S: AsStr>(
         manner: Manner {
             patience,
             tells_news: !matches.get_flag(QUIET),
+            tells_executions: matches.get_flag(EXECUTIONS),
         },
         form: if matches.get_flag(JSON) {
             Form::Json

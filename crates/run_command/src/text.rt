@@ -1,15 +1,17 @@
 //! What `dispatch run` prints at the end of a day.
 ghost use Rattle.std.specs.Prelude.{◌≡◌, ◌++◌, IfOk, OnOk, string_bytes};
 ghost use Rattle.std.specs.List.{flat_map};
-ghost use Rattle.run_command.specs.Text.{booked_text, day_text, doubt_line, sweep_line, totals_lines, totals_of};
+ghost use Rattle.run_command.specs.Text.{booked_text, day_text, doubt_line, sweep_line, totals_lines, totals_of, unbooked_line};
 
+use desk_executions::Execution;
 use desk_news::{DayTotals, SweepParts, doubt_line};
 use desk_run::{DeskDay, VenueDoubt};
 use session_worker::DayReport;
 use std::alloc::{AllocError, Global};
 
-/// The text of a day: a line for each sweep, one for each venue with legs that stay in doubt, the shares of the day,
-/// and that the audit found nothing wrong. The only refusal is out of memory.
+/// The text of a day: a line for each sweep, one for each execution that the book didn't take, one for each venue with
+/// legs that stay in doubt, the shares of the day, and that the audit found nothing wrong. The only refusal is out of
+/// memory.
 pub fn day_text(alloc: Global, day: &DeskDay) -> Result<Vec<u8>, AllocError>
     ensures { IfOk result (λ text. text.items ≡ day_text day.now) }
 {
@@ -18,12 +20,14 @@ pub fn day_text(alloc: Global, day: &DeskDay) -> Result<Vec<u8>, AllocError>
     Ok(text.into_bytes())
 }
 
-/// A line for each sweep, and one for each venue with legs that stay in doubt.
+/// A line for each sweep, one for each execution that the book didn't take, and one for each venue with legs that stay
+/// in doubt.
 fn booked_text(alloc: Global, day: &DeskDay) -> Result<String, AllocError>
     ensures { IfOk result (λ text. string_bytes text ≡ booked_text day.now) }
 {
     let mut text = String::new(alloc);
     write_sweeps(&mut text, day.sweeps.as_slice())?;
+    write_unbooked(&mut text, day.unbooked.as_slice())?;
     write_doubts(alloc, &mut text, day.doubts.as_slice())?;
     Ok(text)
 }
@@ -54,6 +58,16 @@ fn write_sweeps(text: &mut String, sweeps: &[SweepParts]) -> Result<(), AllocErr
 {
     for sweep in sweeps {
         write!(text, "{sweep}\n")?;
+    }
+    Ok(())
+}
+
+/// Appends the lines of what the book didn't take.
+fn write_unbooked(text: &mut String, executions: &[Execution]) -> Result<(), AllocError>
+    ensures { OnOk result (string_bytes text.new ≡ string_bytes text.old ++ flat_map unbooked_line executions.now) }
+{
+    for execution in executions {
+        write!(text, "{execution}\n")?;
     }
     Ok(())
 }

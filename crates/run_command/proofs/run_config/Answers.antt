@@ -9,9 +9,13 @@ returns-clause-ok g c =
     let taken : c.in_ok-day.day.broken_off ≡ None = search rules in
     let closed : c.in_ok-day.day.is_given_up ≡ false =
     elim c.if-day.branch [ then-day w ↦ search rules | else-day w ↦ search rules ] in
+    let listed = c.in_ok-day.day.unbooked.ok.0 in
+    let no_unbooked : c.in_ok-day.day.unbooked.len ≡ 0 =
+    elim c.if-day.branch [ then-day w ↦ search rules | else-day w ↦ search rules ] in
+    let booked = nil_from_length c.in_ok-day.day.unbooked.items (omega (arith, listed, no_unbooked)) in
     let held = c.in_ok-day.day.doubts.ok.0 in
     let none : c.in_ok-day.day.doubts.len ≡ 0 =
     elim c.if-day.branch [ then-day w ↦ search rules | else-day w ↦ search rules ] in
     let settled = nil_from_length c.in_ok-day.day.doubts.items (omega (arith, held, none)) in
-    prints_day c.args.config.now c.args.options.form c.in_ok-day.day _ _ _ c.in_ok-day.ensures.day taken closed settled
-    (c.deref.ensures.value ∙ c.in_ok-end_text.ensures) c.in_ok-print.ensures.ok
+    prints_day c.args.config.now c.args.options.form c.in_ok-day.day _ _ _ c.in_ok-day.ensures.day taken closed
+    c.in_ok-day.ensures.unbooked booked settled (c.deref.ensures.value ∙ c.in_ok-end_text.ensures) c.in_ok-print.ensures.ok

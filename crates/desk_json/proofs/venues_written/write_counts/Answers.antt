@@ -6,12 +6,10 @@ use Rattle.desk_json.proofs.venues_written.write_counts.Goals as goal
 pub returns : goal.returns
 unfolding counts_json
 returns c =
-    on_ok_weaker c.write-5.result
+    on_ok_weaker c.write_traffic.result
     (λ said. rw said (rw (
-      c.in_ok-write-4.ensures.bytes,
-      c.in_ok-write-3.ensures.bytes,
-      c.in_ok-write-2.ensures.bytes,
-      c.in_ok-write.ensures.bytes,
-      c.accepted-accepted.ensures,
+      c.in_ok-write_unbooked.ensures,
+      c.in_ok-push_str.ensures.bytes,
+      c.in_ok-write_leg_counts.ensures,
     ) (simp append_assoc)))
-    c.write-5.ensures.bytes
+    c.write_traffic.ensures

@@ -1,0 +1,7 @@
+mod Walking
+mod Indexing
+mod Lending
+mod Calls
+mod OneNamed
+mod Now
+mod Telling

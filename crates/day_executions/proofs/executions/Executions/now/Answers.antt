@@ -1,0 +1,15 @@
+use Rattle.std.proofs.Common.{rules}
+use Rattle.std.specs.Prelude.{Ok}
+use Rattle.exec_collector.specs.Unbooked.{without_room}
+use Rattle.day_executions.specs.Executions.{IsHeard, IsLent, Looks}
+use Rattle.day_executions.proofs.Now.{is_now}
+use Rattle.day_executions.proofs.executions.Executions.now.Goals as goal
+
+pub returns-in-Some-lent : goal.returns-in-Some-lent
+returns-in-Some-lent g c =
+    let told = c.in_ok-lent.ensures in
+    let day = without_room told.0 in
+    let lends = IsLent c.args.after c.args.most in
+    let looked : Looks IsHeard lends day.book.entries day.unbooked (Ok c.in_ok-lent.lent) =
+    search (rules, told.3.met, told.3.shows) in
+    is_now IsHeard lends day c.in_ok-lent.lent c.in-Some-lent.lent told.1 told.2 looked c.in-Some-lent.is

@@ -1,0 +1,4 @@
+pub mod Executions
+pub mod Walk
+pub mod Named
+pub mod Counts

@@ -1,0 +1,3 @@
+pub mod Untaken
+pub mod Execution
+pub mod Counts
