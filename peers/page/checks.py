@@ -154,8 +154,9 @@ def shows_the_venues(trial):
         shape = trial.page.run(f"document.querySelector(\"{card} path\").getAttribute('d')")
         expect(shapes.setdefault(venue["state"], shape), shape, f"the shape of {venue['state']}")
         facts = trial.page.run(f"[...document.querySelectorAll(\"{card} dd\")].map(fact => fact.textContent)")
-        wanted = [venue.get("doubt"), venue.get("unsent"), None, venue.get("connections"), venue.get("refused_dials")]
-        for found, count, less in zip(facts, wanted, (0, 0, 0, 1, 0)):
+        counts = [venue.get("doubt"), sum(venue["unbooked"].values()), venue.get("unsent")]
+        wanted = [*counts, None, venue.get("connections"), venue.get("refused_dials")]
+        for found, count, less in zip(facts, wanted, (0, 0, 0, 0, 1, 0)):
             if count is not None:
                 expect(found, f"{max(0, count - less):,}", f"a count of {venue['venue']}")
     expect(len(set(shapes.values())), len(shapes), "shapes differ between states")
