@@ -1,22 +1,28 @@
-"""accept.py PORT STEP..: an exchange NYSE of the desk DESK at a port of this machine. It takes a connection for each step,
-and has ended once all are done. In each but `hold` it answers the Logon, and each TestRequest until the session is up; half
-a second later comes the step:
+"""accept.py PORT STEP..: an exchange NYSE of the desk DESK at a port of this machine. It takes a connection for each step.
+In each but `hold` it answers the Logon, and the TestRequests behind it, until a line comes on standard input; then it does
+the step:
 
     cut      it closes the connection
     logout   it logs out, and waits for the end
     hush     it says nothing any more, and waits for the end
     junk     it sends a frame that is no message, as it has no number, and waits for the end
     again    it uses a number again, and waits for the end
-    serve    it answers TestRequests until the desk logs out, and then that
-    hold     it says nothing for half a second, and closes the connection
-    late     as `serve`, but it answers the Logon half a second later"""
+    serve    it answers TestRequests until the desk logs out, and then that; no line is wanted
+    hold     it says nothing, and waits for the end
+    late     as `serve`, but it waits for the line before it answers the Logon"""
 
+import select
 import socket
 import sys
 import time
 
-PAUSE = 0.5
 SOH = b"\x01"
+# Unbuffered, so that what is there of it can be waited for.
+ACTS = open(0, "rb", buffering=0)
+
+
+def has_act():
+    return bool(select.select([ACTS], [], [], 0)[0])
 
 
 class Session:
@@ -41,14 +47,18 @@ class Session:
         stamp = time.strftime("%Y%m%d-%H:%M:%S", time.gmtime()).encode()
         self.frame(b"35=%s|49=NYSE|56=DESK|34=%d|52=%s|" % (kind, self.number, stamp) + fields)
 
+    def unread_message(self):
+        """The next message of those that have come, as its fields."""
+        end = self.unread.find(SOH + b"10=")
+        if end < 0 or SOH not in self.unread[end + 1 :]:
+            return None
+        cut = self.unread.index(SOH, end + 1) + 1
+        message, self.unread = self.unread[:cut], self.unread[cut:]
+        return dict(field.split(b"=", 1) for field in message.split(SOH)[:-1])
+
     def read(self):
         """The next message as its fields, or none at the end of the connection."""
-        while True:
-            end = self.unread.find(SOH + b"10=")
-            if 0 <= end and SOH in self.unread[end + 1 :]:
-                cut = self.unread.index(SOH, end + 1) + 1
-                message, self.unread = self.unread[:cut], self.unread[cut:]
-                return dict(field.split(b"=", 1) for field in message.split(SOH)[:-1])
+        while not (message := self.unread_message()):
             try:
                 more = self.link.recv(4096)
             except OSError:
@@ -56,35 +66,50 @@ class Session:
             if not more:
                 return None
             self.unread += more
+        return message
 
     def log_on(self):
-        """Answers the Logon and the fence behind it: the session is up then."""
         if self.read():
             self.write(b"A", b"98=0|108=30|")
-            if fence := self.read():
-                self.write(b"0", b"112=%s|" % fence[b"112"])
 
     def await_end(self):
         while self.read():
             pass
 
+    def answer(self, message):
+        if message[b"35"] == b"1":
+            self.write(b"0", b"112=%s|" % message[b"112"])
+        elif message[b"35"] == b"5":
+            self.write(b"5")
+
     def serve(self):
         while message := self.read():
-            if message[b"35"] == b"1":
-                self.write(b"0", b"112=%s|" % message[b"112"])
-            elif message[b"35"] == b"5":
-                self.write(b"5")
+            self.answer(message)
+
+    def serve_until_act(self):
+        """Answers until a line comes on standard input, or the connection ends. What came behind that line isn't answered."""
+        while not has_act():
+            select.select([self.link, ACTS], [], [])
+            if has_act():
+                break
+            message = self.read()
+            if not message:
+                return
+            while message and not has_act():
+                self.answer(message)
+                message = self.unread_message()
+        ACTS.readline()
 
 
 def play(session, step):
-    if step in ("hold", "late"):
-        time.sleep(PAUSE)
     if step == "hold":
-        return
+        return session.await_end()
+    if step == "late":
+        ACTS.readline()
     session.log_on()
     if step in ("late", "serve"):
         return session.serve()
-    time.sleep(PAUSE)
+    session.serve_until_act()
     if step == "logout":
         session.write(b"5")
     elif step == "junk":

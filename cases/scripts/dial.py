@@ -1,10 +1,15 @@
 """dial.py PORT: dials an exchange at a port of this machine and sends each line of standard input as the fields of a
-frame, with | for SOH. It prints the fields of each frame that comes, but for its sending time (52), and `ended` where the
-connection ends. Behind each line it waits until nothing has come for half a second."""
+frame, with | for SOH. In front of the fields stands how many frames are answered, or `end` where the connection ends behind
+them: for that it waits, and then until nothing has come for half a second. It prints the fields of each frame that comes,
+but for its sending time (52), and `ended` where the connection ends."""
 
 import socket
 import sys
 import time
+
+# How many seconds it waits for the exchange to listen, and for an answer.
+MOST_SECONDS = 100
+PAUSE = 0.5
 
 
 def frame(fields):
@@ -14,7 +19,8 @@ def frame(fields):
 
 
 def dialled(port):
-    for _ in range(100):
+    end = time.monotonic() + MOST_SECONDS
+    while time.monotonic() < end:
         try:
             return socket.create_connection(("127.0.0.1", port))
         except ConnectionRefusedError:
@@ -22,25 +28,33 @@ def dialled(port):
     sys.exit("nobody listens")
 
 
-def heard(link):
-    """What comes, and whether the connection goes on."""
+def frames_of(came):
+    """The fields of each whole frame."""
+    return [text.decode().split("\x01")[1:-2] for text in came.split(b"8=FIX.4.4\x01")[1:] if b"\x0110=" in text[:-4]]
+
+
+def heard(link, count):
+    """What comes: so many frames at least, and what comes within a pause behind them. Says also whether the connection goes
+    on."""
     came = b""
     try:
-        while more := link.recv(4096):
+        while True:
+            link.settimeout(PAUSE if len(frames_of(came)) >= count else MOST_SECONDS)
+            more = link.recv(4096)
+            if not more:
+                return came, False
             came += more
-        return came, False
     except socket.timeout:
         return came, True
 
 
 def main():
     link = dialled(int(sys.argv[1]))
-    link.settimeout(0.5)
     for line in sys.stdin:
-        link.sendall(frame(line.rstrip("\n")))
-        came, goes_on = heard(link)
-        for text in came.split(b"8=FIX.4.4\x01")[1:]:
-            fields = text.decode().split("\x01")[1:-2]
+        wanted, _, fields = line.rstrip("\n").partition(" ")
+        link.sendall(frame(fields))
+        came, goes_on = heard(link, float("inf") if wanted == "end" else int(wanted))
+        for fields in frames_of(came):
             print("|".join(field for field in fields if not field.startswith("52=")))
         if not goes_on:
             print("ended")
