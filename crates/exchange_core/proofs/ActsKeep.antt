@@ -39,12 +39,12 @@ is_accepted orders (suc i) order there = record {
 }
 
 -- one message under the next number, where a connection is live
-written_live : (x y : ExchangeParts) (entry : SentRecord) (out : Outgoing) (live : Option LiveConnection) → IsLastLive x → x.live ≡ live → y.last ≡ x.last → y.own ≡ x.own ++ entry ∷ [] → out.message.number ≡ next_own_number x.own → MaySayNext x None y entry out.message.content → All (MayWrite (rule_state x) None (rule_state y)) (into (option_map (λ (l : LiveConnection). l.connection) live) (while_live live (out ∷ [])))
+written_live : (x y : ExchangeParts) (entry : SentRecord) (out : Outgoing) (live : Option LiveConnection) → IsLastLive x → x.live ≡ live → y.last ≡ x.last → y.own ≡ x.own ++ entry ∷ [] → out.message.number ≡ next_own_number x.own → ((connection : ℕ) → MaySayNext x None y entry connection out.message.content) → All (MayWrite (rule_state x) None (rule_state y)) (into (option_map (λ (l : LiveConnection). l.connection) live) (while_live live (out ∷ [])))
 written_live x y entry out None sound is last own at says = All-nil (MayWrite (rule_state x) None (rule_state y))
 written_live x y entry out (Some live) sound is last own at says =
     let here : IsLast x.last live.connection = sound live.connection (ap (option_map (λ (l : LiveConnection). l.connection)) is) in
     subst (λ number. All (MayWrite (rule_state x) None (rule_state y)) (in_connection live.connection number out.message.content ∷ [])) (sym at)
-    (written_next x y None entry live.connection out.message.content own here.from (omega (arith, here.same, last)) says)
+    (written_next x y None entry live.connection out.message.content own here.from (omega (arith, here.same, last)) (says live.connection))
 
 -- one number more
 pub one_more : (own : List SentRecord) (entry : SentRecord) (max_number : ℕ) → next_own_number own + 1 ≤ max_number → next_own_number (own ++ entry ∷ []) ≤ max_number
@@ -64,7 +64,7 @@ reported_keeps x sound place old new kind is =
       allowed = kept_next x y None entry (into (live_connection x) (while_live x.live (next_execution_report x place new kind ∷ [])))
           (rules.stays stays) refl
           (subst (λ ls. HasAccepted ls new.leg.id) (sym legs) accepted)
-          (written_live x y entry (next_execution_report x place new kind) x.live sound refl refl refl refl (inl refl));
+          (written_live x y entry (next_execution_report x place new kind) x.live sound refl refl refl refl (λ connection. inl refl));
       after = reported_after x place old new kind is.there same;
       taken = stays;
       live = sound;
@@ -114,7 +114,7 @@ tested_keeps x live sound is left =
     record {
       allowed = kept_next x y None Admin (into (live_connection x) (out ∷ [])) (rules.stays refl) refl tt
           (subst (λ written. All (MayWrite (rule_state x) None (rule_state y)) (into (live_connection x) written)) (always x.live (out ∷ []) live is)
-          (written_live x y Admin out x.live sound refl refl refl refl (inr (refl, tt))));
+          (written_live x y Admin out x.live sound refl refl refl refl (λ connection. inr (refl, tt))));
       after = tested_after x;
       taken = refl;
       live = sound;

@@ -50,7 +50,7 @@ module _ (s : RuleState) (coming : Option Carried) (t : RuleState) (connection :
   fill_written : (first number : ℕ) → IsRun t.own (Some first) number → MayWrite s coming t (written_in connection (again config first (Session (GapFill number))))
   fill_written first number run = record {
     from = from;
-    to = to;
+    to = inl to;
     content = inr (run.1 first (omega arith) run.0, record { above = run.0; used = run.2; plain = run.1 });
   }
 
@@ -60,7 +60,7 @@ module _ (s : RuleState) (coming : Option Carried) (t : RuleState) (connection :
 
   -- a report or a refusal, again
   again_written : (out : Outgoing) → numbered out.message.number t.own ≡ Some (Some out.message.content) → MayWrite s coming t (written_in connection out)
-  again_written out there = record { from = from; to = to; content = inl there }
+  again_written out there = record { from = from; to = inl to; content = inl there }
 
   longer_by : (first number k : ℕ) → ArePlain t.own first number → numbered number t.own ≡ Some None → first ≤ k → k < suc number → (k < number) ⊎ (k ≡ number) → numbered k t.own ≡ Some None
   longer_by first number k plain here low high (inl below) = plain k low below

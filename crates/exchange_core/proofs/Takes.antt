@@ -3,7 +3,7 @@ use Rattle.std.proofs.Common.{◌≡◌, ◌==◌, ℕ, suc, ◌≤◌, ◌<◌,
 use Rattle.std.specs.List.{All}
 use Rattle.std.specs.Option.{option_map}
 use Rattle.std.proofs.lemmas.List.{map-append, length-map}
-use Rattle.std.proofs.lemmas.List.Elements.{All-nil, All-append}
+use Rattle.std.proofs.lemmas.List.Elements.{All-nil, All-append, All-weaker, Contains-append_right}
 use Rattle.leg.specs.declared.leg.Leg.{Leg}
 use Rattle.dialect.specs.declared.fault.DialectFault.{DialectFault}
 use Rattle.dialect.specs.declared.report.ReportKind.TheVariants.{New}
@@ -12,7 +12,7 @@ use Rattle.dialect.specs.declared.content.Content.TheVariants.{Session, Order, E
 use Rattle.fix_tags.specs.declared.session_body.SessionBody.TheVariants.{Logon, Heartbeat, TestRequest, ResendRequest, Reject, GapFill, Logout}
 use Rattle.dialect.specs.declared.message.Message.{Message}
 use Rattle.dialect.specs.declared.outgoing.Outgoing.{Outgoing}
-use Rattle.exchange_core.specs.Acceptance.{Carried, Intake, RuleState, IsDue, IsOther, Takes, MayMove, Took, MayWrite, May, IsLast}
+use Rattle.exchange_core.specs.Acceptance.{Carried, Intake, RuleState, IsDue, IsOther, Takes, MayMove, Took, MayWrite, MayBeUnasked, May, IsLast}
 use Rattle.exchange_core.specs.Acceptance as rules
 use Rattle.exchange_core.specs.Order.{OrderParts, new_order, view_of}
 use Rattle.exchange_core.specs.declared.sent_record.SentRecord.{SentRecord}
@@ -65,7 +65,7 @@ module _ (x : ExchangeParts) (connection number : ℕ) (live : live_connection x
       let y : ExchangeParts = (logout_taken x).1 in
       let count : length (accepted_by x) ≡ length x.orders = length-map x.orders (λ order. order.leg) in
       let mark : intake_of y ≡ record (intake_of x) { expected = suc x.expected; live = None; closed_at = Some (length (accepted_by x)) } = ap (λ n. let i : Intake = record (intake_of x) { expected = suc x.expected; live = None; closed_at = Some n } in i) (sym count) in
-      one x y coming Admin connection (Session Logout) (moved (Session Logout) (intake_of y) (rules.logout (is_due (Session Logout)) refl mark)) refl tt last.from (omega (arith, last.same)) (inr (refl, (length x.orders, refl)))
+      one x y coming Admin connection (Session Logout) (moved (Session Logout) (intake_of y) (rules.logout (is_due (Session Logout)) refl mark)) refl tt last.from (omega (arith, last.same)) (inr (refl, inl (length x.orders, refl)))
 
   refused : (content : Content) (fault : DialectFault) → content ≡ Order (Err fault) → IsOther content → Keeps x (Some (in_connection connection number content)) connection (order_refused x)
   refused content fault is other =
@@ -124,6 +124,16 @@ resends_written x y coming connection (Session (ResendRequest begin last)) from 
     answer_written (rule_state x) coming (rule_state y) connection from to x.config x.own more begin last (ap (map kept) own)
 resends_written x y coming connection content from to more own = All-nil (MayWrite (rule_state x) coming (rule_state y))
 
+-- what is unasked stays so with more messages before it
+more_written : (s : RuleState) (into_connection : ℕ) (first rest : List Outgoing) (connection : ℕ) → MayBeUnasked s (map (written_in into_connection) rest) connection → MayBeUnasked s (map (written_in into_connection) (first ++ rest)) connection
+more_written s into_connection first rest connection (inl old) = inl old
+more_written s into_connection first rest connection (inr now) = inr (record {
+  message = now.message;
+  there = rw (map-append (written_in into_connection) first rest) (Contains-append_right (map (written_in into_connection) first) (map (written_in into_connection) rest) now.message now.there);
+  same = now.same;
+  says = now.says;
+})
+
 -- messages before those of a step
 written_before : (s : RuleState) (coming : Option Carried) (t : RuleState) (connection : ℕ) (first rest : List Outgoing) → All (MayWrite s coming t) (map (written_in connection) first) → May s coming t (map (written_in connection) rest) → May s coming t (map (written_in connection) (first ++ rest))
 written_before s coming t connection first rest writes step = record {
@@ -133,6 +143,8 @@ written_before s coming t connection first rest writes step = record {
   others = step.others;
   own = step.own;
   writes = rw (map-append (written_in connection) first rest) (All-append (MayWrite s coming t) (map (written_in connection) first) (map (written_in connection) rest) writes step.writes);
+  unasked = step.unasked;
+  only = All-weaker (MayBeUnasked s (map (written_in connection) rest)) (MayBeUnasked s (map (written_in connection) (first ++ rest))) (more_written s connection first rest) t.unasked step.only;
 }
 
 received_keeps : (x : ExchangeParts) (connection number : ℕ) (live : LiveConnection) (content : Content) → IsLive x connection live → IsLast x.last connection → Keeps x (Some (in_connection connection number content)) connection (received x live number content)

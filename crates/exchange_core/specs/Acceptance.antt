@@ -40,6 +40,8 @@ pub record RuleState : Type 0 where
   pub others : List ℕ
   -- the own numbers used, from 1: the report or the refusal that each carries, if it carries one
   pub own : List (Option Content)
+  -- the connections into which it wrote a Logout before it had taken one
+  pub unasked : List ℕ
 
 -- before anything came
 abbrev pub rule_opening : RuleState
@@ -49,6 +51,7 @@ rule_opening = record {
   refusable = [];
   others = [];
   own = [];
+  unasked = [];
 }
 
 -- a connection that is live is the last that was, and connections count from 1
@@ -192,33 +195,49 @@ abbrev pub TellsExpected : ℕ → Option ℕ → Type 0
 TellsExpected expected None = Unit {0}
 TellsExpected expected (Some next) = next ≡ expected
 
--- what may be said under a number that carries no report and no refusal of an order
-abbrev pub MaySay : RuleState → Option Carried → RuleState → ℕ → Content → Type 0
--- a Logon may say which number is expected next (789), as it is after what came was taken
-MaySay s coming t number (Session (Logon heart reset next)) = TellsExpected t.intake.expected next
--- a request for what is missing begins with the expected number
-MaySay s coming t number (Session (ResendRequest begin last)) = begin ≡ t.intake.expected
--- a Heartbeat with an id answers a TestRequest that was taken
-MaySay s coming t number (Session (Heartbeat (Some id))) = MayAnswer s coming t id
--- a Logout is written once a Logout was taken
-MaySay s coming t number (Session Logout) = (count : ℕ) × (t.intake.closed_at ≡ Some count)
--- a gap fill stands for own numbers that carry nothing
-MaySay s coming t number (Session (GapFill new_number)) = IsGap t.own number new_number
--- a refusal here is one of a message that is no order
-MaySay s coming t number (Session (Reject refused)) = MayRefuseOther s coming refused
-MaySay s coming t number (Session (BusinessReject (Some refused))) = MayRefuseOther s coming refused
--- a report has a number of its own
-MaySay s coming t number (ExecutionReport read) = ⊥
--- everything else may be said at any time
-MaySay s coming t number content = Unit {0}
+-- a Logout was taken
+abbrev pub HasTakenLogout : Intake → Type 0
+HasTakenLogout s = (count : ℕ) × (s.closed_at ≡ Some count)
 
--- what may be written: into a connection that is no newer than the last that was live, a report or a refusal under
--- its own number, now or again, or something else under a number that carries none
+-- what may be said in a connection under a number that carries no report and no refusal of an order
+abbrev pub MaySay : RuleState → Option Carried → RuleState → ℕ → ℕ → Content → Type 0
+-- a Logon may say which number is expected next (789), as it is after what came was taken
+MaySay s coming t connection number (Session (Logon heart reset next)) = TellsExpected t.intake.expected next
+-- a request for what is missing begins with the expected number
+MaySay s coming t connection number (Session (ResendRequest begin last)) = begin ≡ t.intake.expected
+-- a Heartbeat with an id answers a TestRequest that was taken
+MaySay s coming t connection number (Session (Heartbeat (Some id))) = MayAnswer s coming t id
+-- a Logout comes at any time: once one was taken, or unasked
+MaySay s coming t connection number (Session Logout) = HasTakenLogout t.intake ⊎ Contains t.unasked connection
+-- a gap fill stands for own numbers that carry nothing
+MaySay s coming t connection number (Session (GapFill new_number)) = IsGap t.own number new_number
+-- a refusal here is one of a message that is no order
+MaySay s coming t connection number (Session (Reject refused)) = MayRefuseOther s coming refused
+MaySay s coming t connection number (Session (BusinessReject (Some refused))) = MayRefuseOther s coming refused
+-- a report has a number of its own
+MaySay s coming t connection number (ExecutionReport read) = ⊥
+-- everything else may be said at any time
+MaySay s coming t connection number content = Unit {0}
+
+-- what may be written: into a connection that is no newer than the last that was live, or into any if it is a Logout,
+-- by which a Logon may be refused; a report or a refusal under its own number, now or again, or something else under a
+-- number that carries none
 pub record MayWrite (s : RuleState) (coming : Option Carried) (t : RuleState) (w : Carried) : Type 0 where
   pub from : 1 ≤ w.connection
-  pub to : w.connection ≤ t.intake.last
+  pub to : (w.connection ≤ t.intake.last) ⊎ (w.content ≡ (Session Logout))
   pub content : (numbered w.number t.own ≡ Some (Some w.content))
-      ⊎ ((numbered w.number t.own ≡ Some None) × MaySay s coming t w.number w.content)
+      ⊎ ((numbered w.number t.own ≡ Some None) × MaySay s coming t w.connection w.number w.content)
+
+-- a Logout is written into this connection
+pub record IsLogoutIn (connection : ℕ) (written : List Carried) : Type 0 where
+  pub message : Carried
+  pub there : Contains written message
+  pub same : message.connection ≡ connection
+  pub says : message.content ≡ (Session Logout)
+
+-- a connection may be among those of unasked Logouts if it was, or if one is written into it now
+abbrev pub MayBeUnasked : RuleState → List Carried → ℕ → Type 0
+MayBeUnasked s written connection = Contains s.unasked connection ⊎ IsLogoutIn connection written
 
 -- one step of an exchange that keeps the rules: how it stood, what came if anything did, how it stands and what it
 -- wrote
@@ -229,6 +248,9 @@ pub record May (s : RuleState) (coming : Option Carried) (t : RuleState) (writte
   pub others : All (MayRefuseOther s coming) t.others
   pub own : GrowsBy (MayKeep s coming t) s.own t.own
   pub writes : All (MayWrite s coming t) written
+  -- a Logout that was written unasked stays so, and no other connection is among them
+  pub unasked : All (Contains t.unasked) s.unasked
+  pub only : All (MayBeUnasked s written) t.unasked
 
 -- what never goes back: the expected number and the last connection don't fall, and no accepted leg is taken back
 pub record IsForward (s t : Intake) : Type 0 where

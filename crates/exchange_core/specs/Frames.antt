@@ -13,7 +13,7 @@ use Rattle.exchange_core.specs.Acts.{ActAnswer}
 -- the frames of a session's own messages are the same in every dialect: they are those in one that writes no orders
 -- and no reports
 abbrev pub no_dialect : Encoding
-no_dialect = record { IsOrder = λ leg stamp fields. ⊥; IsReport = λ report view fields. ⊥ }
+no_dialect = record { IsOrder = λ leg stamp fields. ⊥; IsReport = λ report view fields. ⊥; most_fields = 0 }
 
 -- the bytes of each frame
 abbrev pub bytes_of : List (Vec ℕ) → List (List ℕ)

@@ -29,10 +29,16 @@ intake_of x = record {
   closed_at = x.closed_at;
 }
 
--- it answers and refuses at once, so nothing is left to be answered or refused later
+-- it answers and refuses at once, so nothing is left to be answered or refused later; and it never logs out unasked
 abbrev pub rule_state : ExchangeParts → RuleState
-rule_state x =
-    record { intake = intake_of x; tests = []; refusable = []; others = []; own = map kept x.own }
+rule_state x = record {
+  intake = intake_of x;
+  tests = [];
+  refusable = [];
+  others = [];
+  own = map kept x.own;
+  unasked = [];
+}
 
 -- a message in its connection
 abbrev pub carried : ℕ → Message → Carried

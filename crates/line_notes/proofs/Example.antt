@@ -29,7 +29,7 @@ refuses_order =
       },
       refl,
     )) (no_more s m after.intake three))
-    (says s m after.intake three refusal [] (record { from = omega arith; to = omega arith; content = inl refl })
+    (says s m after.intake three refusal [] (record { from = omega arith; to = inl (omega arith); content = inl refl })
     (nothing s m after.intake three))
 
 steps_behind : AreSteps up (sent ∷ order_taken ∷ refused ∷ [])

@@ -44,8 +44,7 @@ early_parts = record {
     passes_up = λ b fence is settling j i e number now at. absurd e;
     passes_out = λ b fence is last j i e number now at. absurd e;
     passes_out_written = λ b fence is last may j i e number now at. absurd e;
-    answers_logout = λ b heard on going may j i e number now at.
-        i e number now (goes_push b.session.log number now at);
+    answers_logout = λ b heard on going may j i e number now at. absurd e;
     ends = λ b is_over on j i e number now at. absurd (not_after is_over b.session.phase e);
     abandons = λ b j i e number now at. absurd e;
     connects = λ b down may j i e number now at.

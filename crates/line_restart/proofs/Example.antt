@@ -25,7 +25,7 @@ takes_order =
     accepts s.intake two 1 3 first refl refl (Some (ExecutionReport (Ok report)) ∷ []) (reported 1 ∷ [])
     (All-cons (rules.MayKeep s (Some m) (standing 1 4 (first ∷ []) three)) (Some (ExecutionReport (Ok report))) []
     (record { place = 0; leg = first; there = refl; same = refl }) (no_more s m t three))
-    (says s m t three (reported 1) [] (record { from = omega arith; to = omega arith; content = inl refl })
+    (says s m t three (reported 1) [] (record { from = omega arith; to = inl (omega arith); content = inl refl })
     (nothing s m t three))
 
 takes_next_logon : May (standing 1 4 (first ∷ []) three) (Some (logon 2 5)) (standing 2 4 (first ∷ []) five)
@@ -50,11 +50,11 @@ takes_fill =
     let t = (standing 2 8 (first ∷ []) five).intake in
     passes_over s.intake t five 2 4 8 (reported 2 ∷ fill 2 4 6 ∷ []) refl refl refl
     (says s m t five (reported 2) (fill 2 4 6 ∷ [])
-    (record { from = omega arith; to = omega arith; content = inl refl })
+    (record { from = omega arith; to = inl (omega arith); content = inl refl })
     (says s m t five (fill 2 4 6) []
     (record {
       from = omega arith;
-      to = omega arith;
+      to = inl (omega arith);
       content = inr (refl, record { above = omega arith; used = omega arith; plain = no_report });
     }) (nothing s m t five)))
 

@@ -255,8 +255,8 @@ takes_no_logon =
     let t = (standing 1 3 [] four).intake in
     step s m t four (None ∷ None ∷ []) (logon 1 3 ∷ asks 1 4 3 ∷ []) (rules.stays refl) (plain_two s m t four) refl
     (says s m t four (logon 1 3) (asks 1 4 3 ∷ [])
-    (record { from = omega arith; to = omega arith; content = inr (refl, tt) })
-    (says s m t four (asks 1 4 3) [] (record { from = omega arith; to = omega arith; content = inr (refl, refl) })
+    (record { from = omega arith; to = inl (omega arith); content = inr (refl, tt) })
+    (says s m t four (asks 1 4 3) [] (record { from = omega arith; to = inl (omega arith); content = inr (refl, refl) })
     (nothing s m t four)))
 
 takes_late : May (standing 1 3 [] four) (Some (order 1 3 first)) (standing 1 4 (first ∷ []) four) []

@@ -89,7 +89,7 @@ takes_again =
     step s m t four [] (logon 3 4 ∷ [])
     (rules.takes m refl (rules.new_logon (new_logon s.intake 3 6 (omega arith) (omega arith)) refl))
     (no_more s m t four) refl
-    (says s m t four (logon 3 4) [] (record { from = omega arith; to = omega arith; content = inr (refl, tt) })
+    (says s m t four (logon 3 4) [] (record { from = omega arith; to = inl (omega arith); content = inr (refl, tt) })
     (nothing s m t four))
 
 takes_last : May (standing 3 7 [] four) (Some (fence 3 7)) (standing 3 8 [] (four ++ None ∷ [])) (answer 3 5 7 ∷ [])
@@ -191,7 +191,7 @@ takes_open =
     step s m t (two ++ None ∷ []) [] (logon 4 3 ∷ [])
     (rules.takes m refl (rules.new_logon (new_logon s.intake 4 5 (omega arith) (omega arith)) refl))
     (no_more s m t (two ++ None ∷ [])) refl
-    (says s m t (two ++ None ∷ []) (logon 4 3) [] (record { from = omega arith; to = omega arith; content = inr (refl, tt) })
+    (says s m t (two ++ None ∷ []) (logon 4 3) [] (record { from = omega arith; to = inl (omega arith); content = inr (refl, tt) })
     (nothing s m t (two ++ None ∷ [])))
 
 takes_open_fence : May (closed (Some 4) 4 6 [] (two ++ None ∷ [])) (Some (fence 4 6)) (closed (Some 4) 4 7 [] four) (answer 4 4 6 ∷ [])

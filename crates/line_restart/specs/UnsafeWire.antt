@@ -114,6 +114,7 @@ closed live last expected accepted own = record {
   refusable = [];
   others = [];
   own = own;
+  unasked = [];
 }
 
 abbrev pub logout_taken : Line

@@ -1,6 +1,7 @@
 -- The order half of the sweep theorem, from what holds of the lines.
 use Rattle.std.proofs.Common.{◌≡◌, ◌≤◌, ◌⊎◌, ℕ, zero, suc, Bool, true, false, nat_le, List, [], ◌∷◌, length, map, take, Option, Some, None, refl, sym, ap, ◌∙◌, inl, inr, if◌then◌else◌, arith}
 use Rattle.std.specs.Prelude.{IfSome, slice_get}
+use Rattle.std.specs.List.{Contains}
 use Rattle.std.specs.Option.{option_map_or}
 use Rattle.std.proofs.lemmas.Bool.Decides.{nat_tests}
 use Rattle.std.proofs.lemmas.Option.{same_Some, slice_get_past}
@@ -19,7 +20,7 @@ use Rattle.schedule.specs.OrderHalf.{TheVenueTheorem}
 use Rattle.venue_line.specs.Line.{Line}
 use Rattle.schedule.specs.LineOf.{line_at}
 use Rattle.venue_line.specs.LineInvariant.{LineInvariant}
-use Rattle.venue_line.specs.LineTheorem.{IsWithdrawnLeg, LineHolds}
+use Rattle.venue_line.specs.LineTheorem.{IsWithdrawnLeg, LogsOutFirst, AllSettled, LineHolds}
 use Rattle.venue_line.proofs.LegStates.{found}
 use Rattle.venue_line.proofs.LineGives.{line_holds}
 use Rattle.schedule.proofs.RunsSafely.{IsSafe, safe_run, safe_opening}
@@ -163,11 +164,14 @@ module _ (w : World) (v : ℕ) (venue : VenueParts) (there : venue_in w v ≡ So
       closed_at_line : Option ℕ
       closed_at_line = line.exchange.intake.closed_at
 
+      -- our exchange never logs out first
       doubts : (m : Option ℕ) → m ≡ m → closed_at w v ≡ m
-          → IfSome m (λ count. (ordinal : ℕ) → leg_state venue.session ordinal ≡ Some Doubt → ⊥)
+          → IfSome m (λ count. LogsOutFirst line ⊎ AllSettled line)
           → IfSome (closed_at w v) (λ count. (ordinal : ℕ) → state_of w v ordinal ≡ Some Doubt → ⊥)
-      doubts None same is none = rw is tt
-      doubts (Some count) same is none =
+      doubts None same is either = rw is tt
+      doubts (Some count) same is (inl first) =
+          absurd (let none : Contains [] venue.session.connection = first in let h = none.1 in omega arith)
+      doubts (Some count) same is (inr none) =
           rw is (λ ordinal state. none ordinal (sent_as ordinal Doubt (λ e. cc) (λ e. cc) state))
 
 none_taken : (xs : List Report) → take 0 xs ≡ []

@@ -19,16 +19,17 @@ use Rattle.session_core.specs.Turn.{spending, fenced, fence_id, phase_after, set
 use Rattle.session_core.specs.Receiving.{passing}
 use Rattle.session_core.specs.Calling.{connecting, sending}
 use Rattle.session_core.proofs.Adding.{chosen}
-use Rattle.exchange_core.specs.Acceptance.{Carried, Intake, RuleState, Takes, MayMove, MayWrite, MaySay, May}
+use Rattle.exchange_core.specs.Acceptance.{Carried, Intake, RuleState, HasTakenLogout, Takes, MayMove, MayWrite, MaySay, May}
 use Rattle.exchange_core.specs.Acceptance as rules
 use Rattle.venue_line.specs.Line.{Line}
 use Rattle.venue_line.specs.Copies.{IsLegAt, IsBeforeUp, IsReportOrRefusal, Copies}
-use Rattle.venue_line.specs.Close.{HasNoDoubt, IsOver, Close}
+use Rattle.venue_line.specs.Close.{HasNoDoubt, IsMark, Close}
+use Rattle.venue_line.specs.LineTheorem.{IsOver}
 use Rattle.venue_line.proofs.Logs.{numbered_within, goes_push, was_settled, give_up_back, give_up_sure, take_below_sure}
 use Rattle.venue_line.proofs.Kept.{own_kept}
 use Rattle.venue_line.proofs.Answered.{closing_low}
 use Rattle.venue_line.proofs.FencesKept.{fewer_fences}
-use Rattle.venue_line.proofs.Parts.{Calls, with_marks, framed, with_session, IsAnswered, IsLastFence, IsPlainAdmin, passed_into}
+use Rattle.venue_line.proofs.Parts.{Calls, with_marks, framed, with_session, Hears, IsAnswered, IsLastFence, IsPlainAdmin, passed_into}
 
 -- while the session is closing, each leg is below the fence of the close
 abbrev IsBelowClosing : SessionParts → List Entry → Type 0
@@ -36,10 +37,27 @@ IsBelowClosing s log =
     (number closing : ℕ) (leg : SentLeg) → s.phase ≡ phase.Closing → IsLegAt log number leg
     → s.current.closing_fence ≡ Some closing → number < closing
 
+-- how a session goes on that is over
+pub record GoesOn (old new : SessionParts) : Type 0 where
+  pub over : IsOver new.phase
+  pub same : new.connection ≡ old.connection
+  pub none : HasNoDoubt old.log → HasNoDoubt new.log
+  pub back : (number : ℕ) (leg : SentLeg) → IsLegAt new.log number leg
+      → (was : SentLeg) × IsLegAt old.log number was
+
+-- with the log that it had
+pub stays_over : (old new : SessionParts) → new.log ≡ old.log → new.connection ≡ old.connection → IsOver new.phase
+    → GoesOn old new
+stays_over old new log same over = record {
+  over = over;
+  same = same;
+  none = λ none number leg is. none number leg (subst (λ l. IsLegAt l number leg) log is);
+  back = λ number leg is. (leg, subst (λ l. IsLegAt l number leg) log is);
+}
+
 -- no Logout is written, and a session that is over stays so
 pub record Goes (b : Line) (s : SessionParts) (to : List Carried) : Type 0 where
-  pub over : IsOver b.session.phase
-      → IsOver s.phase × (s.connection ≡ b.session.connection) × (HasNoDoubt b.session.log → HasNoDoubt s.log)
+  pub over : IsOver b.session.phase → GoesOn b.session s
   pub frames : (m : Carried) → Contains to m → m.content ≡ (Session Logout) → Contains b.to_exchange m
   pub on : (m : Carried) → Contains b.to_exchange m → Contains to m
   pub above : (number fence : ℕ) (leg : SentLeg) → IsBeforeUp s.phase → IsLegAt s.log number leg
@@ -63,19 +81,27 @@ close_goes b released left s to given goes c = record {
   closing_above = goes.closing;
   logout_is_last = λ m there is.
       (let old = c.logout_is_last m (goes.frames m there is) is in
-      let now = goes.over old.0 in
-      (now.0, old.1 ∙ sym now.1, now.2 old.2));
+      let now = goes.over old.over in
+      record {
+        over = now.over;
+        present = old.present ∙ sym now.same;
+        above = λ number leg at. (let was = now.back number leg at in old.above number was.0 was.1);
+        sure = elim old.sure [
+          | inl first ↦ inl (subst (Contains b.exchange.unasked) (sym now.same) first)
+          | inr none ↦ inr (now.none none)
+        ];
+      });
   marked = λ count is.
       (let mark = c.marked count is in
-      let now = goes.over (c.logout_is_last mark.logout mark.written mark.says).0 in
+      let now = goes.over (c.logout_is_last mark.logout mark.written mark.says).over in
       record {
         all = mark.all;
         down = mark.down;
-        last = mark.last ∙ sym now.1;
+        last = mark.last ∙ sym now.same;
         logout = mark.logout;
-        written =
-            goes.on mark.logout mark.written;
+        written = goes.on mark.logout mark.written;
         says = mark.says;
+        passed = mark.passed;
       });
   logout_heard = c.logout_heard;
   out_no_doubt = goes.out;
@@ -83,8 +109,7 @@ close_goes b released left s to given goes c = record {
 
 -- where nothing is written
 unwritten : (b : Line) (s : SessionParts)
-    → (IsOver b.session.phase
-    → IsOver s.phase × (s.connection ≡ b.session.connection) × (HasNoDoubt b.session.log → HasNoDoubt s.log))
+    → (IsOver b.session.phase → GoesOn b.session s)
     → ((number fence : ℕ) (leg : SentLeg) → IsBeforeUp s.phase → IsLegAt s.log number leg
     → Contains s.current.fences fence → number < fence)
     → IsBelowClosing s s.log → (s.phase ≡ phase.LoggedOut → HasNoDoubt s.log) → Goes b s b.to_exchange
@@ -101,8 +126,7 @@ unwritten b s over above closing out =
 
 -- where a message is written that is no Logout
 one_written : (b : Line) (s : SessionParts) (number : ℕ) (content : Content) → (content ≡ (Session Logout) → ⊥)
-    → (IsOver b.session.phase
-    → IsOver s.phase × (s.connection ≡ b.session.connection) × (HasNoDoubt b.session.log → HasNoDoubt s.log))
+    → (IsOver b.session.phase → GoesOn b.session s)
     → ((number fence : ℕ) (leg : SentLeg) → IsBeforeUp s.phase → IsLegAt s.log number leg
     → Contains s.current.fences fence → number < fence)
     → IsBelowClosing s s.log → (s.phase ≡ phase.LoggedOut → HasNoDoubt s.log)
@@ -120,10 +144,10 @@ one_written b s number content other over above closing out =
     }
 
 -- a message of the session leaves the legs as they are
-spent_no_doubt : (log : List Entry) → HasNoDoubt log → HasNoDoubt (log ++ Admin ∷ [])
+pub spent_no_doubt : (log : List Entry) → HasNoDoubt log → HasNoDoubt (log ++ Admin ∷ [])
 spent_no_doubt log none number leg is doubt = none number leg (goes_push log number leg is) doubt
 
-took_no_doubt : (least : ℕ) (log : List Entry) → HasNoDoubt log → HasNoDoubt (take_below least log)
+pub took_no_doubt : (least : ℕ) (log : List Entry) → HasNoDoubt log → HasNoDoubt (take_below least log)
 took_no_doubt least log none number leg is doubt =
     (let was = was_settled (λ n. nat_lt n least) Taken number log leg is in
     elim was.settled [
@@ -132,7 +156,7 @@ took_no_doubt least log none number leg is doubt =
           (let e = sym settled.1 ∙ doubt in cc)
     ])
 
-took_back : (least : ℕ) (log : List Entry) (number : ℕ) (leg : SentLeg) → IsLegAt (take_below least log) number leg
+pub took_back : (least : ℕ) (log : List Entry) (number : ℕ) (leg : SentLeg) → IsLegAt (take_below least log) number leg
     → (was : SentLeg) × IsLegAt log number was
 took_back least log number leg is = let was = was_settled (λ n. nat_lt n least) Taken number log leg is in
     (was.leg, was.there)
@@ -148,12 +172,12 @@ spends b s content other log same connection closing fences c =
     λ number leg is. goes_push b.session.log number leg (subst (λ l. IsLegAt l number leg) log is) in
     close_goes b b.released b.left s _ b.given
     (one_written b s (next_out b.session) content other
-    (λ over. (
-      subst IsOver (sym same) over,
-      connection,
-      λ none number leg is doubt. none number leg
-          (back number leg is) doubt,
-    ))
+    (λ over. record {
+      over = subst IsOver (sym same) over;
+      same = connection;
+      none = λ none number leg is doubt. none number leg (back number leg is) doubt;
+      back = λ number leg is. (leg, back number leg is);
+    })
     (λ number fence leg early is there.
     elim (fences fence there) [
       | inl old ↦ c.fence_above number fence leg (subst IsBeforeUp same early) (back number leg is) old
@@ -167,7 +191,7 @@ fills : (b : Line) (first new_number : ℕ) → Close b → Close (framed first 
 fills b first new_number c =
     close_goes b b.released b.left b.session _ b.given
     (one_written b b.session first (Session (GapFill new_number)) (λ is. cc)
-    (λ over. (over, refl, λ none. none)) c.fence_above c.closing_above c.out_no_doubt) c
+    (stays_over b.session b.session refl refl) c.fence_above c.closing_above c.out_no_doubt) c
 
 -- the phase alone, or the mark of the close's fence with it
 turns : (b : Line) (s : SessionParts) → s.log ≡ b.session.log → s.connection ≡ b.session.connection
@@ -180,7 +204,7 @@ turns b s log connection fences over early closing out c =
     λ number leg is. subst (λ l. IsLegAt l number leg) log is in
     close_goes b b.released b.left s b.to_exchange b.given
     (unwritten b s
-    (λ is. (over is, connection, λ none number leg there doubt. none number leg (at number leg there) doubt))
+    (λ is. stays_over b.session s log connection (over is))
     (λ number fence leg now is there. c.fence_above number fence leg (early now) (at number leg is)
     (fences fence there))
     (λ number wanted leg now is mark. closing number wanted leg now (at number leg is) mark)
@@ -200,12 +224,13 @@ passes b s fence log connection fences closing_fence over early closing out c =
     (take_below fence b.session.log) number leg = λ number leg is. subst (λ l. IsLegAt l number leg) log is in
     close_goes b b.released b.left s b.to_exchange b.given
     (unwritten b s
-    (λ is. (
-      over is,
-      connection,
-      λ none number leg there doubt. took_no_doubt fence b.session.log none number leg
-          (at number leg there) doubt,
-    ))
+    (λ is. record {
+      over = over is;
+      same = connection;
+      none = λ none number leg there doubt. took_no_doubt fence b.session.log none number leg
+          (at number leg there) doubt;
+      back = λ number leg there. took_back fence b.session.log number leg (at number leg there);
+    })
     (λ number other leg now is there.
     (let was = took_back fence b.session.log number leg (at number leg is) in
     c.fence_above number other was.0 (early now) was.1 (fences other there)))
@@ -227,13 +252,20 @@ last_sure b fence is (inr closing) c number leg there doubt =
     let low = c.closing_above number mark.0 was.0 closing.0 was.1 mark.1 in
     take_below_sure fence b.session.log number leg there (omega (arith, mark.2)) doubt)
 
+-- a message under the next number is above every leg
+below_next : (b : Line) (m : Carried) (number : ℕ) (leg : SentLeg) → next_out b.session ≡ m.number
+    → IsLegAt b.session.log number leg → number < m.number
+below_next b m number leg under at =
+    (let within = numbered_within number b.session.log (Sent leg) at in omega arith)
+
 -- the session's Logout
 logs_out : (b : Line) (s : SessionParts) → s.log ≡ b.session.log ++ Admin ∷ [] → s.connection ≡ b.session.connection
     → s.phase ≡ phase.LoggedOut → b.session.phase ≡ phase.LoggedOut → Close b
     → Close (framed (next_out b.session) (Session Logout) s b)
 logs_out b s log connection now was c =
-    let none : HasNoDoubt s.log = λ number leg is doubt. c.out_no_doubt was number leg
-    (goes_push b.session.log number leg (subst (λ l. IsLegAt l number leg) log is)) doubt in
+    let back : (number : ℕ) (leg : SentLeg) → IsLegAt s.log number leg → IsLegAt b.session.log number leg =
+    λ number leg is. goes_push b.session.log number leg (subst (λ l. IsLegAt l number leg) log is) in
+    let none : HasNoDoubt s.log = λ number leg is doubt. c.out_no_doubt was number leg (back number leg is) doubt in
     let over : IsOver s.phase = subst IsOver (sym now) tt in
     let frame : Carried = record { connection = s.connection; number = next_out b.session; content = (Session Logout) } in
     record {
@@ -241,8 +273,21 @@ logs_out b s log connection now was c =
       closing_above = λ number wanted leg closing is mark. absurd (let e = sym now ∙ closing in cc);
       logout_is_last = λ m there is.
           elim (Contains-push_cases b.to_exchange frame m there) [
-            | inl old ↦ (let last = c.logout_is_last m old is in (over, last.1 ∙ sym connection, none))
-            | inr new ↦ (over, sym (ap (λ (x : Carried). x.connection) new), none)
+            | inl old ↦
+                (let last = c.logout_is_last m old is in
+                record {
+                  over = over;
+                  present = last.present ∙ sym connection;
+                  above = λ number leg at. last.above number leg (back number leg at);
+                  sure = inr none;
+                })
+            | inr new ↦
+                record {
+                  over = over;
+                  present = sym (ap (λ (x : Carried). x.connection) new);
+                  above = λ number leg at. below_next b m number leg (ap (λ (x : Carried). x.number) new) (back number leg at);
+                  sure = inr none;
+                }
           ];
       marked = λ count is.
           (let mark = c.marked count is in
@@ -251,15 +296,15 @@ logs_out b s log connection now was c =
             down = mark.down;
             last = mark.last ∙ sym connection;
             logout = mark.logout;
-            written =
-                Contains-append_left b.to_exchange (frame ∷ []) mark.logout mark.written;
+            written = Contains-append_left b.to_exchange (frame ∷ []) mark.logout mark.written;
             says = mark.says;
+            passed = mark.passed;
           });
       logout_heard = c.logout_heard;
       out_no_doubt = λ out. none;
     }
 
-over_after : (is_over : Bool) (now : Phase) → is_connected now ≡ true → IsOver now → IsOver (phase_after is_over now)
+pub over_after : (is_over : Bool) (now : Phase) → is_connected now ≡ true → IsOver now → IsOver (phase_after is_over now)
 over_after is_over phase.LoggedOut on over = chosen IsOver (is_over || true) phase.Closed phase.Down (λ shut. tt)
     (λ open_still. absurd (or_true is_over open_still))
   where
@@ -287,6 +332,43 @@ not_over phase.LoggingOn on going over = over
 not_over phase.Settling on going over = over
 not_over phase.Up on going over = over
 not_over phase.Closing on going over = over
+
+-- the session's answer to the exchange's Logout, which came first: so it is the only one, and the session is over
+answers_kept : (b : Line) → Hears b (Session Logout) → is_connected b.session.phase ≡ true
+    → (b.session.phase ≡ phase.LoggedOut → ⊥) → Close b
+    → Close (framed (next_out b.session) (Session Logout) (record (spending b.session) { phase = phase.Closed }) b)
+answers_kept b heard on going c =
+    let frame : Carried =
+    record { connection = b.session.connection; number = next_out b.session; content = (Session Logout) } in
+    let said : Carried = record { connection = b.session.connection; number = heard.0; content = (Session Logout) } in
+    let fresh : (m : Carried) → Contains b.to_exchange m → m.content ≡ (Session Logout) → ⊥ =
+    λ m there is. not_over b.session.phase on going (c.logout_is_last m there is).over in
+    let unmarked : (count : ℕ) → b.exchange.intake.closed_at ≡ Some count → ⊥ =
+    λ count is. (let mark = c.marked count is in fresh mark.logout mark.written mark.says) in
+    let first : Contains b.exchange.unasked b.session.connection =
+    elim (c.logout_heard said heard.1 refl) [
+      | inl closed ↦ absurd (unmarked closed.0 closed.1)
+      | inr unasked ↦ unasked
+    ] in
+    record {
+      fence_above = λ number fence leg early is there. absurd early;
+      closing_above = λ number wanted leg closing is mark. absurd cc;
+      logout_is_last = λ m there is.
+          elim (Contains-push_cases b.to_exchange frame m there) [
+            | inl old ↦ absurd (fresh m old is)
+            | inr new ↦
+                record {
+                  over = tt;
+                  present = sym (ap (λ (x : Carried). x.connection) new);
+                  above = λ number leg at. below_next b m number leg (ap (λ (x : Carried). x.number) new)
+                      (goes_push b.session.log number leg at);
+                  sure = inl first;
+                }
+          ];
+      marked = λ count is. absurd (unmarked count is);
+      logout_heard = c.logout_heard;
+      out_no_doubt = λ out. absurd cc;
+    }
 
 plain_no_logout : (content : Content) → IsPlainAdmin content → content ≡ (Session Logout) → ⊥
 plain_no_logout content plain is = subst IsPlainAdmin is plain
@@ -317,7 +399,12 @@ settles_kept : (b : Line) (told : ℕ) → Close b → Close (with_session (sett
 settles_kept b told c =
     close_goes b b.released b.left (settling_at told b.session) b.to_exchange b.given
     (unwritten b (settling_at told b.session)
-    (λ over. (over, refl, λ none. give_up_sure told b.session.log))
+    (λ over. record {
+      over = over;
+      same = refl;
+      none = λ none. give_up_sure told b.session.log;
+      back = λ number leg is. (let was = give_up_back told b.session.log number leg is in (was.0, was.1));
+    })
     (λ number fence leg early is there.
     (let was = give_up_back told b.session.log number leg is in c.fence_above number fence was.0 early was.1 there))
     (λ number wanted leg closing is mark.
@@ -329,10 +416,10 @@ close_calls = record {
   marks = λ b expected requested pending silent close_asked given j c.
       close_goes b b.released b.left (with_marks expected requested pending silent close_asked b.session) b.to_exchange
       given
-      (unwritten b _ (λ over. (over, refl, λ none. none)) c.fence_above c.closing_above c.out_no_doubt) c;
+      (unwritten b _ (stays_over b.session _ refl refl) c.fence_above c.closing_above c.out_no_doubt) c;
   waits = λ b waiting j c.
       close_goes b b.released b.left b.session b.to_exchange b.given
-      (unwritten b b.session (λ over. (over, refl, λ none. none)) c.fence_above c.closing_above c.out_no_doubt) c;
+      (unwritten b b.session (stays_over b.session b.session refl refl) c.fence_above c.closing_above c.out_no_doubt) c;
   admin = λ b content plain may j c. spends b (spending b.session) content
       (plain_no_logout content plain) refl refl refl refl (λ fence there. inl there) c;
   fence = λ b may j c.
@@ -361,11 +448,7 @@ close_calls = record {
       (record (spending (passing fence b.session)) { phase = phase.LoggedOut }) refl refl refl refl
       (passes b (passed_into fence phase.LoggedOut b.session) fence refl refl (fewer_fences fence b) refl (λ over. tt)
       (λ early. absurd early) (λ closing. absurd cc) (λ out. last_sure b fence is last c) c);
-  answers_logout = λ b heard on going may j c.
-      (let mark = c.logout_heard (record { connection = b.session.connection; number = heard.0; content = (Session Logout) })
-      heard.1 refl in
-      let logout = c.marked mark.0 mark.1 in
-      absurd (not_over b.session.phase on going (c.logout_is_last logout.logout logout.written logout.says).0));
+  answers_logout = λ b heard on going may j c. answers_kept b heard on going c;
   ends = λ b is_over on j c.
       turns b (record b.session { phase = phase_after is_over b.session.phase }) refl refl (λ fence there. there)
       (over_after is_over b.session.phase on)
@@ -392,23 +475,38 @@ close_calls = record {
   sends = λ b leg there up may j c. sends_kept b leg up c;
   releases = λ b more j c.
       close_goes b (b.released ++ more) b.left b.session b.to_exchange b.given
-      (unwritten b b.session (λ over. (over, refl, λ none. none)) c.fence_above c.closing_above c.out_no_doubt) c;
+      (unwritten b b.session (stays_over b.session b.session refl refl) c.fence_above c.closing_above c.out_no_doubt) c;
   drops = λ b below j c.
       close_goes b b.released (suc b.left) b.session b.to_exchange b.given
-      (unwritten b b.session (λ over. (over, refl, λ none. none)) c.fence_above c.closing_above c.out_no_doubt) c;
+      (unwritten b b.session (stays_over b.session b.session refl refl) c.fence_above c.closing_above c.out_no_doubt) c;
 }
 
 -- the exchange's steps
 module _ {taken : List Carried} (w : Line) (copies : Copies taken w) (c : Close w) where
+  -- the line, where the exchange stands so
+  abbrev At : Intake → Line
+  At t = record w { exchange = record w.exchange { intake = t } }
+
   abbrev Marks : Intake → Type 0
   Marks t =
-      ((count : ℕ) → t.closed_at ≡ Some count → (count ≡ length t.accepted) × (t.live ≡ None)
-      × (t.last ≡ w.session.connection)
-      × ((logout : Carried) × Contains w.to_exchange logout × (logout.content ≡ (Session Logout))))
-      × ((count : ℕ) → w.exchange.intake.closed_at ≡ Some count → (now : ℕ) × (t.closed_at ≡ Some now))
+      ((count : ℕ) → t.closed_at ≡ Some count → IsMark (At t) count)
+      × (HasTakenLogout w.exchange.intake → HasTakenLogout t)
 
   by_move : (t u : Intake) → t ≡ u → Marks u → Marks t
   by_move t u is marks = subst Marks (sym is) marks
+
+  standing : (count : ℕ) → w.exchange.intake.closed_at ≡ Some count → IsMark (At w.exchange.intake) count
+  standing count at =
+      (let mark = c.marked count at in
+      record {
+        all = mark.all;
+        down = mark.down;
+        last = mark.last;
+        logout = mark.logout;
+        written = mark.written;
+        says = mark.says;
+        passed = mark.passed;
+      })
 
   -- while a connection is live nothing is marked
   no_mark : (connection count : ℕ) → w.exchange.intake.live ≡ Some connection → w.exchange.intake.closed_at ≡ Some count
@@ -421,51 +519,64 @@ module _ {taken : List Carried} (w : Line) (copies : Copies taken w) (c : Close 
         (λ count at.
             (let mark = c.marked count at in let newer = is.newer in let known = copies.written_before m there in
             absurd (omega (arith, mark.last)))),
-        (λ count at. (count, at)),
+        (λ was. was),
       )
   marks_takes m t there (rules.order due leg is after) =
-      by_move t _ after ((λ count at. absurd (no_mark m.connection count due.live at)), (λ count at. (count, at)))
+      by_move t _ after ((λ count at. absurd (no_mark m.connection count due.live at)), (λ was. was))
   marks_takes m t there (rules.fill due new_number is after) =
-      by_move t _ after ((λ count at. absurd (no_mark m.connection count due.live at)), (λ count at. (count, at)))
+      by_move t _ after ((λ count at. absurd (no_mark m.connection count due.live at)), (λ was. was))
   marks_takes m t there (rules.logout due is after) =
       by_move t _ after (
         (λ count at.
             (let last = c.logout_is_last m there is in
             let live = (copies.live_is_last m.connection due.live).same in
-            (sym (same_Some _ count at), refl, sym live ∙ last.1, (m, there, is)))),
-        (λ count at. (length w.exchange.intake.accepted, refl)),
+            record {
+              all = sym (same_Some _ count at);
+              down = refl;
+              last = sym live ∙ last.present;
+              logout = m;
+              written = there;
+              says = is;
+              passed = (let here = due.number in omega arith);
+            })),
+        (λ was. (length w.exchange.intake.accepted, refl)),
       )
   marks_takes m t there (rules.other due is after) = by_move t _ after
-      ((λ count at. absurd (no_mark m.connection count due.live at)), (λ count at. (count, at)))
+      ((λ count at. absurd (no_mark m.connection count due.live at)), (λ was. was))
 
   -- that the live connection ends then leaves the mark
-  marks_dropped : (u : Intake) → Marks u → Marks (record u { live = None })
-  marks_dropped u marks = ((λ count at. (let mark = marks.0 count at in (mark.0, refl, mark.2, mark.3))), marks.1)
+  dropped : (u : Intake) (count : ℕ) → IsMark (At u) count → IsMark (At (record u { live = None })) count
+  dropped u count mark = record {
+    all = mark.all;
+    down = refl;
+    last = mark.last;
+    logout = mark.logout;
+    written = mark.written;
+    says = mark.says;
+    passed = mark.passed;
+  }
 
   marks_moves : (coming : Option Carried) (t : Intake) → IfSome coming (Contains w.to_exchange)
       → MayMove w.exchange.intake coming t → Marks t
-  marks_moves coming t there (rules.stays after) =
-      by_move t w.exchange.intake after (
-        (λ count at.
-            (let mark = c.marked count at in (mark.all, mark.down, mark.last, (mark.logout, mark.written, mark.says)))),
-        (λ count at. (count, at)),
-      )
+  marks_moves coming t there (rules.stays after) = by_move t w.exchange.intake after (standing, (λ was. was))
   marks_moves coming t there (rules.drops after) =
-      by_move t _ after (
-        (λ count at.
-            (let mark = c.marked count at in (mark.all, refl, mark.last, (mark.logout, mark.written, mark.says)))),
-        (λ count at. (count, at)),
-      )
+      by_move t _ after ((λ count at. dropped w.exchange.intake count (standing count at)), (λ was. was))
   marks_moves coming t there (rules.takes_and_drops m came u is after) =
-      by_move t _ after
-      (marks_dropped u (marks_takes m u (subst (λ o. IfSome o (Contains w.to_exchange)) came there) is))
+      (let marks = marks_takes m u (subst (λ o. IfSome o (Contains w.to_exchange)) came there) is in
+      by_move t _ after ((λ count at. dropped u count (marks.0 count at)), marks.1))
   marks_moves coming t there (rules.takes m came is) = marks_takes m t
       (subst (λ o. IfSome o (Contains w.to_exchange)) came there) is
 
-  says_logout : (coming : Option Carried) (t : RuleState) (number : ℕ) (content : Content)
-      → MaySay w.exchange coming t number content → content ≡ (Session Logout) → (count : ℕ) × (t.intake.closed_at ≡ Some count)
-  says_logout coming t number (Session Logout) closed says = closed
-  says_logout coming t number content closed says = absurd cc
+  says_logout : (coming : Option Carried) (t : RuleState) (connection number : ℕ) (content : Content)
+      → MaySay w.exchange coming t connection number content → content ≡ (Session Logout)
+      → HasTakenLogout t.intake ⊎ Contains t.unasked connection
+  says_logout coming t connection number (Session Logout) may says = may
+  says_logout coming t connection number content may says = absurd cc
+
+  still_unasked : (coming : Option Carried) (t : RuleState) (written : List Carried) → May w.exchange coming t written
+      → (connection : ℕ) → Contains w.exchange.unasked connection → Contains t.unasked connection
+  still_unasked coming t written step connection there =
+      All-contains (Contains t.unasked) w.exchange.unasked connection step.unasked there
 
   pub close_exchanged : (coming : Option Carried) (t : RuleState) (written : List Carried)
       → IfSome coming (Contains w.to_exchange) → May w.exchange coming t written
@@ -473,28 +584,43 @@ module _ {taken : List Carried} (w : Line) (copies : Copies taken w) (c : Close 
   close_exchanged coming t written there step =
       let marks = marks_moves coming t.intake there step.moves in
       let carries = own_kept w.exchange coming t written step copies.own_carries in
+      let still = still_unasked coming t written step in
       record {
         fence_above = c.fence_above;
         closing_above = c.closing_above;
-        logout_is_last = c.logout_is_last;
+        logout_is_last = λ m in' says.
+            (let last = c.logout_is_last m in' says in
+            record {
+              over = last.over;
+              present = last.present;
+              above = last.above;
+              sure = elim last.sure [
+                | inl first ↦ inl (still w.session.connection first)
+                | inr none ↦ inr none
+              ];
+            });
         marked = λ count at.
             (let mark = marks.0 count at in
             record {
-              all = mark.0;
-              down = mark.1;
-              last = mark.2;
-              logout = mark.3.0;
-              written = mark.3.1;
-              says =
-                  mark.3.2;
+              all = mark.all;
+              down = mark.down;
+              last = mark.last;
+              logout = mark.logout;
+              written = mark.written;
+              says = mark.says;
+              passed = mark.passed;
             });
         logout_heard = λ m in' says.
             elim (Contains-append_cases w.from_exchange written m in') [
-              | inl old ↦ (let before = c.logout_heard m old says in marks.1 before.0 before.1)
+              | inl old ↦
+                  elim (c.logout_heard m old says) [
+                    | inl closed ↦ inl (marks.1 closed)
+                    | inr unasked ↦ inr (still m.connection unasked)
+                  ]
               | inr new ↦
                   elim (All-contains (MayWrite w.exchange coming t) written m step.writes new).content [
                     | inl kept ↦ absurd (subst IsReportOrRefusal says (carries m.number m.content kept))
-                    | inr may ↦ says_logout coming t m.number m.content may.1 says
+                    | inr may ↦ says_logout coming t m.connection m.number m.content may.1 says
                   ]
             ];
         out_no_doubt = c.out_no_doubt;

@@ -166,8 +166,9 @@ copies_calls taken = record {
       copies_framed b (record (spending (passing fence b.session)) { phase = phase.LoggedOut }) _ (Session Logout)
       (goes-trans _ _ _ (goes-take_below fence b.session.log) (goes-admin _)) (λ order. order) (omega arith)
       (λ early. absurd early) c;
-  answers_logout = λ b heard on going may j c. copies_framed b (spending b.session) (next_out b.session) (Session Logout)
-      (goes-admin b.session.log) (λ order. order) (omega arith) (λ early. inl early) c;
+  answers_logout = λ b heard on going may j c.
+      copies_framed b (record (spending b.session) { phase = phase.Closed }) (next_out b.session) (Session Logout)
+      (goes-admin b.session.log) (λ order. order) (omega arith) (λ early. absurd early) c;
   ends = λ b is_over on j c. copies_unwritten b _ (goes-refl b.session.log) refl
       (λ early. absurd (ended_is_up is_over b.session.phase early)) c;
   abandons = λ b j c. copies_unwritten b _ (goes-refl b.session.log) refl (λ early. absurd early) c;

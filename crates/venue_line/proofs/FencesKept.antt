@@ -229,7 +229,8 @@ module _ (taken : List Carried) where
         (λ fence there. there) refl may (λ id is. absurd cc) (λ n is. cc)
         (passes_kept b (passed_into fence phase.LoggedOut b.session) fence refl refl refl
         (fewer_fences fence b) refl is f);
-    answers_logout = λ b heard on going may j f. spends b (spending b.session) (Session Logout) refl refl refl
+    answers_logout = λ b heard on going may j f.
+        spends b (record (spending b.session) { phase = phase.Closed }) (Session Logout) refl refl refl
         (λ fence there. there) refl may (λ id is. absurd cc) (λ n is. cc) f;
     ends = λ b is_over on j f. stays b _ refl refl refl (λ fence there. there) refl f;
     abandons = λ b j f. stays b _ refl refl refl (λ fence there. there) refl f;

@@ -8,6 +8,7 @@ use Rattle.venue_line.specs.Leading.{last_line, Leads}
 use Rattle.venue_line.specs.ForGood.{StaysSettled}
 use Rattle.venue_line.proofs.GivenSteps.{Whole, whole_step}
 use Rattle.venue_line.proofs.LineKept.{invariant_of}
+use Rattle.venue_line.proofs.OverLines.{over_trans}
 use Rattle.venue_line.proofs.PastLines.{IsPast, past-refl, step_past}
 use Rattle.venue_line.proofs.ForGood.{stays_settled, settled-refl, settled-trans}
 
@@ -78,6 +79,7 @@ past-trans a b c first more = record {
           | inl (was, there, same, named) ↦ inl (was, there, ordinal ∙ same, id ∙ named)
         ]
   ];
+  over = λ is. (let between = first.over is in over_trans between (more.over between.over));
   accepted = λ i.
       (let between = first.accepted i in
       let last = more.accepted (invariant_of b between) in

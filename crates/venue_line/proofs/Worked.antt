@@ -1,14 +1,14 @@
 -- Steps of worked lines: those of an exchange that keeps the rules, and those of the session.
 use Rattle.std.specs.Fmt.{digits}
-use Rattle.std.proofs.Common.{◌≡◌, ◌≤◌, ◌<◌, ℕ, suc, List, [], ◌∷◌, ◌++◌, Option, Some, None, Ok, Err, refl, sym, ap, subst, ◌∙◌, inr, arith}
+use Rattle.std.proofs.Common.{◌≡◌, ◌≤◌, ◌<◌, ℕ, suc, List, [], ◌∷◌, ◌++◌, Option, Some, None, Ok, Err, refl, sym, ap, subst, ◌∙◌, inl, inr, arith}
 use Rattle.std.specs.Prelude.{max, true, false}
 use Rattle.std.specs.List.{All, Contains}
 use Rattle.std.proofs.lemmas.List.{append-nil}
-use Rattle.std.proofs.lemmas.List.Elements.{All-cons, All-nil}
+use Rattle.std.proofs.lemmas.List.Elements.{All-cons, All-nil, All-contains_itself, All-weaker}
 use Rattle.leg.specs.Numbered.{numbered}
 use Rattle.leg.specs.declared.leg.Leg.{Leg}
 use Rattle.dialect.specs.declared.content.Content.{Content}
-use Rattle.exchange_core.specs.Acceptance.{Carried, Intake, RuleState, rule_opening, MayMove, MayAnswer, MayRefuse, MayRefuseOther, MayKeep, MayWrite, IsNewLogon, IsDue, May, passed_at}
+use Rattle.exchange_core.specs.Acceptance.{Carried, Intake, RuleState, rule_opening, MayMove, MayAnswer, MayRefuse, MayRefuseOther, MayKeep, MayWrite, MayBeUnasked, IsNewLogon, IsDue, May, passed_at}
 use Rattle.exchange_core.specs.Acceptance as rules
 use Rattle.dialect.specs.declared.message.Message.{Message}
 use Rattle.session_core.specs.Session.{is_connected}
@@ -22,12 +22,20 @@ use Rattle.venue_line.specs.Worked.{logon, fence, answer, order, asks, fill, sta
 
 -- an exchange that stands so
 abbrev pub stood : Intake → List (Option Content) → RuleState
-stood intake own = record { intake = intake; tests = []; refusable = []; others = []; own = own }
+stood intake own = record {
+  intake = intake;
+  tests = [];
+  refusable = [];
+  others = [];
+  own = own;
+  unasked = [];
+}
 
--- a step of the exchange at a message that comes, by which these own numbers more are used
+-- a step of the exchange at a message that comes, by which these own numbers more are used, and none but asked Logouts
+-- are written
 module _ (s : RuleState) (m : Carried) (intake : Intake) (own : List (Option Content)) where
   abbrev pub after : RuleState
-  after = stood intake own
+  after = record (stood intake own) { unasked = s.unasked }
 
   pub step : (more : List (Option Content)) (written : List Carried) → MayMove s.intake (Some m) intake
       → All (MayKeep s (Some m) after) more → own ≡ s.own ++ more → All (MayWrite s (Some m) after) written
@@ -39,6 +47,9 @@ module _ (s : RuleState) (m : Carried) (intake : Intake) (own : List (Option Con
     others = All-nil (MayRefuseOther s (Some m));
     own = (more, keeps, grows);
     writes = writes;
+    unasked = All-contains_itself s.unasked;
+    only = All-weaker (Contains s.unasked) (MayBeUnasked s written) (λ connection old. inl old) s.unasked
+        (All-contains_itself s.unasked);
   }
 
   -- own numbers that carry nothing, one or two
@@ -77,7 +88,7 @@ logs_on s t own connection number used newer above after from to under =
     step (stood s own) m t more (None ∷ []) (logon connection used ∷ [])
     (rules.takes m refl (rules.new_logon (new_logon s connection number newer above) after)) (plain (stood s own) m t more)
     refl
-    (says (stood s own) m t more (logon connection used) [] (record { from = from; to = to; content = inr (under, tt) })
+    (says (stood s own) m t more (logon connection used) [] (record { from = from; to = inl to; content = inr (under, tt) })
     (nothing (stood s own) m t more))
 
 -- a Logon that is above the expected number, which is then asked for
@@ -96,8 +107,8 @@ asks_for s t own connection number used newer above after from to first second =
     (rules.takes m refl (rules.new_logon (new_logon s connection number newer above) after))
     (plain_two (stood s own) m t more) refl
     (says (stood s own) m t more (logon connection used) (asked ∷ [])
-    (record { from = from; to = to; content = inr (first, tt) })
-    (says (stood s own) m t more asked [] (record { from = from; to = to; content = inr (second, refl) })
+    (record { from = from; to = inl to; content = inr (first, tt) })
+    (says (stood s own) m t more asked [] (record { from = from; to = inl to; content = inr (second, refl) })
     (nothing (stood s own) m t more)))
 
 -- a gap fill in its turn is taken
@@ -125,7 +136,7 @@ answers s own connection number used live due from to under =
     (says (stood s own) m t (own ++ None ∷ []) (answer connection used number) []
     (record {
       from = from;
-      to = to;
+      to = inl to;
       content = inr (under, inr (record { message = m; came = refl; due = is_due; says = refl; passed = refl }));
     }) (nothing (stood s own) m t (own ++ None ∷ [])))
 

@@ -56,6 +56,7 @@ standing connection expected accepted own = record {
   refusable = [];
   others = [];
   own = own;
+  unasked = [];
 }
 
 -- the line after a call of the session

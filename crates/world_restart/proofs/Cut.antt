@@ -5,7 +5,7 @@ use Rattle.exchange_core.specs.Acceptance.{Carried}
 use Rattle.std.specs.Prelude.{List}
 use Rattle.venue_line.specs.Copies.{Copies}
 use Rattle.venue_line.specs.Fences.{Fences}
-use Rattle.venue_line.specs.Close.{Close, IsMark}
+use Rattle.venue_line.specs.Close.{Close, IsMark, IsFarewell}
 use Rattle.venue_line.specs.DeliveredReports.{Given}
 use Rattle.venue_line.proofs.GivenSteps.{Whole}
 use Rattle.world_restart.proofs.Places.{numbered-take, within_take}
@@ -80,13 +80,18 @@ module _ (n : ℕ) (a : Line) (low : a.left ≤ n) where
     logout = m.logout;
     written = m.written;
     says = m.says;
+    passed = m.passed;
   }
+
+  cut_farewell : (m : Carried) → IsFarewell a m → IsFarewell (cut n a) m
+  cut_farewell m last =
+      record { over = last.over; present = last.present; above = last.above; sure = last.sure }
 
   cut_close : Close a → Close (cut n a)
   cut_close c = record {
     fence_above = c.fence_above;
     closing_above = c.closing_above;
-    logout_is_last = c.logout_is_last;
+    logout_is_last = λ m there says. cut_farewell m (c.logout_is_last m there says);
     marked = λ count is. cut_mark count (c.marked count is);
     logout_heard = c.logout_heard;
     out_no_doubt = c.out_no_doubt;
