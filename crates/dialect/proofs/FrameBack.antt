@@ -392,7 +392,7 @@ never_refused w read stamp out b agrees range is =
 
 -- a dialect of no orders and no reports
 abbrev no_writers : Encoding
-no_writers = record { IsOrder = λ leg stamp fields. ⊥; IsReport = λ report view fields. ⊥ }
+no_writers = record { IsOrder = λ leg stamp fields. ⊥; IsReport = λ report view fields. ⊥; most_fields = 0 }
 
 abbrev no_readers : Decoding
 no_readers = record { order = λ fields. Err NotMarked; report = λ fields. Err NotMarked }

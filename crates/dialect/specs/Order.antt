@@ -1,5 +1,5 @@
 -- An order (FIX 4.4 Volume 4, NewOrderSingle) in any spelling.
-use Rattle.std.specs.Prelude.{◌≡◌, List, [], ◌∷◌, ◌++◌, codes, Some, IsSome, Result, Ok}
+use Rattle.std.specs.Prelude.{◌≡◌, ℕ, ◌+◌, length, List, [], ◌∷◌, ◌++◌, codes, Some, IsSome, Result, Ok}
 use Rattle.fix_text.specs.Then.{◌>>=◌, unless}
 use Rattle.fix_text.specs.Tagged.{Tagged, value_of}
 use Rattle.fix_tags.specs.Price.{price_of}
@@ -22,6 +22,10 @@ order_fields s leg stamp =
     ++ limit_fields leg.terms.shares (s.price_text leg.terms.price) leg.terms.side
     ++ s.symbol_fields leg.terms.symbol
     ++ (immediate_fields stamp ++ s.extra)
+
+-- how many fields an order has at most: ten, where a symbol has two, and those that every order carries besides
+abbrev pub most_order_fields : SpellingParts → ℕ
+most_order_fields s = 10 + length s.extra
 
 -- these fields are an order for this leg, made at this moment
 pub record IsOrderOf (s : SpellingParts) (leg : Leg) (stamp : StampParts) (fields : List Tagged) : Type 0 where

@@ -1,5 +1,5 @@
 -- What the dialect of a spelling says.
-use Rattle.dialect.specs.Order.{IsOrderOf, order_read_of}
+use Rattle.dialect.specs.Order.{IsOrderOf, most_order_fields, order_read_of}
 use Rattle.dialect.specs.ReportFields.{IsReportOf}
 use Rattle.dialect.specs.ReportRead.{report_read_of}
 use Rattle.dialect.specs.Spelling.{SpellingParts}
@@ -7,7 +7,7 @@ use Rattle.dialect.specs.Wording.{Wording}
 
 abbrev pub spelled : SpellingParts → Wording
 spelled s = record {
-  encoding = record { IsOrder = IsOrderOf s; IsReport = IsReportOf s };
+  encoding = record { IsOrder = IsOrderOf s; IsReport = IsReportOf s; most_fields = most_order_fields s };
   decoding = record { order = order_read_of s; report = report_read_of s };
   mark = s.mark;
 }

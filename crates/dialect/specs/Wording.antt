@@ -1,5 +1,5 @@
 -- What a dialect says: the fields that it may write for an order and a report, and what it reads fields as.
-use Rattle.std.specs.Prelude.{◌≡◌, List, Some, Result, Ok}
+use Rattle.std.specs.Prelude.{◌≡◌, ◌≤◌, ℕ, List, Some, Result, Ok}
 use Rattle.fix_text.specs.Tagged.{Tagged, value_of}
 use Rattle.fix_tags.specs.Stamp.{StampParts, IsStamp, stamp_text}
 use Rattle.leg.specs.Leg.{IsLeg}
@@ -15,6 +15,8 @@ use Rattle.dialect.specs.declared.report.Report.{Report}
 pub record Encoding : Type 1 where
   pub IsOrder : Leg → StampParts → List Tagged → Type 0
   pub IsReport : Report → OrderViewParts → List Tagged → Type 0
+  -- how many fields an order has at most
+  pub most_fields : ℕ
 
 -- the order and the report that fields say, or the first fault
 pub record Decoding : Type 0 where
@@ -44,6 +46,8 @@ pub record IsWording (w : Wording) : Type 0 where
   -- it can be written into a message, in at most 1,000 bytes
   pub order_fits : (leg : Leg) (stamp : StampParts) (fields : List Tagged) → w.encoding.IsOrder leg stamp fields
       → FitsMessage fields
+  -- it has few fields
+  pub order_few : w.encoding.most_fields ≤ 26
   -- there is a report for every one in range, beside a view of its own leg
   pub report_exists : (report : Report) (view : OrderViewParts) → IsInRange report → IsOrderView view
       → view.leg.id ≡ report.id → (fields : List Tagged) × w.encoding.IsReport report view fields

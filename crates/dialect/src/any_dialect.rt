@@ -94,6 +94,14 @@ impl Spelling for AnyDialect {
         }
     }
 
+    fn extra_len(&self) -> usize {
+        match self {
+            AnyDialect::Plain => Plain.extra_len(),
+            AnyDialect::Split4 => Split4.extra_len(),
+            AnyDialect::Coded => Coded.extra_len(),
+        }
+    }
+
     fn push_extra<F: FieldSink>(&self, alloc: Global, fields: &mut F) -> Result<(), AllocError> {
         match self {
             AnyDialect::Plain => Plain.push_extra(alloc, fields),

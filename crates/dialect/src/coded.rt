@@ -92,6 +92,10 @@ impl Spelling for Coded {
         )
     }
 
+    fn extra_len(&self) -> usize {
+        0
+    }
+
     fn push_extra<F: FieldSink>(&self, _alloc: Global, _fields: &mut F) -> Result<(), AllocError> {
         Ok(())
     }

@@ -24,7 +24,7 @@ pub trait Dialect {
     ghost wording: { Self → Wording };
 
     /// Appends the fields of an order for the leg, with the stamp as TransactTime (60). V05, which comes only where the
-    /// list has no room for 32 more fields, leaves it as it was.
+    /// list has no room for as many fields as an order has at most, leaves it as it was.
     fn write_order(
         &self,
         alloc: Global,
@@ -35,11 +35,12 @@ pub trait Dialect {
         ensures ok { OnOk result
             (Appends ((wording self.now).encoding.IsOrder leg.now stamp.now) fields.old.items fields.new.items) }
         ensures err { OnErr result (fields.new.items ≡ fields.old.items) }
-        ensures full { OnErr result (vec_capacity fields.old < vec_len fields.old + 32) };
+        ensures full { OnErr result
+            (vec_capacity fields.old < vec_len fields.old + (wording self.now).encoding.most_fields) };
 
     /// Pushes the fields of an order for the leg, with the stamp as TransactTime (60), to a list or to the body of a
-    /// frame. `time` is the stamp's text. A growth is refused only where there is no room for 32 more fields, and
-    /// leaves some of them behind.
+    /// frame. `time` is the stamp's text. A growth is refused only where there is no room for as many fields as
+    /// an order has at most, and leaves some of them behind.
     fn push_order<F: FieldSink>(
         &self,
         alloc: Global,
@@ -51,7 +52,7 @@ pub trait Dialect {
         requires { time.now ≡ stamp_text stamp.now }
         ensures pushed { PushesSuch F.Takes ((wording self.now).encoding.IsOrder leg.now stamp.now)
             fields.old fields.new result }
-        ensures full { OnErr result (F.room fields.old < 32) };
+        ensures full { OnErr result (F.room fields.old < (wording self.now).encoding.most_fields) };
 
     /// Reads an order. Faults are tried in the written order of the fields, and the first one is answered. Of a tag
     /// that stands several times the first counts, and tags that an order doesn't have are passed over.

@@ -6,7 +6,7 @@
 //!   an order carries the mark of a sweep, `59=3` and its own moment (60); a report's 37, 39, 151 and 14 are what
 //!   its exchange knows. Two legs, or two reports, that differ have different fields (`orders_tell_legs_apart`,
 //!   `reports_tell_apart`). Generic code knows a dialect by these laws alone. `write_order` may want memory only
-//!   where the list has no room for sixteen more fields.
+//!   where the list has no room for as many fields as an order has at most, 26 in any dialect.
 //! - What differs between venues is a `Spelling`: a leg's number, the mark, a price and a symbol. Every spelling is
 //!   a dialect, proved once; orders and reports are read as exactly `order_read_of` and `report_read_of`, with the
 //!   first fault in order (V01 to V04), and a mark that isn't written isn't read. A refusal to write leaves the list

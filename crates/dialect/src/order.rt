@@ -6,7 +6,7 @@ ghost use Rattle.fix_tags.specs.Stamp.{stamp_text};
 ghost use Rattle.leg.specs.Leg.{IsLeg};
 ghost use Rattle.dialect.specs.Dialect.{Appends};
 ghost use Rattle.dialect.specs.Fields.{required_as, IsGrown};
-ghost use Rattle.dialect.specs.Order.{IsOrderOf, order_fields, order_read_of};
+ghost use Rattle.dialect.specs.Order.{IsOrderOf, most_order_fields, order_fields, order_read_of};
 
 use crate::fault::{DialectFault, SpellFault};
 use crate::field_value::required;
@@ -20,8 +20,8 @@ use fix_text::{Field, FieldSink};
 use leg::{Leg, LegId};
 use std::alloc::{AllocError, Global};
 
-/// How many fields an order has at most.
-const MAX_ORDER_LEN: usize = 26;
+/// How many fields an order has at most, without those that every order of a venue carries besides.
+const MAX_OWN_FIELDS: usize = 10;
 
 /// The leg that ClOrdID (11) names. Orders and reports share it, and it is on the way of each: so it is inlined, with
 /// the spelling's reading below it.
@@ -68,7 +68,7 @@ pub(crate) fn push_order<S: Spelling, F: FieldSink>(
     requires { time.now ≡ stamp_text stamp.now }
     ensures pushed { Pushes F.Takes (order_fields (S.spelling spelling.now) leg.now stamp.now)
         fields.old fields.new result }
-    ensures full { OnErr result (F.room fields.old < 26) }
+    ensures full { OnErr result (F.room fields.old < most_order_fields (S.spelling spelling.now)) }
 {
     push_short(
         alloc,
@@ -95,14 +95,15 @@ fn list_order<S: Spelling>(
     ensures ok { OnOk result (fields.new.items
         ≡ fields.old.items ++ order_fields (S.spelling spelling.now) leg.now stamp.now) }
     ensures err { OnErr result (IsGrown fields.old.items fields.new.items) }
-    ensures full { OnErr result (vec_capacity fields.old < vec_len fields.old + 26) }
+    ensures full { OnErr result
+        (vec_capacity fields.old < vec_len fields.old + most_order_fields (S.spelling spelling.now)) }
 {
-    fields.reserve(MAX_ORDER_LEN)?;
+    fields.reserve(MAX_OWN_FIELDS + spelling.extra_len())?;
     push_order(spelling, alloc, leg, stamp, &stamp_bytes(stamp), fields)
 }
 
-/// Appends the fields of an order, as a venue spells it. V05, which comes only where the list has no room for 26 more
-/// fields, leaves it as it was.
+/// Appends the fields of an order, as a venue spells it. V05, which comes only where the list has no room for as many
+/// fields as an order has at most, leaves it as it was.
 pub(crate) fn write_order<S: Spelling>(
     spelling: &S,
     alloc: Global,
@@ -113,7 +114,8 @@ pub(crate) fn write_order<S: Spelling>(
     ensures ok { OnOk result
         (Appends (IsOrderOf (S.spelling spelling.now) leg.now stamp.now) fields.old.items fields.new.items) }
     ensures err { OnErr result (fields.new.items ≡ fields.old.items) }
-    ensures full { OnErr result (vec_capacity fields.old < vec_len fields.old + 26) }
+    ensures full { OnErr result
+        (vec_capacity fields.old < vec_len fields.old + most_order_fields (S.spelling spelling.now)) }
 {
     // That the leg and the stamp are in range is known once they were read.
     leg.in_range();

@@ -62,6 +62,10 @@ impl Spelling for Plain {
         )
     }
 
+    fn extra_len(&self) -> usize {
+        0
+    }
+
     fn push_extra<F: FieldSink>(&self, _alloc: Global, _fields: &mut F) -> Result<(), AllocError> {
         Ok(())
     }

@@ -18,7 +18,7 @@ impl<S: Spelling> Dialect for S {
     ghost use Rattle.leg.specs.Leg.{IsLeg};
     ghost use Rattle.dialect.specs.Dialect.{Appends};
     ghost use Rattle.dialect.specs.Lemmas.SpelledLaws.{is_spelled};
-    ghost use Rattle.dialect.specs.Order.{IsOrderOf, IsReadingOf, order_read_of};
+    ghost use Rattle.dialect.specs.Order.{IsOrderOf, IsReadingOf, most_order_fields, order_read_of};
     ghost use Rattle.dialect.specs.Report.{IsReport as IsInRange};
     ghost use Rattle.dialect.specs.ReportFields.{HasShortIds, IsReportOf};
     ghost use Rattle.dialect.specs.ReportRead.{report_read_of};
@@ -37,7 +37,8 @@ impl<S: Spelling> Dialect for S {
         ensures ok { OnOk result
             (Appends (IsOrderOf (S.spelling self.now) leg.now stamp.now) fields.old.items fields.new.items) }
         ensures err { OnErr result (fields.new.items ≡ fields.old.items) }
-        ensures full { OnErr result (vec_capacity fields.old < vec_len fields.old + 26) }
+        ensures full { OnErr result
+            (vec_capacity fields.old < vec_len fields.old + most_order_fields (S.spelling self.now)) }
     {
         write_order(self, alloc, leg, stamp, fields)
     }

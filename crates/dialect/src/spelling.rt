@@ -62,11 +62,14 @@ pub trait Spelling {
     fn read_symbol(&self, fields: &AppFields<'_>) -> Result<Symbol, DialectFault>
         ensures value { result ≡ (spelling self.now).symbol_in fields.now };
 
-    /// Pushes the fields that every order carries besides, sixteen at most. It wants memory only where there is no room
-    /// for sixteen more fields.
+    /// How many fields every order carries besides, sixteen at most.
+    fn extra_len(&self) -> usize
+        ensures value { result ≡ length (spelling self.now).extra };
+
+    /// Pushes the fields that every order carries besides. It wants memory only where there is no room for them.
     fn push_extra<F: FieldSink>(&self, alloc: Global, fields: &mut F) -> Result<(), AllocError>
         ensures pushed { Pushes F.Takes (spelling self.now).extra fields.old fields.new result }
-        ensures full { OnErr result (F.room fields.old < 16) };
+        ensures full { OnErr result (F.room fields.old < length (spelling self.now).extra) };
 
     // What is written is read back, and can be written.
     ghost is_spelling: { (d : Self) → IsSpelling (spelling d) };

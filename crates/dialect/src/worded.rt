@@ -92,6 +92,10 @@ impl Spelling for Worded {
         shaped::push_symbol(&self.words.symbol, alloc, symbol, fields)
     }
 
+    fn extra_len(&self) -> usize {
+        self.words.extra.len()
+    }
+
     fn push_extra<F: FieldSink>(&self, alloc: Global, fields: &mut F) -> Result<(), AllocError> {
         shaped::push_extra(alloc, self.words.extra.as_slice(), fields)
     }

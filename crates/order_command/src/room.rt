@@ -5,7 +5,7 @@ use fix_text::{Field, MAX_FRAME};
 use std::alloc::{AllocError, Global};
 
 /// How many fields of room are enough for an order, in every dialect.
-const ORDER_FIELDS: usize = 32;
+const ORDER_FIELDS: usize = 26;
 
 /// All the memory that writing one order takes: so no order is refused once this is had.
 #[derive(Debug, Drop)]
@@ -13,7 +13,7 @@ pub struct OrderRoom {
     pub(crate) fields: Vec<Field>,
     pub(crate) frame: Vec<u8>,
     ghost no_field: { fields.items ≡ [] },
-    ghost fields_room: { 32 ≤ vec_capacity fields },
+    ghost fields_room: { 26 ≤ vec_capacity fields },
     ghost no_byte: { frame.items ≡ [] },
     ghost frame_room: { 4120 ≤ vec_capacity frame },
 }

@@ -1,5 +1,5 @@
 -- Lemmas: the dialect of a spelling keeps the laws of a dialect.
-use Rattle.std.specs.Prelude.{refl}
+use Rattle.std.proofs.Common.{refl, arith}
 use Rattle.dialect.specs.Lemmas.OrderLaws.{order_back, order_marked, order_timed, order_short}
 use Rattle.dialect.specs.Lemmas.ReportFits.{report_short}
 use Rattle.dialect.specs.Lemmas.ReportLaws.{report_back, report_said}
@@ -19,6 +19,7 @@ is_spelled s laws = record {
   order_is_marked = λ leg stamp fields is. order_marked s leg stamp fields laws is;
   order_is_timed = λ leg stamp fields is. order_timed s leg stamp fields laws is;
   order_fits = λ leg stamp fields is. order_short s leg stamp fields laws is;
+  order_few = omega (arith, laws.extra_few);
   report_exists = λ report view in_range view_in_range own_leg. (
     report_fields s report view,
     record { in_range = in_range; view_in_range = view_in_range; own_leg = own_leg; written = refl },
