@@ -6,7 +6,7 @@ ghost use Rattle.day_log.specs.Folder.{files_of, is_name_taken, path_text, MayFa
 
 use crate::fault::LogFault;
 use crate::file_writer::FileWriter;
-use crate::header::{SWEEPS_HEADER, header_line};
+use crate::header::{SWEEPS_HEADER, header_lines};
 use crate::log_file::LogFile;
 use crate::venue_log::VenueLog;
 use change_count::ChangeCount;
@@ -133,7 +133,7 @@ fn begin_venue<R: Files>(
 ) -> Result<R::File, LogFault>
     ensures { IfErr result (λ fault. fault ≢ LogFault.NameTaken) }
 {
-    let header = header_line(alloc, venue)?;
+    let header = header_lines(alloc, venue)?;
     let file = LogFile::Venue(venue.name.clone()?);
     begin_log(rt, alloc, folder, file, header.as_slice())
 }

@@ -9,7 +9,7 @@
 //!   noted with it; no byte of it is lost (`no_byte_is_lost`), and each frame that was written is split off of it
 //!   (`written_frames_are_split_off`). What is noted is kept for contracts alone; that a line of it is put into the log
 //!   is what `Noting::note` does, and no clause says it.
-//! - The line at the head of a venue's log, the names of the files and the text of each fault are the stated ones
+//! - The lines at the head of a venue's log, the names of the files and the text of each fault are the stated ones
 //!   (`header_text`, `file_text`, `fault_text`).
 //! - `open_logs` gives a log for each venue and one for the lines, and answers `NameTaken` exactly where a venue is
 //!   called `sweeps`. What is put under a log's lock, that a file is there or isn't, and that the writer's thread
@@ -43,7 +43,7 @@ pub use counts::LogCounts;
 pub use fault::LogFault;
 pub use file_writer::{FileWriter, write_until};
 pub use folder::{DayLogs, open_logs};
-pub use header::{SWEEPS_HEADER, header_line};
+pub use header::{SWEEPS_HEADER, head_of_words, header_lines, words_text};
 pub use line_log::LineLog;
 pub use log_file::LogFile;
 pub use logged_link::LoggedLink;

@@ -2,3 +2,4 @@ pub mod Views
 pub mod VenuesRead
 pub mod TextRead
 pub mod Apart
+pub mod FieldsRead

@@ -1,22 +1,27 @@
 -- The texts of faults.
 use Rattle.std.specs.Prelude.{ℕ, List, [], ◌++◌, codes, decimal, Option, Some, None}
 use Rattle.desk_config.specs.declared.fault.Fault.{Fault}
-use Rattle.desk_config.specs.declared.fault.Fault.TheVariants.{NoTable, Unknown, Missing, Bad, NeedsToken, OnlySimulated, SameName, SameSession}
+use Rattle.desk_config.specs.declared.fault.Fault.TheVariants.{NoTable, Unknown, UnknownWord, Missing, Bad, Mark, Order, NeedsToken, OnlySimulated, SameName, SameSession}
 use Rattle.desk_config.specs.declared.fault.KeyFault.{KeyFault}
 use Rattle.desk_config.specs.declared.fault.ConfigFault.{ConfigFault}
 use Rattle.desk_config.specs.declared.fault.ConfigFault.TheVariants.{Toml, Key, OutOfMemory}
 use Rattle.desk_config.specs.declared.place.Place.{Place}
 use Rattle.desk_config.specs.declared.place.Place.TheVariants.{File, Desk, Venue}
-use Rattle.desk_config.specs.Key.{key_name, key_wants}
+use Rattle.desk_config.specs.Key.{key_shown, key_wants}
 use Rattle.desk_config.specs.Found.{found_text}
+use Rattle.venue_words.specs.Field.{field_fault_text}
 
 -- what is wrong in a table, as `heartbeat is 99999, and has to be 1 to 3600`
 abbrev pub fault_text : Fault → List ℕ
 fault_text (NoTable found) = codes "it is " ++ found_text found ++ codes ", and has to be a table"
 fault_text (Unknown key) = codes "unknown key " ++ key
-fault_text (Missing key) = key_name key ++ codes " is missing"
+fault_text (UnknownWord key) = codes "unknown key words." ++ key
+fault_text (Missing key) = key_shown key ++ codes " is missing"
 fault_text (Bad key found) =
-    key_name key ++ codes " is " ++ found_text found ++ codes ", and has to be " ++ key_wants key
+    key_shown key ++ codes " is " ++ found_text found ++ codes ", and has to be " ++ key_wants key
+fault_text (Mark found fault) = codes "words.mark is " ++ found_text found ++ codes ": " ++ field_fault_text fault
+fault_text (Order number found fault) =
+    codes "order " ++ decimal number ++ codes " is " ++ found_text found ++ codes ": " ++ field_fault_text fault
 fault_text NeedsToken = codes "page is not at 127.0.0.1, and there is no token"
 fault_text OnlySimulated = codes "fill is there, and the venue isn't simulated"
 fault_text (SameName place) = codes "name is that of venue " ++ decimal place

@@ -1,7 +1,7 @@
 -- The keys of the desk's file.
-use Rattle.std.specs.Prelude.{ℕ, List, codes}
+use Rattle.std.specs.Prelude.{ℕ, List, ◌++◌, codes}
 use Rattle.desk_config.specs.declared.key.Key.{Key}
-use Rattle.desk_config.specs.declared.key.Key.TheVariants.{Venue, Sender, Callers, Log, Page, Token, Name, Address, Target, Dialect, Heartbeat, NextExpected, MaxNumber, Fill}
+use Rattle.desk_config.specs.declared.key.Key.TheVariants.{Venue, Sender, Callers, Log, Page, Token, Name, Address, Target, Dialect, Words, Id, Mark, Price, Symbol, Order, Heartbeat, NextExpected, MaxNumber, Fill}
 
 -- a key as the file spells it
 abbrev pub key_name : Key → List ℕ
@@ -15,10 +15,24 @@ key_name Name = codes "name"
 key_name Address = codes "address"
 key_name Target = codes "target"
 key_name Dialect = codes "dialect"
+key_name Words = codes "words"
+key_name Id = codes "id"
+key_name Mark = codes "mark"
+key_name Price = codes "price"
+key_name Symbol = codes "symbol"
+key_name Order = codes "order"
 key_name Heartbeat = codes "heartbeat"
 key_name NextExpected = codes "next_expected"
 key_name MaxNumber = codes "max_number"
 key_name Fill = codes "fill"
+
+-- a key as a fault names it: one of `words` behind its table
+abbrev pub key_shown : Key → List ℕ
+key_shown Id = codes "words." ++ key_name Id
+key_shown Mark = codes "words." ++ key_name Mark
+key_shown Price = codes "words." ++ key_name Price
+key_shown Symbol = codes "words." ++ key_name Symbol
+key_shown key = key_name key
 
 -- what a key's value has to be, as a fault says it
 abbrev pub key_wants : Key → List ℕ
@@ -32,6 +46,12 @@ key_wants Name = codes "1 to 16 of A-Z a-z 0-9 _ -"
 key_wants Address = codes "HOST:PORT or simulated"
 key_wants Target = codes "1 to 16 printable characters without spaces"
 key_wants Dialect = codes "plain, split or coded"
+key_wants Words = codes "a table of id, mark, price and symbol"
+key_wants Id = codes "sweep 12's leg 3, as S12L3 or 000000000012-03"
+key_wants Mark = codes "a text TAG=VALUE"
+key_wants Price = codes "short or 1 to 4 decimals"
+key_wants Symbol = codes "dot, slash, another mark from ! to /, or 55+65"
+key_wants Order = codes "an array of texts TAG=VALUE"
 key_wants Heartbeat = codes "1 to 3600"
 key_wants NextExpected = codes "true or false"
 key_wants MaxNumber = codes "16 to 999999999"

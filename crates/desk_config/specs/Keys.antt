@@ -3,7 +3,7 @@ use Rattle.std.specs.Prelude.{ℕ, Bool, ◌||◌, List, codes, Option, Some, No
 use Rattle.std.specs.Str.{bytes_eq}
 use Rattle.toml.specs.Data.{Members, no_members, member}
 use Rattle.desk_config.specs.declared.keys.Keys.{Keys}
-use Rattle.desk_config.specs.declared.keys.Keys.TheVariants.{File, Desk, Venue}
+use Rattle.desk_config.specs.declared.keys.Keys.TheVariants.{File, Desk, Venue, Words}
 
 -- whether a table of this kind may have the key
 abbrev pub has_key : Keys → List ℕ → Bool
@@ -13,8 +13,12 @@ has_key Desk key =
     || bytes_eq key (codes "page") || bytes_eq key (codes "token")
 has_key Venue key =
     bytes_eq key (codes "name") || bytes_eq key (codes "address") || bytes_eq key (codes "target")
-    || bytes_eq key (codes "sender") || bytes_eq key (codes "dialect") || bytes_eq key (codes "heartbeat")
-    || bytes_eq key (codes "next_expected") || bytes_eq key (codes "max_number") || bytes_eq key (codes "fill")
+    || bytes_eq key (codes "sender") || bytes_eq key (codes "dialect") || bytes_eq key (codes "words")
+    || bytes_eq key (codes "order") || bytes_eq key (codes "heartbeat") || bytes_eq key (codes "next_expected")
+    || bytes_eq key (codes "max_number") || bytes_eq key (codes "fill")
+has_key Words key =
+    bytes_eq key (codes "id") || bytes_eq key (codes "mark") || bytes_eq key (codes "price")
+    || bytes_eq key (codes "symbol")
 
 -- the first key, in the order of their bytes, that a table of this kind may not have
 unfoldable pub first_unknown : Keys → Members → Option (List ℕ)

@@ -1,9 +1,6 @@
 -- What a `[[venue]]` says.
 use Rattle.std.specs.Prelude.{ℕ, false, List, Option, Some, None, unwrap_or, option_and_then, Result, Ok, Err}
 use Rattle.toml.specs.Data.{Data, as_bool, as_str}
-use Rattle.dialect.specs.DialectName.{dialect_named}
-use Rattle.dialect.specs.declared.any_dialect.AnyDialect.{AnyDialect}
-use Rattle.dialect.specs.declared.any_dialect.AnyDialect.TheVariants.{Plain}
 use Rattle.desk_words.specs.VenueName.{venue_name_of}
 use Rattle.desk_config.specs.declared.endpoint.Endpoint.{Endpoint}
 use Rattle.desk_config.specs.declared.endpoint.Endpoint.TheVariants as endpoint
@@ -19,16 +16,14 @@ use Rattle.desk_config.specs.Desk.{comp_id_in}
 use Rattle.desk_config.specs.Endpoint.{where_of}
 use Rattle.desk_config.specs.Number.{number_within}
 use Rattle.desk_config.specs.Reading.{and_then, checked, needed, value_at}
+use Rattle.desk_config.specs.Words.{words_in}
 
--- a venue's name, its address and its dialect, as the file spells them
+-- a venue's name and its address, as the file spells them
 abbrev pub name_in : Data → Option (List ℕ)
 name_in given = option_and_then venue_name_of (as_str given)
 
 abbrev pub where_in : Data → Option Where
 where_in given = option_and_then where_of (as_str given)
-
-abbrev pub dialect_in : Data → Option AnyDialect
-dialect_in given = option_and_then dialect_named (as_str given)
 
 -- only a simulated exchange is told what it fills
 abbrev pub endpoint_of : Where → Option ℕ → Result Endpoint Fault
@@ -52,19 +47,17 @@ own_or_desk None None = Err (Missing key.Sender)
 unfoldable pub sender_in : Option (List ℕ) → Data → Result (List ℕ) Fault
 sender_in desk given = and_then (value_at comp_id_in key.Sender given) (λ own. own_or_desk desk own)
 
--- the dialect and the session of a venue
+-- the session of a venue
 unfoldable pub session_in : Data → Result SessionTerms Fault
 session_in given =
-    and_then (value_at dialect_in key.Dialect given) (λ dialect.
     and_then (value_at (number_within 1 3600) key.Heartbeat given) (λ heartbeat.
     and_then (value_at as_bool key.NextExpected given) (λ next.
     and_then (value_at (number_within 16 999_999_999) key.MaxNumber given) (λ max.
     Ok (record {
-      dialect = unwrap_or dialect Plain;
       heartbeat = unwrap_or heartbeat 30;
       next_expected = unwrap_or next false;
       max_number = unwrap_or max 999_999_999;
-    })))))
+    }))))
 
 -- what a table says, where the desk has this comp id, or its first fault
 unfoldable pub venue_in : Option (List ℕ) → Data → Result Venue Fault
@@ -74,5 +67,13 @@ venue_in desk given =
     and_then (endpoint_in given) (λ exchange.
     and_then (needed comp_id_in key.Target given) (λ target.
     and_then (sender_in desk given) (λ sender.
+    and_then (words_in given) (λ words.
     and_then (session_in given) (λ session.
-    Ok (record { name = name; endpoint = exchange; target = target; sender = sender; session = session })))))))
+    Ok (record {
+      name = name;
+      endpoint = exchange;
+      target = target;
+      sender = sender;
+      session = session;
+      words = words;
+    }))))))))

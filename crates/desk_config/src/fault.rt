@@ -10,6 +10,7 @@ use crate::place::Place;
 use std::alloc::AllocFailed;
 use std::error::Error;
 use std::fmt;
+use venue_words::FieldFault;
 
 /// What is wrong in a table.
 #[derive(Debug, PartialEq, Eq, Drop)]
@@ -18,10 +19,26 @@ pub enum Fault {
     NoTable(Found),
     /// A key that the table may not have.
     Unknown(FoundText),
+    /// A key that a venue's `words` may not have.
+    UnknownWord(FoundText),
     /// A key that it has to have isn't there.
     Missing(Key),
     /// The key's value is of another type, or out of its range.
-    Bad { key: Key, found: Found },
+    Bad {
+        key: Key,
+        found: Found,
+    },
+    /// The mark of a venue's words isn't taken.
+    Mark {
+        found: Found,
+        fault: FieldFault,
+    },
+    /// A field that every order is to carry isn't taken: which one, counted from 1.
+    Order {
+        number: usize,
+        found: Found,
+        fault: FieldFault,
+    },
     /// The page's host isn't 127.0.0.1, and there is no token.
     NeedsToken,
     /// A venue that has an address says how a simulated one fills.
@@ -39,11 +56,18 @@ impl fmt::Display for Fault {
         match self {
             Fault::NoTable(found) => write!(f, "it is {found}, and has to be a table"),
             Fault::Unknown(key) => write!(f, "unknown key {key}"),
+            Fault::UnknownWord(key) => write!(f, "unknown key words.{key}"),
             Fault::Missing(key) => write!(f, "{key} is missing"),
             Fault::Bad { key, found } => {
                 let wants = key.wants();
                 write!(f, "{key} is {found}, and has to be {wants}")
             }
+            Fault::Mark { found, fault } => write!(f, "words.mark is {found}: {fault}"),
+            Fault::Order {
+                number,
+                found,
+                fault,
+            } => write!(f, "order {number} is {found}: {fault}"),
             Fault::NeedsToken => write!(f, "page is not at 127.0.0.1, and there is no token"),
             Fault::OnlySimulated => write!(f, "fill is there, and the venue isn't simulated"),
             Fault::SameName(place) => write!(f, "name is that of venue {place}"),

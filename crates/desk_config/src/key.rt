@@ -1,11 +1,11 @@
 //! The keys of the file.
 
 ghost use Rattle.std.specs.Prelude.{◌≡◌, Some};
-ghost use Rattle.desk_config.specs.Key.{key_name, key_wants};
+ghost use Rattle.desk_config.specs.Key.{key_name, key_shown, key_wants};
 
 use std::fmt;
 
-/// A key of the file, of its `[desk]` or of a `[[venue]]`.
+/// A key of the file, of its `[desk]`, of a `[[venue]]` or of that one's `words`.
 #[derive(Clone, Copy, Debug, PartialEq, Eq)]
 pub enum Key {
     Venue,
@@ -18,6 +18,12 @@ pub enum Key {
     Address,
     Target,
     Dialect,
+    Words,
+    Id,
+    Mark,
+    Price,
+    Symbol,
+    Order,
     Heartbeat,
     NextExpected,
     MaxNumber,
@@ -40,6 +46,12 @@ impl Key {
             Key::Address => "address",
             Key::Target => "target",
             Key::Dialect => "dialect",
+            Key::Words => "words",
+            Key::Id => "id",
+            Key::Mark => "mark",
+            Key::Price => "price",
+            Key::Symbol => "symbol",
+            Key::Order => "order",
             Key::Heartbeat => "heartbeat",
             Key::NextExpected => "next_expected",
             Key::MaxNumber => "max_number",
@@ -61,6 +73,12 @@ impl Key {
             Key::Name => "1 to 16 of A-Z a-z 0-9 _ -",
             Key::Address => "HOST:PORT or simulated",
             Key::Dialect => "plain, split or coded",
+            Key::Words => "a table of id, mark, price and symbol",
+            Key::Id => "sweep 12's leg 3, as S12L3 or 000000000012-03",
+            Key::Mark => "a text TAG=VALUE",
+            Key::Price => "short or 1 to 4 decimals",
+            Key::Symbol => "dot, slash, another mark from ! to /, or 55+65",
+            Key::Order => "an array of texts TAG=VALUE",
             Key::Heartbeat => "1 to 3600",
             Key::NextExpected => "true or false",
             Key::MaxNumber => "16 to 999999999",
@@ -69,11 +87,15 @@ impl Key {
     }
 }
 
+/// A key of `words` has its table's name before it, as `words.id`.
 impl fmt::Display for Key {
-    ghost output = { λ key. Some (key_name key) };
+    ghost output = { λ key. Some (key_shown key) };
 
     fn fmt<W: fmt::Write>(&self, f: &mut fmt::Formatter<W>) -> fmt::Result {
         let name = self.name();
-        write!(f, "{name}")
+        match self {
+            Key::Id | Key::Mark | Key::Price | Key::Symbol => write!(f, "words.{name}"),
+            _ => write!(f, "{name}"),
+        }
     }
 }

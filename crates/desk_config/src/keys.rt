@@ -12,6 +12,7 @@ pub(crate) enum Keys {
     File,
     Desk,
     Venue,
+    Words,
 }
 
 impl Keys {
@@ -22,6 +23,7 @@ impl Keys {
             Keys::File => is_file_key(key),
             Keys::Desk => is_desk_key(key),
             Keys::Venue => is_venue_key(key),
+            Keys::Words => is_word_key(key),
         }
     }
 
@@ -61,9 +63,17 @@ fn is_venue_key(key: &str) -> bool
             | "target"
             | "sender"
             | "dialect"
+            | "words"
+            | "order"
             | "heartbeat"
             | "next_expected"
             | "max_number"
             | "fill"
     )
+}
+
+fn is_word_key(key: &str) -> bool
+    ensures { result ≡ has_key Keys.Words key.now }
+{
+    matches!(key, "id" | "mark" | "price" | "symbol")
 }

@@ -27,6 +27,7 @@ mod venue;
 mod venue_keys;
 mod venues;
 mod within;
+mod word_keys;
 
 pub use address::{Address, MAX_HOST, Port};
 pub use config::{Callers, DeskConfig, FolderText, MAX_FOLDER, MAX_TOKEN, TokenText};

@@ -43,7 +43,8 @@ fn read_table(alloc: Global, file: &Value) -> Result<DeskConfig, ConfigFault>
 
 /// The configuration that a file's text spells, or its first fault: first the TOML, then the keys of the file, those
 /// of `[desk]`, and those of each `[[venue]]` in turn, by `sender`, `callers`, `log`, `page`, `token`, and by `name`,
-/// `address`, `fill`, `target`, `sender`, `dialect`, `heartbeat`, `next_expected`, `max_number`. In each table a key
+/// `address`, `fill`, `target`, `sender`, `dialect`, `words` with `id`, `mark`, `price` and `symbol`, the fields of
+/// `order`, `heartbeat`, `next_expected`, `max_number`. In each table a key
 /// that it may not have comes first, and behind a venue's own keys that it has the name or the session of an earlier
 /// one.
 #[tactic(auto, using(crate::proofs::TextRead::answers_text))]

@@ -1,7 +1,6 @@
 //! How a venue's session is held.
 
 use crate::within::Within;
-use dialect::AnyDialect;
 
 /// The heartbeat interval, in seconds: at most an hour.
 pub type Heartbeat = Within<1, 3_600>;
@@ -9,10 +8,9 @@ pub type Heartbeat = Within<1, 3_600>;
 /// The number that no message of a session reaches.
 pub type NumberLimit = Within<16, 999_999_999>;
 
-/// The dialect of a venue's orders, and what its session is configured with.
+/// What a venue's session is configured with.
 #[derive(Clone, Copy, Debug, PartialEq, Eq)]
 pub struct SessionTerms {
-    pub dialect: AnyDialect,
     pub heartbeat: Heartbeat,
     /// Whether each Logon says which number it expects next (789).
     pub next_expected: bool,

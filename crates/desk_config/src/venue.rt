@@ -4,6 +4,7 @@ use crate::endpoint::Endpoint;
 use crate::session_terms::SessionTerms;
 use desk_words::VenueName;
 use fix_tags::CompId;
+use venue_words::VenueWords;
 
 /// A venue, and the session with its exchange.
 #[derive(Debug, Drop)]
@@ -15,4 +16,6 @@ pub struct Venue {
     /// The desk's comp id at this venue.
     pub sender: CompId,
     pub session: SessionTerms,
+    /// How it spells orders and reports.
+    pub words: VenueWords,
 }

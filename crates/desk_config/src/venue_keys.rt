@@ -11,7 +11,7 @@ use crate::keys::Keys;
 use crate::session_terms::{Heartbeat, NumberLimit, SessionTerms};
 use crate::value_at::{checked, needed, value_at};
 use crate::venue::Venue;
-use dialect::AnyDialect;
+use crate::word_keys::words_in;
 use fix_tags::{CompId, MAX_MESSAGE_NUMBER};
 use leg::MAX_SHARES;
 use toml::Value;
@@ -62,12 +62,10 @@ fn sender_in(desk: &Option<CompId>, table: &Value) -> Result<CompId, Fault>
 fn session_in(table: &Value) -> Result<SessionTerms, Fault>
     ensures { result ≡ session_in (view table.now) }
 {
-    let dialect = value_at(table, Key::Dialect)?.unwrap_or(AnyDialect::Plain);
     let heartbeat = value_at(table, Key::Heartbeat)?.unwrap_or(Heartbeat::of(HEARTBEAT));
     let next_expected = value_at(table, Key::NextExpected)?.unwrap_or(false);
     let max_number = value_at(table, Key::MaxNumber)?.unwrap_or(NumberLimit::of(NUMBER_LIMIT));
     Ok(SessionTerms {
-        dialect,
         heartbeat,
         next_expected,
         max_number,
@@ -84,6 +82,7 @@ pub(crate) fn venue_in(desk: &Option<CompId>, table: &Value) -> Result<Venue, Fa
     let endpoint = endpoint_in(table)?;
     let target = needed(table, Key::Target)?;
     let sender = sender_in(desk, table)?;
+    let words = words_in(table)?;
     let session = session_in(table)?;
     Ok(Venue {
         name,
@@ -91,5 +90,6 @@ pub(crate) fn venue_in(desk: &Option<CompId>, table: &Value) -> Result<Venue, Fa
         target,
         sender,
         session,
+        words,
     })
 }

@@ -2,9 +2,9 @@
 use Rattle.std.proofs.Common.{◌≡◌, ◌⊎◌, inl, inr, ℕ, zero, suc, ◌<◌, List, [], ◌∷◌, ◌++◌, length, map, Some, refl, sym, ap, subst, ◌∙◌, arith}
 use Rattle.std.specs.Prelude.{slice_get}
 use Rattle.std.proofs.lemmas.Option.{slice_get_within}
-use Rattle.dialect.specs.declared.any_dialect.AnyDialect.{AnyDialect}
-use Rattle.dialect.specs.Any.{any_spelling}
-use Rattle.dialect.specs.Lemmas.AnyLaws.{any_is_spelling}
+use Rattle.venue_words.specs.declared.venue_dialect.VenueDialect.{VenueDialect}
+use Rattle.venue_words.specs.Dialect.{dialect_of, venue_spelling}
+use Rattle.venue_words.specs.Lemmas.VenueLaws.{venue_is_spelling}
 use Rattle.dialect.specs.Lemmas.SpelledLaws.{is_spelled}
 use Rattle.dialect.specs.Wording.{Wording, IsWording}
 use Rattle.desk_config.specs.declared.venue.Venue.{Venue}
@@ -79,8 +79,8 @@ at_map f [] at x here = absurd cc
 at_map f (first ∷ xs) zero x here = (let same : first ≡ x = cc in ap (λ y. Some (f y)) same)
 at_map f (first ∷ xs) (suc at) x here = at_map f xs at x here
 
-words : (dialect : AnyDialect) → IsWording (any_wording dialect)
-words dialect = is_spelled (any_spelling dialect) (any_is_spelling dialect)
+words : (dialect : VenueDialect) → IsWording (any_wording dialect)
+words dialect = is_spelled (venue_spelling dialect) (venue_is_spelling dialect)
 
 pub the_desk_theorem : TheDeskTheorem
 the_desk_theorem venues sweeps report day place venue here good =
@@ -91,7 +91,7 @@ the_desk_theorem venues sweeps report day place venue here good =
       left = ran.0;
       is = ran.1;
       runs = ran.2;
-      safe = λ events works range. the_day_by_bytes (any_wording venue.session.dialect) (words venue.session.dialect)
+      safe = λ events works range. the_day_by_bytes (any_wording (dialect_of venue.words)) (words (dialect_of venue.words))
           day.audited.callers (queues_of day.ends) (seats_of day.ends) report day.audited.day place (desk_end venue)
           events ran.0.parts (at_map (λ (e : WorkerLeft). e.parts.took) day.ends place ran.0 ran.1)
           (at_map (λ (e : WorkerLeft). e.parts.seat) day.ends place ran.0 ran.1) good

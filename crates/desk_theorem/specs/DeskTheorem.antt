@@ -18,6 +18,7 @@ use Rattle.worker_line.specs.DayByBytes.{IsSafeByBytes}
 use Rattle.worker_line.specs.Happening.{VenueEvent, works_of}
 use Rattle.worker_line.specs.WorkerTheorem.{works_in}
 use Rattle.desk_venues.specs.Starts.{any_wording}
+use Rattle.venue_words.specs.Dialect.{dialect_of}
 use Rattle.desk_venues.specs.Venues.{desk_end}
 use Rattle.desk_run.specs.Audited.{IsDeskDay}
 
@@ -40,6 +41,6 @@ abbrev pub TheDeskTheorem : Type 0
 TheDeskTheorem = (venues : List Venue) (sweeps : List SweepParts) (report : DayReport)
     (day : IsDeskDay venues sweeps report) (place : ℕ) (venue : Venue) → slice_get venues place ≡ Some venue
     → IsConfig (desk_end venue)
-    → IsSafeAt (any_wording venue.session.dialect) (desk_end venue)
+    → IsSafeAt (any_wording (dialect_of venue.words)) (desk_end venue)
     (released place day.audited.day.desk.desk.sweeps) (counted_of day.audited.day) day.ends place
     (start_at place venue)

@@ -12,7 +12,6 @@ use desk_floor::Floor;
 use desk_serve::PageServer;
 use desk_talk::keep;
 use desk_venues::{DayFault, Serve, run_workers};
-use dialect::AnyDialect;
 use exec_collector::Accounts;
 use link::Link;
 use release_lock::Run;
@@ -25,12 +24,13 @@ use std::net::TcpStream;
 use std::sync::Wait;
 use std::thread::{JoinHandle, Threads, join};
 use std::{thread, time};
+use venue_words::VenueDialect;
 
 /// Who takes part in a day.
 #[derive(Drop)]
 pub struct Cast<X, K: Link, C: Clock + Drop, L: Run, M: Accounts> {
     pub exchanges: Vec<X>,
-    pub workers: Vec<Worker<AnyDialect, K, C, L, M>>,
+    pub workers: Vec<Worker<VenueDialect, K, C, L, M>>,
     /// What serves the page; none where it isn't served.
     pub servers: Vec<PageServer>,
     /// What writes the logs; none where none is kept.
@@ -177,7 +177,7 @@ fn run_dispatcher<K, C, L, M, W, R>(
     rt: &R,
     alloc: Global,
     floor: &Floor<L, M, W>,
-    workers: Vec<Worker<AnyDialect, K, C, L, M>>,
+    workers: Vec<Worker<VenueDialect, K, C, L, M>>,
     turn_limit: u64,
 ) -> Result<Vec<WorkerEnd<K, L, M>>, DayFault>
 where

@@ -1,7 +1,5 @@
 -- A day's workers before their first turns: each has its venue's dialect and terms, and nothing went over its link.
 use Rattle.std.specs.Prelude.{List, [], ◌∷◌, Some, length}
-use Rattle.dialect.specs.declared.any_dialect.AnyDialect.{AnyDialect}
-use Rattle.dialect.specs.Any.{any_spelling}
 use Rattle.dialect.specs.Spelled.{spelled}
 use Rattle.dialect.specs.Wording.{Wording}
 use Rattle.desk_config.specs.declared.venue.Venue.{Venue}
@@ -10,25 +8,27 @@ use Rattle.release_lock.specs.Queues.{DrainParts, new_drains}
 use Rattle.session_core.specs.Session.{new_session}
 use Rattle.session_worker.specs.Ends.{WorkerStart}
 use Rattle.session_worker.specs.Events.{new_worker}
+use Rattle.venue_words.specs.declared.venue_dialect.VenueDialect.{VenueDialect}
+use Rattle.venue_words.specs.Dialect.{dialect_of, venue_spelling}
 use Rattle.desk_venues.specs.Venues.{desk_end}
 
 -- how a message of each dialect is written and read
-abbrev pub any_wording : AnyDialect → Wording
-any_wording dialect = spelled (any_spelling dialect)
+abbrev pub any_wording : VenueDialect → Wording
+any_wording dialect = spelled (venue_spelling dialect)
 
 -- of this venue, with the drain of its ring
-abbrev pub start_of : Venue → DrainParts → WorkerStart AnyDialect
+abbrev pub start_of : Venue → DrainParts → WorkerStart VenueDialect
 start_of venue drain = record {
-  dialect = venue.session.dialect;
+  dialect = dialect_of venue.words;
   parts = new_worker (new_session (desk_end venue)) drain.venue (worker_seat drain.venue) (Some []);
 }
 
 -- of these venues, each with the drain at its place
-abbrev pub starts_on : List Venue → List DrainParts → List (WorkerStart AnyDialect)
+abbrev pub starts_on : List Venue → List DrainParts → List (WorkerStart VenueDialect)
 starts_on [] drains = []
 starts_on (venue ∷ venues) [] = []
 starts_on (venue ∷ venues) (drain ∷ drains) = start_of venue drain ∷ starts_on venues drains
 
 -- of a configuration's venues, in order
-abbrev pub starts_of : List Venue → List (WorkerStart AnyDialect)
+abbrev pub starts_of : List Venue → List (WorkerStart VenueDialect)
 starts_of venues = starts_on venues (new_drains (length venues))

@@ -8,7 +8,6 @@ use crate::day_fault::DayFault;
 use crate::session::exchange_end;
 use clock::UtcClock;
 use desk_config::Venue;
-use dialect::AnyDialect;
 use exchange_sim::{Acceptor, Plan, Port, serve};
 use link::Bell;
 use std::alloc::{AllocError, Global};
@@ -17,6 +16,7 @@ use std::net::{Net, SocketAddr};
 use std::sync::Arc;
 use std::sync::atomic::AtomicBool;
 use std::time::{Clock, Duration};
+use venue_words::VenueDialect;
 
 /// How many seconds a turn of an exchange waits at most. The end of the day ends the wait.
 const TURN_SECONDS: u64 = 60;
@@ -32,7 +32,7 @@ pub trait Serve {
 pub struct Exchange<'a, R: Clock> {
     pub addr: SocketAddr,
     port: Port,
-    acceptor: Acceptor<AnyDialect, UtcClock<'a, R>>,
+    acceptor: Acceptor<VenueDialect, UtcClock<'a, R>>,
 }
 
 impl<'a, R: Net + Clock> Exchange<'a, R> {
@@ -65,7 +65,7 @@ impl<'a, R: Net + Clock> Exchange<'a, R> {
         let clock = UtcClock::new(rt);
         let acceptor = Acceptor::new(
             alloc,
-            venue.session.dialect,
+            venue.words.dialect(),
             clock,
             exchange_end(venue),
             plan,

@@ -12,6 +12,7 @@ ghost use Rattle.session_worker.specs.Places.{place, new_places};
 ghost use Rattle.desk_venues.specs.Addresses.{IsAt, AreAt};
 ghost use Rattle.desk_venues.specs.Starts.{any_wording, starts_of};
 ghost use Rattle.desk_venues.specs.Venues.{desk_end};
+ghost use Rattle.venue_words.specs.Dialect.{dialect_of};
 
 use crate::day_fault::DayFault;
 use crate::session::desk_end;
@@ -19,7 +20,6 @@ use clock::{Clock, UtcClock};
 use day_log::{LoggedLink, Recorder};
 use desk_config::Venue;
 use desk_floor::{Bells, Floor, VenueView};
-use dialect::AnyDialect;
 use exec_collector::{Accounts, WorkerSeat};
 use link::{Link, Poller, Rest, TcpLink};
 use release_lock::{Run, VenueDrain};
@@ -31,12 +31,13 @@ use std::net::{Net, SocketAddr};
 use std::sync::Wait;
 use std::thread::Threads;
 use std::time;
+use venue_words::VenueDialect;
 
 /// The link of a venue's worker, whose messages are logged.
 pub type DeskLink<'a, R> = LoggedLink<'a, R, TcpLink<'a, R>, UtcClock<'a, R>>;
 
 /// The worker of a venue.
-pub type DeskWorker<'a, R, L, M> = Worker<AnyDialect, DeskLink<'a, R>, UtcClock<'a, R>, L, M>;
+pub type DeskWorker<'a, R, L, M> = Worker<VenueDialect, DeskLink<'a, R>, UtcClock<'a, R>, L, M>;
 
 /// Links to these addresses, in order, each seen in the view at its place. The bell of each is added to these.
 pub fn new_links<'a, R: Net + Wait + time::Clock>(
@@ -116,13 +117,13 @@ fn new_worker<'a, L: Run, M: Accounts, R: Net + Wait + time::Clock>(
     requires link { link.link.told.traffic ≡ [] }
     requires at { IsAt venue.now.endpoint link.link.addr }
     ensures { IfOk result (λ worker. worker ≡ record {
-      dialect = venue.now.session.dialect;
+      dialect = dialect_of venue.now.words;
       parts = new_worker (new_session (desk_end venue.now)) drain.venue seat (Some []);
     }) }
 {
     let board = view.board()?;
     let clock = UtcClock::new(rt);
-    let dialect = venue.session.dialect;
+    let dialect = venue.words.dialect();
     let end = desk_end(venue);
     let worker = Worker::new(alloc, dialect, link, clock, end, seat, drain, Pace::Time);
     Ok(worker.telling_on(board))
@@ -173,7 +174,7 @@ pub fn run_workers<K, C, L, M, R, W>(
     rt: &R,
     alloc: Global,
     floor: &Floor<L, M, W>,
-    workers: Vec<Worker<AnyDialect, K, C, L, M>>,
+    workers: Vec<Worker<VenueDialect, K, C, L, M>>,
     turn_limit: u64,
 ) -> Result<Vec<WorkerEnd<K, L, M>>, DayFault>
 where

@@ -5,6 +5,7 @@ use desk_config::{ConfigFault, DeskConfig, Endpoint, Venue};
 use dialect::AnyDialect;
 use std::alloc::{AllocError, Global};
 use std::str;
+use venue_words::{VenueWords, table_text};
 
 /// What the desk does, but for its venues.
 fn desk_text(alloc: Global, config: &DeskConfig) -> Result<String, AllocError> {
@@ -38,6 +39,22 @@ fn dialect_name(dialect: AnyDialect) -> &'static str {
     }
 }
 
+/// How a venue spells its orders: the name of its dialect, or the lines of its table, each in brackets.
+fn words_text(alloc: Global, words: &VenueWords) -> Result<String, AllocError> {
+    match words {
+        VenueWords::Preset(dialect) => String::from_str(alloc, dialect_name(*dialect)),
+        VenueWords::Table(table) => {
+            let lines = table_text(alloc, table)?;
+            let mut text = String::new(alloc);
+            let shown = str::from_utf8(&lines).unwrap_or("?");
+            for line in shown.lines() {
+                write!(text, "[{line}]")?;
+            }
+            Ok(text)
+        }
+    }
+}
+
 /// The two ends of a session.
 fn ends_text(alloc: Global, venue: &Venue) -> Result<String, AllocError> {
     let sender = str::from_utf8(venue.sender.as_bytes()).unwrap_or("?");
@@ -47,7 +64,7 @@ fn ends_text(alloc: Global, venue: &Venue) -> Result<String, AllocError> {
 
 /// How a venue's session is held.
 fn session_text(alloc: Global, venue: &Venue) -> Result<String, AllocError> {
-    let dialect = dialect_name(venue.session.dialect);
+    let dialect = words_text(alloc, &venue.words)?;
     let heartbeat = venue.session.heartbeat;
     let next = if venue.session.next_expected {
         " next_expected"

@@ -3,8 +3,8 @@
 //! Promises:
 //! - The exit status is 0, or that of the fault (`run_run`). A fault of the words or of the file prints nothing. At 0 a
 //!   file's bytes spell a configuration, and either it is told that they do, or a day of this configuration was audited
-//!   (`IsDeskDay`), with no leg in doubt, and with nothing on the list of what its book didn't take. The day's text
-//!   is printed last (`EndsWell`). Which bytes a file gives, and what the output holds when the day is over, no
+//!   (`IsDeskDay`), which lists no leg in doubt and no report as unbooked. The day's text is printed last (`EndsWell`).
+//!   That these lists are complete, which bytes a file gives, and what the output holds when the day is over, no
 //!   contract says.
 //! - What is printed behind a day is exactly the stated text of what became of it (`day_text`, or `json_text` with
 //!   `--json`).
