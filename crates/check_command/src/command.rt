@@ -40,13 +40,14 @@ Blank lines and lines that begin with # are passed over. Printed are, for each l
   log PATH
   line N RULE: what the rule asks for (where the standard has it), and the line below it
   rule RULE held N broken N           or `not seen`, for each rule
+  rule RULE held N broken N again N   where N breaks more follow from one that was named, and aren't told
 and with --legs, for each order and then for each sweep:
   leg S1L1 taken number 3 sent 1 IBM buy 100 10.25 filled 60 busted 0 cancelled 40 withdrawn 0 open 0
   sweep 1 legs 100 filled 60 busted 0 cancelled 40 withdrawn 0 open 0
 and with --exact, behind the rules, the first line that isn't what the session writes, and a line for this rule:
   line N exact: the session writes 8=FIX.4.4|9=..|
 The dialect is that of the log's orders; auto stands for the one that the log's first line names, as dispatch run
-writes it. What follows from a break that was named is counted alone, as broken again.
+writes it.
 With sweeps.log among the logs, behind all of them what the day came to, for each sweep that was placed, and then
 whether each sentence of the sweep theorem holds, or where it doesn't; each log whose first line says that dispatch
 run wrote it is held against what its session writes, as with --exact auto:

@@ -5,8 +5,9 @@ ghost use Rattle.check_command.specs.Fault.{IsNamed, IsOfCommandLine, IsOfLog, f
 
 use clap::error::ErrorKind;
 use command_line::Fault;
-use day_check::LogFault;
+use day_check::{LogFault, ToldFault, fault_json};
 use std::alloc::{AllocError, Global};
+use std::io::Write;
 use thiserror::Error;
 
 /// Why `dispatch check` failed.
@@ -29,6 +30,9 @@ pub enum CommandFault {
     #[error("out of memory")]
     OutOfMemory,
 }
+
+/// What is told in JSON where there is no memory for the object of a fault.
+const NO_MEMORY: &[u8] = b"{\"fault\":\"out of memory\"}\n";
 
 /// The exit status that tells the fault of a log.
 fn log_status(fault: &LogFault) -> u8
@@ -77,6 +81,43 @@ impl CommandFault {
             LogFault::OutOfMemory => CommandFault::OutOfMemory,
         }
     }
+}
+
+/// A fault as an object of JSON, in a line.
+fn json_of(alloc: Global, fault: &CommandFault) -> Result<Vec<u8>, AllocError> {
+    let (log, line, text) = match fault {
+        CommandFault::OfLog {
+            path,
+            fault: LogFault::BadLine { number, fault },
+        } => (
+            Some(path.as_str()),
+            Some(*number),
+            format!(in alloc; "{fault}")?,
+        ),
+        CommandFault::OfLog { path, fault } => {
+            (Some(path.as_str()), None, format!(in alloc; "{fault}")?)
+        }
+        fault => (None, None, format!(in alloc; "{fault}")?),
+    };
+    let told = ToldFault {
+        log,
+        line,
+        text: text.as_str(),
+        advice: fault.reason(),
+    };
+    fault_json(alloc, &told)
+}
+
+/// Writes a fault to `err` as an object of JSON, in a line, and gives its exit status, which also tells it where `err`
+/// can't be written.
+pub(crate) fn tell_json<E: Write>(alloc: Global, fault: &CommandFault, err: &mut E) -> u8
+    ensures { result ≡ fault_status fault.now }
+{
+    let _ = match json_of(alloc, fault) {
+        Ok(line) => err.write_all(&line),
+        Err(_) => err.write_all(NO_MEMORY),
+    };
+    fault.status()
 }
 
 impl Fault for CommandFault {

@@ -30,6 +30,7 @@ mod path_name;
 mod sentences;
 
 use crate::command::{Request, read_words};
+use crate::fault::tell_json;
 use crate::logs::check_logs;
 use crate::path_name::{sweeps_of, venue_names};
 use crate::sentences::check_day;
@@ -46,8 +47,8 @@ const BROKEN: u8 = 8;
 
 /// Runs `dispatch check` on its words, of which the first is the command's own name: each log that they name is read,
 /// the rules that its messages break are written to `out`, and then how often each rule was held and broken; with the
-/// log of a desk's lines among them, also what the day came to. Faults go to `err`. The answer is the exit status: 0
-/// where no rule and no sentence is broken, 8 where one is, or that of the fault.
+/// log of a desk's lines among them, also what the day came to. Faults go to `err`, with `--json` as objects. The
+/// answer is the exit status: 0 where no rule and no sentence is broken, 8 where one is, or that of the fault.
 pub fn check_run<F: Files, S: AsStr, W: Write, E: Write>(
     files: &F,
     alloc: Global,
@@ -57,17 +58,33 @@ pub fn check_run<F: Files, S: AsStr, W: Write, E: Write>(
 ) -> u8
     ensures { ExitsSo (W.contents out.old) (W.contents out.new) result }
 {
-    finish(check(files, alloc, words, out), err)
+    finish(alloc, check(files, alloc, words, out), err)
+}
+
+/// How a run ended.
+#[derive(Drop)]
+struct Ended {
+    /// Whether something is broken.
+    done: Result<bool, CommandFault>,
+    /// Whether JSON is asked for in place of text.
+    is_json: bool,
 }
 
 /// The exit status of a run that ended so. Its fault is written to `err`.
-fn finish<E: Write>(done: Result<bool, CommandFault>, err: &mut E) -> u8
-    ensures { result ≡ check_status done }
+fn finish<E: Write>(alloc: Global, ended: Ended, err: &mut E) -> u8
+    ensures { result ≡ check_status ended.done }
 {
+    let Ended { done, is_json } = ended;
     match done {
         Ok(false) => 0,
         Ok(true) => BROKEN,
-        Err(fault) => tell(&fault, err),
+        Err(fault) => {
+            if is_json {
+                tell_json(alloc, &fault, err)
+            } else {
+                tell(&fault, err)
+            }
+        }
     }
 }
 
@@ -120,14 +137,17 @@ fn check_asked<F: Files, W: Write>(
 }
 
 /// Reads the words, and does what they ask for.
-fn check<F: Files, S: AsStr, W: Write>(
-    files: &F,
-    alloc: Global,
-    words: &[S],
-    out: &mut W,
-) -> Result<bool, CommandFault>
-    ensures { EndsCheck (W.contents out.old) (W.contents out.new) result }
+fn check<F: Files, S: AsStr, W: Write>(files: &F, alloc: Global, words: &[S], out: &mut W) -> Ended
+    ensures { EndsCheck (W.contents out.old) (W.contents out.new) result.done }
 {
-    let request = read_words(alloc, words)?;
-    check_asked(files, alloc, &request, out)
+    match read_words(alloc, words) {
+        Ok(request) => Ended {
+            done: check_asked(files, alloc, &request, out),
+            is_json: request.is_json,
+        },
+        Err(fault) => Ended {
+            done: Err(fault),
+            is_json: false,
+        },
+    }
 }

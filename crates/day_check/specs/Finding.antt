@@ -37,7 +37,7 @@ again_text (suc n) = codes " again " ++ decimal (suc n)
 -- how often a rule was held and broken
 abbrev pub tally_line : List ℕ → Tally → List ℕ
 tally_line name tally =
-    if tally.held == 0 && tally.broken == 0 then codes "rule " ++ name ++ codes " not seen\n"
+    if tally.held == 0 && tally.broken == 0 && tally.again == 0 then codes "rule " ++ name ++ codes " not seen\n"
     else codes "rule " ++ name ++ codes " held " ++ decimal tally.held ++ codes " broken "
     ++ decimal tally.broken ++ again_text tally.again ++ 10 ∷ []
 

@@ -10,7 +10,7 @@ use Rattle.fix_tags.specs.Reading.{envelope_read}
 use Rattle.fix_tags.specs.Stamp.{StampParts}
 use Rattle.fix_tags.specs.declared.envelope.Envelope.{Envelope}
 use Rattle.message_log.specs.declared.direction.Direction.{Direction}
-use Rattle.day_rules.specs.VenueDay.{VenueParts, venue_heard}
+use Rattle.day_rules.specs.VenueDay.{VenueParts, venue_heard, venue_unread}
 use Rattle.log_rules.specs.Checker.{unread_verdicts, verdicts}
 use Rattle.log_rules.specs.Entry.{entry_of}
 use Rattle.log_rules.specs.declared.entry.Entry.{Entry}
@@ -25,6 +25,11 @@ use Rattle.day_check.specs.declared.form.Form.{Form}
 use Rattle.day_check.specs.declared.form.Form.TheVariants.{Own, Quickfix}
 use Rattle.day_check.specs.declared.judge.Way.{Way}
 use Rattle.day_check.specs.declared.judge.Way.TheVariants.{Said, Names}
+
+-- what a line says: a message, or one that can't be read, of these bytes, with its direction where the line has that
+pub data Told : Type 0 where
+  Read : Entry → Told
+  Unread : Option Direction → List ℕ → Told
 
 -- the message of a frame's fields, if they say one
 abbrev pub message_of : Option (List Tagged) → Option Envelope
@@ -46,38 +51,44 @@ abbrev pub direction_told : Way → Envelope → Option Direction
 direction_told (Said direction) message = by_line direction message
 direction_told (Names desk) message = by_names desk.now message
 
-abbrev pub entry_by : StampParts → Envelope → Option Direction → Result (Option Entry) LineFault
+abbrev pub way_of : Way → Option Direction
+way_of (Said direction) = Some direction
+way_of (Names desk) = None
+
+abbrev pub entry_by : StampParts → Envelope → Option Direction → Result Told LineFault
 entry_by stamp message None = Err line.Parties
 entry_by stamp message (Some direction) =
-    Ok (Some (entry_of (record { stamp = stamp; direction = direction }) message))
+    Ok (Read (entry_of (record { stamp = stamp; direction = direction }) message))
 
--- what is judged of a message, of which is told which way it went: nothing where it can't be read
-abbrev pub entry_told : StampParts → (Envelope → Option Direction) → Option Envelope → Result (Option Entry) LineFault
-entry_told stamp way None = Ok None
-entry_told stamp way (Some message) = entry_by stamp message (way message)
+-- what is judged of these bytes with a message, if it can be read, of which is told which way it went; and which way it
+-- went where it can't be read
+abbrev pub entry_told : StampParts → (Envelope → Option Direction) → Option Direction → List ℕ → Option Envelope
+    → Result Told LineFault
+entry_told stamp way unread bytes None = Ok (Unread unread bytes)
+entry_told stamp way unread bytes (Some message) = entry_by stamp message (way message)
 
 -- what is judged of a line, or its first fault
-abbrev pub line_entry : Form → List ℕ → Result (Option Entry) LineFault
+abbrev pub line_entry : Form → List ℕ → Result Told LineFault
 line_entry Own text = do
   said ← line_said text
-  entry_told said.stamp (by_line said.direction) (message_in said.message)
+  entry_told said.stamp (by_line said.direction) (Some said.direction) said.message (message_in said.message)
 line_entry (Quickfix desk) text = do
   said ← quickfix_said text
-  entry_told said.stamp (by_names desk) (message_in said.message)
+  entry_told said.stamp (by_names desk) None said.message (message_in said.message)
 
 -- what is said of each rule
-abbrev pub judged : VenueParts → Option Entry → List Verdict
-judged v None = unread_verdicts
-judged v (Some entry) = verdicts v.watch.checker entry
+abbrev pub judged : VenueParts → Told → List Verdict
+judged v (Unread way bytes) = unread_verdicts
+judged v (Read entry) = verdicts v.watch.checker entry
 
 -- what is known behind it, in the line of this number
-abbrev pub judged_after : ℕ → VenueParts → Option Entry → VenueParts
-judged_after number v None = v
-judged_after number v (Some entry) = venue_heard number entry v
+abbrev pub judged_after : ℕ → VenueParts → Told → VenueParts
+judged_after number v (Unread None bytes) = v
+judged_after number v (Unread (Some direction) bytes) = venue_unread direction bytes v
+judged_after number v (Read entry) = venue_heard number entry v
 
 -- it is judged, or its fault is told, or memory is refused; a fault changes nothing
-abbrev pub Judges : ℕ → Result (Option Entry) LineFault → VenueParts → VenueParts → Result (List Verdict) LineFault
-    → Type 0
+abbrev pub Judges : ℕ → Result Told LineFault → VenueParts → VenueParts → Result (List Verdict) LineFault → Type 0
 Judges number (Ok entry) old new (Ok said) = (said ≡ judged old entry) × (new ≡ judged_after number old entry)
 Judges number (Err fault) old new (Ok said) = ⊥
 Judges number entry old new (Err line.OutOfMemory) = new ≡ old
@@ -89,7 +100,7 @@ line_fault number line.OutOfMemory = OutOfMemory
 line_fault number fault = BadLine number fault
 
 -- what is known behind the line of a number, of which this is judged
-abbrev pub ChecksAs : ℕ → Result (Option Entry) LineFault → VenueParts → VenueParts → Type 0
+abbrev pub ChecksAs : ℕ → Result Told LineFault → VenueParts → VenueParts → Type 0
 ChecksAs number (Ok entry) old new = new ≡ judged_after number old entry
 ChecksAs number (Err fault) old new = ⊥
 

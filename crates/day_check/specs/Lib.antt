@@ -1,10 +1,13 @@
+pub mod Fault
 pub mod Judge
 pub mod Shown
 pub mod Json
+pub mod ToldFault
 pub mod Lines
 pub mod Tallies
 pub mod Finding
 pub mod Head
+pub mod LogHead
 pub mod LogChecked
 pub mod LogText
 pub mod LogCheck

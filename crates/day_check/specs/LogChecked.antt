@@ -1,13 +1,12 @@
 -- What is known behind the lines of a venue's log.
-use Rattle.std.specs.Prelude.{ℕ, Bool, false, List, [], ◌∷◌, length, suc, replicate, Option, Some, None, Result, Ok, Err, if◌then◌else◌}
+use Rattle.std.specs.Prelude.{ℕ, Bool, false, List, [], ◌∷◌, length, suc, replicate, Some, None, Result, Ok, Err, if◌then◌else◌}
 use Rattle.log_legs.specs.Legs.{no_legs}
-use Rattle.log_rules.specs.declared.entry.Entry.{Entry}
 use Rattle.log_rules.specs.declared.tally.Tally.{Tally}
 use Rattle.log_text.specs.Line.{is_passed_over}
 use Rattle.log_text.specs.declared.fault.LineFault.{LineFault}
 use Rattle.day_rules.specs.VenueDay.{VenueParts, new_venue}
 use Rattle.day_check.specs.Head.{own_after}
-use Rattle.day_check.specs.Judge.{judged, judged_after, line_entry}
+use Rattle.day_check.specs.Judge.{Told, judged, judged_after, line_entry}
 use Rattle.day_check.specs.Tallies.{tallied_upto}
 use Rattle.day_check.specs.declared.form.Form.{Form}
 
@@ -29,7 +28,7 @@ abbrev pub new_log : Bool → LogParts
 new_log keeps = record { day = new_day keeps; tallies = replicate 22 no_tally; is_own = false }
 
 -- behind the line of a number, of which this is judged
-abbrev pub entry_checked : ℕ → Result (Option Entry) LineFault → LogParts → LogParts
+abbrev pub entry_checked : ℕ → Result Told LineFault → LogParts → LogParts
 entry_checked number (Err fault) log = log
 entry_checked number (Ok entry) log = record {
   day = judged_after number log.day entry;

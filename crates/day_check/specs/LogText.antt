@@ -4,12 +4,11 @@ use Rattle.std.specs.Io.KnownBytes.{Appends}
 use Rattle.log_legs.specs.LegLine.{legs_text}
 use Rattle.log_rules.specs.Checker.{CheckerParts}
 use Rattle.log_rules.specs.Ledger.{uncounted_of}
-use Rattle.log_rules.specs.declared.entry.Entry.{Entry}
 use Rattle.log_text.specs.Line.{is_passed_over}
 use Rattle.log_text.specs.declared.fault.LineFault.{LineFault}
 use Rattle.day_rules.specs.VenueDay.{VenueParts}
 use Rattle.day_check.specs.Finding.{findings_upto, summary_upto}
-use Rattle.day_check.specs.Judge.{judged, line_entry}
+use Rattle.day_check.specs.Judge.{Told, judged, line_entry}
 use Rattle.day_check.specs.Lines.{AreCutLines}
 use Rattle.day_check.specs.LogChecked.{LogParts, log_checked}
 use Rattle.day_check.specs.Tallies.{breaks_a_rule}
@@ -35,7 +34,7 @@ style_of p = record {
 }
 
 -- the findings of the line of a number, of which this is judged
-abbrev pub entry_findings : Style → ℕ → List ℕ → Result (Option Entry) LineFault → VenueParts → List ℕ
+abbrev pub entry_findings : Style → ℕ → List ℕ → Result Told LineFault → VenueParts → List ℕ
 entry_findings s number line (Err fault) day = []
 entry_findings s number line (Ok entry) day = findings_upto s.words s.form number line (judged day entry) 22
 

@@ -1,10 +1,12 @@
 //! A log is held against what the session itself writes.
 
 ghost use Rattle.std.specs.Prelude.{◌≡◌, false, IfOk};
-ghost use Rattle.day_check.specs.Exact.{HoldsExactly, advice_on, difference_line, difference_text, exact_tally, said_text, written_instead};
+ghost use Rattle.day_check.specs.Exact.{HoldsExactly, advice_on, difference_line, difference_text, exact_tally};
+ghost use Rattle.day_check.specs.Exact.{said_text, written_instead};
 
 use crate::fault::LogFault;
 use crate::finding::{Printing, number, tally_line, text};
+use crate::head::Head;
 use crate::input::{read_text, without_end};
 use crate::json::{Member, Value, json_line};
 use command_line::print;
@@ -16,7 +18,7 @@ use message_log::Direction;
 use session_trace::{Difference, Differs, Shown, explain};
 use std::alloc::{AllocError, Global};
 use std::io::{BufRead, Write};
-use std::str;
+use venue_words::{VenueDialect, VenueWords};
 
 /// The rule's name.
 const EXACT: &str = "exact";
@@ -30,12 +32,12 @@ pub enum DialectBy {
     Head,
 }
 
-/// What the lines of a log show, each with its number, and the dialect that the line at its head names.
+/// What the lines of a log show, each with its number, and what its head says of its dialect.
 #[derive(Drop)]
 struct ShownLog {
     lines: Vec<Shown>,
     numbers: Vec<u64>,
-    head: Option<AnyDialect>,
+    head: Head,
 }
 
 /// What the rule says of a log: how many frames were what the session writes, and the first line that isn't, with what
@@ -44,20 +46,6 @@ struct ShownLog {
 struct Said {
     held: u64,
     broken: Option<(u64, Vec<u8>)>,
-}
-
-/// The word at a place of a line, of which the first is at 0, if it has so many.
-fn word_at(line: &[u8], place: usize) -> Option<&[u8]> {
-    line.split(|byte| *byte == b' ').nth(place)
-}
-
-/// The dialect that the line at a log's head names, as
-/// `# venue NYSE address 10.0.0.1:9001 sender DESK target NYSE dialect plain heartbeat 30 next_expected no`.
-fn dialect_at_head(line: &[u8]) -> Option<AnyDialect> {
-    if word_at(line, 1)? != b"venue".as_slice() || word_at(line, 9)? != b"dialect".as_slice() {
-        return None;
-    }
-    AnyDialect::named(str::from_utf8(word_at(line, 10)?).ok()?)
 }
 
 impl ShownLog {
@@ -71,8 +59,8 @@ impl ShownLog {
     /// Reads a line of this number.
     fn read(&mut self, alloc: Global, number: u64, line: &[u8]) -> Result<(), LogFault> {
         if is_passed_over(line) {
-            if number == 1 {
-                self.head = dialect_at_head(line);
+            if self.lines.is_empty() {
+                self.head.read(number, line);
             }
             return Ok(());
         }
@@ -89,13 +77,10 @@ impl ShownLog {
     }
 
     /// The dialect of its orders.
-    fn dialect(&self, by: DialectBy) -> Result<AnyDialect, LogFault> {
+    fn dialect(&self, by: DialectBy) -> Result<VenueDialect, LogFault> {
         match by {
-            DialectBy::Name(dialect) => Ok(dialect),
-            DialectBy::Head => match self.head {
-                Some(dialect) => Ok(dialect),
-                None => Err(LogFault::NoDialect),
-            },
+            DialectBy::Name(dialect) => Ok(VenueWords::Preset(dialect).dialect()),
+            DialectBy::Head => self.head.dialect().ok_or(LogFault::NoDialect),
         }
     }
 
@@ -116,7 +101,7 @@ fn read_shown<R: BufRead>(alloc: Global, input: &mut R) -> Result<ShownLog, LogF
     let mut log = ShownLog {
         lines: Vec::new(alloc),
         numbers: Vec::new(alloc),
-        head: None,
+        head: Head::new(),
     };
     let mut line = Vec::new(alloc);
     for number in 1..u64::MAX {
@@ -149,8 +134,8 @@ fn said_of(alloc: Global, log: &ShownLog, differs: Differs) -> Result<Said, LogF
 }
 
 /// Explains a log.
-fn judge_exactly(alloc: Global, dialect: AnyDialect, log: &ShownLog) -> Result<Said, LogFault> {
-    match explain(alloc, &dialect, log.lines.as_slice()) {
+fn judge_exactly(alloc: Global, dialect: &VenueDialect, log: &ShownLog) -> Result<Said, LogFault> {
+    match explain(alloc, dialect, log.lines.as_slice()) {
         Ok(()) => Ok(Said {
             held: log.sent_before(log.lines.len()),
             broken: None,
@@ -292,7 +277,8 @@ pub fn print_exact<R: BufRead, W: Write>(
     ensures { IfOk result (HoldsExactly printing.now (W.contents out.old) (W.contents out.new)) }
 {
     let log = read_shown(alloc, input)?;
-    let said = judge_exactly(alloc, log.dialect(by)?, &log)?;
+    let dialect = log.dialect(by)?;
+    let said = judge_exactly(alloc, &dialect, &log)?;
     let text = said_text(alloc, printing, &said)?;
     print(&text, out)?;
     Ok(said.broken.is_some())

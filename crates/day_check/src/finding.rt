@@ -1,7 +1,8 @@
 //! What is printed of a rule.
 ghost use Rattle.std.specs.Prelude.{◌≡◌, false, IfOk};
 ghost use Rattle.day_rules.specs.VenueDay.{breaks};
-ghost use Rattle.day_check.specs.Finding.{again_text, finding_head, finding_if, finding_lines, findings_upto, summary_upto, tally_if, tally_line};
+ghost use Rattle.day_check.specs.Finding.{again_text, finding_head, finding_if, finding_lines, findings_upto};
+ghost use Rattle.day_check.specs.Finding.{summary_upto, tally_if, tally_line};
 ghost use Rattle.day_check.specs.LogText.{cut_text, uncounted_text};
 ghost use Rattle.day_check.specs.Shown.{line_shown};
 ghost use Rattle.std.specs.Prelude.{slice_get};
@@ -177,7 +178,7 @@ pub(crate) fn tally_line(alloc: Global, name: &str, tally: Tally) -> Result<Vec<
         broken,
         again,
     } = tally;
-    if held == 0 && broken == 0 {
+    if held == 0 && broken == 0 && again == 0 {
         return Ok(format!(in alloc; "rule {name} not seen\n")?.into_bytes());
     }
     let mut text = format!(in alloc; "rule {name} held {held} broken {broken}")?.into_bytes();

@@ -1,7 +1,8 @@
 //! Lines of JSON.
 ghost use Rattle.std.specs.Prelude.{◌≡◌, ◌++◌, ◌<◌, IfOk, OnOk};
 ghost use Rattle.day_check.specs.declared.json.Value.TheVariants.{Number};
-ghost use Rattle.day_check.specs.Json.{hex_digit, json_byte, json_line, json_member, json_string, json_text, json_value};
+ghost use Rattle.day_check.specs.Json.{hex_digit, json_byte, json_line, json_member, json_string, json_text};
+ghost use Rattle.day_check.specs.Json.{json_value};
 
 use arrayvec::ArrayVec;
 use itoa::Buffer;
@@ -61,7 +62,7 @@ fn append_text(line: &mut Vec<u8>, text: &[u8]) -> Result<(), AllocError>
     Ok(())
 }
 
-fn append_string(line: &mut Vec<u8>, text: &[u8]) -> Result<(), AllocError>
+pub(crate) fn append_string(line: &mut Vec<u8>, text: &[u8]) -> Result<(), AllocError>
     ensures { OnOk result (line.new.items ≡ line.old.items ++ json_string text.now) }
 {
     line.push(b'"')?;
@@ -70,7 +71,7 @@ fn append_string(line: &mut Vec<u8>, text: &[u8]) -> Result<(), AllocError>
     Ok(())
 }
 
-fn append_number(line: &mut Vec<u8>, number: u64) -> Result<(), AllocError>
+pub(crate) fn append_number(line: &mut Vec<u8>, number: u64) -> Result<(), AllocError>
     ensures { OnOk result (line.new.items ≡ line.old.items ++ json_value (Number number)) }
 {
     let mut digits = Buffer::new();

@@ -1,8 +1,10 @@
 //! What a line says of the rules.
-ghost use Rattle.std.specs.Prelude.{◌≡◌, Some};
+ghost use Rattle.std.specs.Prelude.{◌≡◌, Ok, Some};
 ghost use Rattle.fix_text.specs.FrameFields.{fields_in};
 ghost use Rattle.day_check.specs.declared.form.Form.TheVariants.{Own, Quickfix};
-ghost use Rattle.day_check.specs.Judge.{Judges, direction_told, entry_told, line_entry, message_in, message_of};
+ghost use Rattle.day_check.specs.Judge.{Judges, direction_told, entry_by, entry_told, line_entry, message_in};
+ghost use Rattle.day_check.specs.Judge.{message_of, way_of};
+ghost use Rattle.day_check.specs.Judge.Told.{Unread};
 
 use crate::form::Form;
 use day_rules::VenueDay;
@@ -40,7 +42,7 @@ fn judge_message(
     number: u64,
     day: &mut VenueDay,
 ) -> Result<[Verdict; 22], LineFault>
-    ensures { Judges number (entry_told stamp (direction_told way.now) (Some message.now)) day.old day.new result }
+    ensures { Judges number (entry_by stamp message.now (direction_told way.now message.now)) day.old day.new result }
 {
     let Some(direction) = direction_of(way, message) else {
         return Err(LineFault::Parties);
@@ -52,20 +54,39 @@ fn judge_message(
     }
 }
 
-/// What the message of a frame says of each rule.
+/// What a message that can't be read, of these bytes, says of each rule.
+fn judge_unread(
+    way: &Way<'_>,
+    bytes: &[u8],
+    number: u64,
+    day: &mut VenueDay,
+) -> Result<[Verdict; 22], LineFault>
+    ensures { Judges number (Ok (Unread (way_of way.now) bytes.now)) day.old day.new result }
+{
+    let Way::Said(direction) = way else {
+        return Ok(Checker::unread());
+    };
+    match day.hear_unread(*direction, bytes) {
+        Ok(verdicts) => Ok(verdicts),
+        Err(_) => Err(LineFault::OutOfMemory),
+    }
+}
+
+/// What the message of the frame in these bytes says of each rule.
 fn judge_frame(
     stamp: Stamp,
     way: &Way<'_>,
     frame: &Frame<'_>,
+    bytes: &[u8],
     number: u64,
     day: &mut VenueDay,
 ) -> Result<[Verdict; 22], LineFault>
-    ensures { Judges number (entry_told stamp (direction_told way.now) (message_of (Some (fields_in frame.now))))
-        day.old day.new result }
+    ensures { Judges number (entry_told stamp (direction_told way.now) (way_of way.now) bytes.now
+        (message_of (Some (fields_in frame.now)))) day.old day.new result }
 {
     match read_envelope(frame) {
         Ok(message) => judge_message(stamp, way, &message, number, day),
-        Err(_) => Ok(Checker::unread()),
+        Err(_) => judge_unread(way, bytes, number, day),
     }
 }
 
@@ -78,15 +99,16 @@ fn judge(
     number: u64,
     day: &mut VenueDay,
 ) -> Result<[Verdict; 22], LineFault>
-    ensures { Judges number (entry_told stamp (direction_told way.now) (message_in bytes.now)) day.old day.new result }
+    ensures { Judges number (entry_told stamp (direction_told way.now) (way_of way.now) bytes.now
+        (message_in bytes.now)) day.old day.new result }
 {
     let mut reader = FrameReader::new(alloc);
     if reader.feed(bytes).is_err() {
         return Err(LineFault::OutOfMemory);
     }
     match reader.next() {
-        Ok(Some(frame)) => judge_frame(stamp, way, &frame, number, day),
-        Ok(None) => Ok(Checker::unread()),
+        Ok(Some(frame)) => judge_frame(stamp, way, &frame, bytes, number, day),
+        Ok(None) => judge_unread(way, bytes, number, day),
         Err(_) => Err(LineFault::OutOfMemory),
     }
 }

@@ -1,7 +1,7 @@
 //! Where things stand in a venue's log.
 
 ghost use Rattle.std.specs.Prelude.{◌≡◌, ◌<◌, length, vec_capacity, OnOk};
-ghost use Rattle.day_rules.specs.VenueDay.{breaks, no_notes, noted, notes_parts};
+ghost use Rattle.day_rules.specs.VenueDay.{breaks, fails, no_notes, noted, notes_parts};
 
 use crate::lines::{first_line, note_line, note_moment};
 use log_rules::{Moment, Verdict};
@@ -41,6 +41,16 @@ fn breaks(said: &[Verdict; 22], place: usize) -> bool
     }
 }
 
+/// Whether the rule at a place is broken, also where it is told as broken again.
+fn fails(said: &[Verdict; 22], place: usize) -> bool
+    ensures { result ≡ fails said.now place }
+{
+    match said.get(place) {
+        Some(verdict) => matches!(verdict, Verdict::Broken | Verdict::Again),
+        None => false,
+    }
+}
+
 impl Notes {
     pub(crate) fn new(alloc: Global) -> Notes
         ensures { notes_parts result ≡ no_notes }
@@ -76,7 +86,7 @@ impl Notes {
         note_moment(&mut self.moments, moment, count);
         self.sent_once = first_line(breaks(said, SENT_ONCE), number, self.sent_once);
         self.one_use = first_line(breaks(said, ONE_USE), number, self.one_use);
-        self.known_order = first_line(breaks(said, KNOWN_ORDER), number, self.known_order);
+        self.known_order = first_line(fails(said, KNOWN_ORDER), number, self.known_order);
         self.not_withdrawn = first_line(breaks(said, NOT_WITHDRAWN), number, self.not_withdrawn);
         self.sums_add_up = first_line(breaks(said, SUMS_ADD_UP), number, self.sums_add_up);
     }

@@ -2,13 +2,14 @@
 
 ghost use Rattle.std.specs.Prelude.{◌≡◌, Some, None, option_and_then, slice_get, IfOk, OnOk, OnErr};
 ghost use Rattle.log_legs.specs.Legs.{no_legs};
-ghost use Rattle.log_rules.specs.Checker.{verdicts};
+ghost use Rattle.log_rules.specs.Checker.{unread_verdicts, verdicts};
 ghost use Rattle.day_rules.specs.Judged.{order_line};
-ghost use Rattle.day_rules.specs.VenueDay.{new_venue, notes_parts, venue_heard};
+ghost use Rattle.day_rules.specs.VenueDay.{new_venue, notes_parts, venue_heard, venue_unread};
 
 use crate::notes::Notes;
 use log_legs::Watch;
 use log_rules::{Entry, Moment, Verdict};
+use message_log::Direction;
 use std::alloc::{AllocError, Global};
 use std::marker::Model;
 
@@ -60,6 +61,20 @@ impl VenueDay {
         self.notes
             .note(number, entry.moment, &said, self.watch.leg_count());
         Ok(said)
+    }
+
+    /// What a message that can't be read says of each rule, which went this way and has these bytes. Where memory is
+    /// refused, nothing changes.
+    pub fn hear_unread(
+        &mut self,
+        direction: Direction,
+        bytes: &[u8],
+    ) -> Result<[Verdict; 22], AllocError>
+        ensures verdicts { IfOk result (λ said. said ≡ unread_verdicts) }
+        ensures ok { OnOk result (self.new ≡ venue_unread direction bytes.now self.old) }
+        ensures err { OnErr result (self.new ≡ self.old) }
+    {
+        self.watch.hear_unread(direction, bytes)
     }
 
     /// What is known behind the messages.

@@ -8,7 +8,7 @@ use Rattle.log_rules.specs.declared.order_said.OrderSaid.{OrderSaid}
 use Rattle.log_rules.specs.declared.report_said.ReportSaid.{ReportSaid}
 use Rattle.log_rules.specs.declared.says.Says.{Says}
 use Rattle.log_rules.specs.declared.says.Says.TheVariants.{Logon, Refused, Order, Report}
-use Rattle.log_rules.specs.Checker.{CheckerParts, heard, new_checker}
+use Rattle.log_rules.specs.Checker.{CheckerParts, heard, heard_unread, new_checker}
 use Rattle.log_rules.specs.Ledger.{LedgerParts, newest_order, newest_under}
 use Rattle.log_rules.specs.Order.{OrderParts}
 use Rattle.log_rules.specs.Standing.{is_due}
@@ -120,3 +120,7 @@ watched w e = record (judged w e) {
   close = close_after w.close e.direction e.says;
   late = option_or w.late (late_by w e.direction e.says);
 }
+
+-- what is known behind a message that can't be read
+abbrev pub watched_unread : Direction → List ℕ → WatchParts → WatchParts
+watched_unread direction bytes w = record w { checker = heard_unread direction bytes w.checker }

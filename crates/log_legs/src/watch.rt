@@ -1,10 +1,10 @@
 //! A log is gone through: its messages are judged, and what became of its orders is kept where it is asked for.
 
 ghost use Rattle.std.specs.Prelude.{◌≡◌, Some, None, length, IfOk, OnOk, OnErr};
-ghost use Rattle.log_rules.specs.Checker.{verdicts};
+ghost use Rattle.log_rules.specs.Checker.{unread_verdicts, verdicts};
 ghost use Rattle.log_rules.specs.Ledger.{newest_order, uncounted_of};
 ghost use Rattle.log_legs.specs.Fate.{leg_said};
-ghost use Rattle.log_legs.specs.Legs.{judged, late_by, new_watch, no_legs, watched};
+ghost use Rattle.log_legs.specs.Legs.{judged, late_by, new_watch, no_legs, watched, watched_unread};
 
 use crate::close::Close;
 use crate::fate::Fate;
@@ -111,6 +111,20 @@ impl Watch {
             self.late = late;
         }
         Ok(verdicts)
+    }
+
+    /// What a message that can't be read says of each rule, which went this way and has these bytes. Where memory is
+    /// refused, nothing changes.
+    pub fn hear_unread(
+        &mut self,
+        direction: Direction,
+        bytes: &[u8],
+    ) -> Result<[Verdict; 22], AllocError>
+        ensures verdicts { IfOk result (λ said. said ≡ unread_verdicts) }
+        ensures ok { OnOk result (self.new ≡ watched_unread direction bytes.now self.old) }
+        ensures err { OnErr result (self.new ≡ self.old) }
+    {
+        self.checker.hear_unread(direction, bytes)
     }
 
     /// How far the session's end is.

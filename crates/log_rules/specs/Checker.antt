@@ -1,12 +1,13 @@
 -- A log is gone through, message by message.
 use Rattle.std.specs.Prelude.{ℕ, not, ◌&&◌, List, [], ◌∷◌, Option, None, option_map}
+use Rattle.message_log.specs.declared.direction.Direction.{Direction}
 use Rattle.log_rules.specs.declared.entry.Entry.{Entry}
 use Rattle.log_rules.specs.declared.says.Says.{Says}
 use Rattle.log_rules.specs.declared.says.Says.TheVariants.{Report}
 use Rattle.log_rules.specs.declared.standing.Standing.{Standing}
 use Rattle.log_rules.specs.declared.verdict.Verdict.{Verdict}
 use Rattle.log_rules.specs.declared.verdict.Verdict.TheVariants.{Unasked, Held, Broken}
-use Rattle.log_rules.specs.Chains.{ChainsParts, chained, is_logon, is_of_same, no_chains}
+use Rattle.log_rules.specs.Chains.{ChainsParts, chained, chained_unread, is_filled, is_logon, is_of_same, is_told_on, no_chains}
 use Rattle.log_rules.specs.ExchangeRules.{fence_answered, logon_answered, logout_last, numbers_rise, resend_answered, resend_asked}
 use Rattle.log_rules.specs.Ledger.{LedgerParts, changed_by, order_of}
 use Rattle.log_rules.specs.LedgerRules.{known_order, not_withdrawn, one_use, sent_once, sums_add_up}
@@ -30,7 +31,7 @@ new_checker = record { standing = new_standing; ledger = record { orders = []; r
 abbrev pub verdicts : CheckerParts → Entry → List Verdict
 verdicts c e =
     Held
-    ∷ sent_numbers c.standing.last e
+    ∷ again_if (is_filled c.chains.unread c.standing.last e.number) (sent_numbers c.standing.last e)
     ∷ sent_once c.ledger e.direction e.says
     ∷ gap_fills c.standing e
     ∷ again_if c.chains.is_early (logon_first c.standing.phase e.direction e.says)
@@ -40,7 +41,7 @@ verdicts c e =
     ∷ resend_asked c.standing e
     ∷ fence_answered c.standing e
     ∷ one_use c.standing c.ledger e
-    ∷ again_if (not c.chains.is_withdrawn && is_of_same c.chains.order e.says) (known_order c.ledger e.direction e.says)
+    ∷ again_if (is_told_on c.chains e.says) (known_order c.ledger e.direction e.says)
     ∷ again_if (c.chains.is_withdrawn && is_of_same c.chains.order e.says) (not_withdrawn c.ledger e.direction e.says)
     ∷ sums_add_up c.standing c.ledger e
     ∷ again_if c.chains.goes_back (numbers_rise c.standing e)
@@ -69,5 +70,9 @@ abbrev pub heard : CheckerParts → Entry → CheckerParts
 heard c e = record {
   standing = after c.standing (number_of_report c.ledger e.says) e;
   ledger = changed_by c.standing e c.ledger;
-  chains = chained (verdicts c e) e.says c.chains;
+  chains = chained (verdicts c e) e c.chains;
 }
+
+-- what is known behind a message that can't be read
+abbrev pub heard_unread : Direction → List ℕ → CheckerParts → CheckerParts
+heard_unread direction bytes c = record c { chains = chained_unread direction bytes c.chains }

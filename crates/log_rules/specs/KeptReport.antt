@@ -1,5 +1,6 @@
 -- A report that came.
-use Rattle.std.specs.Prelude.{ℕ, Bool, false, List, Option, Some, ◌==◌}
+use Rattle.std.specs.Prelude.{ℕ, Bool, false, ◌&&◌, List, Option, Some, ◌==◌}
+use Rattle.std.specs.Str.{bytes_eq}
 use Rattle.log_rules.specs.declared.report_said.Happening.{Happening}
 use Rattle.log_rules.specs.declared.report_said.Happening.TheVariants.{Trade}
 use Rattle.log_rules.specs.declared.report_said.ReportSaid.{ReportSaid}
@@ -18,6 +19,14 @@ traded_by _ = 0
 abbrev pub kept_report : ℕ → Option ℕ → ReportSaid → ReportParts
 kept_report number order said =
     record { number = number; order = order; exec = said.exec; shares = traded_by said.happened }
+
+-- a report says as many shares
+abbrev pub has_shares_of : ReportParts → ReportSaid → Bool
+has_shares_of r said = r.shares == traded_by said.happened
+
+-- a report is this one again: it has its ExecID and as many shares
+abbrev pub is_again : ReportParts → ReportSaid → Bool
+is_again r said = bytes_eq r.exec said.exec && has_shares_of r said
 
 -- two places are those of one order
 abbrev pub is_on : Option ℕ → Option ℕ → Bool

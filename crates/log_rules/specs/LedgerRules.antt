@@ -1,6 +1,5 @@
 -- The rules of orders and of the reports on them (FIX 4.4 Volume 4).
 use Rattle.std.specs.Prelude.{ℕ, ◌+◌, Bool, true, false, ◌&&◌, not, List, Option, Some, None, is_some, is_none, nat_lt, ◌==◌, if◌then◌else◌}
-use Rattle.std.specs.Str.{bytes_eq}
 use Rattle.message_log.specs.declared.direction.Direction.{Direction}
 use Rattle.message_log.specs.declared.direction.Direction.TheVariants.{Sent, Received}
 use Rattle.log_rules.specs.declared.entry.Entry.{Entry}
@@ -12,7 +11,7 @@ use Rattle.log_rules.specs.declared.says.Says.TheVariants.{Logon, GapFill, Reset
 use Rattle.log_rules.specs.declared.standing.Standing.{Standing}
 use Rattle.log_rules.specs.declared.verdict.Verdict.{Verdict}
 use Rattle.log_rules.specs.declared.verdict.Verdict.TheVariants.{Unasked, Broken}
-use Rattle.log_rules.specs.KeptReport.{ReportParts}
+use Rattle.log_rules.specs.KeptReport.{ReportParts, is_again}
 use Rattle.log_rules.specs.Ledger.{LedgerParts, has_report_in, newest_order, order_of, report_under, shares_of_exec}
 use Rattle.log_rules.specs.Order.{OrderParts}
 use Rattle.log_rules.specs.Standing.{begins_anew, is_due, was_reached}
@@ -39,7 +38,7 @@ not_withdrawn l direction says = Unasked
 
 -- a report under a number that came before is the one that came under it
 abbrev pub is_repeat : Option ReportParts → Bool → ReportSaid → Verdict
-is_repeat (Some kept) was_counted said = held_if (bytes_eq kept.exec said.exec)
+is_repeat (Some kept) was_counted said = held_if (is_again kept said)
 is_repeat None was_counted said = if was_counted then Broken else Unasked
 
 abbrev pub repeats : Option ℕ → List ReportParts → ℕ → ReportSaid → Verdict

@@ -1,5 +1,5 @@
 -- The rules of what a report says (FIX 4.4 Volume 4).
-use Rattle.std.specs.Prelude.{ℕ, Bool, true, false, ◌&&◌, not, List, [], ◌∷◌, Option, Some, None, is_some, is_none, nat_le, nat_lt, ◌==◌, if◌then◌else◌}
+use Rattle.std.specs.Prelude.{ℕ, Bool, true, false, ◌&&◌, not, List, [], ◌∷◌, Option, Some, None, is_some, nat_le, nat_lt, ◌==◌, if◌then◌else◌}
 use Rattle.std.specs.Str.{bytes_eq}
 use Rattle.leg.specs.declared.side.Side.{Side}
 use Rattle.leg.specs.declared.side.Side.TheVariants.{Buy, Sell}
@@ -13,7 +13,8 @@ use Rattle.log_rules.specs.declared.says.Says.{Says}
 use Rattle.log_rules.specs.declared.says.Says.TheVariants.{Report}
 use Rattle.log_rules.specs.declared.standing.Standing.{Standing}
 use Rattle.log_rules.specs.declared.verdict.Verdict.{Verdict}
-use Rattle.log_rules.specs.declared.verdict.Verdict.TheVariants.{Unasked}
+use Rattle.log_rules.specs.declared.verdict.Verdict.TheVariants.{Unasked, Held, Broken}
+use Rattle.log_rules.specs.KeptReport.{ReportParts, has_shares_of}
 use Rattle.log_rules.specs.Ledger.{LedgerParts, order_of, report_of_exec, report_under}
 use Rattle.log_rules.specs.Order.{OrderParts}
 use Rattle.log_rules.specs.Said.{is_end}
@@ -24,13 +25,20 @@ use Rattle.log_rules.specs.Verdict.{held_if}
 abbrev pub is_first : Standing → LedgerParts → ℕ → Bool
 is_first s l number = not (nat_le number s.seen && is_some (report_under number l.reports))
 
+-- what is said of the ExecID of a report that comes for the first time, of which another may be the first
+abbrev pub exec_used : Bool → Option ReportParts → ReportSaid → Verdict
+exec_used true None said = Unasked
+exec_used true (Some kept) said = held_if (has_shares_of kept said)
+exec_used false None said = Held
+exec_used false (Some kept) said = Broken
+
 abbrev pub exec_new : Standing → LedgerParts → Bool → Direction → Says → ℕ → Verdict
 exec_new s l poss_resend Received (Report said) number =
-    if is_first s l number && not poss_resend then held_if (is_none (report_of_exec said.exec l.reports)) else Unasked
+    if is_first s l number then exec_used poss_resend (report_of_exec said.exec l.reports) said else Unasked
 exec_new s l poss_resend direction says number = Unasked
 
--- ExecID (17): a report that comes for the first time has one of its own, unless it may have come under another number
--- (97=Y)
+-- ExecID (17): a report that comes for the first time has one of its own; one that may have come under another number
+-- (97=Y) says as many shares as the first report of its ExecID
 abbrev pub exec_once : Standing → LedgerParts → Entry → Verdict
 exec_once s l e = exec_new s l e.poss_resend e.direction e.says e.number
 

@@ -2,7 +2,8 @@
 
 ghost use Rattle.std.specs.Prelude.{◌≡◌, ◌∷◌, [], IfOk, OnOk, OnErr};
 ghost use Rattle.log_rules.specs.Ledger.{comes_again, newest_order, newest_under, shares_of_exec, uncounted_of};
-ghost use Rattle.log_rules.specs.Checker.{heard, new_checker, number_of_report, unread_verdicts, verdicts};
+ghost use Rattle.log_rules.specs.Checker.{heard, heard_unread, new_checker, number_of_report, unread_verdicts};
+ghost use Rattle.log_rules.specs.Checker.{verdicts};
 
 use crate::chains::{Chains, order_named};
 use crate::entry::Entry;
@@ -17,6 +18,7 @@ use crate::says::Says;
 use crate::session_rules::{gap_fills, heartbeats, logon_first, sent_numbers};
 use crate::standing::Standing;
 use crate::verdict::Verdict;
+use message_log::Direction;
 use std::alloc::{AllocError, Global};
 use std::marker::Model;
 
@@ -47,7 +49,7 @@ impl Checker {
             alloc,
             standing: Standing::new(),
             ledger: Ledger::new(alloc),
-            chains: Chains::new(),
+            chains: Chains::new(alloc),
         }
     }
 
@@ -60,7 +62,7 @@ impl Checker {
         let chains = &self.chains;
         [
             Verdict::Held,
-            sent_numbers(standing, entry),
+            chains.of_sent(standing, entry, sent_numbers(standing, entry)),
             sent_once(ledger, entry),
             gap_fills(standing, entry),
             chains.of_first(logon_first(standing, entry)),
@@ -101,6 +103,21 @@ impl Checker {
         let mut verdicts = [Verdict::Unasked; 22];
         verdicts[0] = Verdict::Broken;
         verdicts
+    }
+
+    /// What a message that can't be read says of each rule, which went this way and has these bytes. Where memory is
+    /// refused, nothing changes.
+    pub fn hear_unread(
+        &mut self,
+        direction: Direction,
+        bytes: &[u8],
+    ) -> Result<[Verdict; 22], AllocError>
+        ensures verdicts { IfOk result (λ said. said ≡ unread_verdicts) }
+        ensures ok { OnOk result (self.new ≡ heard_unread direction bytes.now self.old) }
+        ensures err { OnErr result (self.new ≡ self.old) }
+    {
+        self.chains.go_on_unread(self.alloc, direction, bytes)?;
+        Ok(Checker::unread())
     }
 
     /// How the two ends stand.
@@ -163,7 +180,7 @@ impl Checker {
         let order = order_named(self.alloc, &verdicts, entry)?;
         self.ledger.hear(&self.standing, entry)?;
         self.standing = self.standing.after(number, entry);
-        self.chains.go_on(&verdicts, order);
+        self.chains.go_on(entry, &verdicts, order);
         Ok(verdicts)
     }
 }

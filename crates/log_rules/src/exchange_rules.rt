@@ -1,7 +1,9 @@
 //! The rules of the exchange that need no order.
 
 ghost use Rattle.std.specs.Prelude.{◌≡◌};
-ghost use Rattle.log_rules.specs.ExchangeRules.{fence_answered, is_new, is_next_upto, is_range, logon_answered, logout_last, nothing_is_awaited, numbers_rise, resend_answered, resend_asked};
+ghost use Rattle.log_rules.specs.ExchangeRules.{fence_answered, is_new, is_next_upto, is_range, logon_answered};
+ghost use Rattle.log_rules.specs.ExchangeRules.{logout_last, nothing_is_awaited, numbers_rise, resend_answered};
+ghost use Rattle.log_rules.specs.ExchangeRules.{resend_asked};
 
 use crate::entry::Entry;
 use crate::says::Says;

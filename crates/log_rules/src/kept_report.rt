@@ -1,7 +1,7 @@
 //! A report that came.
 
 ghost use Rattle.std.specs.Prelude.{◌≡◌, IfOk};
-ghost use Rattle.log_rules.specs.KeptReport.{is_on, kept_report, traded_by};
+ghost use Rattle.log_rules.specs.KeptReport.{has_shares_of, is_again, is_on, kept_report, traded_by};
 
 use crate::report_said::{Happening, ReportSaid};
 use std::alloc::{AllocError, Global};
@@ -68,10 +68,18 @@ impl KeptReport {
         }
     }
 
-    pub(crate) fn exec(&self) -> &[u8]
-        ensures { result.now ≡ self.now.exec }
+    /// Whether a report says as many shares.
+    pub(crate) fn has_shares_of(&self, said: &ReportSaid<'_>) -> bool
+        ensures { result ≡ has_shares_of self.now said.now }
     {
-        self.exec.as_slice()
+        self.shares == traded_by(&said.happened)
+    }
+
+    /// Whether a report is this one again: it has its ExecID and as many shares.
+    pub(crate) fn is_again(&self, said: &ReportSaid<'_>) -> bool
+        ensures { result ≡ is_again self.now said.now }
+    {
+        self.exec.as_slice() == said.exec.as_bytes() && self.has_shares_of(said)
     }
 
     pub(crate) fn shares(&self) -> u64

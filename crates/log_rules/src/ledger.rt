@@ -2,7 +2,9 @@
 
 ghost use Rattle.std.specs.Prelude.{◌≡◌, [], OnOk, OnErr};
 ghost use Rattle.std.specs.Option.{option_map};
-ghost use Rattle.log_rules.specs.Ledger.{changed_by, comes_again, has_report_in, newest_order, newest_under, order_of, report_of_exec, report_under, shares_of_exec, uncounted_of, with_order, with_refusal_heard, with_report, with_report_heard};
+ghost use Rattle.log_rules.specs.Ledger.{changed_by, comes_again, has_report_in, newest_order, newest_under, order_of};
+ghost use Rattle.log_rules.specs.Ledger.{report_of_exec, report_under, shares_of_exec, uncounted_of, with_order};
+ghost use Rattle.log_rules.specs.Ledger.{with_refusal_heard, with_report, with_report_heard};
 
 use crate::entry::Entry;
 use crate::kept_report::KeptReport;

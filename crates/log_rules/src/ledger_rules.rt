@@ -1,7 +1,8 @@
 //! The rules of orders and of the reports on them.
 
 ghost use Rattle.std.specs.Prelude.{◌≡◌};
-ghost use Rattle.log_rules.specs.LedgerRules.{adds_up, bust_adds_up, is_sum, known_order, not_withdrawn, one_use, repeats, sent_once, shares_undone, sums_add_up, sums_of, trade_adds_up};
+ghost use Rattle.log_rules.specs.LedgerRules.{adds_up, bust_adds_up, is_sum, known_order, not_withdrawn, one_use};
+ghost use Rattle.log_rules.specs.LedgerRules.{repeats, sent_once, shares_undone, sums_add_up, sums_of, trade_adds_up};
 
 use crate::entry::Entry;
 use crate::ledger::Ledger;
@@ -55,7 +56,7 @@ fn repeats(standing: &Standing, ledger: &Ledger, number: u64, said: &ReportSaid<
     ensures { result ≡ repeats standing.now.counted ledger.now.reports number said.now }
 {
     match ledger.report_under(number) {
-        Some(kept) => Verdict::held_if(kept.exec() == said.exec.as_bytes()),
+        Some(kept) => Verdict::held_if(kept.is_again(said)),
         None if standing.was_counted(number) => Verdict::Broken,
         None => Verdict::Unasked,
     }

@@ -2,9 +2,13 @@
 
 ghost use Rattle.std.specs.Prelude.{◌≡◌};
 ghost use Rattle.std.specs.Option.{option_map};
-ghost use Rattle.log_rules.specs.ReportRules.{counted_on, exec_once, is_first, is_of_open, is_within, known_kind, limit_kept, open_order, same_terms, sides_agree, status_fits, status_of, status_says, status_with, texts_agree, trade_within, within_limit};
+ghost use Rattle.log_rules.specs.ReportRules.{counted_on, exec_once, exec_used, is_first, is_of_open, is_within};
+ghost use Rattle.log_rules.specs.ReportRules.{known_kind, limit_kept, open_order, same_terms, sides_agree, status_fits};
+ghost use Rattle.log_rules.specs.ReportRules.{status_of, status_says, status_with, texts_agree, trade_within};
+ghost use Rattle.log_rules.specs.ReportRules.{within_limit};
 
 use crate::entry::Entry;
+use crate::kept_report::KeptReport;
 use crate::ledger::Ledger;
 use crate::order::Order;
 use crate::report_said::{Happening, ReportSaid};
@@ -22,15 +26,27 @@ fn is_first(standing: &Standing, ledger: &Ledger, number: u64) -> bool
     !(number <= standing.seen && ledger.report_under(number).is_some())
 }
 
-/// A report that comes for the first time has an ExecID of its own, unless it says that it may have come under another
-/// number.
+/// What is said of the ExecID of a report that comes for the first time, of which another may be the first.
+fn exec_used(poss_resend: bool, first: Option<&KeptReport>, said: &ReportSaid<'_>) -> Verdict
+    ensures { result ≡ exec_used poss_resend (option_map (λ report. report.now) first.entry) said.now }
+{
+    match (poss_resend, first) {
+        (true, None) => Verdict::Unasked,
+        (true, Some(first)) => Verdict::held_if(first.has_shares_of(said)),
+        (false, None) => Verdict::Held,
+        (false, Some(_)) => Verdict::Broken,
+    }
+}
+
+/// A report that comes for the first time has an ExecID of its own. One that says that it may have come under another
+/// number has as many shares as the first of its ExecID.
 pub(crate) fn exec_once(standing: &Standing, ledger: &Ledger, entry: &Entry<'_>) -> Verdict
     ensures { result ≡ exec_once standing.now ledger.now entry.now }
 {
     match (entry.direction, &entry.says) {
-        (Direction::Received, Says::Report(said))
-            if is_first(standing, ledger, entry.number) && !entry.poss_resend => {
-            Verdict::held_if(ledger.report_of_exec(said.exec.as_bytes()).is_none())
+        (Direction::Received, Says::Report(said)) if is_first(standing, ledger, entry.number) => {
+            let first = ledger.report_of_exec(said.exec.as_bytes());
+            exec_used(entry.poss_resend, first, said)
         }
         _ => Verdict::Unasked,
     }

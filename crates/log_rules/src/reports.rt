@@ -3,7 +3,8 @@
 ghost use Rattle.std.specs.Prelude.{◌≡◌, ◌++◌, ◌∷◌, [], option_and_then, slice_get, OnOk, OnErr};
 ghost use Rattle.std.specs.Option.{option_map};
 ghost use Rattle.log_rules.specs.KeptReport.{kept_report};
-ghost use Rattle.log_rules.specs.Ledger.{comes_again, has_report_in, report_of_exec, report_under, shares_of_exec, uncounted_of};
+ghost use Rattle.log_rules.specs.Ledger.{comes_again, has_report_in, report_of_exec, report_under, shares_of_exec};
+ghost use Rattle.log_rules.specs.Ledger.{uncounted_of};
 
 use crate::kept_report::KeptReport;
 use crate::number_places::NumberPlaces;

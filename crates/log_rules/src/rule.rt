@@ -100,7 +100,8 @@ impl Rule {
             Rule::FenceAnswered => {
                 "a test request is answered once it was sent and nothing below it is asked for again"
             }
-            Rule::OneUse => "a number of the exchange carries one report for good, or none",
+            Rule::OneUse =>
+                "a number of the exchange carries one report for good, with its shares, or none",
             Rule::KnownOrder => "a report is on an order that was sent",
             Rule::NotWithdrawn =>
                 "no report is on an order that the exchange asked to be sent again",
@@ -110,7 +111,8 @@ impl Rule {
                 "a message of the exchange that isn't sent again (43=Y) has a number above those before it"
             }
             Rule::ResendAnswered => "the exchange answers a resend request before it logs out",
-            Rule::ExecOnce => "a new report has an ExecID (17) of its own",
+            Rule::ExecOnce =>
+                "a new report has an ExecID (17) of its own, or with 97=Y the shares of its first one",
             Rule::KnownKind => {
                 "ExecType (150) is one of FIX 4.4's, with a trade's LastQty (32) and LastPx (31) or a bust's ExecRefID (19)"
             }

@@ -2,7 +2,9 @@
 
 ghost use Rattle.std.specs.Prelude.{◌≡◌};
 ghost use Rattle.fix_text.specs.Tagged.{value_of};
-ghost use Rattle.log_rules.specs.Said.{application_said, bust_of, fence_number, happening_of, heartbeat_said, is_priced, order_said, price_at, refusal_of, report_of, report_said, said_by, session_said, shares_at, side_at, trade_of};
+ghost use Rattle.log_rules.specs.Said.{application_said, bust_of, fence_number, happening_of, heartbeat_said};
+ghost use Rattle.log_rules.specs.Said.{is_priced, order_said, price_at, refusal_of, report_of, report_said, said_by};
+ghost use Rattle.log_rules.specs.Said.{session_said, shares_at, side_at, trade_of};
 
 use crate::order_said::OrderSaid;
 use crate::report_said::{Happening, ReportSaid};

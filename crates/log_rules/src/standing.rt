@@ -1,7 +1,12 @@
 //! How the two ends stand, as far as the messages show it.
 
 ghost use Rattle.std.specs.Prelude.{◌≡◌};
-ghost use Rattle.log_rules.specs.Standing.{after, allowed, asked_after, counted_after, counted_filled, heart_after, is_due, is_late, is_logged_out_after, is_peer_out_after, is_up_after, last_after, logon_after, new_standing, awaited_above, awaited_after, passed_after, phase_after, request_after, resets_after, says_next_after, seen_after, settled_after, settles, unless_answered, unless_filled, was_reached, wrote_at_after};
+ghost use Rattle.log_rules.specs.Standing.{after, allowed, asked_after, counted_after, counted_filled, heart_after};
+ghost use Rattle.log_rules.specs.Standing.{is_due, is_late, is_logged_out_after, is_peer_out_after, is_up_after};
+ghost use Rattle.log_rules.specs.Standing.{last_after, logon_after, new_standing, awaited_above, awaited_after};
+ghost use Rattle.log_rules.specs.Standing.{passed_after, phase_after, request_after, resets_after, says_next_after};
+ghost use Rattle.log_rules.specs.Standing.{seen_after, settled_after, settles, unless_answered, unless_filled};
+ghost use Rattle.log_rules.specs.Standing.{was_reached, wrote_at_after};
 
 use crate::entry::Entry;
 use crate::moment::Moment;

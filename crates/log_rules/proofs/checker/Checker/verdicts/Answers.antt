@@ -6,7 +6,7 @@ use Rattle.log_rules.proofs.checker.Checker.verdicts.Goals as goal
 pub returns : goal.returns
 returns c =
     one_by_one refl
-    (one_by_one c.sent_numbers.ensures
+    (one_by_one (named _ c.of_sent.ensures c.sent_numbers.ensures)
     (one_by_one c.sent_once.ensures
     (one_by_one c.gap_fills.ensures
     (one_by_one (named _ c.of_first.ensures c.logon_first.ensures)
