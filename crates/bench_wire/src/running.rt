@@ -168,7 +168,7 @@ fn load_at<
     R: Net<Listener = TcpListener, Stream = TcpStream> + Threads + Wait + Clock + Sync,
 >(rt: &R, alloc: Global, site: Site, load: WireLoad) -> Result<Vec<u128>, TrialFault>
     requires lock { (site.callers.name ≡ L.name) × (L.parts ≡ 1024)
-        × (L.queues ≡ map (λ ends. ends.0.table) site.rings.items) }
+        × (L.queues ≡ map (λ ends. ends.0.table) site.rings.items) × (site.callers.slips ≡ L.slips) }
     requires book { (site.workers.name ≡ M.name) × (M.parts ≡ site.venues) × (site.workers.lists ≡ M.lists) }
     requires sweeps { (site.workers.sweeps ≡ M.sweeps) × (L.sweeps ≡ M.sweeps) }
 {

@@ -17,14 +17,13 @@ use desk_threads::Cast;
 use desk_venues::{DayFault, DeskLink, Exchange, OpenVenues, Sight, open_venues};
 use exec_collector::{Accounts, BlankBook, Collector};
 use readiness::Wakeup;
-use release_lock::{CallerSeat, Opened, ReleaseLock, Run};
+use release_lock::{BlankDesk, CallerSeat, Opened, ReleaseLock, Run};
 use session_worker::Stop;
 use std::alloc::Global;
 use std::collections::VecDeque;
 use std::fs::{File, Files};
 use std::io::{self, Write};
 use std::net::Net;
-use std::sync::ledger::Blank;
 use std::sync::{Arc, Mutex, Wait};
 use std::time::Clock;
 use venue_queue::{Drain, Feed};
@@ -62,7 +61,7 @@ pub fn open_day<'a, L, M, R, W>(
     alloc: Global,
     venues: &[Venue],
     means: Means<'_, W>,
-    callers: Blank,
+    callers: BlankDesk,
     workers: BlankBook,
     rings: VecDeque<(Feed, Drain)>,
 ) -> Result<OpenDay<'a, L, M, R, W>, DayFault>
@@ -72,7 +71,8 @@ where
     R: Net + Files<File = File> + Wait + Clock,
     W: Write + Drop,
     requires venues { (1 ≤ length venues.now) × (length venues.now ≤ 16) }
-    requires callers { (callers.name ≡ L.name) × (callers.parts ≡ L.parts) × (L.parts ≡ 1024) }
+    requires callers { (callers.name ≡ L.name) × (callers.parts ≡ L.parts) × (L.parts ≡ 1024)
+        × (callers.slips ≡ L.slips) }
     requires workers { (workers.name ≡ M.name) × (workers.parts ≡ M.parts) × (M.parts ≡ length venues.now) }
     requires lists { (workers.lists ≡ M.lists) × (workers.sweeps ≡ M.sweeps) }
     requires tied { L.sweeps ≡ M.sweeps }

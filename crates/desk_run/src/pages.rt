@@ -9,10 +9,11 @@ use desk_venues::{DayFault, first_address};
 use std::alloc::Global;
 use std::io::ErrorKind;
 use std::net::{Net, TcpListener, TcpStream};
+use std::time::Clock;
 
 /// The servers of the page that a configuration asks for, one for each caller and each client that may follow the day;
 /// none where it asks for no page.
-pub fn open_pages<R: Net<Listener = TcpListener, Stream = TcpStream>>(
+pub fn open_pages<R: Net<Listener = TcpListener, Stream = TcpStream> + Clock>(
     rt: &R,
     alloc: Global,
     config: &DeskConfig,

@@ -27,7 +27,7 @@ use desk_venues::{DayFault, Serve};
 use exec_collector::{Accounts, BlankBook};
 use json_lines::Form;
 use link::Link;
-use release_lock::{CallerSeat, Run, rings};
+use release_lock::{BlankDesk, CallerSeat, Run, rings};
 use std::alloc::Global;
 use std::collections::VecDeque;
 use std::fs::{File, Files};
@@ -35,7 +35,6 @@ use std::io::{Read, Write};
 use std::marker::Brand;
 use std::net::{Net, TcpListener, TcpStream};
 use std::sync::Wait;
-use std::sync::ledger::Blank;
 use std::thread::{Threads, join};
 use std::time;
 use venue_queue::{Drain, Feed};
@@ -99,7 +98,7 @@ where
         servers: open_pages(rt, alloc, config)?,
         cut: 0,
     };
-    let callers = Blank::new(1024);
+    let callers = BlankDesk::new(1024);
     let Ok(workers) = BlankBook::new(alloc, count) else {
         return Err(DayFault::OutOfMemory);
     };
@@ -113,7 +112,7 @@ fn named_day<L, M, R, I, W>(
     venues: &[Venue],
     means: Means<'_, W>,
     lines: InputLines<I>,
-    callers: Blank,
+    callers: BlankDesk,
     workers: BlankBook,
     rings: VecDeque<(Feed, Drain)>,
 ) -> Result<DeskDay, DayFault>
@@ -129,7 +128,8 @@ where
     I: Read + Drop,
     W: Write + Drop + Send,
     requires venues { (1 ≤ length venues.now) × (length venues.now ≤ 16) }
-    requires callers { (callers.name ≡ L.name) × (callers.parts ≡ L.parts) × (L.parts ≡ 1024) }
+    requires callers { (callers.name ≡ L.name) × (callers.parts ≡ L.parts) × (L.parts ≡ 1024)
+        × (callers.slips ≡ L.slips) }
     requires workers { (workers.name ≡ M.name) × (workers.parts ≡ M.parts) × (M.parts ≡ length venues.now) }
     requires lists { (workers.lists ≡ M.lists) × (workers.sweeps ≡ M.sweeps) }
     requires tied { L.sweeps ≡ M.sweeps }

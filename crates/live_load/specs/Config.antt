@@ -4,10 +4,11 @@ use Rattle.dialect.specs.declared.any_dialect.AnyDialect.TheVariants.{Plain}
 use Rattle.desk_config.specs.declared.endpoint.Endpoint.TheVariants.{Simulated}
 use Rattle.desk_config.specs.declared.session_terms.SessionTerms.{SessionTerms}
 use Rattle.desk_config.specs.declared.venue.Venue.{Venue}
+use Rattle.venue_words.specs.declared.words.VenueWords.TheVariants.{Preset}
 
 -- how each session is held
 abbrev pub session : SessionTerms
-session = record { dialect = Plain; heartbeat = 30; next_expected = false; max_number = 999_999_999 }
+session = record { heartbeat = 30; next_expected = false; max_number = 999_999_999 }
 
 -- the venue of a number: its exchange is simulated and trades 6 shares of each order; the desk is A and the exchange B
 abbrev pub venue_of : ℕ → Venue
@@ -17,6 +18,7 @@ venue_of number = record {
   target = codes "B";
   sender = codes "A";
   session = session;
+  words = Preset Plain;
 }
 
 -- so many venues

@@ -8,6 +8,7 @@ use desk_words::VenueName;
 use dialect::AnyDialect;
 use fix_tags::CompId;
 use std::alloc::Global;
+use venue_words::VenueWords;
 
 /// How many shares of each order an exchange trades.
 const FILL: u64 = 6;
@@ -23,7 +24,6 @@ fn session() -> SessionTerms
     ensures { result ≡ session }
 {
     SessionTerms {
-        dialect: AnyDialect::Plain,
         heartbeat: Heartbeat::of(HEARTBEAT),
         next_expected: false,
         max_number: NumberLimit::of(MAX_NUMBER),
@@ -42,6 +42,7 @@ fn venue_of(alloc: Global, number: u8) -> Option<Venue>
         target: CompId::new(b"B").unwrap(),
         sender: CompId::new(b"A").unwrap(),
         session: session(),
+        words: VenueWords::Preset(AnyDialect::Plain),
     })
 }
 

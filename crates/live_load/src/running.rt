@@ -28,7 +28,7 @@ use desk_venues::{DayFault, Serve};
 use exec_collector::{Accounts, BlankBook};
 use json_lines::Form;
 use link::Link;
-use release_lock::{CallerSeat, Run, rings};
+use release_lock::{BlankDesk, CallerSeat, Run, rings};
 use std::alloc::{AllocError, Global};
 use std::collections::VecDeque;
 use std::fs::{File, Files};
@@ -36,7 +36,6 @@ use std::io::{Sink, Write, sink};
 use std::marker::Brand;
 use std::net::{Net, TcpListener, TcpStream};
 use std::sync::Wait;
-use std::sync::ledger::Blank;
 use std::thread::{Threads, join};
 use std::time;
 use venue_queue::{Drain, Feed};
@@ -75,7 +74,7 @@ where
     let Ok(workers) = BlankBook::new(alloc, plan.venues) else {
         return Err(DayFault::OutOfMemory);
     };
-    let callers = Blank::new(1024);
+    let callers = BlankDesk::new(1024);
     named_day::<Brand, Brand, R, P>(
         rt,
         alloc,
@@ -94,7 +93,7 @@ fn named_day<L, M, R, P>(
     alloc: Global,
     plan: LivePlan,
     venues: &[Venue],
-    callers: Blank,
+    callers: BlankDesk,
     workers: BlankBook,
     rings: VecDeque<(Feed, Drain)>,
     progress: P,
@@ -111,7 +110,8 @@ where
     P: Progress + Drop,
     requires plan { IsLivePlan plan }
     requires venues { length venues.now ≡ plan.venues }
-    requires callers { (callers.name ≡ L.name) × (callers.parts ≡ L.parts) × (L.parts ≡ 1024) }
+    requires callers { (callers.name ≡ L.name) × (callers.parts ≡ L.parts) × (L.parts ≡ 1024)
+        × (callers.slips ≡ L.slips) }
     requires workers { (workers.name ≡ M.name) × (workers.parts ≡ M.parts) × (M.parts ≡ plan.venues) }
     requires lists { (workers.lists ≡ M.lists) × (workers.sweeps ≡ M.sweeps) }
     requires tied { L.sweeps ≡ M.sweeps }

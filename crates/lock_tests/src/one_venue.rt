@@ -7,12 +7,13 @@ ghost use Rattle.release_lock.specs.Queues.{IsFresh};
 use crate::full_ring::{fills_up, moves_on};
 use crate::read_back::reads_back;
 use exec_collector::{Accounts, BlankBook, Collector};
-use release_lock::{CallerSeat, Miscounted, Opened, ReleaseLock, Run, check_placed, rings};
+use release_lock::{
+    BlankDesk, CallerSeat, Miscounted, Opened, ReleaseLock, Run, check_placed, rings,
+};
 use std::alloc::Global;
 use std::collections::VecDeque;
 use std::marker::Brand;
 use std::sync::Wait;
-use std::sync::ledger::Blank;
 use std::test::Fail;
 use venue_queue::{Drain, Feed};
 
@@ -42,12 +43,13 @@ fn counts<L: Run>(alloc: Global, lock: ReleaseLock<L>, seat: CallerSeat<L>) -> R
 fn at_one_venue<L: Run, M: Accounts>(
     rt: &impl Wait,
     alloc: Global,
-    callers: Blank,
+    callers: BlankDesk,
     workers: BlankBook,
     rings: VecDeque<(Feed, Drain)>,
     trial: Trial,
 ) -> Result<u64, Fail>
-    requires callers { (callers.name ≡ L.name) × (callers.parts ≡ L.parts) × (L.parts ≡ 1024) }
+    requires callers { (callers.name ≡ L.name) × (callers.parts ≡ L.parts) × (L.parts ≡ 1024)
+        × (callers.slips ≡ L.slips) }
     requires workers { (workers.name ≡ M.name) × (workers.parts ≡ M.parts) × (M.parts ≡ 1) }
     requires lists { (workers.lists ≡ M.lists) × (workers.sweeps ≡ M.sweeps) }
     requires tied { L.sweeps ≡ M.sweeps }
@@ -81,7 +83,7 @@ fn at_one_venue<L: Run, M: Accounts>(
 fn tries(rt: &impl Wait, alloc: Global, trial: Trial) -> Result<u64, Fail> {
     let rings = rings(alloc, 1)?;
     let workers = BlankBook::new(alloc, 1)?;
-    at_one_venue::<Brand, Brand>(rt, alloc, Blank::new(1024), workers, rings, trial)
+    at_one_venue::<Brand, Brand>(rt, alloc, BlankDesk::new(1024), workers, rings, trial)
 }
 
 #[test]

@@ -7,7 +7,7 @@ use Rattle.leg.specs.declared.placed_leg.PlacedLeg.{PlacedLeg}
 use Rattle.venue_queue.specs.Port.{Port, with_leg}
 use Rattle.sweep_release.specs.declared.desk_entry.DeskEntry.TheVariants.{Taken, Dropped}
 use Rattle.sweep_release.specs.Released.{released}
-use Rattle.sweep_release.specs.Desk.{DeskParts, venue_at, gate_of, placed_legs, placed, placed_shares, is_up, one_left, leave_first, leave, next_leg}
+use Rattle.sweep_release.specs.Desk.{DeskParts, venue_at, gate_of, placed_legs, placed, is_up, one_left, leave_first, leave, next_leg}
 use Rattle.sweep_release.specs.History.{again, replay, left_entries, KeptDesk}
 use Rattle.sweep_release.specs.Laws.{ChangesOnly}
 use Rattle.sweep_release.proofs.AtVenue.{only-take, only-drop_next, drop-next}
@@ -15,7 +15,9 @@ use Rattle.sweep_release.proofs.Venues.{left-one_left, gate_of-one_left}
 use Rattle.release_lock.specs.Queues.{placed_from, left_to, leaving, Pumps}
 use Rattle.leg.specs.declared.sweep.Sweep.{Sweep}
 use Rattle.exec_collector.specs.Opened.{sweeps_of}
-use Rattle.release_lock.specs.Locked.{IsLocked, IsDeskSide}
+use Rattle.exec_collector.specs.declared.placed_sweep.PlacedSweep.{PlacedSweep}
+use Rattle.release_lock.specs.Seats.{placings_from}
+use Rattle.release_lock.specs.Locked.{placed_count, IsLocked, IsDeskSide, IsDeskBook}
 use Rattle.release_lock.proofs.Replaying.{replay-append, same_venues, leads_on}
 use Rattle.release_lock.proofs.LeftLegs.{take_next, fed_set}
 
@@ -174,7 +176,7 @@ pumped_locked queues venue before after total feeds old new locked pumps at ring
       few = locked.few;
       venues = ap (λ d. length d.venues) pumps.desk ∙ (same_venues before.desk calls ∙ locked.venues);
       replays = leads_on before after calls locked.replays pumps.desk pumps.history;
-      counted = locked.counted ∙ ap (λ s. placed_shares (record before.desk { sweeps = s })) (sym only.sweeps);
+      counted = locked.counted ∙ ap (λ s. placed_count (record before.desk { sweeps = s })) (sym only.sweeps);
       many = length-set feeds venue new ∙ locked.many;
       fed = fed_set queues before.desk after.desk feeds venue old new only at ring.0 ring.1 legs locked.fed;
     }
@@ -186,4 +188,13 @@ pumped_side venue before after pumps side =
     record {
       named = side.named;
       releases = side.releases ∙ ap sweeps_of (sym (only_pumped venue before after pumps).sweeps);
+    }
+
+-- and the book of slips
+pub pumped_book : {book name : ℕ} {given : List PlacedSweep} (venue : ℕ) (before after : KeptDesk)
+    → Pumps venue before after → IsDeskBook book before name given → IsDeskBook book after name given
+pumped_book venue before after pumps slips =
+    record {
+      named = slips.named;
+      gives = slips.gives ∙ ap (placings_from 1) (sym (only_pumped venue before after pumps).sweeps);
     }

@@ -4,11 +4,11 @@ use Rattle.std.proofs.lemmas.List.{length-append, length-map, length-replicate}
 use Rattle.std.proofs.lemmas.List.Elements.{All-head, All-tail}
 use Rattle.atomic_table.specs.Seated.{TableId}
 use Rattle.venue_queue.specs.Port.{Port}
-use Rattle.sweep_release.specs.Desk.{new_desk, placed_shares}
+use Rattle.sweep_release.specs.Desk.{new_desk}
 use Rattle.sweep_release.specs.History.{KeptDesk, without_room}
 use Rattle.sweep_release.proofs.Venues.{left-new_desk}
 use Rattle.release_lock.specs.Queues.{IsFresh, DrainParts, new_drains, released_to, left_to}
-use Rattle.release_lock.specs.Locked.{IsLocked}
+use Rattle.release_lock.specs.Locked.{placed_count, IsLocked}
 use Rattle.release_lock.proofs.Replaying.{replays_new}
 
 -- what stands first behind n stands at n
@@ -99,7 +99,7 @@ new_locked queues venues number all rings feeds drains desk total high count nam
       few = omega (arith, many, high);
       venues = ap (λ d. length d.venues) desk_is ∙ (length-replicate venues _ ∙ sym many);
       replays = replays_new venues desk desk_is (ap (λ d. d.history) new);
-      counted = zero_total ∙ sym (ap placed_shares desk_is);
+      counted = zero_total ∙ sym (ap placed_count desk_is);
       many = made.many ∙ (done ∙ sym many);
       fed = λ venue feed at.
           let it = made.new venue feed at in

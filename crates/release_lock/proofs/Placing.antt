@@ -1,7 +1,7 @@
 -- What is kept under the lock once a sweep is placed, or refused.
-use Rattle.std.proofs.Common.{◌≡◌, ℕ, ◌+◌, ◌≤◌, inl, inr, List, [], ◌∷◌, ◌++◌, length, Option, Some, None, Result, Ok, Err, refl, ap, sym, ◌∙◌, subst}
+use Rattle.std.proofs.Common.{arith, ◌≡◌, ℕ, ◌+◌, inl, inr, List, [], ◌∷◌, ◌++◌, length, Option, Some, None, Result, Ok, Err, refl, ap, sym, ◌∙◌, subst}
 use Rattle.std.specs.Prelude.{MatchResult}
-use Rattle.std.proofs.lemmas.List.{append-nil}
+use Rattle.std.proofs.lemmas.List.{append-nil, length-append}
 use Rattle.std.proofs.lemmas.List.Sums.{sum_by_push}
 use Rattle.atomic_table.specs.Seated.{TableId}
 use Rattle.leg.specs.Answering.{Answers}
@@ -11,6 +11,7 @@ use Rattle.share_ledger.specs.declared.book_fault.BookFault.TheVariants as book_
 use Rattle.share_ledger.specs.Entries.{sweep_shares}
 use Rattle.share_ledger.specs.Book.{BookParts, BookAnswer, open_sweep}
 use Rattle.exec_collector.specs.Resolved.{OnlyOpens}
+use Rattle.exec_collector.specs.declared.placed_sweep.PlacedSweep.{PlacedSweep}
 use Rattle.exec_collector.proofs.Counts.{opens_one}
 use Rattle.venue_queue.specs.Port.{Port}
 use Rattle.sweep_release.specs.declared.desk_entry.DeskEntry.TheVariants.{Released}
@@ -20,12 +21,13 @@ use Rattle.sweep_release.specs.declared.release_fault.ReleaseFault.TheVariants.{
 use Rattle.sweep_release.specs.Desk.{DeskParts, placed_shares, release_refusal, release_unless, release, next_number, with_sweep}
 use Rattle.sweep_release.specs.History.{replay, KeptDesk, without_room}
 use Rattle.sweep_release.specs.Place.{DeskAndBook, place_in_book, place_after, KeptDeskAndBook, kept, with_release, place_kept, PlaceAnswers}
-use Rattle.sweep_release.proofs.KeptReleased.{shares_left}
 use Rattle.release_lock.specs.Queues.{left_to}
-use Rattle.release_lock.specs.Locked.{Places, IsLocked}
+use Rattle.release_lock.specs.Locked.{placed_count, Places, IsLocked, IsDeskBook}
+use Rattle.release_lock.specs.Seats.{placing, placings_from}
 use Rattle.release_lock.proofs.Replaying.{leads_on, is_counted}
 use Rattle.release_lock.proofs.LeftLegs.{left_released, fed_as}
-use Rattle.release_lock.proofs.Turning.{turned_locked, turns_none}
+use Rattle.release_lock.proofs.Shares.{placings_push}
+use Rattle.release_lock.proofs.Turning.{turned_locked, turned_book, turns_none}
 
 abbrev seen : KeptDeskAndBook → DeskAndBook
 seen before = record { desk = before.desk.desk; book = before.book }
@@ -121,15 +123,18 @@ placed_more legs before receipt after it =
     ∙ (sum_by_push sweep_shares before.desk.sweeps legs
     ∙ ap (λ r. placed_shares before.desk + r.shares) (sym it.receipt_is))
 
-pub few_placed : (legs : List Routed) (before : KeptDesk) (receipt : Receipt) (after : KeptDesk)
-    → IsReleased legs before receipt after → placed_shares before.desk + receipt.shares ≤ 1000000000000000000
-few_placed legs before receipt after it =
-    subst (λ (r : Receipt). placed_shares before.desk + r.shares ≤ 1000000000000000000) (sym it.receipt_is)
-    (shares_left before.desk legs it.fits)
+count_more : (legs : List Routed) (before : KeptDesk) (receipt : Receipt) (after : KeptDesk) (total now : ℕ)
+    → IsReleased legs before receipt after → total ≡ placed_count before.desk → now ≡ total + receipt.shares + 1
+    → now ≡ placed_count after.desk
+count_more legs before receipt after total now it was counted =
+    let shares = placed_more legs before receipt after it in
+    let long : length after.desk.sweeps ≡ length before.desk.sweeps + 1
+    = ap (λ d. length d.sweeps) it.desk ∙ length-append before.desk.sweeps (legs ∷ []) in
+    omega (arith, was, counted, shares, long)
 
 pub released_locked : (queues : List TableId) (legs : List Routed) (before : KeptDesk) (receipt : Receipt)
     (after : KeptDesk) (total now : ℕ) (feeds : List Port) → IsLocked queues before total feeds
-    → IsReleased legs before receipt after → now ≡ total + receipt.shares → IsLocked queues after now feeds
+    → IsReleased legs before receipt after → now ≡ total + receipt.shares + 1 → IsLocked queues after now feeds
 released_locked queues legs before receipt after total now feeds locked it counted =
     let call = Released (record { legs = legs }) in
     let led : after.desk ≡ replay before.desk (call ∷ []) =
@@ -138,7 +143,7 @@ released_locked queues legs before receipt after total now feeds locked it count
       few = locked.few;
       venues = ap (λ d. length d.venues) it.desk ∙ locked.venues;
       replays = leads_on before after (call ∷ []) locked.replays led it.history;
-      counted = counted ∙ (ap (λ n. n + receipt.shares) locked.counted ∙ sym (placed_more legs before receipt after it));
+      counted = count_more legs before receipt after total now it locked.counted counted;
       many = locked.many;
       fed = fed_as queues before.desk after.desk feeds
           (λ venue. ap (λ d. left_to d venue) it.desk
@@ -150,3 +155,22 @@ pub same_locked : (queues : List TableId) (before after : KeptDesk) (total : ℕ
     → IsLocked queues before total feeds → without_room after ≡ without_room before → IsLocked queues after total feeds
 same_locked queues before after total feeds locked same =
     turned_locked queues before after total feeds locked (turns_none before after same)
+
+-- the book gave a slip for the sweep that was released
+pub released_book : {book name now : ℕ} {given more : List PlacedSweep} (legs : List Routed) (before : KeptDesk)
+    (receipt : Receipt) (after : KeptDesk) → IsReleased legs before receipt after → now ≡ name
+    → more ≡ given ++ placing receipt.number legs ∷ [] → IsDeskBook book before name given
+    → IsDeskBook book after now more
+released_book legs before receipt after it same gave slips =
+    record {
+      named = same ∙ slips.named;
+      gives = gave
+          ∙ (ap (λ l. l ++ placing receipt.number legs ∷ []) slips.gives
+          ∙ (ap (λ r. placings_from 1 before.desk.sweeps ++ placing r.number legs ∷ []) it.receipt_is
+          ∙ (sym (placings_push 1 before.desk.sweeps legs)
+          ∙ ap (λ d. placings_from 1 d.sweeps) (sym it.desk))));
+    }
+
+pub same_book : {book name : ℕ} {given : List PlacedSweep} (before after : KeptDesk)
+    → without_room after ≡ without_room before → IsDeskBook book before name given → IsDeskBook book after name given
+same_book before after same slips = turned_book before after (turns_none before after same) slips

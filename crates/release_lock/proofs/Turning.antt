@@ -13,13 +13,15 @@ use Rattle.sweep_release.specs.declared.gate.Gate.{Gate}
 use Rattle.sweep_release.specs.declared.gate.Gate.TheVariants.{Up, Down, Shut}
 use Rattle.sweep_release.specs.declared.gate_fault.GateFault.{GateFault}
 use Rattle.sweep_release.specs.declared.gate_fault.GateFault.TheVariants.{OutOfMemory}
-use Rattle.sweep_release.specs.Desk.{DeskParts, venue_at, gate_of, placed, placed_shares, is_up, is_shut, with_gate, gate_up_from, gate_up, gate_down, shut}
+use Rattle.sweep_release.specs.Desk.{DeskParts, venue_at, gate_of, placed, is_up, is_shut, with_gate, gate_up_from, gate_up, gate_down, shut}
 use Rattle.sweep_release.specs.History.{again, replay, history, KeptDesk, without_room, with_entries, gate_up_entries, gate_down_entries, shut_entries}
 use Rattle.sweep_release.proofs.Calls.{replayed-history}
 use Rattle.sweep_release.proofs.Venues.{left-with_gate}
 use Rattle.leg.specs.declared.sweep.Sweep.{Sweep}
 use Rattle.exec_collector.specs.Opened.{sweeps_of}
-use Rattle.release_lock.specs.Locked.{is_turn, OnlyTurns, IsLocked, IsDeskSide}
+use Rattle.exec_collector.specs.declared.placed_sweep.PlacedSweep.{PlacedSweep}
+use Rattle.release_lock.specs.Seats.{placings_from}
+use Rattle.release_lock.specs.Locked.{is_turn, OnlyTurns, placed_count, IsLocked, IsDeskSide, IsDeskBook}
 use Rattle.release_lock.proofs.Replaying.{leads_on, same_venues}
 use Rattle.release_lock.proofs.LeftLegs.{left_as, fed_as}
 
@@ -81,7 +83,7 @@ turned_locked queues before after total feeds locked turns =
       few = locked.few;
       venues = ap (λ d. length d.venues) turns.desk ∙ same_venues before.desk turns.calls ∙ locked.venues;
       replays = leads_on before after (history before.desk turns.calls) locked.replays led turns.history_is;
-      counted = locked.counted ∙ sym (ap (λ s. placed_shares (record before.desk { sweeps = s })) sweeps);
+      counted = locked.counted ∙ sym (ap (λ s. placed_count (record before.desk { sweeps = s })) sweeps);
       many = locked.many;
       fed = fed_as queues before.desk after.desk feeds
           (λ venue. left_as before.desk after.desk venue sweeps (left venue)) locked.fed;
@@ -94,6 +96,14 @@ turned_side before after turns side =
     let all = all_turned before.desk turns.calls turns.turns in
     let sweeps : after.desk.sweeps ≡ before.desk.sweeps = ap (λ d. d.sweeps) turns.desk ∙ all.sweeps in
     record { named = side.named; releases = side.releases ∙ ap sweeps_of (sym sweeps) }
+
+-- and the book of slips
+pub turned_book : {book name : ℕ} {given : List PlacedSweep} (before after : KeptDesk) → OnlyTurns before after
+    → IsDeskBook book before name given → IsDeskBook book after name given
+turned_book before after turns slips =
+    let all = all_turned before.desk turns.calls turns.turns in
+    let sweeps : after.desk.sweeps ≡ before.desk.sweeps = ap (λ d. d.sweeps) turns.desk ∙ all.sweeps in
+    record { named = slips.named; gives = slips.gives ∙ ap (placings_from 1) (sym sweeps) }
 
 -- nothing was asked that changes the desk
 pub turns_none : (before after : KeptDesk) → without_room after ≡ without_room before → OnlyTurns before after

@@ -1,31 +1,37 @@
 -- What lies under the lock, and what is asked of it.
-use Rattle.std.specs.Prelude.{◌≡◌, ℕ, ◌≤◌, Bool, true, false, List, ◌++◌, length, Result, Ok, Err}
+use Rattle.std.specs.Prelude.{◌≡◌, ℕ, ◌+◌, ◌≤◌, Bool, true, false, List, ◌++◌, length, Result, Ok, Err}
 use Rattle.std.specs.List.{list_all}
 use Rattle.atomic_table.specs.Seated.{TableId}
 use Rattle.leg.specs.declared.sweep.Routed.{Routed}
 use Rattle.leg.specs.declared.sweep.Sweep.{Sweep}
 use Rattle.exec_collector.specs.Opened.{sweeps_of}
+use Rattle.exec_collector.specs.declared.placed_sweep.PlacedSweep.{PlacedSweep}
 use Rattle.share_ledger.specs.Book.{BookParts}
 use Rattle.venue_queue.specs.Port.{Port}
 use Rattle.sweep_release.specs.declared.desk_entry.DeskEntry.{DeskEntry}
 use Rattle.sweep_release.specs.declared.desk_entry.DeskEntry.TheVariants.{Released, Up, Down, Shut, Taken, Dropped}
 use Rattle.sweep_release.specs.declared.receipt.Receipt.{Receipt}
 use Rattle.sweep_release.specs.declared.release_fault.ReleaseFault.{ReleaseFault}
-use Rattle.sweep_release.specs.Desk.{new_desk, placed_shares}
+use Rattle.sweep_release.specs.Desk.{DeskParts, new_desk, placed_shares}
 use Rattle.sweep_release.specs.History.{KeptDesk, replay, history}
 use Rattle.sweep_release.specs.Place.{kept, place_kept, PlaceAnswers}
 use Rattle.release_lock.specs.Queues.{AreFed, is_for, PumpsEach}
+use Rattle.release_lock.specs.Seats.{placings_from}
 
 -- a desk that its own history leads to
 abbrev pub Replays : KeptDesk → Type 0
 Replays kept = replay (new_desk (length kept.desk.venues)) kept.history ≡ kept.desk
+
+-- what the seats count in all: the shares of all sweeps released, and one for each sweep
+abbrev pub placed_count : DeskParts → ℕ
+placed_count desk = placed_shares desk + length desk.sweeps
 
 -- what is kept under the lock, of the run's rings, the desk, the total of the seats and the feeds
 pub record IsLocked (queues : List TableId) (desk : KeptDesk) (total : ℕ) (feeds : List Port) : Type 0 where
   pub few : length queues ≤ 16
   pub venues : length desk.desk.venues ≡ length queues
   pub replays : Replays desk
-  pub counted : total ≡ placed_shares desk.desk
+  pub counted : total ≡ placed_count desk.desk
   pub many : length feeds ≡ length queues
   pub fed : AreFed queues desk.desk feeds
 
@@ -33,6 +39,11 @@ pub record IsLocked (queues : List TableId) (desk : KeptDesk) (total : ℕ) (fee
 pub record IsDeskSide (list : ℕ) (desk : KeptDesk) (name : ℕ) (items : List Sweep) : Type 0 where
   pub named : name ≡ list
   pub releases : items ≡ sweeps_of desk.desk.sweeps
+
+-- this is the desk's book of this name, and it gave a slip for each sweep that was released, under its number
+pub record IsDeskBook (book : ℕ) (desk : KeptDesk) (name : ℕ) (given : List PlacedSweep) : Type 0 where
+  pub named : name ≡ book
+  pub gives : given ≡ placings_from 1 desk.desk.sweeps
 
 -- a sweep was placed at the desk and opened in a book, or in neither: the answer, and the desk after it
 pub record Places (legs : List Routed) (before : KeptDesk) (answer : Result Receipt ReleaseFault) (after : KeptDesk)

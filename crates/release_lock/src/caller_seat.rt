@@ -1,13 +1,14 @@
 //! What one caller placed.
 
-ghost use Rattle.std.specs.Prelude.{◌≡◌, ◌+◌, ◌<◌, ◌≤◌, ◌↔◌, ◌++◌, ◌∷◌, [], List, min, IfNone, IfSome, IsSome};
-ghost use Rattle.leg.specs.declared.sweep.Routed.{Routed};
+ghost use Rattle.std.specs.Prelude.{◌≡◌, ◌+◌, ◌<◌, ◌↔◌, ◌++◌, ◌∷◌, [], min, IfNone, IfSome, IsSome};
 ghost use Rattle.share_ledger.specs.Entries.{sweep_shares};
 ghost use Rattle.exec_collector.specs.Seats.{new_seat};
-ghost use Rattle.release_lock.specs.Seats.{placing, shares_in};
+ghost use Rattle.exec_collector.specs.declared.placed_sweep.PlacedSweep.{PlacedSweep};
+ghost use Rattle.release_lock.specs.Seats.{shares_in};
 
 use crate::Run;
-use crate::placings::Placings;
+use exec_collector::PlacedSweep;
+use slips::{SlipBook, Slips, no_slips};
 use std::marker::Model;
 use std::sync::ledger::{Book as Total, Share};
 use sweep_release::Receipt;
@@ -20,29 +21,29 @@ pub struct CallerSeat<L: Run> {
     pub(crate) parts: u64,
     pub(crate) shares: u64,
     pub(crate) share: Share<L>,
-    pub(crate) placings: Placings,
+    pub(crate) slips: Slips<PlacedSweep>,
 }
 
 impl<L: Run> Model for CallerSeat<L> {
     ghost use Rattle.std.specs.Prelude.{◌≡◌, ◌<◌, [], None, min};
     ghost use Rattle.exec_collector.specs.Seats.{Seat};
-    ghost use Rattle.release_lock.specs.Seats.{shares_in};
+    ghost use Rattle.release_lock.specs.Seats.{shares_in, count_in};
 
     ghost Value = { Seat };
 
     ghost view = { λ seat. record {
       parts = seat.share.parts;
-      shares = seat.share.amount;
+      shares = shares_in seat.slips.held;
       venue = None;
       booked = [];
       asked = [];
       bookings = [];
-      placed = seat.placings;
+      placed = seat.slips.held;
     } };
 
     ghost invariant = { λ seat. (L.parts ≡ 1024) × (seat.parts ≡ seat.share.parts) × (0 < seat.parts)
-        × (seat.shares ≡ min seat.share.amount 18446744073709551615)
-        × (seat.share.amount ≡ shares_in seat.placings) };
+        × (seat.shares ≡ min (shares_in seat.slips.held) 18446744073709551615)
+        × (seat.share.amount ≡ count_in seat.slips.held) × (seat.slips.name ≡ L.slips) };
 }
 
 impl<L: Run> CallerSeat<L> {
@@ -63,12 +64,12 @@ impl<L: Run> CallerSeat<L> {
             parts: 1,
             shares: 0,
             share,
-            placings: Placings::new(),
+            slips: no_slips(),
         })
     }
 
     /// Takes in another caller's seat, whose sweeps stand behind its own. It takes no memory.
-    #[tactic(auto, using(crate::proofs::Shares::shares_append))]
+    #[tactic(auto, using(crate::proofs::Shares::shares_append, crate::proofs::Shares::count_append))]
     pub fn join(&mut self, other: CallerSeat<L>)
         ensures parts { self.new.parts ≡ self.old.parts + other.parts }
         ensures shares { self.new.shares ≡ self.old.shares + other.shares }
@@ -78,12 +79,12 @@ impl<L: Run> CallerSeat<L> {
             parts,
             shares,
             share,
-            placings,
+            mut slips,
         } = other;
         self.share.merge(share);
         self.parts += parts;
         self.shares = self.shares.saturating_add(shares);
-        self.placings.append(&placings);
+        self.slips.join(&mut slips);
     }
 
     /// The shares counted on it, up to the greatest number of its type; under the lock at most 10^18. They are those of
@@ -95,20 +96,27 @@ impl<L: Run> CallerSeat<L> {
         self.shares
     }
 
-    /// Counts a sweep that was placed, of these legs: its shares on the seat and in the total.
-    #[tactic(auto, using(crate::proofs::Shares::shares_push))]
-    pub(crate) fn count(&mut self, total: &mut Total<L>, receipt: Receipt)
-        ghost legs: { List Routed }
-        requires few { total.old.total + receipt.shares ≤ 1000000000000000000 }
-        requires legs { receipt.shares ≡ sweep_shares legs }
+    /// Counts a sweep that was placed: its shares, and one for itself, on the seat and in the total. The book gives the
+    /// seat a slip for it.
+    #[tactic(auto, using(crate::proofs::Shares::shares_push, crate::proofs::Shares::count_push))]
+    pub(crate) fn count(
+        &mut self,
+        total: &mut Total<L>,
+        book: &mut SlipBook<PlacedSweep>,
+        receipt: Receipt,
+    )
+        ghost placed: { PlacedSweep }
+        requires book { book.old.name ≡ L.slips }
+        requires shares { receipt.shares ≡ sweep_shares placed.sweep.legs }
         ensures seat { self.new.shares ≡ self.old.shares + receipt.shares }
         ensures parts { self.new.parts ≡ self.old.parts }
-        ensures placed { self.new.placed ≡ self.old.placed ++ placing receipt.number legs ∷ [] }
-        ensures total { total.new.total ≡ total.old.total + receipt.shares }
+        ensures placed { self.new.placed ≡ self.old.placed ++ placed ∷ [] }
+        ensures total { total.new.total ≡ total.old.total + receipt.shares + 1 }
+        ensures book { (book.new.name ≡ book.old.name) × (book.new.given ≡ book.old.given ++ placed ∷ []) }
     {
         total.add(&mut self.share, receipt.shares);
-        total.audit(&mut self.share);
-        self.shares += receipt.shares;
-        self.placings.push(receipt);
+        total.add(&mut self.share, 1);
+        self.shares = self.shares.saturating_add(receipt.shares);
+        book.give(&mut self.slips);
     }
 }

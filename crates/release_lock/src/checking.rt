@@ -29,6 +29,7 @@ pub fn check_queues<L: Run>(locked: LockedDesk<L>, ends: Vec<VenueEnd<L>>) -> Re
         total: _,
         feeds,
         sweeps: _,
+        book: _,
     } = locked;
     let mut feeds = VecDeque::from(feeds);
     let mut ends = VecDeque::from(ends);

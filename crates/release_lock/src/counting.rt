@@ -3,7 +3,7 @@
 ghost use Rattle.std.specs.Prelude.{◌≡◌, ◌↔◌, IfOk, IsOk};
 ghost use Rattle.exec_collector.specs.Seats.{parts_of, shares_of};
 ghost use Rattle.sweep_release.specs.Desk.{placed_shares};
-ghost use Rattle.release_lock.specs.Seats.{shares_placed};
+ghost use Rattle.release_lock.specs.Seats.{shares_placed, AreAllPlaced};
 
 use crate::{CallerSeat, LockedDesk, Run};
 
@@ -12,7 +12,7 @@ use crate::{CallerSeat, LockedDesk, Run};
 pub struct Miscounted;
 
 /// The shares of these seats, where they are those of all sweeps released. The seats of all callers always are. In
-/// either case they are those of the sweeps on the seats.
+/// either case they are those of the sweeps on the seats. Those of all callers are the sweeps released, each once.
 #[tactic(auto, using(crate::proofs::Shares::shares_append))]
 pub fn check_placed<L: Run>(
     locked: &mut LockedDesk<L>,
@@ -21,6 +21,7 @@ pub fn check_placed<L: Run>(
     ensures exact { IsOk result ↔ (shares_of seats.items ≡ placed_shares locked.old.desk) }
     ensures shares { IfOk result (λ shares. shares ≡ placed_shares locked.old.desk) }
     ensures whole { parts_of seats.items ≡ 1024 → IsOk result }
+    ensures all_placed { parts_of seats.items ≡ 1024 → AreAllPlaced seats.items locked.old.desk.sweeps }
     ensures placed { shares_placed seats.items ≡ shares_of seats.items }
     ensures same { locked.new ≡ locked.old }
 {
@@ -32,6 +33,7 @@ pub fn check_placed<L: Run>(
             all.join(seat);
         }
         locked.total.audit(&mut all.share);
+        locked.book.compare(&mut all.slips);
         shares = all.shares;
     }
     if shares == placed {

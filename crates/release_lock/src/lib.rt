@@ -9,7 +9,8 @@
 //!   the receipt, and its shares, and by a refusal nothing. Then each venue of the sweep's legs is pumped, by a refusal
 //!   none.
 //! - A seat's shares are those of its sweeps (`CallerSeat::shares`); a seat that is split off has none, and one that is
-//!   joined hands its own on. That the sweeps of all seats are the desk's, each once, is promised nowhere.
+//!   joined hands its own on. The sweeps of all seats are the desk's, each once and under its number (clause
+//!   `all_placed` of `check_placed`): a sweep that is placed is on one seat, once.
 //! - `pump` moves placed legs into the ring, in order, and stops only where none is placed or the ring was full;
 //!   `raise` puts a gate up, and answers G01 until every released leg was popped.
 //! - `with` takes closures that only turn gates.
@@ -24,12 +25,12 @@
 //! See `docs/locks.md`.
 #![tactic(auto)]
 
+mod blank_desk;
 mod caller_seat;
 mod checking;
 mod comparing;
 mod counting;
 mod locked_desk;
-mod placings;
 mod pumping;
 mod release_lock;
 mod run;
@@ -39,6 +40,7 @@ mod venue_end;
 mod venue_note;
 mod venue_rings;
 
+pub use blank_desk::BlankDesk;
 pub use caller_seat::CallerSeat;
 pub use checking::{WrongQueue, check_queues};
 pub use comparing::compare_sweeps;

@@ -19,9 +19,10 @@ use crate::pumping::{pump, pump_each};
 use crate::sweep_venues::SweepVenues;
 use crate::{CallerSeat, Run, VenueDrain};
 use agreed_list::SeatSide;
-use exec_collector::{Accounts, Collector};
+use exec_collector::{Accounts, Collector, PlacedSweep};
 use leg::{Sweep, VenueId};
 use share_ledger::Book;
+use slips::SlipBook;
 use std::marker::Model;
 use std::sync::Wait;
 use std::sync::ledger::Book as Total;
@@ -29,26 +30,28 @@ use sweep_release::{Desk, Gate, GateFault, Receipt, ReleaseFault, place};
 use venue_queue::Feed;
 
 /// What lies under the lock. Contracts see the desk. It replays from its own history, the seats add up to the shares of
-/// all sweeps released, and what was pushed to a venue is the first of the legs released to it, just as many as have
-/// left the desk.
+/// all sweeps released, a slip was given for each of these, and what was pushed to a venue is the first of the legs
+/// released to it, just as many as have left the desk.
 #[derive(Drop)]
 pub struct LockedDesk<L: Run> {
     pub(crate) desk: Desk,
     pub(crate) total: Total<L>,
     pub(crate) feeds: Vec<Feed>,
     pub(crate) sweeps: SeatSide<Sweep>,
+    pub(crate) book: SlipBook<PlacedSweep>,
 }
 
 impl<L: Run> Model for LockedDesk<L> {
     ghost use Rattle.sweep_release.specs.History.{KeptDesk};
-    ghost use Rattle.release_lock.specs.Locked.{IsLocked, IsDeskSide};
+    ghost use Rattle.release_lock.specs.Locked.{IsLocked, IsDeskSide, IsDeskBook};
 
     ghost Value = { KeptDesk };
 
     ghost view = { λ locked. locked.desk };
 
     ghost invariant = { λ locked. IsLocked L.queues locked.desk locked.total.total locked.feeds.items
-        × IsDeskSide L.sweeps locked.desk locked.sweeps.name locked.sweeps.items };
+        × IsDeskSide L.sweeps locked.desk locked.sweeps.name locked.sweeps.items
+        × IsDeskBook L.slips locked.desk locked.book.name locked.book.given };
 }
 
 impl<L: Run> LockedDesk<L> {
@@ -111,6 +114,7 @@ impl<L: Run> LockedDesk<L> {
             total,
             feeds: _,
             sweeps,
+            book,
         } = self;
         let receipt = collector.lend_beside(
             rt,
@@ -118,7 +122,7 @@ impl<L: Run> LockedDesk<L> {
             sweeps,
             |desk: &mut Desk, book: &mut Book| { place_in(desk, book, sweep) },
         )?;
-        seat.count(total, receipt);
+        seat.count(total, book, receipt);
         Ok(receipt)
     }
 
@@ -137,6 +141,7 @@ impl<L: Run> LockedDesk<L> {
             total: _,
             feeds,
             sweeps: _,
+            book: _,
         } = self;
         pump(rt, desk, venue, &mut feeds[usize::from(venue.number())])
     }

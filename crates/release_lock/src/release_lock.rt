@@ -13,16 +13,15 @@ ghost use Rattle.release_lock.specs.Locked.{Replays, Releases, OnlyTurns};
 ghost use Rattle.release_lock.specs.Queues.{IsFresh, new_drains, left_to, Pumps, raise};
 ghost use Rattle.release_lock.specs.Seats.{first_seat, placing};
 
-use crate::placings::Placings;
 use crate::venue_note::VenueNote;
-use crate::{CallerSeat, LockedDesk, Run, VenueDrain};
+use crate::{BlankDesk, CallerSeat, LockedDesk, Run, VenueDrain};
 use agreed_list::SeatSide;
 use exec_collector::{Accounts, Collector};
 use leg::{Sweep, VenueId};
+use slips::no_slips;
 use std::alloc::{AllocError, Global};
 use std::collections::VecDeque;
 use std::marker::PhantomData;
-use std::sync::ledger::Blank;
 use std::sync::{Mutex, Wait};
 use sweep_release::{Desk, GateFault, Receipt, ReleaseFault};
 use venue_queue::{Drain, Feed};
@@ -49,7 +48,7 @@ impl<L: Run> ReleaseLock<L> {
     pub fn new(
         alloc: Global,
         venues: u8,
-        blank: Blank,
+        blank: BlankDesk,
         rings: VecDeque<(Feed, Drain)>,
         sweeps: SeatSide<Sweep>,
     ) -> Result<Opened<L>, ReleaseFault>
@@ -60,6 +59,7 @@ impl<L: Run> ReleaseLock<L> {
         requires queues { L.queues ≡ map (λ ends. ends.0.table) rings.items }
         requires name { blank.name ≡ L.name }
         requires parts { (blank.parts ≡ L.parts) × (L.parts ≡ 1024) }
+        requires slips { blank.slips ≡ L.slips }
         ensures seat { IfOk result (λ opened. opened.seat ≡ first_seat) }
         ensures drains { IfOk result (λ opened. opened.drains.items ≡ new_drains venues) }
         ensures only { IsOkUnless result ReleaseFault.OutOfMemory }
@@ -83,12 +83,14 @@ impl<L: Run> ReleaseLock<L> {
                 of: PhantomData,
             });
         }
-        let (total, share) = blank.open::<L>();
+        let BlankDesk { total, book } = blank;
+        let (total, share) = total.open::<L>();
         let locked = LockedDesk {
             desk,
             total,
             feeds,
             sweeps,
+            book,
         };
         let lock = ReleaseLock {
             locked: Mutex::new(locked),
@@ -98,7 +100,7 @@ impl<L: Run> ReleaseLock<L> {
             parts: 1024,
             shares: 0,
             share,
-            placings: Placings::new(),
+            slips: no_slips(),
         };
         Ok(Opened { lock, seat, drains })
     }

@@ -14,6 +14,9 @@ pub trait Run: Ledger {
 
     /// The list of the sweeps released: one for the desk, and one for the book in which they are opened.
     ghost sweeps: { ℕ };
+
+    /// The book that gives a slip for each sweep released: the desk keeps it, and the seats hold its slips.
+    ghost slips: { ℕ };
 }
 
 impl Run for Brand {
@@ -22,4 +25,6 @@ impl Run for Brand {
     ghost queues = { [] };
 
     ghost sweeps = { 0 };
+
+    ghost slips = { 0 };
 }

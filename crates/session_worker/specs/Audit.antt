@@ -7,12 +7,12 @@ use Rattle.sweep_release.specs.Desk.{placed_shares}
 use Rattle.sweep_release.specs.History.{KeptDesk}
 use Rattle.exec_collector.specs.Booked.{IsKept}
 use Rattle.exec_collector.specs.Resolved.{resolved, Replays as BookReplays}
-use Rattle.exec_collector.specs.Seats.{Seat, shares_of}
+use Rattle.exec_collector.specs.Seats.{Seat, parts_of, shares_of}
 use Rattle.exec_collector.specs.Unbooked.{CountedParts, KeptCounted, IsListOf, WereUnbooked}
 use Rattle.exec_collector.specs.declared.unbooked.Unbooked.{Unbooked}
 use Rattle.release_lock.specs.Locked.{Replays as DeskReplays}
 use Rattle.release_lock.specs.Queues.{Took, AllTookFirst, IsFirstWrong}
-use Rattle.release_lock.specs.Seats.{shares_placed}
+use Rattle.release_lock.specs.Seats.{shares_placed, AreAllPlaced}
 use Rattle.session_worker.specs.declared.audit_fault.AuditFault.{AuditFault}
 use Rattle.session_worker.specs.declared.audit_fault.AuditFault.TheVariants.{MismatchQueue, MismatchShares, MismatchPlaced, OutOfMemory}
 use Rattle.session_worker.specs.declared.day_report.DayReport.{DayReport}
@@ -78,6 +78,8 @@ pub record AuditedDay (callers : List Seat) (queues : List Took) (seats : List S
   pub sweeps : opened book.entries ≡ desk.desk.sweeps
   -- the shares that the callers count are those of the sweeps on their seats
   pub placed : shares_placed callers ≡ shares_of callers
+  -- those of all callers are the sweeps released, each once and under its number
+  pub all_placed : parts_of callers ≡ 1024 → AreAllPlaced callers desk.desk.sweeps
   pub audits : Audits (day_of desk book callers queues seats) answer
 
 -- its book and list

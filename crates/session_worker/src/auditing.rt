@@ -10,7 +10,7 @@ ghost use Rattle.sweep_release.specs.History.{KeptDesk as ADesk};
 ghost use Rattle.share_ledger.specs.Entries.{opened};
 ghost use Rattle.release_lock.specs.Locked.{Replays};
 ghost use Rattle.release_lock.specs.Queues.{AreInOrder};
-ghost use Rattle.release_lock.specs.Seats.{shares_placed};
+ghost use Rattle.release_lock.specs.Seats.{shares_placed, AreAllPlaced};
 ghost use Rattle.session_worker.specs.Audit.{day_of, Audits, AuditsOf, AuditsOpened};
 ghost use Rattle.session_worker.specs.Ends.{queues_of, seats_of};
 
@@ -82,6 +82,7 @@ fn audit_of<L: Run, M: Accounts>(
         × All (WereUnbooked counted.old.unbooked) seats.items }
     ensures sweeps { opened counted.old.book.entries ≡ locked.desk.sweeps }
     ensures placed { shares_placed callers.items ≡ shares_of callers.items }
+    ensures all_placed { parts_of callers.items ≡ 1024 → AreAllPlaced callers.items locked.desk.sweeps }
     ensures same { counted.new ≡ counted.old }
     ensures whole { AreInOrder queues.items → parts_of seats.items ≡ M.parts → 0 < M.parts
         → parts_of callers.items ≡ 1024 → IsOk result }

@@ -193,7 +193,7 @@ fn day_at<L: Run + Send + Sync, M: Accounts + Send + Sync, R: Threads + Wait + C
     size: Size,
 ) -> Result<Outcome, DayFault>
     requires lock { (site.callers.name ≡ L.name) × (L.parts ≡ 1024)
-        × (L.queues ≡ map (λ ends. ends.0.table) site.rings.items) }
+        × (L.queues ≡ map (λ ends. ends.0.table) site.rings.items) × (site.callers.slips ≡ L.slips) }
     requires book { (site.workers.name ≡ M.name) × (M.parts ≡ site.venues) × (site.workers.lists ≡ M.lists) }
     requires sweeps { (site.workers.sweeps ≡ M.sweeps) × (L.sweeps ≡ M.sweeps) }
 {

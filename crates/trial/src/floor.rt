@@ -28,7 +28,7 @@ impl<L: Run, M: Accounts> Floor<L, M> {
     /// A floor on which nothing was done.
     pub fn open(alloc: Global, site: Site) -> Result<Floor<L, M>, TrialFault>
         requires lock { (site.callers.name ≡ L.name) × (L.parts ≡ 1024)
-            × (L.queues ≡ map (λ ends. ends.0.table) site.rings.items) }
+            × (L.queues ≡ map (λ ends. ends.0.table) site.rings.items) × (site.callers.slips ≡ L.slips) }
         requires book { (site.workers.name ≡ M.name) × (M.parts ≡ site.venues) × (site.workers.lists ≡ M.lists) }
         requires sweeps { (site.workers.sweeps ≡ M.sweeps) × (L.sweeps ≡ M.sweeps) }
     {

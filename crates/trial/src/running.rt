@@ -25,7 +25,7 @@ fn run_at<L: Run, M: Accounts, R: Wait, T: Trial<R> + Drop>(
     trial: T,
 ) -> Result<T::End, TrialFault>
     requires lock { (site.callers.name ≡ L.name) × (L.parts ≡ 1024)
-        × (L.queues ≡ map (λ ends. ends.0.table) site.rings.items) }
+        × (L.queues ≡ map (λ ends. ends.0.table) site.rings.items) × (site.callers.slips ≡ L.slips) }
     requires book { (site.workers.name ≡ M.name) × (M.parts ≡ site.venues) × (site.workers.lists ≡ M.lists) }
     requires sweeps { (site.workers.sweeps ≡ M.sweeps) × (L.sweeps ≡ M.sweeps) }
 {

@@ -6,10 +6,9 @@ ghost use Rattle.release_lock.specs.Queues.{IsFresh};
 
 use crate::TrialFault;
 use exec_collector::BlankBook;
-use release_lock::rings;
+use release_lock::{BlankDesk, rings};
 use std::alloc::Global;
 use std::collections::VecDeque;
-use std::sync::ledger::Blank;
 use venue_queue::{Drain, Feed};
 
 /// How many venues a lock has at most.
@@ -20,7 +19,7 @@ const MAX_VENUES: u8 = 16;
 #[derive(Drop)]
 pub struct Site {
     pub venues: u8,
-    pub callers: Blank,
+    pub callers: BlankDesk,
     pub workers: BlankBook,
     pub rings: VecDeque<(Feed, Drain)>,
     ghost least: { 1 ≤ venues },
@@ -40,7 +39,7 @@ impl Site {
         let rings = rings(alloc, venues)?;
         Ok(Site {
             venues,
-            callers: Blank::new(1024),
+            callers: BlankDesk::new(1024),
             workers: BlankBook::new(alloc, venues)?,
             rings,
         })

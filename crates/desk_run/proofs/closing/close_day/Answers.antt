@@ -29,4 +29,7 @@ returns-clause-audited g c =
       callers = c.in_ok-seats.seats.items;
       day = told.0;
       told = c.in_ok-sweeps.ensures.value ∙ ap sweeps_in (c.book.ensures.value ∙ sym told.1);
+      all_placed = told.0.all_placed
+          (whole_parts c.args.seats.items _ c.args.floor.shared c.into_left-names.result.shared c.in_ok-seats.ensures
+          c.into_left-names.ensures.shared c.requires.seats);
     }

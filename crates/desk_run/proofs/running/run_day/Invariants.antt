@@ -5,6 +5,7 @@ abbrev pub ghosts-named_day-L-Run : goal.ghosts-named_day-L-Run
 ghosts-named_day-L-Run g a = record {
   queues = map (λ ends. ends.0.table) a.rings.items;
   sweeps = a.workers.sweeps;
+  slips = a.callers.slips;
 }
 
 abbrev pub ghosts-named_day-L-Ledger : goal.ghosts-named_day-L-Ledger

@@ -5,6 +5,7 @@ abbrev pub ghosts-crowd_at-L-Run : goal.ghosts-crowd_at-L-Run
 ghosts-crowd_at-L-Run g a = record {
   queues = map (λ ends. ends.0.table) a.site.rings.items;
   sweeps = a.site.workers.sweeps;
+  slips = a.site.callers.slips;
 }
 
 abbrev pub ghosts-crowd_at-L-Ledger : goal.ghosts-crowd_at-L-Ledger

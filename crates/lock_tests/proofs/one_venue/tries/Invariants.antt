@@ -5,6 +5,7 @@ abbrev pub ghosts-at_one_venue-L-Run : goal.ghosts-at_one_venue-L-Run
 ghosts-at_one_venue-L-Run g a = record {
   queues = map (λ ends. ends.0.table) a.rings.items;
   sweeps = a.workers.sweeps;
+  slips = a.callers.slips;
 }
 
 abbrev pub ghosts-at_one_venue-L-Ledger : goal.ghosts-at_one_venue-L-Ledger

@@ -35,6 +35,7 @@ returns-in-Ok-clause-audits g c =
       left = subst (λ (s : List Seat). All (WereUnbooked unbooked) s) seats c.audit_of.ensures.unbooked.1;
       sweeps = c.audit_of.ensures.sweeps;
       placed = c.audit_of.ensures.placed;
+      all_placed = c.audit_of.ensures.all_placed;
       audits = subst (λ (q : List Took). Audits (day_of desk book callers q (seats_of c.args.ends.items)) answer) queues
           (subst (λ (s : List Seat). Audits (day_of desk book callers c.in-Ok.queues.items s) answer) seats
           c.audit_of.ensures.audits);

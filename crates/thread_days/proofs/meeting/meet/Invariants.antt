@@ -5,6 +5,7 @@ abbrev pub ghosts-both_at-L-Run : goal.ghosts-both_at-L-Run
 ghosts-both_at-L-Run g a = record {
   queues = map (λ ends. ends.0.table) a.site.rings.items;
   sweeps = a.site.workers.sweeps;
+  slips = a.site.callers.slips;
 }
 
 abbrev pub ghosts-both_at-L-Ledger : goal.ghosts-both_at-L-Ledger

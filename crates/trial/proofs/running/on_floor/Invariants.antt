@@ -5,6 +5,7 @@ abbrev pub ghosts-run_at-L-Run : goal.ghosts-run_at-L-Run
 ghosts-run_at-L-Run g a = record {
   queues = map (λ ends. ends.0.table) a.site.rings.items;
   sweeps = a.site.workers.sweeps;
+  slips = a.site.callers.slips;
 }
 
 abbrev pub ghosts-run_at-L-Ledger : goal.ghosts-run_at-L-Ledger

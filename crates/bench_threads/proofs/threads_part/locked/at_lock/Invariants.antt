@@ -5,6 +5,7 @@ abbrev pub ghosts-load_at-L-Run : goal.ghosts-load_at-L-Run
 ghosts-load_at-L-Run g a = record {
   queues = map (λ ends. ends.0.table) a.site.rings.items;
   sweeps = a.site.workers.sweeps;
+  slips = a.site.callers.slips;
 }
 
 abbrev pub ghosts-load_at-L-Ledger : goal.ghosts-load_at-L-Ledger

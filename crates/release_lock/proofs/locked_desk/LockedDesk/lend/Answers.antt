@@ -1,7 +1,7 @@
 use Rattle.std.proofs.Common.{rules, sym, subst}
 use Rattle.sweep_release.specs.History.{KeptDesk}
 use Rattle.release_lock.specs.Locked.{Replays, OnlyTurns}
-use Rattle.release_lock.proofs.Turning.{turned_locked, turned_side}
+use Rattle.release_lock.proofs.Turning.{turned_locked, turned_side, turned_book}
 use Rattle.release_lock.proofs.locked_desk.LockedDesk.lend.Goals as goal
 
 pub invariant_of-self : goal.invariant_of-self
@@ -11,6 +11,7 @@ invariant_of-self g c =
       turned_locked g.L.Run.queues c.self.inside.desk c.f.new.arg2 c.self.inside.total.total c.self.inside.feeds.items
           c.self.invariant.0 only,
       turned_side c.self.inside.desk c.f.new.arg2 only c.self.invariant.1,
+      turned_book c.self.inside.desk c.f.new.arg2 only c.self.invariant.2,
     )
 
 pub returns-clause-replays : goal.returns-clause-replays

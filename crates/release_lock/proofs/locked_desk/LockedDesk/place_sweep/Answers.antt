@@ -1,4 +1,4 @@
-use Rattle.std.proofs.Common.{rules, Ok, Err, Result, [], ◌∷◌, ◌++◌, sym, subst, ap, arith, ◌∙◌}
+use Rattle.std.proofs.Common.{rules, Ok, Err, Result, [], ◌∷◌, ◌++◌, sym, subst, ap, ◌∙◌}
 use Rattle.share_ledger.specs.Entries.{sweep_shares}
 use Rattle.sweep_release.specs.declared.receipt.Receipt.{Receipt}
 use Rattle.sweep_release.specs.declared.release_fault.ReleaseFault.{ReleaseFault}
@@ -7,7 +7,7 @@ use Rattle.sweep_release.proofs.Answered.{err_is}
 use Rattle.release_lock.specs.Locked.{Replays, Places}
 use Rattle.release_lock.specs.Seats.{placing}
 use Rattle.release_lock.proofs.Siding.{placed_side}
-use Rattle.release_lock.proofs.Placing.{outcome, few_placed, released_locked, same_locked}
+use Rattle.release_lock.proofs.Placing.{outcome, released_locked, released_book, same_locked, same_book}
 use Rattle.release_lock.proofs.locked_desk.LockedDesk.place_sweep.Goals as goal
 
 pub invariant_of-self : goal.invariant_of-self
@@ -20,6 +20,9 @@ invariant_of-self g c =
           (outcome c.args.sweep.legs c.self.inside.desk c.lend_beside.new.beside (Err c.in_err-receipt.field-0.0) places),
       placed_side c.self.inside.desk c.lend_beside.new.beside gave.0 gave.1 c.args.sweep.legs
           (Err c.in_err-receipt.field-0.0) places.placed c.requires.1.1.1.0 gave.3 gave.4 c.self.invariant.1,
+      same_book c.self.inside.desk c.lend_beside.new.beside
+          (outcome c.args.sweep.legs c.self.inside.desk c.lend_beside.new.beside (Err c.in_err-receipt.field-0.0) places)
+          c.self.invariant.2,
     )
 
 pub returns-in_err-receipt-clause-placed : goal.returns-in_err-receipt-clause-placed
@@ -48,11 +51,9 @@ count-requires g c κs within =
     let gave = c.in_ok-receipt.ensures in
     let places : Places c.args.sweep.legs c.self.inside.desk (Ok c.in_ok-receipt.receipt) c.lend_beside.new.beside =
     record { book = gave.0; book_after = gave.1; placed = search rules } in
-    let it = outcome c.args.sweep.legs c.self.inside.desk c.lend_beside.new.beside (Ok c.in_ok-receipt.receipt) places in
-    let few = few_placed c.args.sweep.legs c.self.inside.desk c.in_ok-receipt.receipt c.lend_beside.new.beside it in
-    let counted = c.self.invariant.0.counted in (
+    let it = outcome c.args.sweep.legs c.self.inside.desk c.lend_beside.new.beside (Ok c.in_ok-receipt.receipt) places in (
       search rules,
-      (omega (arith, few, counted), ap (λ r. r.shares) it.receipt_is ∙ ap sweep_shares (sym c.requires.1.1.1.1)),
+      (c.self.invariant.2.named, ap (λ r. r.shares) it.receipt_is ∙ ap sweep_shares (sym c.requires.1.1.1.1)),
     )
 
 pub returns-clause-noted : goal.returns-clause-noted
@@ -71,6 +72,11 @@ invariant_of-self-2 g c =
           c.self.invariant.0 it c.count.ensures.total,
       placed_side c.self.inside.desk c.lend_beside.new.beside gave.0 gave.1 c.args.sweep.legs
           (Ok c.in_ok-receipt.receipt) places.placed c.requires.1.1.1.0 gave.3 gave.4 c.self.invariant.1,
+      released_book c.args.sweep.legs c.self.inside.desk c.in_ok-receipt.receipt c.lend_beside.new.beside it
+          c.count.ensures.book.0
+          (c.count.ensures.book.1
+          ∙ ap (λ legs. c.self.inside.book.given ++ placing c.in_ok-receipt.receipt.number legs ∷ []) c.requires.1.1.1.1)
+          c.self.invariant.2,
     )
 
 pub returns-clause-placed : goal.returns-clause-placed

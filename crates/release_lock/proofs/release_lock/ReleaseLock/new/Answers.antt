@@ -1,6 +1,7 @@
 use Rattle.std.proofs.Common.{◌≡◌, sym, ap, ◌∙◌, arith}
 use Rattle.exec_collector.specs.Opened.{sweeps_of}
 use Rattle.exec_collector.proofs.Counts.{venue_is}
+use Rattle.release_lock.specs.Seats.{placings_from}
 use Rattle.release_lock.proofs.Opening.{drain_named, opens_on, new_locked}
 use Rattle.release_lock.proofs.release_lock.ReleaseLock.new.Goals as goal
 
@@ -37,5 +38,9 @@ invariant_of-locked g c =
       record {
         named = c.requires.sweeps.0;
         releases = c.requires.sweeps.1 ∙ ap (λ d. sweeps_of d.desk.sweeps) (sym c.in_ok-desk.ensures.ok);
+      },
+      record {
+        named = ap (λ b. b.slips) c.blank.view_is ∙ c.requires.slips;
+        gives = c.blank.invariant ∙ ap (λ d. placings_from 1 d.desk.sweeps) (sym c.in_ok-desk.ensures.ok);
       },
     )

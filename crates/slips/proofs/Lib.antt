@@ -1,0 +1,5 @@
+pub mod Places
+pub mod Chain
+pub mod Steps
+pub mod Told
+pub mod Sent
