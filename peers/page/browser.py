@@ -13,7 +13,7 @@ import threading
 import time
 
 NAMES = ("chromium", "chromium-browser", "google-chrome", "chrome")
-WITHIN = 60
+WITHIN = 120
 COMPLAINTS = ("security", "javascript", "violation")
 KEYS = {"Tab": 9, "Enter": 13, "Escape": 27, "ArrowDown": 40, "ArrowUp": 38, "Home": 36, "End": 35, " ": 32}
 

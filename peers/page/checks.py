@@ -34,7 +34,7 @@ class Trial:
         return page
 
     def ask(self, path):
-        with urllib.request.urlopen(self.base + path, timeout=10) as answer:
+        with urllib.request.urlopen(self.base + path, timeout=WITHIN) as answer:
             return json.load(answer)
 
     def stand_in(self):
@@ -145,7 +145,17 @@ def shows_the_venues(trial):
     """Each venue has its name, its state in a word, and a lamp of that state's shape."""
     if trial.day:
         mock.troubles(trial.day)
-        trial.page.until("document.title.startsWith('2 not up')", "it shows the states")
+        trial.page.until("document.title.startsWith('3 of 5 not up')", "it shows the states")
+    shapes = settled(lambda: compare_venues(trial))
+    expect(len(set(shapes.values())), len(shapes), "shapes differ between states")
+    if trial.day:
+        expect(sorted(shapes), ["closed", "down", "unreachable", "up"], "the states that were shown")
+        for name in trial.day.venues:
+            trial.day.venue(name, state="up")
+
+
+def compare_venues(trial):
+    """The shape of each state that is shown; each venue is shown as the desk says."""
     shapes = {}
     for venue in trial.ask("/api/venues")["venues"]:
         card = f"[data-venue='{venue['venue']}']"
@@ -159,11 +169,7 @@ def shows_the_venues(trial):
         for found, count, less in zip(facts, wanted, (0, 0, 0, 0, 1, 0)):
             if count is not None:
                 expect(found, f"{max(0, count - less):,}", f"a count of {venue['venue']}")
-    expect(len(set(shapes.values())), len(shapes), "shapes differ between states")
-    if trial.day:
-        expect(sorted(shapes), ["closed", "down", "unreachable", "up"], "the states that were shown")
-        for name in trial.day.venues:
-            trial.day.venue(name, state="up")
+    return shapes
 
 
 def hands_in(trial):
@@ -252,10 +258,10 @@ def turns_a_lamp(trial):
     else:
         raise Skipped("it needs the stand-in, or --drop")
     page.until(f"['down', 'unreachable', 'closed'].includes(document.querySelector(\"{card} .state\").textContent)",
-               "its word says so", 90)
+               "its word says so", 3 * WITHIN)
     after = page.run(look)
     expect([old != new for old, new in zip(before, after)], [True, True], "shape and colour changed")
-    expect(name in text(page, "#news"), True, "it is told to a screen reader")
+    settled(lambda: expect(name in text(page, "#news"), True, "it is told to a screen reader"))
     if trial.day:
         expect(text(page, f"{card} .why"), "It was silent (E10)", "its cause")
         trial.day.venue(name, state="up", doubt=0, connections=2)
@@ -287,9 +293,9 @@ def says_when_it_lost_events(trial):
     page = trial.page
     if trial.day is None:
         page.offline(True)
-        page.until("document.querySelector('#standing').textContent.startsWith('Events lost')", "the loss is said", 30)
+        page.until("document.querySelector('#standing').textContent.startsWith('Events lost')", "the loss is said")
         page.offline(False)
-        page.until("following", "the page follows again", 40)
+        page.until("following", "the page follows again")
         return
     day = trial.day
     try:
@@ -334,6 +340,29 @@ def says_when_an_answer_is_lost(trial):
         day.answers = True
     expect("may have been placed" in text(page, "#answer"), True, "what may be")
     page.until("following && document.querySelector('#banner').hidden", "it follows again")
+
+
+def begins_anew_with_another_run(trial):
+    """Where the program is started again under an open page, the page shows the new run alone and says so, keeps what
+    was typed, and says of the new run how it ended."""
+    trial.stand_in()
+    server = mock.Server(mock.morning())
+    page = trial.open(f"{server.base}/")
+    page.until("document.querySelectorAll('tbody').length === 5", "it shows the day")
+    fill_leg(page, 0, "NYSE", "buy", 7, "IBM", "187.5")
+    old, day = server.day, mock.Day(["NYSE", "ARCA"])
+    day.place([mock.leg("ARCA", "GE", "sell", 30, "168.3")])
+    server.day = day
+    old.cut_streams()
+    page.until("document.querySelector('#banner').textContent.startsWith('The program was started again')", "it says so")
+    page.until("following && document.querySelectorAll('tbody').length === 1", "it shows the new run's sweep alone")
+    settled(lambda: expect(row(page, 1), [30, 0, 0, 0, 0, 30], "the new run's sweep"))
+    expect([text(page, f"#sum-{part}") for part in ("placed", "resolved", "open")], ["30", "0", "30"], "its sums")
+    expect(page.run("document.querySelectorAll('.venue.card').length"), 2, "its venues")
+    expect(page.run("document.querySelector('[name=shares]').value"), "7", "what was typed")
+    day.close()
+    page.until("document.querySelector('#banner').textContent.startsWith('The day is closed')", "its end is said")
+    expect(page.run("document.querySelectorAll('tbody').length"), 1, "its sweep alone stands below")
 
 
 def asks_for_the_token(trial):
@@ -513,7 +542,7 @@ def closes_the_day(trial):
     press(page, "#ask-yes")
     page.until("document.querySelector('#close').disabled", "it can't be closed twice")
     page.until("document.querySelector('#send').disabled", "no more sweeps are taken")
-    page.until("document.querySelector('#banner').textContent.startsWith('The day is closed')", "it is closed", 180)
+    page.until("document.querySelector('#banner').textContent.startsWith('The day is closed')", "it is closed", 3 * WITHIN)
     expect("its audit found nothing wrong" in text(page, "#banner"), True, "its audit")
     page.until("document.querySelector('#standing').textContent === 'Day closed'", "it says so at the top")
     time.sleep(3)
@@ -522,6 +551,7 @@ def closes_the_day(trial):
 
 CHECKS = [
     shows_the_sweeps, opens_a_sweep, shows_the_venues, hands_in, names_a_fault, says_why_refused, turns_a_lamp,
-    keeps_text_text, is_reached_by_tab, has_names, can_be_read, says_when_it_lost_events, asks_for_the_token,
-    reads_a_long_day, stays_at_home, says_when_an_answer_is_lost, closes_the_day,
+    keeps_text_text, is_reached_by_tab, has_names, can_be_read, says_when_it_lost_events,
+    begins_anew_with_another_run, asks_for_the_token, reads_a_long_day, stays_at_home, says_when_an_answer_is_lost,
+    closes_the_day,
 ]

@@ -10,6 +10,7 @@ import queue
 import re
 import threading
 import time
+from datetime import datetime, timezone
 from http.server import BaseHTTPRequestHandler, ThreadingHTTPServer
 from pathlib import Path
 from urllib.parse import parse_qs, urlsplit
@@ -30,6 +31,7 @@ class Day:
     """Venues and sweeps, and those who are told of them."""
 
     def __init__(self, names):
+        self.run = f"{datetime.now(timezone.utc):%Y-%m-%dT%H:%M:%S.%fZ}"
         self.lock = threading.RLock()
         self.venues = {name: self.new_venue(name) for name in names}
         self.sweeps = []
@@ -201,6 +203,7 @@ class Handler(BaseHTTPRequestHandler):
         self.send_response(status)
         self.send_header("Content-Type", kind)
         self.send_header("Content-Length", str(len(body)))
+        self.send_header("Dispatch-Run", self.server.day.run)
         self.send_header("Cache-Control", "no-store")
         self.send_header("X-Content-Type-Options", "nosniff")
         self.send_header("Connection", "close")
@@ -260,10 +263,12 @@ class Handler(BaseHTTPRequestHandler):
                 self.answer(503, {"fault": "too many streams"})
                 return
             events = queue.Queue()
+            events.put(f"event: run\ndata: {json.dumps({'run': day.run})}\n\n")
             day.streams.append(events)
         try:
             self.send_response(200)
             self.send_header("Content-Type", "text/event-stream")
+            self.send_header("Dispatch-Run", day.run)
             self.send_header("Cache-Control", "no-store")
             self.send_header("Connection", "close")
             self.end_headers()

@@ -39,6 +39,16 @@ nothing_looked day list = record {
   are = refl;
 }
 
+-- so it is before the first look
+pub begins : (entries items : ℕ) (places : List Place) (seen history : List BookEntry) (unbooked : List Unbooked)
+    → entries ≡ 0 → items ≡ 0 → places ≡ [] → seen ≡ history → IsIndex 0 0 [] history unbooked
+    → IsIndex entries items places seen unbooked
+begins entries items places seen history unbooked none no_items no_places same index =
+    subst (λ (n : ℕ). IsIndex n items places seen unbooked) (sym none)
+    (subst (λ (n : ℕ). IsIndex 0 n places seen unbooked) (sym no_items)
+    (subst (λ (l : List Place). IsIndex 0 0 l seen unbooked) (sym no_places)
+    (subst (λ (l : List BookEntry). IsIndex 0 0 [] l unbooked) (sym same) index)))
+
 -- what stood at a place stands there in a longer day
 still_there : {X : Type 0} (xs ys : List X) (at : ℕ) (x : X) → slice_get xs at ≡ Some x
     → slice_get (xs ++ ys) at ≡ Some x

@@ -5,3 +5,4 @@ mod Calls
 mod OneNamed
 mod Now
 mod Telling
+pub mod NothingListed

@@ -1,5 +1,5 @@
 -- A walk through a day's history and the list of what its book didn't take.
-use Rattle.std.specs.Prelude.{◌≡◌, ◌≤◌, ℕ, Bool, false, List, [], ◌∷◌, length, map, Option, Some, None, nat_le, slice_get, if◌then◌else◌}
+use Rattle.std.specs.Prelude.{◌≡◌, ◌≤◌, ◌+◌, ◌-◌, ℕ, Bool, false, List, [], ◌∷◌, length, map, Option, Some, None, nat_le, slice_get, if◌then◌else◌}
 use Rattle.share_ledger.specs.declared.book_entry.BookEntry.{BookEntry}
 use Rattle.share_ledger.specs.declared.book_entry.BookEntry.TheVariants.{Opened, Withdrawn, Moved}
 use Rattle.exec_collector.specs.declared.unbooked.Unbooked.{Unbooked}
@@ -27,6 +27,10 @@ is_next unbooked items entries = is_behind entries (slice_get unbooked items)
 pub record IsEnd (entries items : ℕ) (history : List BookEntry) (unbooked : List Unbooked) : Type 0 where
   pub all : length history ≤ entries
   pub none : is_next unbooked items entries ≡ false
+
+-- how many entries and notes come behind so many of both
+abbrev pub unseen : ℕ → ℕ → List BookEntry → List Unbooked → ℕ
+unseen entries items history unbooked = (length history - entries) + (length unbooked - items)
 
 -- at these places stands all that was heard
 abbrev pub AllFound : List Place → List BookEntry → List Unbooked → Type 0

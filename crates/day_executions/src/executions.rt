@@ -2,8 +2,9 @@
 
 ghost use Rattle.std.specs.Prelude.{◌≡◌, ◌<◌, ◌≤◌, ◌+◌, ◌++◌, ◌∷◌, [], true, false, length, IfOk, IfSome, OnOk, OnErr, None};
 ghost use Rattle.std.specs.List.{All};
+ghost use Rattle.exec_collector.specs.Unbooked.{IsListOf};
 ghost use Rattle.day_executions.specs.Executions.{AreUntaken, IsHeard, IsIndex, IsLeft, IsLent, IsNow, Looks, notes_behind, untaken_behind};
-ghost use Rattle.day_executions.specs.Walk.{AllFound, IsEnd, is_next, place_of};
+ghost use Rattle.day_executions.specs.Walk.{AllFound, IsEnd, is_next, place_of, unseen};
 
 use crate::heard::{HeardNote, push_heard};
 use crate::lent::LentNotes;
@@ -89,6 +90,9 @@ impl Executions {
             → IsIndex self.new.entries self.new.items self.new.places.items history.now unbooked.now }
         ensures end { IfOk result (λ more. more ≡ false
             → IsEnd self.new.entries self.new.items history.now unbooked.now) }
+        ensures nearer { IfOk result (λ more. more ≡ true
+            → unseen self.new.entries self.new.items history.now unbooked.now
+            < unseen self.old.entries self.old.items history.now unbooked.now) }
     {
         if is_next(unbooked, self.items, self.entries) {
             self.look_beside()?;
@@ -114,6 +118,20 @@ impl Executions {
             }
         }
         Ok(true)
+    }
+
+    /// Looks at all that comes.
+    fn look_to_end(
+        &mut self,
+        history: &[BookEntry],
+        unbooked: &[Unbooked],
+    ) -> Result<(), AllocError>
+        ensures index { IsIndex self.old.entries self.old.items self.old.places.items history.now unbooked.now
+            → IsIndex self.new.entries self.new.items self.new.places.items history.now unbooked.now }
+        ensures end { OnOk result (IsEnd self.new.entries self.new.items history.now unbooked.now) }
+    {
+        while self.look_once(history, unbooked)? {}
+        Ok(())
     }
 
     /// The executions behind a number, at most so many, of a day that was looked at to its end.
@@ -268,4 +286,20 @@ impl Executions {
         }
         unreachable!()
     }
+}
+
+/// All that exchanges said and a book didn't take, by the list that stands beside it. The only refusal is out of
+/// memory.
+pub fn all_untaken(
+    alloc: Global,
+    book: &Book,
+    unbooked: &[Unbooked],
+) -> Result<Vec<HeardNote>, AllocError>
+    requires { IsListOf book.now unbooked.now }
+    ensures { IfOk result (λ notes. notes.items ≡ untaken_behind 0 book.now.entries unbooked.now) }
+{
+    let history = book.history();
+    let mut executions = Executions::new(alloc);
+    executions.look_to_end(history, unbooked)?;
+    executions.untaken_behind(alloc, history, unbooked, 0)
 }

@@ -9,11 +9,14 @@
 //! - Each note that is lent of a day stands in its book's history or in the list of what that didn't take, whatever
 //!   earlier looks found (`Executions::now`), and each that is lent as untaken has an answer that says so
 //!   (`Executions::untaken_now`).
+//! - All that a book didn't take, by the list that stands beside it, is lent once nothing is given any more, whatever
+//!   was looked at before: exactly those, each under its number (`all_untaken`).
 //! - A look leaves an index of a day as one (`Executions::look`), and so does whatever is asked of a book
 //!   (`laws::calls_keep_an_index`); before the first look it is one (`laws::nothing_is_an_index`). That the book which
 //!   a lock gives comes of the one that it gave before isn't carried through the lock, and so isn't said.
 //! - An execution is told with all that its note says, and the name at its venue's place (`named`); one of a venue that
-//!   has no name isn't told.
+//!   has no name isn't told. Where none is told, nothing of a venue that has one is on the list of what the book didn't
+//!   take (`laws::what_is_not_told_is_not_listed`).
 //! - How many notes of a venue the book didn't take is counted by the reason (`unbooked_now`).
 //! - A look reads each entry of the history once in a day, and an execution by its place.
 #![tactic(auto)]
@@ -27,7 +30,7 @@ mod naming;
 mod place;
 
 pub use counting::unbooked_now;
-pub use executions::Executions;
+pub use executions::{Executions, all_untaken};
 pub use heard::{Heard, HeardNote};
 pub use lent::LentNotes;
 pub use naming::named;

@@ -11,7 +11,7 @@ ghost use Rattle.desk_floor.specs.Status.{IsSeen};
 use crate::bells::Bells;
 use crate::counter::Counter;
 use crate::refusals::Refusals;
-use crate::signals::{Manner, Signals};
+use crate::signals::{Closing, Manner, Signals};
 use crate::standing::Standing;
 use crate::talk_fault::TalkFault;
 use crate::venue_view::{Seen, VenueView};
@@ -144,6 +144,16 @@ impl<L: Run, M: Accounts, W: Write + Drop> Floor<L, M, W> {
         let is_closing = self.signals.close();
         self.bells.tell_turn();
         is_closing
+    }
+
+    /// The day is to close, and no sweep is taken any more, as it shows. Where the day was closing already it changes
+    /// nothing. It may wait for another caller that closes the day.
+    pub fn ask_to_close(&self, rt: &impl Wait) -> Closing<'_>
+        ensures { result.of ≡ self.now.signals.closing.id }
+    {
+        let shown = self.signals.close_shown(rt);
+        self.bells.tell_turn();
+        shown
     }
 
     /// The workers are told to stop, once: they shut their gates and close their sessions in order.

@@ -3,9 +3,9 @@
 //!
 //! Promises:
 //! - A sweep that is handed in is answered with what the desk and the book did, under the name of the venue that is to
-//!   blame; or it is shown that the day is closing, by what only its own flag gives (`Closing`). The caller's seat
-//!   keeps its parts. Where the sweep is placed, the seat gains it, once, under the number that is answered, and its
-//!   shares; else it gains nothing (`Floor::hand_in`).
+//!   blame; or it is shown that the day is closing, by what only its own flag gives (`Closing`), as a client gets it
+//!   that has the day closed (`Floor::ask_to_close`). The caller's seat keeps its parts. Where the sweep is placed, the
+//!   seat gains it, once, under the number that is answered, and its shares; else it gains nothing (`Floor::hand_in`).
 //!   The clients of the page count on a seat of their own, which has one part of the run whenever its lock is free
 //!   (`Counter`).
 //! - How a venue stands follows from what its worker told last, its gate and the dial that failed last, by the stated

@@ -3,7 +3,7 @@
 ghost use Rattle.std.specs.Prelude.{◌≡◌, IfSome};
 
 use std::sync::atomic::{AtomicBool, AtomicU64, Ordering};
-use std::sync::{OnceLock, OnceToken};
+use std::sync::{OnceLock, OnceToken, Wait};
 use std::thread;
 use std::time::{Clock, Duration};
 
@@ -99,6 +99,17 @@ impl Signals {
     /// The day is to close, and no sweep is taken any more. It says whether the day was closing already.
     pub fn close(&self) -> bool {
         self.closing.try_set(()).is_err()
+    }
+
+    /// The day is to close, and no sweep is taken any more, as it shows. It may wait for another caller that closes the
+    /// day.
+    pub fn close_shown(&self, rt: &impl Wait) -> Closing<'_>
+        ensures { result.of ≡ self.now.closing.id }
+    {
+        match self.closing.try_insert(rt, ()) {
+            Ok(shown) => shown,
+            Err((shown, ())) => shown,
+        }
     }
 
     /// What shows that no sweep is taken any more, if that is so.

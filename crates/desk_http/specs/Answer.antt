@@ -19,6 +19,7 @@ use Rattle.desk_http.specs.declared.day_sums.DaySums.{DaySums}
 use Rattle.desk_http.specs.declared.refusal_counts.RefusalCounts.{RefusalCounts}
 use Rattle.desk_http.specs.declared.reply.Kind.TheVariants.{Json, Metrics}
 use Rattle.desk_http.specs.declared.reply.Reply.{Reply}
+use Rattle.desk_http.specs.declared.run.Run.{Run}
 use Rattle.desk_http.specs.declared.status.Status.{Status}
 use Rattle.desk_http.specs.declared.status.Status.TheVariants as status
 use Rattle.desk_http.specs.Metrics.{metrics_text}
@@ -94,9 +95,10 @@ pub record Closes {S : Type 0} (closes : S → S → Type 0) (old : S) (reply : 
   pub by_the_day : closes old new
   pub answer : IsReply reply status.Accepted Json (codes "{\"closing\":true}")
 
--- the answer is the metrics of what the day said: of its venues, and then of its sums and of what it refused
+-- the answer is the metrics of this run and of what the day said: of its venues, and then of its sums and of what it
+-- refused
 pub record ShowsMetrics {S : Type 0} (lists : S → List VenueRow → S → Type 0) (sums_up : S → DaySums → S → Type 0)
-    (refuses : S → RefusalCounts → Type 0) (old : S) (reply : Reply) (new : S) : Type 0 where
+    (refuses : S → RefusalCounts → Type 0) (run : Run) (old : S) (reply : Reply) (new : S) : Type 0 where
   pub venues : List VenueRow
   pub meanwhile : S
   pub venues_by_the_day : lists old venues meanwhile
@@ -104,4 +106,4 @@ pub record ShowsMetrics {S : Type 0} (lists : S → List VenueRow → S → Type
   pub sums_by_the_day : sums_up meanwhile sums new
   pub refusals : RefusalCounts
   pub refusals_by_the_day : refuses new refusals
-  pub answer : IsReply reply status.Ok Metrics (metrics_text sums refusals venues)
+  pub answer : IsReply reply status.Ok Metrics (metrics_text run sums refusals venues)

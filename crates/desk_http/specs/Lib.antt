@@ -6,5 +6,6 @@ pub mod Status
 pub mod Refused
 pub mod Reply
 pub mod Answer
+pub mod MetricText
 pub mod VenueMetric
 pub mod Metrics

@@ -1,23 +1,34 @@
--- The day as Prometheus' text (its exposition format 0.0.4): all samples of a metric stand behind its type.
+-- The day as Prometheus' text (its exposition format 0.0.4): what a metric is and its type, and then all its samples.
 use Rattle.std.specs.Prelude.{ℕ, List, ◌++◌, codes, decimal}
 use Rattle.leg.specs.declared.totals.Totals.{Totals}
 use Rattle.desk_json.specs.declared.standing.VenueRow.{VenueRow}
 use Rattle.desk_http.specs.declared.day_sums.DaySums.{DaySums}
 use Rattle.desk_http.specs.declared.refusal_counts.RefusalCounts.{RefusalCounts}
+use Rattle.desk_http.specs.declared.run.Run.{Run}
+use Rattle.desk_http.specs.MetricText.{metric_head, seconds_text}
 use Rattle.desk_http.specs.VenueMetric.{venues_text}
-
--- the name of a metric, with its type
-unfoldable pub type_line : List ℕ → List ℕ → List ℕ
-type_line name kind = codes "# TYPE " ++ name ++ codes " " ++ kind ++ codes "\n"
 
 -- a sample: its name, with its labels, and its value
 unfoldable pub sample : List ℕ → ℕ → List ℕ
 sample name value = name ++ codes " " ++ decimal value ++ codes "\n"
 
+-- the program's version
+unfoldable pub build_text : List ℕ
+build_text =
+    metric_head (codes "dispatch_build_info") (codes "The program's version, as the label of a 1.") (codes "gauge")
+    ++ sample (codes "dispatch_build_info{version=\"1.0.0\"}") 1
+
+-- when the run began to serve, in microseconds since 1970-01-01 UTC
+unfoldable pub begun_text : ℕ → List ℕ
+begun_text micros =
+    metric_head (codes "process_start_time_seconds")
+    (codes "When the program began to serve, in seconds since 1970-01-01 UTC.") (codes "gauge")
+    ++ codes "process_start_time_seconds " ++ seconds_text micros ++ codes "\n"
+
 -- how many sweeps were placed
 unfoldable pub sweeps_text : ℕ → List ℕ
 sweeps_text sweeps =
-    type_line (codes "dispatch_sweeps_placed_total") (codes "counter")
+    metric_head (codes "dispatch_sweeps_placed_total") (codes "Sweeps that were placed.") (codes "counter")
     ++ sample (codes "dispatch_sweeps_placed_total") sweeps
 
 -- how many sweeps were refused with a code, as `dispatch_sweeps_refused_total{code="R04"} 3`
@@ -41,26 +52,30 @@ refused_desk counts =
 -- how many sweeps were refused, by their codes
 unfoldable pub refusals_text : RefusalCounts → List ℕ
 refusals_text counts =
-    type_line (codes "dispatch_sweeps_refused_total") (codes "counter") ++ refused_legs counts ++ refused_desk counts
+    metric_head (codes "dispatch_sweeps_refused_total") (codes "Sweeps that were refused, by the answer's code.")
+    (codes "counter")
+    ++ refused_legs counts ++ refused_desk counts
 
 -- the shares of all sweeps that were placed
 unfoldable pub placed_text : ℕ → List ℕ
 placed_text placed =
-    type_line (codes "dispatch_shares_placed_total") (codes "counter")
+    metric_head (codes "dispatch_shares_placed_total") (codes "The shares of all sweeps that were placed.")
+    (codes "counter")
     ++ sample (codes "dispatch_shares_placed_total") placed
 
 -- what became of them
 unfoldable pub parts_text : Totals → List ℕ
 parts_text parts =
-    type_line (codes "dispatch_shares") (codes "gauge")
+    metric_head (codes "dispatch_shares") (codes "What became of the shares that were placed.") (codes "gauge")
     ++ sample (codes "dispatch_shares{part=\"filled\"}") parts.filled
     ++ sample (codes "dispatch_shares{part=\"busted\"}") parts.busted
     ++ sample (codes "dispatch_shares{part=\"cancelled\"}") parts.cancelled
     ++ sample (codes "dispatch_shares{part=\"withdrawn\"}") parts.withdrawn
     ++ sample (codes "dispatch_shares{part=\"open\"}") parts.still_open
 
--- the day's sweeps, those that were refused, the day's shares, and what is told of each venue
-unfoldable pub metrics_text : DaySums → RefusalCounts → List VenueRow → List ℕ
-metrics_text sums refusals venues =
-    sweeps_text sums.sweeps ++ refusals_text refusals ++ placed_text sums.placed ++ parts_text sums.parts
-    ++ venues_text venues
+-- the program's version, when it began to serve, the day's sweeps, those that were refused, the day's shares, and what
+-- is told of each venue
+unfoldable pub metrics_text : Run → DaySums → RefusalCounts → List VenueRow → List ℕ
+metrics_text run sums refusals venues =
+    build_text ++ begun_text run.begun ++ sweeps_text sums.sweeps ++ refusals_text refusals ++ placed_text sums.placed
+    ++ parts_text sums.parts ++ venues_text venues

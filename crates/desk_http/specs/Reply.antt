@@ -5,6 +5,7 @@ use Rattle.desk_http.specs.declared.refused.Refused.{Refused}
 use Rattle.desk_http.specs.declared.reply.Kind.{Kind}
 use Rattle.desk_http.specs.declared.reply.Kind.TheVariants.{Json, Page, Metrics}
 use Rattle.desk_http.specs.declared.reply.Reply.{Reply}
+use Rattle.desk_http.specs.declared.run.Run.{Run}
 use Rattle.desk_http.specs.declared.status.Status.{Status}
 use Rattle.desk_http.specs.Refused.{refused_words}
 use Rattle.desk_http.specs.Status.{more_head, status_line}
@@ -35,9 +36,13 @@ head_text line kind len more =
     codes "HTTP/1.1 " ++ line ++ codes "\r\nContent-Type: " ++ kind ++ codes "\r\nContent-Length: " ++ decimal len
     ++ codes "\r\n" ++ more
 
--- the text of an answer
-abbrev pub reply_text : Reply → List ℕ
-reply_text reply =
+-- the field that says which run answers, as `Dispatch-Run: 2026-11-28T09:15:02.123456789Z`
+abbrev pub run_field : Run → List ℕ
+run_field run = codes "Dispatch-Run: " ++ string_bytes run.id ++ codes "\r\n"
+
+-- the text of an answer of a run
+abbrev pub reply_text : Run → Reply → List ℕ
+reply_text run reply =
     head_text (status_line reply.status) (kind_text reply.kind) (length (string_bytes reply.body))
     (more_head reply.status)
-    ++ safe_head ++ string_bytes reply.body
+    ++ run_field run ++ safe_head ++ string_bytes reply.body

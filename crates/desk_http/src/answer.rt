@@ -2,13 +2,15 @@
 
 ghost use Rattle.std.specs.Prelude.{◌≡◌, ℕ, IfOk, codes};
 ghost use Rattle.desk_json.specs.FaultJson.{said_json};
-ghost use Rattle.desk_http.specs.Answer.{Closes, Handles, Placed, ShowsExecutions, ShowsLegs, ShowsMetrics, ShowsSweeps, ShowsVenues, outcome_status};
+ghost use Rattle.desk_http.specs.Answer.{Closes, Handles, Placed, ShowsExecutions, ShowsLegs, ShowsMetrics};
+ghost use Rattle.desk_http.specs.Answer.{ShowsSweeps, ShowsVenues, outcome_status};
 ghost use Rattle.desk_http.specs.Reply.{IsReply};
 
 use crate::call::Call;
 use crate::day::Day;
 use crate::metrics::metrics_text;
 use crate::reply::{Kind, Reply, json_reply};
+use crate::run::Run;
 use crate::status::Status;
 use desk_json::{
     Outcome, body_fault_json, executions_json, legs_json, outcome_json, read_sweep, said_json,
@@ -117,13 +119,13 @@ fn page_reply(alloc: Global, page: &str) -> Result<Reply, AllocError>
     })
 }
 
-fn metrics_reply<D: Day>(alloc: Global, day: &mut D) -> Result<Reply, AllocError>
-    ensures { IfOk result (λ reply. ShowsMetrics D.lists D.sums_up D.refuses day.old reply day.new) }
+fn metrics_reply<D: Day>(alloc: Global, day: &mut D, run: &Run) -> Result<Reply, AllocError>
+    ensures { IfOk result (λ reply. ShowsMetrics D.lists D.sums_up D.refuses run.now day.old reply day.new) }
 {
     let rows = day.venues()?;
     let sums = day.sums()?;
     let refusals = day.refusals();
-    let body = metrics_text(alloc, &sums, &refusals, rows.as_slice())?;
+    let body = metrics_text(alloc, run, &sums, &refusals, rows.as_slice())?;
     Ok(Reply {
         status: Status::Ok,
         kind: Kind::Metrics,
@@ -143,6 +145,7 @@ pub(crate) fn answer<D: Day>(
     alloc: Global,
     day: &mut D,
     page: &str,
+    run: &Run,
     call: Call,
     body: &[u8],
 ) -> Result<Reply, AllocError>
@@ -161,7 +164,7 @@ pub(crate) fn answer<D: Day>(
         IsReply reply Status.Unavailable Kind.Json (said_json (codes "too many streams")) × (day.new ≡ day.old)) }
     ensures close { call ≡ Call.Close → IfOk result (λ reply. Closes D.closes day.old reply day.new) }
     ensures metrics { call ≡ Call.Metrics
-        → IfOk result (λ reply. ShowsMetrics D.lists D.sums_up D.refuses day.old reply day.new) }
+        → IfOk result (λ reply. ShowsMetrics D.lists D.sums_up D.refuses run.now day.old reply day.new) }
 {
     match call {
         Call::Page => page_reply(alloc, page),
@@ -172,6 +175,6 @@ pub(crate) fn answer<D: Day>(
         Call::Venues => venues_reply(alloc, day),
         Call::Events => busy_reply(alloc),
         Call::Close => close_reply(alloc, day),
-        Call::Metrics => metrics_reply(alloc, day),
+        Call::Metrics => metrics_reply(alloc, day, run),
     }
 }

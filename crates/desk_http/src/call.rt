@@ -1,7 +1,8 @@
 //! What a request asks for.
 
 ghost use Rattle.std.specs.Prelude.{◌≡◌};
-ghost use Rattle.desk_http.specs.Call.{by_get, by_post, call_at, changes_the_day, executions_call, place_of, sweep_place, sweeps_call};
+ghost use Rattle.desk_http.specs.Call.{by_get, by_post, call_at, changes_the_day, executions_call, place_of};
+ghost use Rattle.desk_http.specs.Call.{sweep_place, sweeps_call};
 
 use crate::refused::Refused;
 use crate::request::Method;

@@ -1,6 +1,6 @@
 //! One connection, served.
 
-ghost use Rattle.std.specs.Prelude.{◌≡◌, OnErr};
+ghost use Rattle.std.specs.Prelude.{◌≡◌, Ok, OnErr, OnOk};
 ghost use Rattle.desk_http.specs.Door.{allowed};
 
 use crate::answer::answer;
@@ -11,20 +11,21 @@ use crate::reading::{Got, read_request};
 use crate::refused::Refused;
 use crate::reply::{Reply, refused_reply, reply_text};
 use crate::request::Request;
+use crate::run::Run;
 use crate::stream::{follow_day, send};
 use std::alloc::Global;
 use std::io;
 use std::io::{Read, Write};
 use std::time::Clock;
 
-fn send_reply<S: Write>(alloc: Global, stream: &mut S, reply: &Reply) -> io::Result<()> {
-    let text = reply_text(alloc, reply)?;
+fn send_reply<S: Write>(alloc: Global, stream: &mut S, run: &Run, reply: &Reply) -> io::Result<()> {
+    let text = reply_text(alloc, run, reply)?;
     send(stream, text.as_bytes())
 }
 
-fn refuse<S: Write>(alloc: Global, stream: &mut S, refused: Refused) -> io::Result<()> {
+fn refuse<S: Write>(alloc: Global, stream: &mut S, run: &Run, refused: Refused) -> io::Result<()> {
     let reply = refused_reply(alloc, refused)?;
-    send_reply(alloc, stream, &reply)
+    send_reply(alloc, stream, run, &reply)
 }
 
 /// Answers a call.
@@ -33,14 +34,17 @@ fn carry_out<S: Write, D: Day>(
     stream: &mut S,
     day: &mut D,
     page: &str,
+    run: &Run,
     call: Call,
     body: &[u8],
-) -> io::Result<()> {
-    if call == Call::Events && follow_day(alloc, stream, day)? {
+) -> io::Result<()>
+    ensures close { call ≡ Call.Close → OnOk result (D.closes day.old day.new) }
+{
+    if call == Call::Events && follow_day(alloc, stream, day, run)? {
         return Ok(());
     }
-    let reply = answer(alloc, day, page, call, body)?;
-    send_reply(alloc, stream, &reply)
+    let reply = answer(alloc, day, page, run, call, body)?;
+    send_reply(alloc, stream, run, &reply)
 }
 
 /// Answers a request.
@@ -50,18 +54,21 @@ fn respond<S: Write, D: Day>(
     day: &mut D,
     door: &Door,
     page: &str,
+    run: &Run,
     request: &Request,
 ) -> io::Result<()>
     // Where a request isn't allowed the day is asked nothing.
-    ensures { OnErr (allowed door.now request.now) (day.new ≡ day.old) }
+    ensures refused { OnErr (allowed door.now request.now) (day.new ≡ day.old) }
+    ensures close { allowed door.now request.now ≡ Ok Call.Close → OnOk result (D.closes day.old day.new) }
 {
     match allowed(door, request) {
-        Ok(call) => carry_out(alloc, stream, day, page, call, request.body.as_slice()),
-        Err(refused) => refuse(alloc, stream, refused),
+        Ok(call) => carry_out(alloc, stream, day, page, run, call, request.body.as_slice()),
+        Err(refused) => refuse(alloc, stream, run, refused),
     }
 }
 
-/// Serves one request of a stream: it is read, answered over the day, and the connection is to be closed behind it.
+/// Serves one request of a stream in this run of the program: it is read, answered over the day, and the connection is
+/// to be closed behind it.
 /// A read of the stream is to give up after half a second, a write after some seconds; either is the stream's fault
 /// then, or a 408. Out of memory, or a fault of the stream, ends the connection with no answer or a part of one.
 pub fn serve<R: Clock, S: Read + Write, D: Day>(
@@ -71,10 +78,11 @@ pub fn serve<R: Clock, S: Read + Write, D: Day>(
     day: &mut D,
     door: &Door,
     page: &str,
+    run: &Run,
 ) -> io::Result<()> {
     match read_request(rt, alloc, stream)? {
-        Got::Request(request) => respond(alloc, stream, day, door, page, &request),
-        Got::Refused(refused) => refuse(alloc, stream, refused),
+        Got::Request(request) => respond(alloc, stream, day, door, page, run, &request),
+        Got::Refused(refused) => refuse(alloc, stream, run, refused),
         Got::Nothing => Ok(()),
     }
 }

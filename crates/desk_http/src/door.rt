@@ -1,7 +1,8 @@
 //! Who may ask what.
 
 ghost use Rattle.std.specs.Prelude.{◌≡◌};
-ghost use Rattle.desk_http.specs.Door.{allowed, call_of, is_json, is_named, is_our_page, is_ours, is_served, knows_token, may_change};
+ghost use Rattle.desk_http.specs.Door.{allowed, call_of, is_json, is_named, is_our_page, is_ours, is_served};
+ghost use Rattle.desk_http.specs.Door.{knows_token, may_change};
 
 use crate::call::{Call, call_at, changes_the_day, place_of};
 use crate::parts::parts_at;

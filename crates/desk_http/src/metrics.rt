@@ -1,21 +1,17 @@
 //! The day as Prometheus' text.
 
 ghost use Rattle.std.specs.Prelude.{◌≡◌, [], ◌++◌, IfOk, OnOk, codes, string_bytes};
-ghost use Rattle.desk_http.specs.Metrics.{metrics_text, refusals_text, refused_desk, refused_legs, refused_sample, parts_text, placed_text, sample, sweeps_text, type_line};
+ghost use Rattle.desk_http.specs.Metrics.{begun_text, build_text, metrics_text, parts_text, placed_text, refusals_text};
+ghost use Rattle.desk_http.specs.Metrics.{refused_desk, refused_legs, refused_sample, sample, sweeps_text};
 
 use crate::day_sums::DaySums;
+use crate::metric_text::{Seconds, write_head};
 use crate::refusal_counts::RefusalCounts;
+use crate::run::Run;
 use crate::venue_metric::write_venues;
 use desk_json::VenueRow;
 use leg::Totals;
 use std::alloc::{AllocError, Global};
-
-/// Appends the name of a metric, with its type.
-fn write_type(text: &mut String, name: &str, kind: &str) -> Result<(), AllocError>
-    ensures { OnOk result (string_bytes text.new ≡ string_bytes text.old ++ type_line name.now kind.now) }
-{
-    write!(text, "# TYPE {name} {kind}\n")
-}
 
 /// Appends a sample: its name, with its labels, and its value.
 fn write_sample(text: &mut String, name: &str, value: u64) -> Result<(), AllocError>
@@ -24,12 +20,31 @@ fn write_sample(text: &mut String, name: &str, value: u64) -> Result<(), AllocEr
     write!(text, "{name} {value}\n")
 }
 
+/// Appends the program's version.
+fn write_build(text: &mut String) -> Result<(), AllocError>
+    ensures { OnOk result (string_bytes text.new ≡ string_bytes text.old ++ build_text) }
+{
+    let words = "The program's version, as the label of a 1.";
+    write_head(text, "dispatch_build_info", words, "gauge")?;
+    write_sample(text, "dispatch_build_info{version=\"1.0.0\"}", 1)
+}
+
+/// Appends when the run began to serve.
+fn write_begun(text: &mut String, micros: u64) -> Result<(), AllocError>
+    ensures { OnOk result (string_bytes text.new ≡ string_bytes text.old ++ begun_text micros) }
+{
+    let words = "When the program began to serve, in seconds since 1970-01-01 UTC.";
+    write_head(text, "process_start_time_seconds", words, "gauge")?;
+    let begun = Seconds { micros };
+    write!(text, "process_start_time_seconds {begun}\n")
+}
+
 /// Appends how many sweeps were placed.
-#[tactic(auto, unfolding(crate::specs::Metrics::sweeps_text))]
 fn write_sweeps(text: &mut String, sweeps: u64) -> Result<(), AllocError>
     ensures { OnOk result (string_bytes text.new ≡ string_bytes text.old ++ sweeps_text sweeps) }
 {
-    write_type(text, "dispatch_sweeps_placed_total", "counter")?;
+    let words = "Sweeps that were placed.";
+    write_head(text, "dispatch_sweeps_placed_total", words, "counter")?;
     write_sample(text, "dispatch_sweeps_placed_total", sweeps)
 }
 
@@ -70,7 +85,8 @@ fn write_refused_desk(text: &mut String, counts: &RefusalCounts) -> Result<(), A
 fn write_refusals(text: &mut String, counts: &RefusalCounts) -> Result<(), AllocError>
     ensures { OnOk result (string_bytes text.new ≡ string_bytes text.old ++ refusals_text counts.now) }
 {
-    write_type(text, "dispatch_sweeps_refused_total", "counter")?;
+    let words = "Sweeps that were refused, by the answer's code.";
+    write_head(text, "dispatch_sweeps_refused_total", words, "counter")?;
     write_refused_legs(text, counts)?;
     write_refused_desk(text, counts)
 }
@@ -80,7 +96,8 @@ fn write_refusals(text: &mut String, counts: &RefusalCounts) -> Result<(), Alloc
 fn write_placed(text: &mut String, placed: u64) -> Result<(), AllocError>
     ensures { OnOk result (string_bytes text.new ≡ string_bytes text.old ++ placed_text placed) }
 {
-    write_type(text, "dispatch_shares_placed_total", "counter")?;
+    let words = "The shares of all sweeps that were placed.";
+    write_head(text, "dispatch_shares_placed_total", words, "counter")?;
     write_sample(text, "dispatch_shares_placed_total", placed)
 }
 
@@ -89,7 +106,8 @@ fn write_placed(text: &mut String, placed: u64) -> Result<(), AllocError>
 fn write_parts(text: &mut String, parts: &Totals) -> Result<(), AllocError>
     ensures { OnOk result (string_bytes text.new ≡ string_bytes text.old ++ parts_text parts.now) }
 {
-    write_type(text, "dispatch_shares", "gauge")?;
+    let words = "What became of the shares that were placed.";
+    write_head(text, "dispatch_shares", words, "gauge")?;
     write_sample(text, "dispatch_shares{part=\"filled\"}", parts.filled)?;
     write_sample(text, "dispatch_shares{part=\"busted\"}", parts.busted)?;
     write_sample(text, "dispatch_shares{part=\"cancelled\"}", parts.cancelled)?;
@@ -97,18 +115,21 @@ fn write_parts(text: &mut String, parts: &Totals) -> Result<(), AllocError>
     write_sample(text, "dispatch_shares{part=\"open\"}", parts.still_open)
 }
 
-/// The day as Prometheus' text: its sweeps, those that were refused, its shares, and what is told of each venue. The
-/// only refusal is out of memory.
+/// The day as Prometheus' text: the run that serves it, its sweeps, those that were refused, its shares, and what is
+/// told of each venue. The only refusal is out of memory.
 #[tactic(auto, unfolding(crate::specs::Metrics::metrics_text))]
 pub(crate) fn metrics_text(
     alloc: Global,
+    run: &Run,
     sums: &DaySums,
     refusals: &RefusalCounts,
     venues: &[VenueRow],
 ) -> Result<String, AllocError>
-    ensures { IfOk result (λ text. string_bytes text ≡ metrics_text sums.now refusals.now venues.now) }
+    ensures { IfOk result (λ text. string_bytes text ≡ metrics_text run.now sums.now refusals.now venues.now) }
 {
     let mut text = String::new(alloc);
+    write_build(&mut text)?;
+    write_begun(&mut text, run.begun)?;
     write_sweeps(&mut text, sums.sweeps)?;
     write_refusals(&mut text, refusals)?;
     write_placed(&mut text, sums.placed)?;

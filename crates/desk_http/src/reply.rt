@@ -1,10 +1,11 @@
 //! An answer, and its text.
 
 ghost use Rattle.std.specs.Prelude.{◌≡◌, ◌++◌, IfOk, codes, decimal, length, string_bytes};
-ghost use Rattle.desk_http.specs.Reply.{IsReply, head_text, kind_text, refused_json, reply_text};
+ghost use Rattle.desk_http.specs.Reply.{IsReply, head_text, kind_text, refused_json, reply_text, run_field};
 ghost use Rattle.desk_http.specs.Refused.{refused_status};
 
 use crate::refused::Refused;
+use crate::run::Run;
 use crate::status::Status;
 use desk_json::said_json;
 use std::alloc::{AllocError, Global};
@@ -70,15 +71,25 @@ fn head_text(
     format!(in alloc; "HTTP/1.1 {line}\r\nContent-Type: {kind}\r\nContent-Length: {len}\r\n{more}")
 }
 
-/// The text of an answer: its status, its head and its body. The connection is closed behind it. The only refusal is
-/// out of memory.
-pub(crate) fn reply_text(alloc: Global, reply: &Reply) -> Result<String, AllocError>
-    ensures { IfOk result (λ text. string_bytes text ≡ reply_text reply.now) }
+/// The field that says which run answers, with its line's end.
+pub(crate) fn run_field(alloc: Global, run: &Run) -> Result<String, AllocError>
+    ensures { IfOk result (λ text. string_bytes text ≡ run_field run.now) }
+{
+    let id = run.id.as_str();
+    format!(in alloc; "Dispatch-Run: {id}\r\n")
+}
+
+/// The text of an answer of a run: its status, its head and its body. The connection is closed behind it. The only
+/// refusal is out of memory.
+pub(crate) fn reply_text(alloc: Global, run: &Run, reply: &Reply) -> Result<String, AllocError>
+    ensures { IfOk result (λ text. string_bytes text ≡ reply_text run.now reply.now) }
 {
     let body = reply.body.as_str();
     let line = reply.status.line();
     let more = reply.status.more_head();
     let mut text = head_text(alloc, line, reply.kind.text(), body.len(), more)?;
+    let field = run_field(alloc, run)?;
+    text.push_str(field.as_str())?;
     text.push_str(SAFE_HEAD)?;
     text.push_str(body)?;
     Ok(text)

@@ -1,9 +1,10 @@
 //! The stream of events.
 
 use crate::day::{Changes, Day};
-use crate::reply::SAFE_HEAD;
+use crate::reply::{SAFE_HEAD, run_field};
+use crate::run::Run;
 use desk_json::{Event, event_text};
-use std::alloc::Global;
+use std::alloc::{AllocError, Global};
 use std::io;
 use std::io::Write;
 
@@ -53,18 +54,27 @@ fn send_all<S: Write, D: Day>(
     Ok(())
 }
 
+/// The head of a stream, and its first event, which says which run tells it.
+fn stream_head(alloc: Global, run: &Run) -> Result<String, AllocError> {
+    let (field, id) = (run_field(alloc, run)?, run.id.as_str());
+    let mut text = format!(in alloc;
+        "HTTP/1.1 200 OK\r\nContent-Type: text/event-stream\r\n{field}"
+    )?;
+    text.push_str(SAFE_HEAD)?;
+    write!(&mut text, "event: run\ndata: {{\"run\":\"{id}\"}}\n\n")?;
+    Ok(text)
+}
+
 /// Begins a stream of events, and sends them until the day is over or the client is gone.
 fn stream_events<S: Write, D: Day>(
     alloc: Global,
     stream: &mut S,
     day: &mut D,
+    run: &Run,
     from: u64,
 ) -> io::Result<()> {
-    send(
-        stream,
-        b"HTTP/1.1 200 OK\r\nContent-Type: text/event-stream\r\n",
-    )?;
-    send(stream, SAFE_HEAD.as_bytes())?;
+    let head = stream_head(alloc, run)?;
+    send(stream, head.as_bytes())?;
     send_all(alloc, stream, day, from)
 }
 
@@ -73,10 +83,11 @@ pub(crate) fn follow_day<S: Write, D: Day>(
     alloc: Global,
     stream: &mut S,
     day: &mut D,
+    run: &Run,
 ) -> io::Result<bool> {
     match day.follow() {
         Some(from) => {
-            let sent = stream_events(alloc, stream, day, from);
+            let sent = stream_events(alloc, stream, day, run, from);
             day.unfollow();
             sent?;
             Ok(true)

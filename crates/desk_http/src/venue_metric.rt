@@ -1,8 +1,12 @@
 //! The metrics of venues.
 
 ghost use Rattle.std.specs.Prelude.{◌≡◌, [], ◌++◌, OnOk, codes, string_bytes};
-ghost use Rattle.desk_http.specs.VenueMetric.{legs_samples, metric_text, samples, samples_at_each, state_label, unbooked_samples, venue_sample, venue_type, venues_text, wait_sample, wait_samples, waits_samples, ways_samples};
+ghost use Rattle.desk_http.specs.VenueMetric.{legs_samples, metric_text, samples, samples_at_each, state_sample};
+ghost use Rattle.desk_http.specs.VenueMetric.{state_value, state_word, states_samples, sum_sample, venue_help};
+ghost use Rattle.desk_http.specs.VenueMetric.{unbooked_samples, venue_kind, venue_name, venue_sample, venues_text};
+ghost use Rattle.desk_http.specs.VenueMetric.{wait_sample, wait_samples, waits_samples, ways_samples};
 
+use crate::metric_text::{Seconds, write_head};
 use desk_json::{OrderWaits, VenueRow, WaitCount};
 use desk_news::VenueState;
 use desk_words::VenueName;
@@ -22,33 +26,67 @@ enum VenueMetric {
     Waits,
 }
 
-/// The name of a metric of venues, with its type.
-fn venue_type(metric: VenueMetric) -> &'static str
-    ensures { result.now ≡ venue_type metric }
+/// The name of a metric of venues.
+fn venue_name(metric: VenueMetric) -> &'static str
+    ensures { result.now ≡ venue_name metric }
 {
     match metric {
-        VenueMetric::State => "# TYPE dispatch_venue_state gauge\n",
-        VenueMetric::Legs => "# TYPE dispatch_legs gauge\n",
-        VenueMetric::Unbooked => "# TYPE dispatch_unbooked_reports_total counter\n",
-        VenueMetric::LinesLost => "# TYPE dispatch_log_lines_lost_total counter\n",
-        VenueMetric::Connections => "# TYPE dispatch_connections_total counter\n",
-        VenueMetric::FailedDials => "# TYPE dispatch_failed_dials_total counter\n",
-        VenueMetric::Messages => "# TYPE dispatch_messages_total counter\n",
-        VenueMetric::Bytes => "# TYPE dispatch_bytes_total counter\n",
-        VenueMetric::Waits => "# TYPE dispatch_order_wait_microseconds histogram\n",
+        VenueMetric::State => "dispatch_venue_state",
+        VenueMetric::Legs => "dispatch_legs",
+        VenueMetric::Unbooked => "dispatch_unbooked_reports_total",
+        VenueMetric::LinesLost => "dispatch_log_lines_lost_total",
+        VenueMetric::Connections => "dispatch_connections_total",
+        VenueMetric::FailedDials => "dispatch_failed_dials_total",
+        VenueMetric::Messages => "dispatch_messages_total",
+        VenueMetric::Bytes => "dispatch_bytes_total",
+        VenueMetric::Waits => "dispatch_order_wait_seconds",
     }
 }
 
-/// The label of a venue's state.
-fn state_label(state: &VenueState) -> &'static str
-    ensures { result.now ≡ state_label state.now }
+/// What a metric of venues is, in words.
+fn venue_help(metric: VenueMetric) -> &'static str
+    ensures { result.now ≡ venue_help metric }
+{
+    match metric {
+        VenueMetric::State => "Whether the venue is in this state: 1 or 0.",
+        VenueMetric::Legs => "Legs of the venue, by their state.",
+        VenueMetric::Unbooked => "Reports of the venue that the book didn't take.",
+        VenueMetric::LinesLost => "Lines that the log of the venue lost.",
+        VenueMetric::Connections => "Connections to the venue in this day.",
+        VenueMetric::FailedDials => "Dials of the venue that failed.",
+        VenueMetric::Messages => "Messages to and from the venue.",
+        VenueMetric::Bytes => "Bytes to and from the venue.",
+        VenueMetric::Waits => "How long an order waited to be written.",
+    }
+}
+
+/// The type of a metric of venues.
+fn venue_kind(metric: VenueMetric) -> &'static str
+    ensures { result.now ≡ venue_kind metric }
+{
+    match metric {
+        VenueMetric::State => "gauge",
+        VenueMetric::Legs => "gauge",
+        VenueMetric::Unbooked => "counter",
+        VenueMetric::LinesLost => "counter",
+        VenueMetric::Connections => "counter",
+        VenueMetric::FailedDials => "counter",
+        VenueMetric::Messages => "counter",
+        VenueMetric::Bytes => "counter",
+        VenueMetric::Waits => "histogram",
+    }
+}
+
+/// The word of a venue's state.
+fn state_word(state: &VenueState) -> &'static str
+    ensures { result.now ≡ state_word state.now }
 {
     match state {
-        VenueState::Dialled => ",state=\"dialled\"",
-        VenueState::Up => ",state=\"up\"",
-        VenueState::Down(_) => ",state=\"down\"",
-        VenueState::Unreachable { .. } => ",state=\"unreachable\"",
-        VenueState::Closed(_) => ",state=\"closed\"",
+        VenueState::Dialled => "dialled",
+        VenueState::Up => "up",
+        VenueState::Down(_) => "down",
+        VenueState::Unreachable { .. } => "unreachable",
+        VenueState::Closed(_) => "closed",
     }
 }
 
@@ -64,6 +102,41 @@ fn write_sample(
         ≡ string_bytes text.old ++ venue_sample metric.now venue.now label.now value) }
 {
     write!(text, "{metric}{{venue=\"{venue}\"{label}}} {value}\n")
+}
+
+/// 1 where a state of a venue, said in its word, is the one of a word, and else 0.
+fn state_value(said: &str, word: &str) -> u64
+    ensures { result ≡ state_value said.now word.now }
+{
+    if said == word { 1 } else { 0 }
+}
+
+/// Appends whether a venue, whose state has this word, is in the state of that one.
+fn write_state(
+    text: &mut String,
+    venue: &VenueName,
+    said: &str,
+    word: &str,
+) -> Result<(), AllocError>
+    ensures { OnOk result (string_bytes text.new
+        ≡ string_bytes text.old ++ state_sample venue.now said.now word.now) }
+{
+    let value = state_value(said, word);
+    write!(
+        text,
+        "dispatch_venue_state{{venue=\"{venue}\",state=\"{word}\"}} {value}\n"
+    )
+}
+
+/// Appends a sample of each state of a venue, whose state has this word.
+fn write_states(text: &mut String, venue: &VenueName, said: &str) -> Result<(), AllocError>
+    ensures { OnOk result (string_bytes text.new ≡ string_bytes text.old ++ states_samples venue.now said.now) }
+{
+    write_state(text, venue, said, "dialled")?;
+    write_state(text, venue, said, "up")?;
+    write_state(text, venue, said, "down")?;
+    write_state(text, venue, said, "unreachable")?;
+    write_state(text, venue, said, "closed")
 }
 
 /// Appends the samples of a venue's legs.
@@ -128,10 +201,11 @@ fn write_ways(
 fn write_wait(text: &mut String, venue: &VenueName, wait: &WaitCount) -> Result<(), AllocError>
     ensures { OnOk result (string_bytes text.new ≡ string_bytes text.old ++ wait_sample venue.now wait.now) }
 {
-    let WaitCount { most, count } = *wait;
+    let count = wait.count;
+    let most = Seconds { micros: wait.most };
     write!(
         text,
-        "dispatch_order_wait_microseconds_bucket{{venue=\"{venue}\",le=\"{most}\"}} {count}\n"
+        "dispatch_order_wait_seconds_bucket{{venue=\"{venue}\",le=\"{most}\"}} {count}\n"
     )
 }
 
@@ -145,18 +219,28 @@ fn write_within(text: &mut String, venue: &VenueName, waits: &[WaitCount]) -> Re
     Ok(())
 }
 
+/// Appends how long the orders of a venue waited in all.
+fn write_sum(text: &mut String, venue: &VenueName, micros: u64) -> Result<(), AllocError>
+    ensures { OnOk result (string_bytes text.new ≡ string_bytes text.old ++ sum_sample venue.now micros) }
+{
+    let sum = Seconds { micros };
+    write!(
+        text,
+        "dispatch_order_wait_seconds_sum{{venue=\"{venue}\"}} {sum}\n"
+    )
+}
+
 /// Appends how many orders of a venue waited, and how long in all.
 fn write_waits(text: &mut String, venue: &VenueName, waits: &OrderWaits) -> Result<(), AllocError>
     ensures { OnOk result (string_bytes text.new ≡ string_bytes text.old ++ waits_samples venue.now waits.now) }
 {
-    let (bucket, sum, count) = (
-        "dispatch_order_wait_microseconds_bucket",
-        "dispatch_order_wait_microseconds_sum",
-        "dispatch_order_wait_microseconds_count",
+    let (bucket, count) = (
+        "dispatch_order_wait_seconds_bucket",
+        "dispatch_order_wait_seconds_count",
     );
     write_within(text, venue, waits.within.as_slice())?;
     write_sample(text, bucket, venue, ",le=\"+Inf\"", waits.count)?;
-    write_sample(text, sum, venue, "", waits.micros)?;
+    write_sum(text, venue, waits.micros)?;
     write_sample(text, count, venue, "", waits.count)
 }
 
@@ -166,10 +250,7 @@ fn write_samples(text: &mut String, metric: VenueMetric, venue: &VenueRow) -> Re
 {
     let name = &venue.status.venue;
     match metric {
-        VenueMetric::State => {
-            let label = state_label(&venue.status.state);
-            write_sample(text, "dispatch_venue_state", name, label, 1)
-        }
+        VenueMetric::State => write_states(text, name, state_word(&venue.status.state)),
         VenueMetric::Legs => write_legs(text, venue),
         VenueMetric::Unbooked => write_unbooked(text, venue),
         VenueMetric::LinesLost => {
@@ -210,7 +291,7 @@ fn write_at_each(
     Ok(())
 }
 
-/// Appends a metric of venues: its type, and its samples.
+/// Appends a metric of venues: what it is, its type, and its samples.
 #[tactic(auto, unfolding(crate::specs::VenueMetric::metric_text))]
 fn write_metric(
     text: &mut String,
@@ -219,7 +300,8 @@ fn write_metric(
 ) -> Result<(), AllocError>
     ensures { OnOk result (string_bytes text.new ≡ string_bytes text.old ++ metric_text metric venues.now) }
 {
-    text.push_str(venue_type(metric))?;
+    let (name, words) = (venue_name(metric), venue_help(metric));
+    write_head(text, name, words, venue_kind(metric))?;
     write_at_each(text, metric, venues)
 }
 

@@ -5,7 +5,7 @@ pub const PAGE: &str = r###"<!doctype html>
 <html lang="en">
 <head>
 <meta charset="utf-8">
-<meta http-equiv="Content-Security-Policy" content="default-src 'none'; script-src 'sha256-sYau4cVWdszromwKb/ParlmDXgE/ngMmDshGLMrcfj4='; style-src 'sha256-0qjEFkkSesv6BzSjmetRvEM4XrfV9ppqU5wvqz2THMc='; connect-src 'self'; base-uri 'none'; form-action 'none'; require-trusted-types-for 'script'; trusted-types 'none'">
+<meta http-equiv="Content-Security-Policy" content="default-src 'none'; script-src 'sha256-+hF0RK8bQGo63SU+s3zCpsojgn/wa0qRrO+TxmuRpYo='; style-src 'sha256-0qjEFkkSesv6BzSjmetRvEM4XrfV9ppqU5wvqz2THMc='; connect-src 'self'; base-uri 'none'; form-action 'none'; require-trusted-types-for 'script'; trusted-types 'none'">
 <meta name="viewport" content="width=device-width, initial-scale=1">
 <meta name="referrer" content="no-referrer">
 <meta name="color-scheme" content="light dark">
@@ -313,6 +313,8 @@ const sweeps = new Map();     // by number
 const legsOf = new Map();     // of the sweeps that are opened, by number
 let closing = false;
 let audit = null;             // how the day's audit ended, once it is closed
+let run = null;               // which run of the program answers: its id
+let beganAnew = null;         // when another run was found to answer
 
 // Each event has its place in time: what was asked for before an event and answered behind it is older than the event.
 let time = 0;
@@ -461,8 +463,10 @@ function drawVenues() {
   const states = [...venues.values()].map(venue => venue.state);
   const told = Object.keys(STATES).map(state => [states.filter(one => one === state).length, state]);
   setText(at("venues-note"), told.filter(([count]) => count).map(([count, state]) => `${count} ${state}`).join(", "));
-  const amiss = states.filter(state => state === "down" || state === "unreachable").length;
-  document.title = (following || audit ? "" : "Events lost · ") + (amiss ? `${amiss} not up · Desk` : "Desk");
+  const isAmiss = state => state !== "up" && !(closing && state === "closed");
+  const amiss = audit ? 0 : states.filter(isAmiss).length;
+  const words = amiss ? `${amiss} of ${states.length} not up · Desk` : "Desk";
+  document.title = (following || audit ? "" : "Events lost · ") + words;
   for (const choice of document.querySelectorAll("select.venue-choice")) fillVenues(choice);
 }
 
@@ -600,7 +604,9 @@ function drawSweeps() {
   for (const number of dirty) drawSweep(number);
   dirty.clear();
   const hidden = [...bodies.values()].filter(body => body.hidden).length;
-  const count = `${digits(sweeps.size - hidden)} of ${digits(newest())}, newest first`;
+  const left = readBehind > 0 ? `the ${digits(newest() - readBehind)} newest of ${digits(newest())}` : digits(newest());
+  const count = at("only-open").checked ? `${digits(sweeps.size - hidden)} with open shares, of ${left}, newest first`
+    : `${digits(sweeps.size)} of ${digits(newest())}, newest first`;
   setText(at("sweeps-note"), sweeps.size === 0 ? "None yet" : count);
   show(at("older"), readBehind > 0);
 }
@@ -662,9 +668,42 @@ function parse(text) {
     typeof value === "number" && !Number.isSafeInteger(value) && context ? context.source : value);
 }
 
+// What is read across two runs of the program is thrown away.
+const ANOTHER_RUN = new Error("another run of the program answers");
+
+// Whether an answer is of the run that the page shows; where it isn't the page begins anew with that run.
+function isOfThisRun(id) {
+  if (!id || id === run) return true;
+  const isFirst = run === null;
+  run = id;
+  if (!isFirst) beginAnew();
+  return isFirst;
+}
+
+// Forgets the day of the run before. What stands in the form stays.
+function beginAnew() {
+  beganAnew = new Date();
+  for (const map of [venues, cards, sweeps, legsOf, dirty, bodies]) map.clear();
+  at("lamps").replaceChildren();
+  for (const body of [...at("table").tBodies]) body.remove();
+  for (const part of ["placed", "resolved", "open"]) setText(at(`sum-${part}`), "–");
+  at("refusals").replaceChildren();
+  show(at("nothing-refused"), true);
+  recent.length = 0;
+  if (!at("answer").hidden) say("warn", `Before the program was started again: ${at("answer").textContent}`);
+  closing = false;
+  audit = null;
+  shown = WINDOW;
+  readBehind = null;
+  tell("The program was started again. The page shows its new run.");
+  drawStanding();
+  draw();
+}
+
 async function ask(path) {
   const signal = AbortSignal.timeout(ANSWER_WITHIN);
   const response = await fetch(path, { cache: "no-store", redirect: "error", signal });
+  if (!isOfThisRun(response.headers.get("Dispatch-Run"))) throw ANOTHER_RUN;
   if (!response.ok) throw new Error(`${path} was answered ${response.status}`);
   return parse(await response.text());
 }
@@ -788,6 +827,10 @@ function banner() {
   if (closing) {
     return ["warn", "ring", "The day is closing. No sweep is taken any more; open shares are waited for."];
   }
+  if (beganAnew) {
+    const what = "The page shows its new run, and nothing of the one before.";
+    return ["calm", "ring", `The program was started again, which was seen at ${clock(beganAnew)}. ${what}`];
+  }
   return null;
 }
 
@@ -814,6 +857,9 @@ function lose(fault) {
 }
 
 const EVENTS = {
+  run(said) {
+    if (!isOfThisRun(said.run)) catchUp(stream);
+  },
   sweep(said) {
     takeSweep(said);
     if (legsOf.has(said.sweep)) readLegs(said.sweep);
@@ -851,7 +897,8 @@ async function catchUp(mine) {
   try {
     await readDay(true);
   } catch (fault) {
-    again(mine, fault);
+    if (fault !== ANOTHER_RUN) again(mine, fault);
+    else if (stream === mine) catchUp(mine);
     return;
   }
   if (stream !== mine) return;
@@ -880,7 +927,7 @@ function take(mine, name, data) {
 
 // Gives up a stream, and dials another a while later.
 function again(mine, fault) {
-  if (audit) return;
+  if (audit || fault === ANOTHER_RUN) return;
   if (stream === mine && mine !== null) {
     stream.close();
     stream = null;
@@ -973,6 +1020,7 @@ async function post(path, body) {
     } catch (fault) {
       return { lost: true };
     }
+    isOfThisRun(response.headers.get("Dispatch-Run"));
     if (response.status !== 401) return { status: response.status, said: answerOf(text) };
     sessionStorage.removeItem("token");
     const given = await askToken(token !== null);

@@ -1,6 +1,7 @@
 //! A desk's day, as one connection asks it.
 
 ghost use Rattle.std.specs.Prelude.{◌≡◌, ⊤, IfOk, filter_map, length};
+ghost use Rattle.std.specs.Option.{IsSomeAnd};
 ghost use Rattle.desk_serve.specs.Answered.{IsAnswered, outcome_of};
 ghost use Rattle.desk_serve.specs.Executions.{IsExecutions};
 ghost use Rattle.desk_serve.specs.Shown.{AreAll, AreShown, IsPage, IsSums, IsSweep};
@@ -10,7 +11,7 @@ use crate::page::Page;
 use crate::shown::{leg_rows, sweeps_behind, venue_rows};
 use clock::UtcClock;
 use day_log::LineLog;
-use desk_floor::{Floor, sweep_legs};
+use desk_floor::{Closing, Floor, sweep_legs};
 use desk_http::{Changes, Day, DaySums, RefusalCounts};
 use desk_json::{ExecutionsPage, LegRow, Outcome, SweepLegs, SweepsPage, VenueRow};
 use desk_words::VenueName;
@@ -43,6 +44,8 @@ pub(crate) struct DayView<'a, L: Run, M: Accounts, W: Write + Drop, R: Wait + Cl
     has_told: bool,
     /// Whether it was followed to its end.
     is_over: bool,
+    /// What shows that the day is closing, once the client had it closed.
+    closing: Option<Closing<'a>>,
 }
 
 /// An answer, as it is told over HTTP.
@@ -93,6 +96,7 @@ impl<'a, L: Run, M: Accounts, W: Write + Drop, R: Wait + Clock> DayView<'a, L, M
             follower: None,
             has_told: false,
             is_over: false,
+            closing: None,
         })
     }
 
@@ -141,7 +145,7 @@ impl<'a, L: Run, M: Accounts, W: Write + Drop, R: Wait + Clock> Day for DayView<
 
     ghost refuses = { λ _ _. ⊤ };
 
-    ghost closes = { λ _ _. ⊤ };
+    ghost closes = { λ old new. IsSomeAnd new.closing (λ shown. shown.of ≡ old.floor.now.signals.closing.id) };
 
     fn names(&self) -> &[VenueName] {
         self.floor.names.as_slice()
@@ -214,9 +218,7 @@ impl<'a, L: Run, M: Accounts, W: Write + Drop, R: Wait + Clock> Day for DayView<
     }
 
     fn close(&mut self) {
-        if !self.floor.signals.is_closing() {
-            self.floor.close();
-        }
+        self.closing = Some(self.floor.ask_to_close(self.rt));
     }
 
     fn follow(&mut self) -> Option<u64> {

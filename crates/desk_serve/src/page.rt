@@ -8,16 +8,18 @@ use crate::entrance::Entrance;
 use crate::part_sums::PartSums;
 use day_executions::{Executions, LentNotes, named};
 use desk_config::{Address, TokenText};
-use desk_http::Door;
+use desk_http::{Door, Run};
 use desk_json::ExecutionsPage;
 use desk_words::VenueName;
 use exec_collector::{Accounts, Collector};
+use jiff::Timestamp;
 use leg::Totals;
 use std::alloc::{AllocError, Global};
 use std::fmt::Display;
 use std::net::SocketAddr;
 use std::sync::atomic::{AtomicU64, Ordering};
 use std::sync::{Mutex, Wait};
+use std::time::Clock;
 
 /// How many clients may follow a day at once.
 pub(crate) const MOST_FOLLOWERS: u64 = 4;
@@ -29,6 +31,7 @@ const CLIENTS_A_LOOK: u64 = 100;
 #[derive(Drop)]
 pub(crate) struct Page {
     pub door: Door,
+    pub run: Run,
     pub entrance: Entrance,
     followers: AtomicU64,
     // How often a server waited for a client.
@@ -56,6 +59,15 @@ fn other_name(alloc: Global, at: &SocketAddr) -> Result<Option<String>, AllocErr
     Ok(Some(host_of(alloc, &"localhost", at.port())?))
 }
 
+/// The run that begins to serve now; where the clock can't be read, as if it were 1970.
+fn run_now(rt: &impl Clock, alloc: Global) -> Result<Run, AllocError> {
+    let now = Timestamp::now(rt).unwrap_or(Timestamp::UNIX_EPOCH);
+    Ok(Run {
+        id: format!(in alloc; "{now}")?,
+        begun: u64::try_from(now.as_microsecond()).unwrap_or(0),
+    })
+}
+
 /// What has to be told where a call changes the day: nothing without a token.
 fn authorization(alloc: Global, token: Option<&TokenText>) -> Result<String, AllocError> {
     match token {
@@ -80,8 +92,9 @@ fn executions_page(
 }
 
 impl Page {
-    /// The page that is served under this address of a file, which is this one, to those who come in there.
+    /// The page that is served from now on under this address of a file, which is this one, to those who come in there.
     pub fn new(
+        rt: &impl Clock,
         alloc: Global,
         at: &SocketAddr,
         address: &Address,
@@ -94,6 +107,7 @@ impl Page {
                 other_name: other_name(alloc, at)?,
                 authorization: authorization(alloc, token)?,
             },
+            run: run_now(rt, alloc)?,
             entrance,
             followers: AtomicU64::new(0),
             clients: AtomicU64::new(0),

@@ -31,7 +31,7 @@ pub struct PageServer {
 /// Opens the page at an address, which this one of the file stands for: a server for each of so many callers, and for
 /// each client that may follow the day. Where a token is there it is asked for. Refused where the address can't be had,
 /// or memory or descriptors are wanted.
-pub fn open_page<R: Net<Listener = TcpListener, Stream = TcpStream>>(
+pub fn open_page<R: Net<Listener = TcpListener, Stream = TcpStream> + Clock>(
     rt: &R,
     alloc: Global,
     at: SocketAddr,
@@ -42,7 +42,7 @@ pub fn open_page<R: Net<Listener = TcpListener, Stream = TcpStream>>(
     let listener = TcpListener::bind(rt, at)?;
     listener.set_nonblocking(true)?;
     let entrance = Entrance::new(rt, alloc, listener)?;
-    let page = Page::new(alloc, &at, address, token, entrance)?;
+    let page = Page::new(rt, alloc, &at, address, token, entrance)?;
     let page = Arc::new(alloc, page)?;
     let mut servers = Vec::new(alloc);
     for _ in 0..callers.saturating_add(MOST_FOLLOWERS) {
@@ -99,7 +99,8 @@ impl PageServer {
         client.set_read_timeout(Some(Duration::from_millis(READ_MILLIS)))?;
         client.set_write_timeout(Some(Duration::from_secs(WRITE_SECONDS)))?;
         let mut day = DayView::new(rt, alloc, floor, &self.page)?;
-        serve(rt, alloc, &mut client, &mut day, &self.page.door, PAGE)?;
+        let Page { door, run, .. } = &*self.page;
+        serve(rt, alloc, &mut client, &mut day, door, PAGE, run)?;
         if day.is_over() {
             return Ok(Some(client));
         }

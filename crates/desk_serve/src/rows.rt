@@ -63,7 +63,10 @@ pub(crate) fn venue_row<L: Run, M: Accounts, W: Write + Drop>(
         bytes_sent: traffic.bytes_sent(),
         bytes_received: traffic.bytes_received(),
         waits: waits_of(alloc, traffic.order_times())?,
-        heard_ms_ago: view.heard_ms_ago(clock),
+        heard_ms_ago: match traffic.messages_received() {
+            0 => None,
+            _ => view.heard_ms_ago(clock),
+        },
     }))
 }
 

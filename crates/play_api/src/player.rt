@@ -6,13 +6,16 @@ use crate::still::Still;
 use crate::talk::Talk;
 use crate::words::{day_totals, outcome, refusal_counts, sweep_parts};
 use case_text::{Answers, PlayFault, Player, number};
-use desk_http::{Door, serve};
+use desk_http::{Door, Run, serve};
 use share_ledger::Applied;
 use std::alloc::Global;
 use std::str;
 
 /// The page of the cases.
 const PAGE: &str = "<!doctype html><title>Desk</title>";
+
+/// The name of the run that serves the cases, and the same moment in microseconds since 1970-01-01 UTC.
+const RUN: (&str, u64) = ("2026-11-28T09:15:02.123456789Z", 1_795_857_302_123_456);
 
 /// What a case says, and the day that it is said to.
 #[derive(Drop)]
@@ -75,10 +78,22 @@ impl ApiPlayer {
     /// Serves what the client said, and gives the answer's text.
     fn serve(&mut self, is_late: bool) -> Result<String, PlayFault> {
         let door = self.door()?;
+        let run = Run {
+            id: String::from_str(self.alloc, RUN.0)?,
+            begun: RUN.1,
+        };
         let said = std::mem::replace(&mut self.said, Vec::new(self.alloc));
         let mut talk = Talk::new(said, is_late, Vec::new(self.alloc));
         // A fault of the connection ends it: what was answered until then is the answer.
-        let _ = serve(&Still, self.alloc, &mut talk, &mut self.day, &door, PAGE);
+        let _ = serve(
+            &Still,
+            self.alloc,
+            &mut talk,
+            &mut self.day,
+            &door,
+            PAGE,
+            &run,
+        );
         let text = str::from_utf8(talk.answer()).unwrap_or("no text");
         Ok(String::from_str(self.alloc, text)?)
     }

@@ -7,5 +7,5 @@ pub returns : goal.returns
 unfolding refusals_text
 returns c =
     on_ok_weaker c.write_refused_desk.result
-    (λ said. rw said (rw (c.in_ok-write_refused_legs.ensures, c.in_ok-write_type.ensures) (simp append_assoc)))
+    (λ said. rw said (rw (c.in_ok-write_refused_legs.ensures, c.in_ok-write_head.ensures) (simp append_assoc)))
     c.write_refused_desk.ensures

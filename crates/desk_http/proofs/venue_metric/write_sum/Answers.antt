@@ -1,8 +1,8 @@
 use Rattle.std.proofs.Common.{append_assoc}
 use Rattle.std.proofs.lemmas.Result.{on_ok_weaker}
-use Rattle.desk_http.specs.Metrics.{type_line}
-use Rattle.desk_http.proofs.metrics.write_type.Goals as goal
+use Rattle.desk_http.specs.VenueMetric.{sum_sample}
+use Rattle.desk_http.proofs.venue_metric.write_sum.Goals as goal
 
 pub returns : goal.returns
-unfolding type_line
+unfolding sum_sample
 returns c = on_ok_weaker c.write.result (λ said. simp append_assoc said) c.write.ensures.bytes
