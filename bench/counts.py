@@ -6,6 +6,7 @@ import shutil
 import signal
 import subprocess
 import time
+from contextlib import suppress
 from pathlib import Path
 
 # How many legs are counted at once, and how often.
@@ -40,15 +41,35 @@ def calls(desk):
     pid, file = str(desk.run.pid), f"{desk.folder}/calls"
     if os.access(TRACEPOINT, os.R_OK) and shutil.which("perf"):
         command = ["perf", "stat", "-x,", "-e", "raw_syscalls:sys_enter", "-p", pid, "-o", file]
+        counts = has_events
     else:
         command = ["strace", "-c", "-f", "-U", "calls,name", "-p", pid, "-o", file]
+        counts = traces
     counter = subprocess.Popen(command, stderr=subprocess.DEVNULL)
+    while counter.poll() is None and not counts(counter.pid, desk.run.pid):
+        time.sleep(0.05)
     time.sleep(0.5)
     desk.feed_one_by_one(LEGS // desk.venues)
     counter.send_signal(signal.SIGINT)
     counter.wait()
     # perf writes one line, and strace's last is the total.
     return int(Path(file).read_text().split("\n")[-2].replace(",", " ").split()[0]) / LEGS
+
+
+def has_events(perf, pid):
+    """Whether perf has an event open for each thread of a process at least."""
+    with suppress(OSError):
+        events = sum("perf_event" in os.readlink(file) for file in Path(f"/proc/{perf}/fd").iterdir())
+        return events >= len(os.listdir(f"/proc/{pid}/task"))
+    return False
+
+
+def traces(strace, pid):
+    """Whether strace is attached to each thread of a process."""
+    with suppress(OSError):
+        return all(f"\nTracerPid:\t{strace}\n" in path.read_text()
+                   for path in Path(f"/proc/{pid}/task").glob("*/status"))
+    return False
 
 
 def instructions(desk):

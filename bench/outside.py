@@ -120,7 +120,7 @@ class Lines(threading.Thread):
         """Waits for the next line with this beginning, and gives when it was there."""
         with suppress(queue.Empty):
             while True:
-                at, line = self.lines.get(timeout=10)
+                at, line = self.lines.get(timeout=60)
                 if line.startswith(beginning):
                     return at
         raise Doubt(f"no line {beginning.decode()}")
@@ -168,7 +168,7 @@ class Desk:
         return self.engine not in ("raw", "QuickFIX", "threaded")
 
     def wait_until_up(self):
-        for _ in range(100):
+        for _ in range(1000):
             if self.is_dispatch():
                 self.run.stdin.write(b"status\n")
                 said = [self.run.stdout.readline() for _ in range(self.venues)]
@@ -225,7 +225,7 @@ class Desk:
         self.run.stdin.close()
         said, faults = lines.rest() if lines else self.run.stdout.read(), self.run.stderr.read()
         status = self.run.wait(MOST_END)
-        words = self.sink.communicate(timeout=60)[0].split()
+        words = self.sink.communicate(timeout=MOST_END)[0].split()
         if status or self.sink.returncode or (self.is_dispatch() and not said.endswith(b"audit ok\n")):
             raise Doubt(f"{self.engine}: status {status}, {said[-80:]}, {faults[-200:]}")
         orders, self.last = int(words[1]), int(words[3])

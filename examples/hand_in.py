@@ -56,29 +56,45 @@ def main():
     venues = [venue["venue"] for venue in desk.ask("GET", "/api/venues")[1]["venues"]]
     legs = [{"venue": name, "symbol": "BRK.B", "side": "buy", "shares": 100, "price": "10.25"} for name in venues[:2]]
     placed, ended, refused = set(), set(), []
-    lock = threading.Lock()
+    has_left = False
+    changed = threading.Condition()
 
     def hand_in(share):
         for _ in range(share):
             status, answer = desk.ask("POST", "/api/sweeps", {"legs": legs})
-            with lock:
+            with changed:
                 if status == 201:
                     placed.add(answer["placed"])
                 else:
                     refused.append(answer)
+                changed.notify()
+
+    def follow():
+        nonlocal has_left
+        try:
+            for name, said in events:
+                if name == "sweep" and said["open"] == 0:
+                    with changed:
+                        ended.add(said["sweep"])
+                        changed.notify()
+        finally:
+            with changed:
+                has_left = True
+                changed.notify()
+
+    def is_over():
+        return has_left or (len(placed) + len(refused) == asked.count and placed <= ended)
 
     events = desk.events()
     next(events)
+    # The last event may come before the answer to its sweep.
+    threading.Thread(target=follow, daemon=True).start()
     shares = [asked.count // asked.clients + (at < asked.count % asked.clients) for at in range(asked.clients)]
     clients = [threading.Thread(target=hand_in, args=(share,)) for share in shares]
     for client in clients:
         client.start()
-    for name, said in events:
-        if name == "sweep" and said["open"] == 0:
-            ended.add(said["sweep"])
-        with lock:
-            if len(placed) + len(refused) == asked.count and placed <= ended:
-                break
+    with changed:
+        changed.wait_for(is_over)
     for client in clients:
         client.join()
     print(f"{len(placed)} placed, {len(placed & ended)} ended, {len(refused)} refused")

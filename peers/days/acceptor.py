@@ -1,13 +1,15 @@
 """The exchange of a day: the acceptor on QuickFIX, in a folder of the day's own."""
 
+import random
 import socket
 import subprocess
+from contextlib import suppress
 from dataclasses import dataclass
 
 DESK = "DESK"
 
 # How long it may take to stop.
-MOST_SECONDS = 10
+MOST_SECONDS = 60
 
 
 @dataclass(frozen=True)
@@ -29,8 +31,11 @@ def order_of(line):
 
 
 def free_port():
-    with socket.create_server(("127.0.0.1", 0)) as taken:
-        return taken.getsockname()[1]
+    """A port below those that the system takes for connections, so that none takes it while the exchange is stopped."""
+    while True:
+        port = random.randint(15000, 31999)
+        with suppress(OSError), socket.create_server(("127.0.0.1", port)):
+            return port
 
 
 class Acceptor:

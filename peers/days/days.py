@@ -15,10 +15,10 @@ from days.sweeps import sweeps_of, wide_sweeps_of
 # How many shares of an order the exchange trades at most.
 FILL = 6
 
-# All times are in seconds: of a day, of a heartbeat interval, of the quiet before a day is closed and before a stop.
-MOST_SECONDS = 90
+# All times are in seconds: of a day at most, of which a slow machine may want more; of a heartbeat interval; and of the
+# quiet before a stop.
+MOST_SECONDS = 600
 HEARTBEAT = 2
-QUIET = 1.5
 SETTLING = 0.3
 
 ROUGH = Weather(most_delay=0.003, most_piece=400, stall_chance=0.002, stall=0.6, bytes_to_cut=12_000)
@@ -143,7 +143,7 @@ def play(day, dispatch, acceptor_program, folder):
     placed, faults = {}, []
     try:
         place_all(day, desk, venues, acceptor, proxy, placed)
-        desk.rest(QUIET)
+        desk.settle(venues)
         status = desk.close()
         faults += day_faults(placed, acceptor.orders(), FILL, status, desk.lines)
         faults += log_faults(dispatch, folder, venues)

@@ -8,8 +8,10 @@ import time
 
 from days.acceptor import DESK
 
-# How long a refused sweep waits before it is tried again, in seconds.
+# How long a refused sweep waits before it is tried again, and how long the desk is left alone between two looks whether
+# its venues have settled all, in seconds.
 PAUSE = 0.02
+LOOK = 0.25
 
 # The folder of the message logs, from the desk's file on.
 LOGS = "logs"
@@ -21,12 +23,12 @@ class Late(Exception):
     """A day has come to its deadline."""
 
 
-def file_of(venues, port, heartbeat):
-    """The desk's file, for venues that one exchange serves at a port."""
+def file_of(venues, port, heartbeat, words=""):
+    """The desk's file, for venues that one exchange serves at a port, each with these lines besides."""
     tables = [f'[desk]\nsender = "{DESK}"\nlog = "{LOGS}"\n']
     for venue in venues:
         tables.append(
-            f'[[venue]]\nname = "{venue}"\ntarget = "{venue}"\naddress = "127.0.0.1:{port}"\nheartbeat = {heartbeat}\n'
+            f'[[venue]]\nname = "{venue}"\ntarget = "{venue}"\naddress = "127.0.0.1:{port}"\nheartbeat = {heartbeat}\n{words}'
         )
     return "\n".join(tables)
 
@@ -90,10 +92,19 @@ class Desk:
                 raise RuntimeError(f"{answer}: {line}")
             time.sleep(PAUSE)
 
-    def rest(self, seconds):
-        """Waits until nothing has been said for so long."""
-        while self._next(seconds) is not None:
+    def settle(self, venues):
+        """Waits until each venue is up with nothing unsent or in doubt: a fence behind the last report came back."""
+        while not all(self._is_settled(venue) for venue in venues):
+            time.sleep(LOOK)
+        while self._next(LOOK) is not None:
             pass
+
+    def _is_settled(self, venue):
+        self._ask("status")
+        while (line := self._next()) is not None:
+            if line.startswith(f"status venue {venue} "):
+                return re.search(r" unsent 0 doubt 0 lost \d+ up$", line) is not None
+        raise RuntimeError(ENDED)
 
     def close(self):
         """Ends the day, and gives the exit status."""

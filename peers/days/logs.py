@@ -5,7 +5,7 @@ import subprocess
 
 from days.desk import LOGS
 
-MOST_SECONDS = 60
+MOST_SECONDS = 600
 
 # What a check says of a line that breaks a rule.
 FINDING = re.compile(r"line \d+ [a-z-]+: ")
@@ -14,11 +14,11 @@ FINDING = re.compile(r"line \d+ [a-z-]+: ")
 SWEEP = re.compile(r"sweep \d+ legs ")
 
 
-def log_faults(dispatch, folder, venues):
+def log_faults(dispatch, folder, venues, dialect="plain"):
     """Where a log is missing, can't be read, shows a rule broken, by the session or by the exchange, or isn't what the
-    session writes. Each venue's dialect is plain (`desk.file_of`)."""
+    session writes in this dialect."""
     for venue in venues:
-        command = [dispatch, "check", "--exact", "plain", folder / LOGS / f"{venue}.log"]
+        command = [dispatch, "check", "--exact", dialect, folder / LOGS / f"{venue}.log"]
         ran = subprocess.run(command, capture_output=True, text=True, timeout=MOST_SECONDS)
         if ran.returncode not in (0, 8):
             yield f"{venue}: {ran.stderr or ran.returncode}"

@@ -1,5 +1,6 @@
-// An exchange on QuickFIX for the dialect plain: a session for each venue, all of them on one port of this machine. It
-// answers each order by New, a Trade of --fill shares at most, and Canceled for what is left.
+// An exchange on QuickFIX for the dialect plain, or for what data dictionaries say: a session for each venue, all of
+// them on one port of this machine. It answers each order by New, a Trade of --fill shares at most, and Canceled for
+// what is left.
 //
 //   --port N          where it listens, on the loopback address
 //   --venues A,B      the comp ids of its sessions
@@ -11,6 +12,7 @@
 //   --drop-every N    drops a venue's connection behind each Nth message that it takes; 0 is never, as below
 //   --ignore-every N  gives each Nth order of a venue no report
 //   --test-every N    sends a TestRequest behind each Nth order of a venue
+//   --dictionaries FOLDER   has a data dictionary for each venue, VENUE.xml: an order that it refuses gets a Reject
 //
 // It ends by SIGTERM, or after --seconds.
 #include "options.hpp"
@@ -49,7 +51,7 @@ namespace {
 using FIX::Session;
 using FIX::SessionID;
 
-struct Plan { const long fill, drop_every, ignore_every, test_every; };
+struct Plan { const long fill, drop_every, ignore_every, test_every; const bool has_dictionaries; };
 
 long microseconds() {
   using namespace std::chrono;
@@ -84,6 +86,7 @@ class Exchange : public FIX::NullApplication {
                                   FIX::CumQty(filled), FIX::AvgPx(0));
     report.setField(11, id);
     report.setField(55, order.getField(55));
+    if (order.isSetField(65)) report.setField(65, order.getField(65));
     if (traded) {
       report.setField(32, std::to_string(traded));
       report.setField(31, order.getField(44));
@@ -107,7 +110,7 @@ class Exchange : public FIX::NullApplication {
   void fromApp(const FIX::Message& message, const SessionID& session)
       throw(FIX::FieldNotFound, FIX::IncorrectDataFormat, FIX::IncorrectTagValue, FIX::UnsupportedMessageType) {
     if (message.getHeader().getField(35) != "D") throw FIX::UnsupportedMessageType();
-    if (message.getField(18) != "f") throw FIX::IncorrectTagValue(18);
+    if (!plan_.has_dictionaries && message.getField(18) != "f") throw FIX::IncorrectTagValue(18);
     if (message.getField(40) != "2") throw FIX::IncorrectTagValue(40);
     if (message.getField(59) != "3") throw FIX::IncorrectTagValue(59);
     const long orders = ++venues_[session].orders;
@@ -127,6 +130,8 @@ class Exchange : public FIX::NullApplication {
   }
 };
 
+bool has_dictionaries(const Options& options) { return !options.text("--dictionaries").empty(); }
+
 FIX::SessionSettings settings_of(const Options& options) {
   std::stringstream text;
   text << "[DEFAULT]\nConnectionType=acceptor\nBeginString=FIX.4.4\nTargetCompID=" << options.text("--peer")
@@ -135,7 +140,13 @@ FIX::SessionSettings settings_of(const Options& options) {
        << "\nSocketNodelay=Y\nSocketReuseAddress=Y\nStartTime=00:00:00\nEndTime=00:00:00\nResetOnLogon=N\n"
        << "ResetOnLogout=N\nResetOnDisconnect=N\nCheckLatency=N\nUseDataDictionary=N\n";
   std::stringstream venues(options.text("--venues"));
-  for (std::string venue; std::getline(venues, venue, ',');) text << "[SESSION]\nSenderCompID=" << venue << '\n';
+  for (std::string venue; std::getline(venues, venue, ',');) {
+    text << "[SESSION]\nSenderCompID=" << venue << '\n';
+    if (has_dictionaries(options)) {
+      const std::string dictionary = options.text("--dictionaries") + "/" + venue + ".xml";
+      text << "UseDataDictionary=Y\nValidateUserDefinedFields=Y\nDataDictionary=" << dictionary << '\n';
+    }
+  }
   return FIX::SessionSettings(text);
 }
 
@@ -152,7 +163,7 @@ void serve(const Options& options) {
   signal(SIGPIPE, SIG_IGN);
   const FIX::SessionSettings settings = settings_of(options);
   Exchange exchange({options.number("--fill"), options.number("--drop-every"), options.number("--ignore-every"),
-                     options.number("--test-every")}, options.text("--orders"));
+                     options.number("--test-every"), has_dictionaries(options)}, options.text("--orders"));
   FIX::FileStoreFactory store(settings);
   FIX::FileLogFactory log(settings);
   FIX::SocketAcceptor acceptor(exchange, store, settings, log);
@@ -169,7 +180,8 @@ int main(int count, char** words) {
   try {
     serve(Options(count, words,
                   {{"--port", ""}, {"--venues", ""}, {"--peer", ""}, {"--fill", "6"}, {"--orders", ""}, {"--store", ""},
-                   {"--drop-every", "0"}, {"--ignore-every", "0"}, {"--test-every", "0"}, {"--seconds", "600"}}));
+                   {"--drop-every", "0"}, {"--ignore-every", "0"}, {"--test-every", "0"}, {"--dictionaries", ""},
+                   {"--seconds", "600"}}));
   } catch (const std::exception& fault) {
     std::cerr << fault.what() << std::endl;
     return 2;
