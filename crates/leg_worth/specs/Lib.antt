@@ -1,0 +1,5 @@
+pub mod Worth
+-- How it is kept beside a book.
+pub mod Kept
+-- Examples.
+pub mod Rows

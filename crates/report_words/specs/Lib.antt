@@ -1,0 +1,5 @@
+pub mod Words
+pub mod Said
+pub mod Placing
+-- Examples.
+pub mod Rows
