@@ -1,5 +1,5 @@
 -- What a report that was read says.
-use Rattle.std.proofs.Common.{◌≡◌, ◌==◌, ℕ, Bool, true, false, cond, List, [], ◌∷◌, Some, option_map, Result, Ok, Err, IfOk, refl, sym, ap, subst, ◌∙◌}
+use Rattle.std.proofs.Common.{◌≡◌, ◌==◌, ℕ, Bool, true, false, cond, List, [], ◌∷◌, Some, option_map, Result, Ok, Err, IfOk, refl, sym, ap, subst, ◌∙◌, if◌then◌else◌}
 use Rattle.std.proofs.lemmas.Bool.{eqb-true, leb-true, and_parts}
 use Rattle.std.proofs.lemmas.Option.{cond_some, option_and_then_some}
 use Rattle.fix_text.specs.Tagged.{Tagged, value_of}
@@ -16,7 +16,7 @@ use Rattle.dialect.specs.FreeText.{IsFreeText, free_text_of}
 use Rattle.dialect.specs.Limit.{order_shares_of}
 use Rattle.dialect.specs.Report.{IsReportKind}
 use Rattle.dialect.specs.ReportFields.{exec_type_text}
-use Rattle.dialect.specs.ReportRead.{fill_in, trade_in, bust_in, kind_of_byte, kind_of_text, kind_in, report_read_of}
+use Rattle.dialect.specs.ReportRead.{fill_in, trade_in, bust_in, tells_state, kind_of_byte, kind_of_text, kind_in, report_read_of}
 use Rattle.dialect.specs.ReportReading.{SaysFill, SaysDetail, exec_type_read, IsReportReadingOf}
 use Rattle.dialect.specs.Spelling.{SpellingParts, IsSpelling}
 use Rattle.dialect.specs.Lemmas.StepLaws.{bind_ok, step, same_ok, was_some, required_as-Ok}
@@ -99,11 +99,18 @@ tried fields c code kind true here later is e this other =
     subst (λ byte. IsKindRead fields (byte ∷ []) kind) (sym (eqb-true c code is)) (this e)
 tried fields c code kind false here later is e this other = other e
 
+-- whether the byte tells the state alone is tried first
+state_first : (fields : List Tagged) (c : ℕ) (kind : ReportKind) (b : Bool) (later : Result ReportKind DialectFault)
+    → tells_state c ≡ b → cond b (Ok New) later ≡ Ok kind → (later ≡ Ok kind → IsKindRead fields (c ∷ []) kind)
+    → IsKindRead fields (c ∷ []) kind
+state_first fields c kind true later is e other = subst (IsKindRead fields (c ∷ [])) (same_ok New kind e)
+    (record { in_range = tt; text_is = ap (λ b. (if b then 48 else (if c == 51 then 67 else c)) ∷ []) is; detail = tt })
+state_first fields c kind false later is e other = other e
+
 kind_of_byte-Ok : (fields : List Tagged) (c : ℕ) (kind : ReportKind) → kind_of_byte fields c ≡ Ok kind
     → IsKindRead fields (c ∷ []) kind
 kind_of_byte-Ok fields c kind e =
-    tried fields c 48 kind (c == 48) _ _ refl e (λ is. subst (IsKindRead fields (48 ∷ [])) (same_ok New kind is)
-    (record { in_range = tt; text_is = refl; detail = tt })) (λ e1.
+    state_first fields c kind (tells_state c) _ refl e (λ e1.
     tried fields c 70 kind (c == 70) _ _ refl e1 (trade_in-Ok fields kind) (λ e2.
     tried fields c 52 kind (c == 52) _ _ refl e2 (λ is. subst (IsKindRead fields (52 ∷ []))
     (same_ok Canceled kind is) (record { in_range = tt; text_is = refl; detail = tt })) (λ e3.

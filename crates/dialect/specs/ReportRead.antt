@@ -1,5 +1,5 @@
 -- What fields say that are read as a report (FIX 4.4 Volume 4, ExecutionReport).
-use Rattle.std.specs.Prelude.{◌==◌, ℕ, List, [], ◌∷◌, Result, Ok, Err, if◌then◌else◌}
+use Rattle.std.specs.Prelude.{◌==◌, ◌||◌, Bool, ℕ, List, [], ◌∷◌, Result, Ok, Err, if◌then◌else◌}
 use Rattle.fix_text.specs.Then.{◌>>=◌}
 use Rattle.fix_text.specs.Tagged.{Tagged}
 use Rattle.dialect.specs.declared.fault.DialectFault.{DialectFault}
@@ -28,10 +28,16 @@ trade_in fields = fill_in fields >>= λ fill. Ok (Trade fill)
 abbrev pub bust_in : List Tagged → Result ReportKind DialectFault
 bust_in fields = required_as (free_text_of 64) fields 19 >>= λ cancelled_id. Ok (Bust cancelled_id)
 
--- what happened by the byte of 150: `0`, `F`, `4`, `8`, `C`, `3` (done for day, which ends an order as `C` does) or `H`
+-- whether a byte of 150 tells the state of an order alone, and moves no share: `0` (new), `6` (pending cancel), `7`
+-- (stopped), `9` (suspended), `A` (pending new), `B` (calculated) or `I` (order status)
+abbrev pub tells_state : ℕ → Bool
+tells_state c = c == 48 || c == 54 || c == 55 || c == 57 || c == 65 || c == 66 || c == 73
+
+-- what happened by the byte of 150: one that tells the state, `F`, `4`, `8`, `C`, `3` (done for day, which ends an
+-- order as `C` does) or `H`
 abbrev pub kind_of_byte : List Tagged → ℕ → Result ReportKind DialectFault
 kind_of_byte fields c =
-    if c == 48 then Ok New else (
+    if tells_state c then Ok New else (
     if c == 70 then trade_in fields else (
     if c == 52 then Ok Canceled else (
     if c == 56 then Ok Rejected else (

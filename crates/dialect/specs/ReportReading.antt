@@ -9,6 +9,7 @@ use Rattle.dialect.specs.Fields.{ReadsAs}
 use Rattle.dialect.specs.Fill.{FillParts}
 use Rattle.dialect.specs.Report.{IsReport}
 use Rattle.dialect.specs.ReportFields.{exec_type_text}
+use Rattle.dialect.specs.ReportRead.{tells_state}
 use Rattle.dialect.specs.Spelling.{SpellingParts}
 
 -- 32 says a trade's shares, and 31 its price
@@ -25,13 +26,14 @@ SaysDetail fields Rejected = Unit {0}
 SaysDetail fields Expired = Unit {0}
 SaysDetail fields (Bust cancelled_id) = value_of fields 19 ≡ Some cancelled_id
 
--- the text of 150 that is written for what this one says: done for day (`3`) ends an order as expired (`C`) does
+-- the text of 150 that is written for what this one says: done for day (`3`) ends an order as expired (`C`) does, and
+-- what tells the state alone is read as new (`0`)
 abbrev pub exec_type_read : List ℕ → List ℕ
 exec_type_read [] = []
-exec_type_read (c ∷ cs) = (if c == 51 then 67 else c) ∷ cs
+exec_type_read (c ∷ cs) = (if tells_state c then 48 else (if c == 51 then 67 else c)) ∷ cs
 
--- what fields say that are read as this report: but for a trade's shares and for done for day, each value is the one
--- that is written
+-- what fields say that are read as this report: but for a trade's shares and for 150, each value is the one that is
+-- written
 pub record IsReportReadingOf (s : SpellingParts) (report : Report) (fields : List Tagged) : Type 0 where
   pub in_range : IsReport report
   pub id : value_of fields 11 ≡ Some (s.id_text report.id)

@@ -75,7 +75,7 @@ fn kind_by(fields: &AppFields<'_>, byte: u8) -> Result<ReportKind, DialectFault>
     ensures { result ≡ kind_of_byte fields.now byte }
 {
     match byte {
-        b'0' => Ok(ReportKind::New),
+        b'0' | b'6' | b'7' | b'9' | b'A' | b'B' | b'I' => Ok(ReportKind::New),
         b'F' => trade_in(fields),
         b'4' => Ok(ReportKind::Canceled),
         b'8' => Ok(ReportKind::Rejected),
