@@ -10,3 +10,7 @@ pub mod Listing
 pub mod Telling
 pub mod Blank
 pub mod Opening
+pub mod Day
+pub mod Disputing
+pub mod Summing
+pub mod Keeping

@@ -1,5 +1,5 @@
 -- Each note that was given is an entry of the book or is listed, exactly once.
-use Rattle.std.proofs.Common.{◌≡◌, ℕ, List, [], ◌∷◌, map, Some, inl, inr, refl, ap, sym, ◌∙◌, subst}
+use Rattle.std.proofs.Common.{◌≡◌, ℕ, List, [], ◌∷◌, map, Some, inl, inr, refl, sym, ◌∙◌, subst}
 use Rattle.dialect.specs.declared.note.Note.{Note}
 use Rattle.share_ledger.specs.declared.applied.Applied.TheVariants as applied
 use Rattle.exec_collector.specs.declared.booking.Booking.{Booking}

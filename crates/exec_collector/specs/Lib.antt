@@ -6,3 +6,5 @@ pub mod Unbooked
 pub mod Sides
 pub mod Blank
 pub mod Calls
+pub mod Day
+pub mod Beside

@@ -1,5 +1,5 @@
 -- The notes that the book didn't take, each with the book's answer, in the order in which they were given.
-use Rattle.std.specs.Prelude.{◌≡◌, ◌⊎◌, ◌==◌, ◌≤◌, ℕ, suc, false, List, [], ◌∷◌, ◌++◌, length, map, filter, Option, Some, Result, Ok, if◌then◌else◌}
+use Rattle.std.specs.Prelude.{◌≡◌, ◌⊎◌, ◌==◌, ◌≤◌, ℕ, false, List, [], ◌∷◌, ◌++◌, length, map, filter, Some, Result, Ok, if◌then◌else◌}
 use Rattle.dialect.specs.declared.note.Note.{Note}
 use Rattle.share_ledger.specs.declared.applied.Applied.{Applied}
 use Rattle.share_ledger.specs.declared.book_fault.BookFault.{BookFault}

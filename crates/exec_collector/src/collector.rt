@@ -3,17 +3,20 @@
 ghost use Rattle.std.specs.Prelude.{◌≡◌, ◌≤◌, ◌++◌, ◌∷◌, [], IfOk, IsOkUnless, MatchResult, OnOk};
 ghost use Rattle.std.specs.Fn.{FnOnceReturnsAt, FnOnceReturnsAtMut};
 ghost use Rattle.share_ledger.specs.Book.{BookParts, totals};
-ghost use Rattle.exec_collector.specs.Calls.{CallGives, CallReads};
+ghost use Rattle.exec_collector.specs.Beside.{IsBeside};
+ghost use Rattle.exec_collector.specs.Calls.{CallGives, CallReads, CallReadsAll};
 ghost use Rattle.exec_collector.specs.Opened.{IsSide};
 ghost use Rattle.exec_collector.specs.Resolved.{Replays, OnlyOpens, GainsBy, GainsLeg, resolved};
 ghost use Rattle.exec_collector.specs.Seats.{worker_seats};
-ghost use Rattle.exec_collector.specs.Unbooked.{KeptCounted, IsListOf};
+ghost use Rattle.exec_collector.specs.Unbooked.{KeptCounted, IsListOf, without_room};
+ghost use Rattle.exec_collector.specs.declared.beside.Beside.{Beside as KeptBeside};
 
 use crate::venue_bookings::VenueBookings;
-use crate::{Accounts, BlankBook, CountedBook, Unbooked, WorkerSeat};
+use crate::{Accounts, Beside, BlankBook, CountedBook, DayBook, Unbooked, WorkerSeat};
 use agreed_list::SeatSide;
 use dialect::Note;
 use leg::{LegId, Sweep, Totals};
+use report_words::ReportWords;
 use share_ledger::{Applied, Book, BookFault};
 use std::alloc::Global;
 use std::collections::VecDeque;
@@ -22,7 +25,7 @@ use std::sync::{Mutex, Wait};
 /// The book behind a lock, which all workers share. Each call may wait for the lock.
 #[derive(Drop)]
 pub struct Collector<M: Accounts> {
-    counted: Mutex<CountedBook<M>>,
+    day: Mutex<DayBook<M>>,
 }
 
 impl<M: Accounts> Collector<M> {
@@ -69,17 +72,18 @@ impl<M: Accounts> Collector<M> {
             sweeps,
         };
         let collector = Collector {
-            counted: Mutex::new(counted),
+            day: Mutex::new(DayBook::new(alloc, counted)),
         };
         Ok((collector, seats, desk))
     }
 
-    /// Applies a note of the seat's venue; the seat gains the shares that cease to be open, and the note as one that
-    /// was booked. No other call books one. B02, and the note may be applied again.
+    /// Applies a note of the seat's venue, and keeps its words; the seat gains the shares that cease to be open, and
+    /// the note as one that was booked. No other call books one. B02, and the note may be applied again.
     pub fn apply(
         &self,
         rt: &impl Wait,
         note: &Note,
+        words: &ReportWords,
         seat: &mut WorkerSeat<M>,
     ) -> Result<Applied, BookFault>
         ensures gains { MatchResult result (λ applied. GainsBy note.now applied seat.old.shares seat.new.shares)
@@ -88,7 +92,7 @@ impl<M: Accounts> Collector<M> {
         ensures booked { OnOk result (seat.new.booked ≡ seat.old.booked ++ note.now ∷ []) }
         ensures asked { seat.new.asked ≡ seat.old.asked }
     {
-        self.counted.lock(rt).apply(note, seat)
+        self.day.lock(rt).apply(note, words, seat)
     }
 
     /// Withdraws a leg of the seat's venue; the seat gains its shares, and the leg as one that was asked for, whatever
@@ -106,21 +110,21 @@ impl<M: Accounts> Collector<M> {
         ensures booked { seat.new.booked ≡ seat.old.booked }
         ensures asked { seat.new.asked ≡ seat.old.asked ++ id ∷ [] }
     {
-        self.counted.lock(rt).withdraw(id, seat)
+        self.day.lock(rt).withdraw(id, seat)
     }
 
     /// The totals of a sweep, if it was opened, of a book that replays from its own history. It takes no memory.
     pub fn totals(&self, rt: &impl Wait, number: u64) -> Option<Totals>
         ensures { (book : BookParts) × Replays book × (result ≡ totals book number) }
     {
-        self.counted.lock(rt).book().totals(number)
+        self.day.lock(rt).counted().book().totals(number)
     }
 
     /// The shares that the venues have resolved, at most 10^18, of a book that replays from its own history.
     pub fn resolved(&self, rt: &impl Wait) -> u64
         ensures { (book : BookParts) × Replays book × (result ≡ resolved book) }
     {
-        self.counted.lock(rt).resolved()
+        self.day.lock(rt).counted().resolved()
     }
 
     /// Lends the book, which replays from its own history, to a closure that reads it.
@@ -128,7 +132,7 @@ impl<M: Accounts> Collector<M> {
         requires call { (book : _) → Replays book.now → F.pre f book }
         ensures { (book : BookParts) × Replays book × FnOnceReturnsAt F.FnOnce f book result }
     {
-        self.counted.lock(rt).read(f)
+        self.day.lock(rt).counted().read(f)
     }
 
     /// Lends the book, which replays from its own history, and the list of the notes that it didn't take to a closure
@@ -139,7 +143,23 @@ impl<M: Accounts> Collector<M> {
         ensures { (counted : KeptCounted) × Replays counted.book × IsListOf counted.book counted.unbooked
             × CallReads F.FnOnce f counted.book counted.unbooked result }
     {
-        self.counted.lock(rt).read_all(f)
+        self.day.lock(rt).counted().read_all(f)
+    }
+
+    /// Lends the book, which replays from its own history, the list of the notes that it didn't take, and what is kept
+    /// beside them to a closure that reads them, as all are at one moment.
+    pub fn read_day<T, F: FnOnce(&Book, &[Unbooked], &Beside) -> T>(
+        &self,
+        rt: &impl Wait,
+        f: F,
+    ) -> T
+        requires call { (book : _) (unbooked : _) (beside : _) → Replays book.now → IsListOf book.now unbooked.now
+            → F.pre f book unbooked beside }
+        ensures { (counted : KeptCounted) × (beside : KeptBeside) × Replays counted.book
+            × IsListOf counted.book counted.unbooked × IsBeside (without_room counted) beside
+            × CallReadsAll F.FnOnce f counted.book counted.unbooked beside result }
+    {
+        self.day.lock(rt).read_all(f)
     }
 
     /// Lends the book to a closure that only opens sweeps.
@@ -155,7 +175,7 @@ impl<M: Accounts> Collector<M> {
         ensures { (b : BookParts) × (c : BookParts) × FnOnceReturnsAtMut F.FnOnce f b result c
             × IsSide M.sweeps b side.old.name side.old.items × IsSide M.sweeps c side.new.name side.new.items }
     {
-        self.counted.lock(rt).lend(side, f)
+        self.day.lock(rt).lend(side, f)
     }
 
     /// Lends the book, beside a value of the caller's, to a closure that only opens sweeps.
@@ -173,11 +193,16 @@ impl<M: Accounts> Collector<M> {
         ensures { (b : BookParts) × (c : BookParts) × CallGives F.FnOnce f beside.old b result beside.new c
             × IsSide M.sweeps b side.old.name side.old.items × IsSide M.sweeps c side.new.name side.new.items }
     {
-        self.counted.lock(rt).lend_beside(beside, side, f)
+        self.day.lock(rt).lend_beside(beside, side, f)
+    }
+
+    /// What lies under the lock, once no thread shares it any more.
+    pub fn into_day(self) -> DayBook<M> {
+        self.day.into_inner()
     }
 
     /// The book and its count, once no thread shares the lock any more.
     pub fn into_counted(self) -> CountedBook<M> {
-        self.counted.into_inner()
+        self.into_day().into_counted()
     }
 }

@@ -1,6 +1,6 @@
 //! The book, and the count of what its venues have resolved.
 
-ghost use Rattle.std.specs.Prelude.{◌≡◌, ◌⊎◌, ◌+◌, ◌≤◌, ◌++◌, ◌∷◌, [], length, IfSome, IsOkUnless, MatchResult, OnErr, OnOk};
+ghost use Rattle.std.specs.Prelude.{◌≡◌, ◌⊎◌, ◌+◌, ◌≤◌, ◌++◌, ◌∷◌, [], length, IfSome, IsOkUnless, IsSome, MatchResult, OnErr, OnOk};
 ghost use Rattle.std.specs.Fn.{FnOnceReturnsAt, FnOnceReturnsAtMut};
 ghost use Rattle.leg.specs.Answering.{Answers};
 ghost use Rattle.share_ledger.specs.Book.{BookParts, answer_to};
@@ -117,6 +117,7 @@ impl<M: Accounts> CountedBook<M> {
     /// where the leg is none of the venue's. It takes no memory.
     pub fn withdraw(&mut self, id: LegId, seat: &mut WorkerSeat<M>) -> Result<(), BookFault>
         ensures book { IfSome seat.old.venue (λ venue. (result, self.new.book) ≡ withdraw_of venue self.old.book id) }
+        ensures of_venue { IsSome seat.old.venue }
         ensures unbooked { (self.new.unbooked ≡ self.old.unbooked) × (self.new.room ≡ self.old.room) }
         ensures seat { seat.new.shares + resolved self.old.book ≡ seat.old.shares + resolved self.new.book }
         ensures gains { MatchResult result (λ _. GainsLeg id seat.old.shares seat.new.shares)

@@ -15,6 +15,12 @@
 //!   order in which they were given. `apply` writes each note in the book or in the list, or nothing in either where it
 //!   answers out of memory; no other call changes the list. Each note on a seat is an entry of the book or in the list,
 //!   exactly once (`each_note_is_told_once`).
+//! - What lies under the lock, `DayBook`, keeps beside the counted book the words of each note, in the order in which
+//!   the notes were given: `apply` adds those that it is given to the others just where it takes or lists the note
+//!   (clause `words`), no other call changes them, and there is one for each note (`DayBook::words`). What was paid in
+//!   a leg is the sum over its trades that no bust names (`DayBook::worth`), and the shares of its trades that the
+//!   book didn't take and has none under their id of are told beside it (`DayBook::disputed`), up to the greatest
+//!   number of the type. Both are kept, so that no call walks the history or the list.
 //! - `totals` is that of a book that replays.
 //! - `lend` and `lend_beside` take closures that only open sweeps; `read_all` lends book and list as they are at one
 //!   moment.
@@ -29,11 +35,14 @@
 #![tactic(auto)]
 
 mod accounts;
+mod beside;
 mod blank_book;
 mod booking;
 mod collector;
 mod counted_book;
 mod counting;
+mod day_book;
+mod disputed;
 mod laws;
 mod opened_sweeps;
 mod placed_sweep;
@@ -42,11 +51,13 @@ mod venue_bookings;
 mod worker_seat;
 
 pub use accounts::Accounts;
+pub use beside::Beside;
 pub use blank_book::BlankBook;
 pub use booking::Booking;
 pub use collector::Collector;
 pub use counted_book::CountedBook;
 pub use counting::{Miscounted, check_count};
+pub use day_book::DayBook;
 pub use laws::each_note_is_told_once;
 pub use placed_sweep::PlacedSweep;
 pub use unbooked::Unbooked;

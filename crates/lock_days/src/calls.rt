@@ -9,6 +9,7 @@ use dialect::{ExecId, Fill, LastPx, Note, Report, ReportKind};
 use exec_collector::Accounts;
 use leg::{LegId, VenueId};
 use release_lock::Run;
+use report_words::ReportWords;
 use std::sync::Wait;
 use sweep_release::{Desk, GateFault, ReleaseFault};
 use trial::{Order, Post, TrialFault, sweep_of};
@@ -128,8 +129,12 @@ impl<L: Run, M: Accounts> Played<L, M> {
     /// A report is booked by the worker of the first venue.
     fn book(&mut self, rt: &impl Wait, exec: &str, says: Reported) -> Result<Answer, TrialFault> {
         let note = note_of(exec, says).ok_or(TrialFault::Missing)?;
+        let words = ReportWords::none();
         let post = self.floor.posts.first_mut().ok_or(TrialFault::Missing)?;
-        let applied = self.floor.collector.apply(rt, &note, &mut post.seat)?;
+        let applied = self
+            .floor
+            .collector
+            .apply(rt, &note, &words, &mut post.seat)?;
         Ok(Answer::Booked(applied))
     }
 }

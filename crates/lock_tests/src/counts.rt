@@ -11,6 +11,7 @@ use exec_collector::{
     Accounts, BlankBook, Collector, Miscounted, Unbooked, WorkerSeat, check_count,
 };
 use leg::{LegId, Sweep, Totals};
+use report_words::ReportWords;
 use share_ledger::{Applied, Book, BookFault};
 use std::alloc::Global;
 use std::marker::Brand;
@@ -62,9 +63,10 @@ fn work<M: Accounts>(
     notes: &[(Note, Applied)],
     seat: &mut WorkerSeat<M>,
 ) -> bool {
+    let words = ReportWords::none();
     let mut as_wanted = true;
     for (note, wanted) in notes {
-        as_wanted &= collector.apply(rt, note, seat) == Ok(*wanted);
+        as_wanted &= collector.apply(rt, note, &words, seat) == Ok(*wanted);
     }
     as_wanted
 }

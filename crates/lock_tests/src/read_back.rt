@@ -9,6 +9,7 @@ use dialect::{Note, ReportKind};
 use exec_collector::{Accounts, Collector, Unbooked, WorkerSeat};
 use leg::Totals;
 use release_lock::{CallerSeat, ReleaseLock, Run, VenueDrain};
+use report_words::ReportWords;
 use share_ledger::{Applied, Book};
 use std::alloc::Global;
 use std::sync::Wait;
@@ -69,12 +70,13 @@ fn trades<L: Run, M: Accounts>(
 ) -> Result<bool, Fail> {
     let trade = trade(1, b"E", 4)?;
     let end = report(1, b"F", ReportKind::Canceled)?;
+    let words = ReportWords::none();
     for (note, wanted) in [
         (&trade, Applied::Moved),
         (&trade, Applied::Duplicate),
         (&end, Applied::Moved),
     ] {
-        if collector.apply(rt, note, worker) != Ok(wanted) {
+        if collector.apply(rt, note, &words, worker) != Ok(wanted) {
             return Ok(false);
         }
     }

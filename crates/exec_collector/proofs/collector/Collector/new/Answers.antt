@@ -3,6 +3,7 @@ use Rattle.std.proofs.lemmas.List.{length-append}
 use Rattle.exec_collector.specs.Resolved.{resolved, Replays}
 use Rattle.exec_collector.specs.Blank.{BlankParts}
 use Rattle.exec_collector.specs.Opened.{sweeps_of}
+use Rattle.exec_collector.specs.Seats.{worker_seats}
 use Rattle.exec_collector.specs.Sides.{AreWritten, AreListed}
 use Rattle.exec_collector.specs.Unbooked.{IsListOf}
 use Rattle.exec_collector.specs.declared.unbooked.Unbooked.{Unbooked}
@@ -79,3 +80,12 @@ invariant_of-counted g c =
       subst (λ (l : List Unbooked). AreListed l 0 sides) (sym none) done.unbooked,
       subst (IsListOf book) (sym none) tt,
     )
+
+pub returns-clause-seats : goal.returns-clause-seats
+returns-clause-seats g c =
+    let so_far = c.loop-list.invariant in
+    let sum = so_far.3 in
+    let empty = c.in_default.ensures.cases.0 in
+    let length_is = c.loop-list.lists.ok.0 in
+    let count : length c.loop-list.bookings.items ≡ c.args.venues = omega (arith, sum, empty, length_is) in
+    so_far.0.seats_are ∙ ap worker_seats count

@@ -3,7 +3,7 @@ use Rattle.std.specs.Prelude.{IfSome}
 use Rattle.exec_collector.specs.Seats.{Seat}
 use Rattle.exec_collector.specs.Sides.{IsOneMore}
 use Rattle.exec_collector.specs.declared.booking.Booking.TheVariants.{Given}
-use Rattle.share_ledger.specs.Book.{BookParts, answer_to, after_note}
+use Rattle.share_ledger.specs.Book.{answer_to}
 use Rattle.exec_collector.proofs.Sweeps.{side-noted}
 use Rattle.exec_collector.proofs.Booked.{written-noted}
 use Rattle.exec_collector.proofs.Listing.{list-noted, listed-noted}

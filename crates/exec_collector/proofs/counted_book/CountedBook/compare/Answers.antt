@@ -1,13 +1,12 @@
 use Rattle.std.proofs.Common.{◌≡◌, List, refl, ap, sym, subst, ◌∙◌}
 use Rattle.std.proofs.Math.Seq.{map-set_same}
 use Rattle.std.proofs.lemmas.Option.{slice_get_read}
-use Rattle.share_ledger.specs.Book.{BookParts}
 use Rattle.exec_collector.specs.Booked.{AreBooked, notes_of, asked_of}
 use Rattle.exec_collector.specs.Seats.{Seat}
 use Rattle.exec_collector.specs.declared.venue_bookings.VenueBookings.{VenueBookings}
 use Rattle.exec_collector.proofs.Booked.{written-kept, written-at}
 use Rattle.exec_collector.proofs.Listing.{listed-kept, listed-at}
-use Rattle.exec_collector.specs.Unbooked.{KeptCounted, WereUnbooked, unbooked_of, unbooked_among}
+use Rattle.exec_collector.specs.Unbooked.{KeptCounted, unbooked_of, unbooked_among}
 use Rattle.exec_collector.specs.declared.booking.Booking.{Booking}
 use Rattle.exec_collector.proofs.counted_book.CountedBook.compare.Goals as goal
 

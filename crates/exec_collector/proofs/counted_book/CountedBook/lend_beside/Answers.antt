@@ -1,6 +1,5 @@
 use Rattle.std.proofs.Common.{rules, sym, subst, ◌∙◌}
 use Rattle.exec_collector.specs.Calls.{CallGives}
-use Rattle.exec_collector.specs.Resolved.{OnlyOpens}
 use Rattle.exec_collector.specs.Unbooked.{KeptCounted}
 use Rattle.exec_collector.proofs.Booked.{written-opened}
 use Rattle.exec_collector.proofs.Listing.{list-opened}
