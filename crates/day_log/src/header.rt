@@ -1,7 +1,8 @@
 //! What stands at the head of a log.
 
 ghost use Rattle.std.specs.Prelude.{◌≡◌, Some, IfOk, string_bytes};
-ghost use Rattle.day_log.specs.Header.{dialect_text, head_of_words, header_text, place_text, place_part, terms_part, words_text, yes_or_no};
+ghost use Rattle.day_log.specs.Header.{dialect_text, head_of_words, header_text, place_text, place_part, terms_part};
+ghost use Rattle.day_log.specs.Header.{words_text, yes_or_no};
 
 use desk_config::{Endpoint, SessionTerms, Venue};
 use dialect::AnyDialect;

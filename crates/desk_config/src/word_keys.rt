@@ -1,7 +1,8 @@
 //! How a venue spells its orders: `dialect`, and what departs from it.
 
 ghost use Rattle.std.specs.Prelude.{◌≡◌, option_and_then, option_map};
-ghost use Rattle.desk_config.specs.Words.{fields_from, forms_by, id_at, known_in, mark_at, mark_by, next_field, order_by, price_at, priced, symbol_at, table_by, taken_or_bad, words_in};
+ghost use Rattle.desk_config.specs.Words.{fields_from, forms_by, id_at, known_in, mark_at, mark_by, next_field};
+ghost use Rattle.desk_config.specs.Words.{order_by, price_at, priced, symbol_at, table_by, taken_or_bad, words_in};
 ghost use Rattle.toml.specs.Data.{as_str};
 ghost use Rattle.toml.specs.View.{array_view, view};
 ghost use Rattle.venue_words.specs.Builds.{with_id, with_symbol};

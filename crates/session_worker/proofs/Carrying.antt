@@ -1,5 +1,5 @@
 -- What a step wanted, done one after the other.
-use Rattle.std.proofs.Common.{◌≡◌, ℕ, List, ◌++◌, refl, sym, ap, subst, ◌∙◌, inl, inr}
+use Rattle.std.proofs.Common.{◌≡◌, ℕ, List, refl, sym, ap, subst, ◌∙◌, inl, inr}
 use Rattle.std.specs.Prelude.{Option}
 use Rattle.leg.specs.LegId.{LegIdParts}
 use Rattle.dialect.specs.declared.note.Note.{Note}

@@ -5,6 +5,7 @@ pub mod Booking
 pub mod Speaking
 pub mod Events
 pub mod Linking
+pub mod Saying
 pub mod Withdrawing
 pub mod Ends
 pub mod Places

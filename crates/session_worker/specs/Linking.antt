@@ -149,7 +149,7 @@ pub record Receives (w : Wording) (before : SessionParts) (stream : Stream) (ste
 -- what came of the next message
 abbrev pub HeardGives : Wording → SessionParts → Stream → Heard → SessionParts → Type 0
 HeardGives w before stream heard.Nothing after = (after ≡ before) × ((next_read stream).frame ≡ None)
-HeardGives w before stream (heard.Step step) after = Receives w before stream step after
+HeardGives w before stream (heard.Step step words) after = Receives w before stream step after
 HeardGives w before stream heard.Malformed after =
     (fields : List Tagged) × (fault : TagFault) × ((next_read stream).frame ≡ Some fields)
     × (envelope_read fields ≡ Err fault) × (after ≡ (malformed before).1)

@@ -1,5 +1,5 @@
 -- When a worker does something by itself.
-use Rattle.std.specs.Prelude.{ℕ, Bool, true, false, not, ◌&&◌, ◌+◌, ◌*◌, ◌-◌, ◌≤◌, min, nat_lt, nat_le, List, [], ◌∷◌, Option, Some, None, if◌then◌else◌}
+use Rattle.std.specs.Prelude.{ℕ, Bool, true, false, ◌+◌, ◌*◌, ◌-◌, ◌≤◌, min, nat_lt, nat_le, List, [], ◌∷◌, Option, Some, None, if◌then◌else◌}
 use Rattle.std.specs.Option.{option_map}
 use Rattle.resend.specs.declared.sent.Sent.{Sent}
 use Rattle.session_core.specs.declared.phase.Phase.{Phase}

@@ -1,6 +1,7 @@
 //! A session and the link over which it speaks.
 
-ghost use Rattle.std.specs.Prelude.{◌≡◌, ◌↔◌, false, IsTrue};
+ghost use Rattle.std.specs.Prelude.{◌≡◌, ◌↔◌, false, IfSome, IsTrue};
+ghost use Rattle.std.specs.Option.{option_map};
 ghost use Rattle.std.specs.List.{concat};
 ghost use Rattle.session_core.specs.declared.phase.Phase.TheVariants as phase;
 ghost use Rattle.session_core.specs.Session.{new_session, is_connected, has_doubt};
@@ -12,6 +13,7 @@ ghost use Rattle.session_worker.specs.Speaking.{Wire, Reads};
 ghost use Rattle.session_worker.specs.Hearing.{Said};
 ghost use Rattle.session_worker.specs.Linking.{io_of, IsHearing, MayBreak, TakesIn, Writes, Moves, Hands, AsksOrMoves};
 ghost use Rattle.session_worker.specs.Events.{IsIdle};
+ghost use Rattle.session_worker.specs.Saying.{Says};
 
 use crate::Pace;
 use crate::fencing::Fencing;
@@ -25,6 +27,7 @@ use fix_tags::Config;
 use fix_text::FrameReader;
 use leg::{PlacedLeg, VenueId};
 use link::{Got, Link, write_whole};
+use report_words::ReportWords;
 use session_core::{Ended, Frames, Phase, Session, SessionFault, Step};
 use std::alloc::Global;
 use std::marker::Model;
@@ -305,9 +308,10 @@ impl<K: Link, C: Clock + Drop> SessionIo<K, C> {
     }
 
     /// The next message that was read is handed to the session, while there is a connection and a message. It gives
-    /// what is to be done for it.
-    pub(crate) fn hear<D: Dialect>(&mut self, dialect: &D) -> Option<Step>
-        ensures { AsksOrMoves (D.wording dialect.now) self.old result self.new }
+    /// what is to be done for it, and where it has a note the words of its frame.
+    pub(crate) fn hear<D: Dialect>(&mut self, dialect: &D) -> Option<(Step, ReportWords)>
+        ensures asks { AsksOrMoves (D.wording dialect.now) self.old (option_map (λ heard. heard.0) result) self.new }
+        ensures said { IfSome result (λ heard. Says self.old.stream heard.0.note heard.1) }
     {
         if !self.session.phase().is_connected() {
             return None;
@@ -315,11 +319,11 @@ impl<K: Link, C: Clock + Drop> SessionIo<K, C> {
         let stamp = self.clock.now();
         match hear(dialect, &mut self.reader, &mut self.session, &stamp) {
             Heard::Nothing => None,
-            Heard::Step(step) => {
+            Heard::Step(step, words) => {
                 self.timer.heard();
                 self.fencing.heard();
                 self.link.heard(self.reader.waiting());
-                Some(step)
+                Some((step, words))
             }
             Heard::Malformed => {
                 self.link.heard(self.reader.waiting());

@@ -24,6 +24,7 @@ use exec_collector::{Accounts, Collector, WorkerSeat};
 use leg::{LegId, PlacedLeg};
 use link::Link;
 use release_lock::{ReleaseLock, Run};
+use report_words::ReportWords;
 use session_core::{LegIds, Phase, Step};
 use std::alloc::AllocError;
 use std::marker::Model;
@@ -371,7 +372,7 @@ impl<K: Link, C: Clock + Drop, L: Run, M: Accounts> WorkerState<K, C, L, M> {
         self.io.read(buf);
         for _ in 0..MESSAGES_A_TURN {
             match self.io.hear(dialect) {
-                Some(step) => self.carry_out(rt, collector, step),
+                Some((step, words)) => self.carry_out(rt, collector, step, &words),
                 None => return,
             }
         }
@@ -382,7 +383,7 @@ impl<K: Link, C: Clock + Drop, L: Run, M: Accounts> WorkerState<K, C, L, M> {
         ensures { Does (D.wording dialect.now) self.old self.new }
     {
         match self.io.on_quiet(dialect) {
-            Some(step) => self.carry_out(rt, collector, step),
+            Some(step) => self.carry_out(rt, collector, step, &ReportWords::none()),
             None => {}
         }
     }
@@ -392,14 +393,21 @@ impl<K: Link, C: Clock + Drop, L: Run, M: Accounts> WorkerState<K, C, L, M> {
         ensures { Does (D.wording dialect.now) self.old self.new }
     {
         match self.io.on_silence(dialect) {
-            Some(step) => self.carry_out(rt, collector, step),
+            Some(step) => self.carry_out(rt, collector, step, &ReportWords::none()),
             None => {}
         }
     }
 
-    /// Does what a step of the session wants: the legs that it names are withdrawn in the book, its note is booked and
-    /// then confirmed, and its frames are written. Where the book wants memory the connection is given up.
-    fn carry_out(&mut self, rt: &impl Wait, collector: &Collector<M>, step: Step)
+    /// Does what a step of the session wants: the legs that it names are withdrawn in the book, its note is booked with
+    /// these words and then confirmed, and its frames are written. Where the book wants memory the connection is given
+    /// up.
+    fn carry_out(
+        &mut self,
+        rt: &impl Wait,
+        collector: &Collector<M>,
+        step: Step,
+        words: &ReportWords,
+    )
         ensures { CarriesOut step.withdrawn step.note (concat step.out) self.old self.new }
     {
         let Step {
@@ -409,7 +417,7 @@ impl<K: Link, C: Clock + Drop, L: Run, M: Accounts> WorkerState<K, C, L, M> {
             ended,
         } = step;
         self.withdraw_all(rt, collector, withdrawn);
-        if !self.take_note(rt, collector, note) {
+        if !self.take_note(rt, collector, note, words) {
             return;
         }
         self.io.write_all(out);
@@ -418,8 +426,14 @@ impl<K: Link, C: Clock + Drop, L: Run, M: Accounts> WorkerState<K, C, L, M> {
         }
     }
 
-    /// Books the note, if there is one, and says whether the session may go on.
-    fn take_note(&mut self, rt: &impl Wait, collector: &Collector<M>, note: Option<Note>) -> bool
+    /// Books the note, if there is one, with its words, and says whether the session may go on.
+    fn take_note(
+        &mut self,
+        rt: &impl Wait,
+        collector: &Collector<M>,
+        note: Option<Note>,
+        words: &ReportWords,
+    ) -> bool
         ensures booked { result ≡ true → MayBook note self.old.io.session self.old.seat.booked self.new.io.session
             self.new.seat.booked }
         ensures broken { result ≡ false → (self.new.io.session ≡ broken self.old.io.session)
@@ -431,13 +445,20 @@ impl<K: Link, C: Clock + Drop, L: Run, M: Accounts> WorkerState<K, C, L, M> {
         ensures asked { self.new.seat.asked ≡ self.old.seat.asked }
     {
         match note {
-            Some(note) => self.book(rt, collector, &note),
+            Some(note) => self.book(rt, collector, &note, words),
             None => true,
         }
     }
 
-    /// Books a note, and says whether the book took it. Where it wants memory the connection is given up.
-    fn book(&mut self, rt: &impl Wait, collector: &Collector<M>, note: &Note) -> bool
+    /// Books a note with its words, and says whether the book took it. Where it wants memory the connection is given
+    /// up.
+    fn book(
+        &mut self,
+        rt: &impl Wait,
+        collector: &Collector<M>,
+        note: &Note,
+        words: &ReportWords,
+    ) -> bool
         ensures booked { result ≡ true → (self.new.io.session ≡ confirm self.old.io.session)
             × (self.new.seat.booked ≡ self.old.seat.booked ++ note.now ∷ []) }
         ensures broken { result ≡ false → (self.new.io.session ≡ broken self.old.io.session)
@@ -448,7 +469,7 @@ impl<K: Link, C: Clock + Drop, L: Run, M: Accounts> WorkerState<K, C, L, M> {
         ensures seat { lasting self.new.seat ≡ lasting self.old.seat }
         ensures asked { self.new.seat.asked ≡ self.old.seat.asked }
     {
-        match collector.apply(rt, note, &mut self.seat) {
+        match collector.apply(rt, note, words, &mut self.seat) {
             Ok(_) => {
                 self.io.confirm();
                 true

@@ -1,7 +1,8 @@
 //! A table at the head of a log.
 
 ghost use Rattle.std.specs.Prelude.{◌≡◌, ◌++◌, IfOk, string_bytes};
-ghost use Rattle.venue_words.specs.Head.{field_line, field_lines, field_text, forms_line, price_text, symbol_text, table_text};
+ghost use Rattle.venue_words.specs.Head.{field_line, field_lines, field_text, forms_line, price_text, symbol_text};
+ghost use Rattle.venue_words.specs.Head.{table_text};
 
 use crate::example::example_leg;
 use crate::table::WordTable;

@@ -3,7 +3,8 @@
 ghost use Rattle.std.specs.Prelude.{◌≡◌, ◌+◌, ◌≤◌, ◌++◌, length};
 ghost use Rattle.arrayvec.specs.ArrayVec.{array_vec_len};
 ghost use Rattle.venue_words.specs.Table.{is_table, preset_words, taken};
-ghost use Rattle.venue_words.specs.Builds.{field_or, fields_fault, is_shared, mark_fault, marked, with_decimals, with_field, with_id, with_mark, with_price, with_price_text, with_symbol};
+ghost use Rattle.venue_words.specs.Builds.{field_or, fields_fault, is_shared, mark_fault, marked, with_decimals};
+ghost use Rattle.venue_words.specs.Builds.{with_field, with_id, with_mark, with_price, with_price_text, with_symbol};
 
 use crate::example::shape_of;
 use crate::fault::FieldFault;

@@ -1,4 +1,4 @@
-use Rattle.std.proofs.Common.{◌≡◌, ◌⊎◌, inl, inr}
+use Rattle.std.proofs.Common.{inl, inr}
 use Rattle.session_worker.proofs.auditing.audit.Goals as goal
 
 pub returns-clause-audits : goal.returns-clause-audits

@@ -22,6 +22,13 @@ returns-in-Ok-receive-clause-heard g c =
           c.in-Ok-receive.step tt refl c.in-Ok-receive.ensures.gives;
     }
 
+pub returns-in-Ok-receive-clause-said : goal.returns-in-Ok-receive-clause-said
+returns-in-Ok-receive-clause-said g c = record {
+  fields = fields_in c.in-Ok-Some.frame;
+  next = sym c.in-Ok-Some.ensures.fields ∙ ap (option_map fields_in) c.in-Ok-Some.field-0-is;
+  said = c.words_by-words.ensures;
+}
+
 pub returns-in-Ok-None-clause-heard : goal.returns-in-Ok-None-clause-heard
 returns-in-Ok-None-clause-heard g c = (refl, sym c.in-Ok-None.ensures.fields ∙ ap (option_map fields_in) c.in-Ok-None.field-0-is)
 

@@ -3,16 +3,17 @@ use Rattle.dialect.specs.Wording.{Wording}
 use Rattle.session_core.specs.Session.{is_connected}
 use Rattle.session_core.specs.Calling.{broken}
 use Rattle.session_worker.specs.Linking.{SessionIoParts, io_of, Moves, Asks}
+use Rattle.session_worker.specs.Saying.{Says}
 use Rattle.session_worker.proofs.Spoken.{stays_here}
 use Rattle.session_worker.proofs.Speech.{stays_on}
 use Rattle.session_worker.proofs.Calling.{moves_none, moves_broken, heard_nothing, heard_step, heard_malformed, asks_still}
 use Rattle.session_worker.proofs.session_io.SessionIo.hear.Goals as goal
 
-pub returns-then-not-is_connected : goal.returns-then-not-is_connected
-returns-then-not-is_connected g c = moves_none _ _
+pub returns-then-not-is_connected-clause-asks : goal.returns-then-not-is_connected-clause-asks
+returns-then-not-is_connected-clause-asks g c = moves_none _ _
 
-pub returns-in-Nothing : goal.returns-in-Nothing
-returns-in-Nothing g c =
+pub returns-in-Nothing-clause-asks : goal.returns-in-Nothing-clause-asks
+returns-in-Nothing-clause-asks g c =
     let w : Wording = g.D.Dialect.wording c.args.dialect.now in
     let old : SessionIoParts = io_of c.self.inside.session (g.K.Link.wire c.self.inside.link) c.self.inside.reader in
     let now : SessionIoParts = io_of c.hear.new.session old.wire c.hear.new.reader in
@@ -20,8 +21,8 @@ returns-in-Nothing g c =
     (heard_nothing w old now c.in-Nothing.ensures.heard.0 (stays_here old.wire) c.in-Nothing.ensures.heard.1
     c.in-Nothing.ensures.reader)
 
-pub returns-in-Step : goal.returns-in-Step
-returns-in-Step g c =
+pub returns-in-Step-clause-asks : goal.returns-in-Step-clause-asks
+returns-in-Step-clause-asks g c =
     let w : Wording = g.D.Dialect.wording c.args.dialect.now in
     let old : SessionIoParts = io_of c.self.inside.session (g.K.Link.wire c.self.inside.link) c.self.inside.reader in
     let now : SessionIoParts = io_of c.hear.new.session old.wire c.hear.new.reader in
@@ -33,8 +34,8 @@ returns-in-Step g c =
     (heard_step w old.session c.hear.new.session old.wire old.stream c.hear.new.reader c.in-Step.step on c.in-Step.ensures.heard
     c.in-Step.ensures.reader) refl c.heard-in-Step-2.ensures.wire refl)
 
-pub returns-in-Malformed : goal.returns-in-Malformed
-returns-in-Malformed g c =
+pub returns-in-Malformed-clause-asks : goal.returns-in-Malformed-clause-asks
+returns-in-Malformed-clause-asks g c =
     let w : Wording = g.D.Dialect.wording c.args.dialect.now in
     let old : SessionIoParts = io_of c.self.inside.session (g.K.Link.wire c.self.inside.link) c.self.inside.reader in
     let now : SessionIoParts = c.hang_up.new.self in
@@ -46,10 +47,15 @@ returns-in-Malformed g c =
     (c.hang_up.ensures.session ∙ what.4)
     (stays_on old.wire (g.K.Link.wire c.heard-in-Malformed.new.self) now.wire c.heard-in-Malformed.ensures.wire c.hang_up.ensures.wire))
 
-pub returns-in-OutOfMemory : goal.returns-in-OutOfMemory
-returns-in-OutOfMemory g c =
+pub returns-in-OutOfMemory-clause-asks : goal.returns-in-OutOfMemory-clause-asks
+returns-in-OutOfMemory-clause-asks g c =
     let w : Wording = g.D.Dialect.wording c.args.dialect.now in
     let old : SessionIoParts = io_of c.self.inside.session (g.K.Link.wire c.self.inside.link) c.self.inside.reader in
     let now : SessionIoParts = c.break_off.new.self in
     subst (λ (x : SessionIoParts). Moves w x now) c.self.view_is
     (moves_broken w old now (c.break_off.ensures.session ∙ ap broken c.in-OutOfMemory.ensures.heard) c.break_off.ensures.wire)
+
+pub returns-in-Step-clause-said : goal.returns-in-Step-clause-said
+returns-in-Step-clause-said g c =
+    subst (λ (x : SessionIoParts). Says x.stream c.in-Step.step.note c.in-Step.words) c.self.view_is
+    c.in-Step.ensures.said

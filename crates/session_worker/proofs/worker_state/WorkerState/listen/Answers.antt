@@ -25,7 +25,7 @@ loop-preserved g c =
     let e : WorkerStateParts = c.carry_out.new.self in
     does_on w _ b e c.loop.invariant
     (subst (λ (x : WorkerStateParts). Does w x e) c.self-in-loop.view_is
-    (does_asked w k d e c.in-Some.step c.in-Some.ensures refl refl c.carry_out.ensures))
+    (does_asked w k d e c.in-Some.step c.in-Some.ensures.asks refl refl c.carry_out.ensures))
 
 pub returns-in-None : goal.returns-in-None
 returns-in-None g c =
@@ -34,4 +34,4 @@ returns-in-None g c =
     let k : WorkerStateParts = state_of c.self-in-loop.inside.io c.self-in-loop.inside.takings c.self-in-loop.inside.seat c.self-in-loop.inside.withdrawn in
     let d : WorkerStateParts = state_of c.hear.new.self c.self-in-loop.inside.takings c.self-in-loop.inside.seat c.self-in-loop.inside.withdrawn in
     does_on w _ b d c.loop.invariant
-    (subst (λ (x : WorkerStateParts). Does w x d) c.self-in-loop.view_is (does_moves w k d c.in-None.ensures refl refl))
+    (subst (λ (x : WorkerStateParts). Does w x d) c.self-in-loop.view_is (does_moves w k d c.in-None.ensures.asks refl refl))
