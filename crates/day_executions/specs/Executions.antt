@@ -1,5 +1,5 @@
 -- The executions of a day: what exchanges said, in the order of the book, each with the book's answer.
-use Rattle.std.specs.Prelude.{◌≡◌, ℕ, suc, ◌-◌, ◌≤◌, Bool, true, false, List, [], ◌∷◌, ◌++◌, length, map, take, drop, filter, filter_map, Option, Some, None, option_map, option_and_then, slice_get, Result, IfOk, IfSome}
+use Rattle.std.specs.Prelude.{◌≡◌, ℕ, suc, ◌-◌, ◌≤◌, Bool, true, false, List, [], ◌∷◌, ◌++◌, length, map, take, drop, filter, filter_map, Option, Some, None, option_map, option_and_then, slice_get, unwrap_or, Result, IfOk, IfSome}
 use Rattle.std.specs.List.{All}
 use Rattle.std.specs.declared.alloc.AllocError.{AllocError}
 use Rattle.share_ledger.specs.declared.applied.Applied.{Applied}
@@ -14,6 +14,10 @@ use Rattle.day_executions.specs.declared.heard.HeardNote.{HeardNote}
 use Rattle.day_executions.specs.declared.place.Place.{Place}
 use Rattle.day_executions.specs.declared.place.Place.TheVariants as place
 use Rattle.day_executions.specs.declared.lent.LentNotes.{LentNotes}
+use Rattle.day_executions.specs.declared.lent.SaidNote.{SaidNote}
+use Rattle.exec_collector.specs.Day.{note_count}
+use Rattle.report_words.specs.Said.{no_words}
+use Rattle.report_words.specs.declared.report_words.ReportWords.{ReportWords}
 
 -- what an exchange said by an entry of the book's history, if that is a note
 abbrev pub booked : BookEntry → Option Heard
@@ -95,39 +99,52 @@ pub record IsIndex (entries items : ℕ) (places : List Place) (history : List B
   pub are : map (found history unbooked) places
       ≡ map (λ said. Some said) (heard (take entries history) (take items unbooked))
 
--- lent are those behind a number, at most so many, and the number of the last one of all
-pub record IsLent (after most : ℕ) (history : List BookEntry) (unbooked : List Unbooked) (lent : LentNotes)
-    : Type 0 where
-  pub notes : lent.notes.items ≡ notes_behind after most history unbooked
+-- what was heard, with the words of a day that were kept under its number: the first under 1
+abbrev pub said_by : List ReportWords → HeardNote → SaidNote
+said_by words note = record { note = note; words = unwrap_or (slice_get words (note.number - 1)) no_words }
+
+-- lent are those behind a number, at most so many, each with its words, and the number of the last one of all
+pub record IsLent (after most : ℕ) (history : List BookEntry) (unbooked : List Unbooked) (words : List ReportWords)
+    (lent : LentNotes) : Type 0 where
+  pub notes : lent.notes.items ≡ map (said_by words) (notes_behind after most history unbooked)
   pub last : lent.last ≡ length (heard history unbooked)
 
--- lent are those behind a number that the book didn't take, and the number of the last one of all
-pub record AreUntaken (after : ℕ) (history : List BookEntry) (unbooked : List Unbooked) (lent : LentNotes)
-    : Type 0 where
-  pub notes : lent.notes.items ≡ untaken_behind after history unbooked
+-- lent are those behind a number that the book didn't take, each with its words, and the number of the last one of all
+pub record AreUntaken (after : ℕ) (history : List BookEntry) (unbooked : List Unbooked) (words : List ReportWords)
+    (lent : LentNotes) : Type 0 where
+  pub notes : lent.notes.items ≡ map (said_by words) (untaken_behind after history unbooked)
   pub last : lent.last ≡ length (heard history unbooked)
+
+-- a note is told of a day, with the words that were kept under its number
+pub record TellsOf (tells : List BookEntry → List Unbooked → HeardNote → Type 0) (history : List BookEntry)
+    (unbooked : List Unbooked) (words : List ReportWords) (said : SaidNote) : Type 0 where
+  pub note : tells history unbooked said.note
+  pub is : said ≡ said_by words said.note
 
 -- a look at a day, by what earlier looks found: each note that is lent is told of the day in any case, and this is lent
 -- where that is an index of it
 pub record Looks (tells : List BookEntry → List Unbooked → HeardNote → Type 0)
-    (lends : List BookEntry → List Unbooked → LentNotes → Type 0) (history : List BookEntry) (unbooked : List Unbooked)
-    (result : Result (Option LentNotes) AllocError) : Type 0 where
+    (lends : List BookEntry → List Unbooked → List ReportWords → LentNotes → Type 0) (history : List BookEntry)
+    (unbooked : List Unbooked) (words : List ReportWords) (result : Result (Option LentNotes) AllocError) : Type 0 where
   pub entries : ℕ
   pub items : ℕ
   pub places : List Place
-  pub told : IfOk result (λ lent. IfSome lent (λ notes. All (tells history unbooked) notes.notes.items))
+  pub told : IfOk result (λ lent. IfSome lent (λ notes. All (TellsOf tells history unbooked words) notes.notes.items))
   pub lent : IsIndex entries items places history unbooked
-      → IfOk result (λ lent. IfSome lent (lends history unbooked))
+      → IfOk result (λ lent. IfSome lent (lends history unbooked words))
 
--- each note that is lent is told of a book that replays, with the list of what it didn't take, and this is lent of both
--- where what earlier looks found is an index of them
+-- each note that is lent is told of a book that replays, with the list of what it didn't take and as many words as both
+-- have notes, and this is lent of them where what earlier looks found is an index
 pub record IsNow (tells : List BookEntry → List Unbooked → HeardNote → Type 0)
-    (lends : List BookEntry → List Unbooked → LentNotes → Type 0) (notes : LentNotes) : Type 0 where
+    (lends : List BookEntry → List Unbooked → List ReportWords → LentNotes → Type 0) (notes : LentNotes) : Type 0 where
   pub day : CountedParts
   pub replays : Replays day.book
   pub list : IsListOf day.book day.unbooked
+  pub words : List ReportWords
+  pub one_each : length words ≡ note_count day
   pub entries : ℕ
   pub items : ℕ
   pub places : List Place
-  pub told : All (tells day.book.entries day.unbooked) notes.notes.items
-  pub lent : IsIndex entries items places day.book.entries day.unbooked → lends day.book.entries day.unbooked notes
+  pub told : All (TellsOf tells day.book.entries day.unbooked words) notes.notes.items
+  pub lent : IsIndex entries items places day.book.entries day.unbooked
+      → lends day.book.entries day.unbooked words notes

@@ -1,15 +1,17 @@
 //! Where the executions stand: in the book's history, or in the list of what it didn't take.
 
-ghost use Rattle.std.specs.Prelude.{◌≡◌, ◌<◌, ◌≤◌, ◌+◌, ◌++◌, ◌∷◌, [], true, false, length, IfOk, IfSome, OnOk, OnErr, None};
+ghost use Rattle.std.specs.Prelude.{◌≡◌, ◌<◌, ◌≤◌, ◌+◌, ◌++◌, ◌∷◌, [], true, false, length, map, IfOk, IfSome, OnOk, OnErr, None};
 ghost use Rattle.std.specs.List.{All};
-ghost use Rattle.exec_collector.specs.Unbooked.{IsListOf};
-ghost use Rattle.day_executions.specs.Executions.{AreUntaken, IsHeard, IsIndex, IsLeft, IsLent, IsNow, Looks, notes_behind, untaken_behind};
+ghost use Rattle.day_executions.specs.Executions.{AreUntaken, IsHeard, IsIndex, IsLeft, IsLent, IsNow, Looks, TellsOf, notes_behind, said_by, untaken_behind};
 ghost use Rattle.day_executions.specs.Walk.{AllFound, IsEnd, is_next, place_of, unseen};
+ghost use Rattle.exec_collector.specs.Unbooked.{IsListOf};
 
 use crate::heard::{HeardNote, push_heard};
-use crate::lent::LentNotes;
+use crate::lent::{LentNotes, SaidNote};
 use crate::place::{Place, found, untaken_at};
-use exec_collector::{Accounts, Collector, Unbooked};
+use crate::saying::with_words;
+use exec_collector::{Accounts, Beside, Collector, Unbooked};
+use report_words::WordList;
 use share_ledger::{Book, BookEntry};
 use std::alloc::{AllocError, Global};
 use std::sync::Wait;
@@ -188,21 +190,24 @@ impl Executions {
         alloc: Global,
         history: &[BookEntry],
         unbooked: &[Unbooked],
+        words: &WordList,
         after: u64,
         most: u64,
     ) -> Result<Option<LentNotes>, AllocError>
         ensures index { IsIndex self.old.entries self.old.items self.old.places.items history.now unbooked.now
             → IsIndex self.new.entries self.new.items self.new.places.items history.now unbooked.now }
         ensures told { IfOk result (λ lent. IfSome lent (λ notes.
-            All (IsHeard history.now unbooked.now) notes.notes.items)) }
+            All (TellsOf IsHeard history.now unbooked.now words.now) notes.notes.items)) }
         ensures lent { IsIndex self.old.entries self.old.items self.old.places.items history.now unbooked.now
-            → IfOk result (λ lent. IfSome lent (IsLent after most history.now unbooked.now)) }
+            → IfOk result (λ lent. IfSome lent (IsLent after most history.now unbooked.now words.now)) }
     {
         if self.look_on(history, unbooked)? {
             return Ok(None);
         }
+        let heard = self.behind(alloc, history, unbooked, after, most)?;
+        let notes = with_words(alloc, words, heard)?;
         Ok(Some(LentNotes {
-            notes: self.behind(alloc, history, unbooked, after, most)?,
+            notes,
             last: self.places.len() as u64,
         }))
     }
@@ -214,27 +219,30 @@ impl Executions {
         alloc: Global,
         history: &[BookEntry],
         unbooked: &[Unbooked],
+        words: &WordList,
         after: u64,
     ) -> Result<Option<LentNotes>, AllocError>
         ensures index { IsIndex self.old.entries self.old.items self.old.places.items history.now unbooked.now
             → IsIndex self.new.entries self.new.items self.new.places.items history.now unbooked.now }
         ensures told { IfOk result (λ lent. IfSome lent (λ notes.
-            All (IsLeft history.now unbooked.now) notes.notes.items)) }
+            All (TellsOf IsLeft history.now unbooked.now words.now) notes.notes.items)) }
         ensures lent { IsIndex self.old.entries self.old.items self.old.places.items history.now unbooked.now
-            → IfOk result (λ lent. IfSome lent (AreUntaken after history.now unbooked.now)) }
+            → IfOk result (λ lent. IfSome lent (AreUntaken after history.now unbooked.now words.now)) }
     {
         if self.look_on(history, unbooked)? {
             return Ok(None);
         }
+        let heard = self.untaken_behind(alloc, history, unbooked, after)?;
+        let notes = with_words(alloc, words, heard)?;
         Ok(Some(LentNotes {
-            notes: self.untaken_behind(alloc, history, unbooked, after)?,
+            notes,
             last: self.places.len() as u64,
         }))
     }
 
-    /// The executions behind a number, at most so many, as the book has them now. It may wait for the book's lock, and
-    /// holds it for some hundred entries at a time. The only refusal is out of memory, after which it goes on where it
-    /// was.
+    /// The executions behind a number, at most so many, as the book has them now, with their words. It may wait for the
+    /// book's lock, and holds it for some hundred entries at a time. The only refusal is out of memory, after which it
+    /// goes on where it was.
     pub fn now<M: Accounts>(
         &mut self,
         rt: &impl Wait,
@@ -248,11 +256,14 @@ impl Executions {
         for _ in rt.forever() {
             // Room that is had here isn't asked for while the lock is held.
             self.places.reserve(MOST_LOOKED)?;
-            let lent = collector.read_all(
+            let lent = collector.read_day(
                 rt,
-                |book: &Book, unbooked: &[Unbooked]| -> Result<Option<LentNotes>, AllocError>
-                    ensures { Looks IsHeard (IsLent after most) book.now.entries unbooked.now result }
-                { self.look(alloc, book.history(), unbooked, after, most) },
+                |book: &Book, unbooked: &[Unbooked], beside: &Beside| -> Result<
+                    Option<LentNotes>,
+                    AllocError,
+                >
+                    ensures { Looks IsHeard (IsLent after most) book.now.entries unbooked.now beside.now.words result }
+                { self.look(alloc, book.history(), unbooked, beside.words(), after, most) },
             )?;
             if let Some(lent) = lent {
                 return Ok(lent);
@@ -274,11 +285,14 @@ impl Executions {
     {
         for _ in rt.forever() {
             self.places.reserve(MOST_LOOKED)?;
-            let lent = collector.read_all(
+            let lent = collector.read_day(
                 rt,
-                |book: &Book, unbooked: &[Unbooked]| -> Result<Option<LentNotes>, AllocError>
-                    ensures { Looks IsLeft (AreUntaken after) book.now.entries unbooked.now result }
-                { self.look_for_untaken(alloc, book.history(), unbooked, after) },
+                |book: &Book, unbooked: &[Unbooked], beside: &Beside| -> Result<
+                    Option<LentNotes>,
+                    AllocError,
+                >
+                    ensures { Looks IsLeft (AreUntaken after) book.now.entries unbooked.now beside.now.words result }
+                { self.look_for_untaken(alloc, book.history(), unbooked, beside.words(), after) },
             )?;
             if let Some(lent) = lent {
                 return Ok(lent);
@@ -288,18 +302,21 @@ impl Executions {
     }
 }
 
-/// All that exchanges said and a book didn't take, by the list that stands beside it. The only refusal is out of
-/// memory.
+/// All that exchanges said and a book didn't take, by the list that stands beside it, each with the words that were
+/// kept under its number. The only refusal is out of memory.
 pub fn all_untaken(
     alloc: Global,
     book: &Book,
     unbooked: &[Unbooked],
-) -> Result<Vec<HeardNote>, AllocError>
+    words: &WordList,
+) -> Result<Vec<SaidNote>, AllocError>
     requires { IsListOf book.now unbooked.now }
-    ensures { IfOk result (λ notes. notes.items ≡ untaken_behind 0 book.now.entries unbooked.now) }
+    ensures { IfOk result (λ notes.
+        notes.items ≡ map (said_by words.now) (untaken_behind 0 book.now.entries unbooked.now)) }
 {
     let history = book.history();
     let mut executions = Executions::new(alloc);
     executions.look_to_end(history, unbooked)?;
-    executions.untaken_behind(alloc, history, unbooked, 0)
+    let notes = executions.untaken_behind(alloc, history, unbooked, 0)?;
+    with_words(alloc, words, notes)
 }

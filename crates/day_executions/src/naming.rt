@@ -4,14 +4,16 @@ ghost use Rattle.std.specs.Prelude.{◌≡◌, filter_map, IfOk};
 ghost use Rattle.day_executions.specs.Named.{execution_of};
 
 use crate::heard::{Heard, HeardNote};
+use crate::lent::SaidNote;
 use desk_executions::Execution;
 use desk_words::VenueName;
 use std::alloc::{AllocError, Global};
 
 /// What was heard with the name of its venue, if it has one.
-fn execution_of(names: &[VenueName], note: HeardNote) -> Option<Execution>
-    ensures { result ≡ execution_of names.now note }
+fn execution_of(names: &[VenueName], said: SaidNote) -> Option<Execution>
+    ensures { result ≡ execution_of names.now said }
 {
+    let SaidNote { note, words } = said;
     let HeardNote { number, heard } = note;
     let Heard {
         venue,
@@ -24,6 +26,7 @@ fn execution_of(names: &[VenueName], note: HeardNote) -> Option<Execution>
         venue: name.clone().unwrap(),
         note,
         answer,
+        words,
     })
 }
 
@@ -31,7 +34,7 @@ fn execution_of(names: &[VenueName], note: HeardNote) -> Option<Execution>
 pub fn named(
     alloc: Global,
     names: &[VenueName],
-    notes: Vec<HeardNote>,
+    notes: Vec<SaidNote>,
 ) -> Result<Vec<Execution>, AllocError>
     ensures { IfOk result (λ executions. executions.items ≡ filter_map (execution_of names.now) notes.items) }
 {

@@ -53,7 +53,7 @@ pub fn sweep_now<M: Accounts>(
 }
 
 /// The shares of all five parts.
-fn sum_of(totals: &Totals) -> u64
+pub(crate) fn sum_of(totals: &Totals) -> u64
     requires { sum_of totals.now ≤ 1000000000000000000 }
     ensures { result ≡ sum_of totals.now }
 {

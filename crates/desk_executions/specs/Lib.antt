@@ -1,3 +1,4 @@
 pub mod Untaken
+pub mod Words
 pub mod Execution
 pub mod Counts

@@ -3,10 +3,13 @@
 ghost use Rattle.std.specs.Prelude.{◌≡◌, Some};
 ghost use Rattle.desk_executions.specs.Execution.{execution_text, fault_text, kind_text, said_text};
 ghost use Rattle.desk_executions.specs.Untaken.{untaken};
+ghost use Rattle.desk_executions.specs.Words.{beside_text, fields_text};
 
 use crate::untaken::{Untaken, why_untaken};
+use crate::words::{BesideText, FieldsText};
 use desk_words::{Printable, VenueName, shown};
 use dialect::{DialectFault, Note, ReportKind};
+use report_words::ReportWords;
 use share_ledger::Applied;
 use std::fmt;
 
@@ -16,8 +19,8 @@ pub type IdShown = Printable<256>;
 /// A price as it is shown: each of its 20 bytes takes at most four.
 pub type PriceShown = Printable<80>;
 
-/// An execution of a day: a note of an exchange, with the book's answer.
-#[derive(Debug, PartialEq, Eq, Drop)]
+/// An execution of a day: a note of an exchange with its words, and the book's answer.
+#[derive(Debug, Drop)]
 pub struct Execution {
     /// From 1, in the order of the book.
     pub number: u64,
@@ -26,6 +29,8 @@ pub struct Execution {
     pub note: Note,
     /// What the book did with it.
     pub answer: Applied,
+    /// What the exchange said beside it.
+    pub words: ReportWords,
 }
 
 impl Execution {
@@ -90,17 +95,22 @@ impl<'a> fmt::Display for Said<'a> {
     fn fmt<W: fmt::Write>(&self, f: &mut fmt::Formatter<W>) -> fmt::Result {
         let number = self.0.number;
         let venue = &self.0.venue;
+        let beside = BesideText(&self.0.words);
         match &self.0.note {
             Note::Report(report) => {
                 let leg = report.id;
                 let kind = Kind(report.kind.clone().unwrap());
                 let exec: IdShown = shown(report.exec.as_bytes());
-                write!(f, "execution {number} {venue} {leg} {kind} id {exec}")
+                write!(
+                    f,
+                    "execution {number} {venue} {leg} {kind} id {exec}{beside}"
+                )
             }
-            Note::Refused(leg) => write!(f, "execution {number} {venue} {leg} refused"),
+            Note::Refused(leg) => { write!(f, "execution {number} {venue} {leg} refused{beside}") }
             Note::Unread(fault) => {
                 let fault = UnreadText(*fault);
-                write!(f, "execution {number} {venue} {fault}")
+                let fields = FieldsText(&self.0.words);
+                write!(f, "execution {number} {venue} {fault}{fields}{beside}")
             }
         }
     }

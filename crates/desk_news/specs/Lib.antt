@@ -1,6 +1,7 @@
 pub mod Cause
 pub mod Venue
 pub mod Sweep
+pub mod Paid
 pub mod News
 pub mod Status
 pub mod Doubt

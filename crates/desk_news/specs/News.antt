@@ -2,10 +2,10 @@
 use Rattle.std.specs.Prelude.{ℕ, List, ◌++◌, codes}
 use Rattle.desk_news.specs.declared.news.News.{News}
 use Rattle.desk_news.specs.declared.news.News.TheVariants.{Sweep, Venue}
-use Rattle.desk_news.specs.Sweep.{sweep_text}
+use Rattle.desk_news.specs.Paid.{paid_sweep_text}
 use Rattle.desk_news.specs.Venue.{state_text}
 
 -- the news, as `sweep 12 legs 150 ..` or `venue ARCA up`
 abbrev pub news_text : News → List ℕ
-news_text (Sweep parts) = sweep_text parts
+news_text (Sweep sweep) = paid_sweep_text sweep
 news_text (Venue venue state) = codes "venue " ++ venue ++ codes " " ++ state_text state

@@ -3,7 +3,7 @@ use Rattle.std.specs.Prelude.{ℕ, List, ◌++◌, codes, decimal}
 use Rattle.desk_news.specs.declared.status.Status.{Status}
 use Rattle.desk_news.specs.declared.status.Status.TheVariants.{Venue, Sweep}
 use Rattle.desk_news.specs.declared.status.VenueStatus.{VenueStatus}
-use Rattle.desk_news.specs.Sweep.{sweep_text}
+use Rattle.desk_news.specs.Paid.{paid_sweep_text}
 use Rattle.desk_news.specs.Venue.{state_text}
 
 -- as `venue ARCA unsent 3 doubt 2 lost 0 down: it was silent (E10)`
@@ -15,4 +15,4 @@ venue_status_text status =
 -- the line begins with `status`, so that it is never taken for news
 abbrev pub status_text : Status → List ℕ
 status_text (Venue status) = codes "status " ++ venue_status_text status
-status_text (Sweep parts) = codes "status " ++ sweep_text parts
+status_text (Sweep sweep) = codes "status " ++ paid_sweep_text sweep

@@ -3,7 +3,7 @@
 ghost use Rattle.std.specs.Prelude.{Some};
 ghost use Rattle.desk_news.specs.News.{news_text};
 
-use crate::sweep_parts::SweepParts;
+use crate::paid::PaidSweep;
 use crate::venue_state::VenueState;
 use desk_words::VenueName;
 use std::fmt;
@@ -11,8 +11,8 @@ use std::fmt;
 /// A change, in one line.
 #[derive(Debug, PartialEq, Eq, Drop)]
 pub enum News {
-    /// The parts of a sweep changed.
-    Sweep(SweepParts),
+    /// The parts of a sweep changed, or what was paid for it.
+    Sweep(PaidSweep),
     /// A venue stands otherwise than before; so it is never told that one is dialled, with which each day begins.
     Venue { venue: VenueName, state: VenueState },
 }
@@ -22,7 +22,7 @@ impl fmt::Display for News {
 
     fn fmt<W: fmt::Write>(&self, f: &mut fmt::Formatter<W>) -> fmt::Result {
         match self {
-            News::Sweep(parts) => write!(f, "{parts}"),
+            News::Sweep(sweep) => write!(f, "{sweep}"),
             News::Venue { venue, state } => write!(f, "venue {venue} {state}"),
         }
     }

@@ -3,7 +3,7 @@
 ghost use Rattle.std.specs.Prelude.{Some};
 ghost use Rattle.desk_news.specs.Status.{status_text, venue_status_text};
 
-use crate::sweep_parts::SweepParts;
+use crate::paid::PaidSweep;
 use crate::venue_state::VenueState;
 use desk_words::VenueName;
 use std::fmt;
@@ -25,7 +25,7 @@ pub struct VenueStatus {
 #[derive(Debug, PartialEq, Eq, Drop)]
 pub enum Status {
     Venue(VenueStatus),
-    Sweep(SweepParts),
+    Sweep(PaidSweep),
 }
 
 impl fmt::Display for VenueStatus {
@@ -52,7 +52,7 @@ impl fmt::Display for Status {
     fn fmt<W: fmt::Write>(&self, f: &mut fmt::Formatter<W>) -> fmt::Result {
         match self {
             Status::Venue(venue) => write!(f, "status {venue}"),
-            Status::Sweep(parts) => write!(f, "status {parts}"),
+            Status::Sweep(sweep) => write!(f, "status {sweep}"),
         }
     }
 }

@@ -3,8 +3,9 @@
 use crate::answer_words::{first_word, venue_named};
 use crate::ending_words::{cause, told};
 use case_text::{PlayFault, number, words};
-use desk_news::{News, SweepParts, VenueState};
+use desk_news::{News, Paid, PaidSweep, SweepParts, VenueState};
 use leg::Totals;
+use leg_worth::Worth;
 use std::alloc::Global;
 
 /// The five parts of shares, of their words.
@@ -22,7 +23,7 @@ fn totals(words: &[&str]) -> Result<Totals, PlayFault> {
 }
 
 /// A sweep's number, its shares, and their five parts.
-pub fn sweep_parts(alloc: Global, text: &str) -> Result<SweepParts, PlayFault> {
+fn sweep_parts(alloc: Global, text: &str) -> Result<SweepParts, PlayFault> {
     let words = words(alloc, text)?;
     match words.as_slice() {
         [sweep, shares, parts @ ..] => Ok(SweepParts {
@@ -31,6 +32,39 @@ pub fn sweep_parts(alloc: Global, text: &str) -> Result<SweepParts, PlayFault> {
             totals: totals(parts)?,
         }),
         _ => Err(PlayFault::NotUnderstood),
+    }
+}
+
+/// What was paid for so many filled shares: the value in hundred-millionths, the shares of no known price, and those
+/// that are disputed.
+fn paid(alloc: Global, filled: u64, text: &str) -> Result<Paid, PlayFault> {
+    let words = words(alloc, text)?;
+    match words.as_slice() {
+        [value, unpriced, disputed] => Ok(Paid {
+            worth: Worth {
+                value: u128::from(number(value)?),
+                unpriced: number(unpriced)?,
+            },
+            filled,
+            disputed: number(disputed)?,
+        }),
+        _ => Err(PlayFault::NotUnderstood),
+    }
+}
+
+/// A sweep, and behind `paid` what was paid for it: nothing, where that isn't said.
+pub fn paid_sweep(alloc: Global, text: &str) -> Result<PaidSweep, PlayFault> {
+    match text.split_once(" paid ") {
+        Some((text, told)) => {
+            let parts = sweep_parts(alloc, text)?;
+            let paid = paid(alloc, parts.totals.filled, told)?;
+            Ok(PaidSweep { parts, paid })
+        }
+        None => {
+            let parts = sweep_parts(alloc, text)?;
+            let paid = paid(alloc, 0, "0 0 0")?;
+            Ok(PaidSweep { parts, paid })
+        }
     }
 }
 
@@ -70,10 +104,11 @@ fn venue_news(alloc: Global, text: &str) -> Result<News, PlayFault> {
     Ok(News::Venue { venue, state })
 }
 
-/// The news of `sweep NUMBER SHARES PARTS` or `venue NAME STATE`.
+/// The news of `sweep NUMBER SHARES PARTS`, with `paid VALUE UNPRICED DISPUTED` behind it or not, or of
+/// `venue NAME STATE`.
 pub fn news(alloc: Global, text: &str) -> Result<News, PlayFault> {
     match text.split_once(' ') {
-        Some(("sweep", text)) => sweep_parts(alloc, text).map(News::Sweep),
+        Some(("sweep", text)) => paid_sweep(alloc, text).map(News::Sweep),
         Some(("venue", text)) => venue_news(alloc, text),
         _ => Err(PlayFault::NotUnderstood),
     }

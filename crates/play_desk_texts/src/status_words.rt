@@ -1,7 +1,7 @@
 //! How venues and sweeps stand, and what a day came to, from the words of a case.
 
 use crate::answer_words::venue_named;
-use crate::news_words::{sweep_parts, venue_state};
+use crate::news_words::{paid_sweep, venue_state};
 use case_text::{PlayFault, number};
 use desk_news::{DayTotals, Status, VenueStatus};
 use std::alloc::Global;
@@ -35,7 +35,7 @@ fn venue_status(alloc: Global, text: &str) -> Result<VenueStatus, PlayFault> {
 /// The status of `sweep NUMBER SHARES PARTS` or `venue NAME UNSENT DOUBT LOST STATE`.
 pub fn status(alloc: Global, text: &str) -> Result<Status, PlayFault> {
     match text.split_once(' ') {
-        Some(("sweep", text)) => sweep_parts(alloc, text).map(Status::Sweep),
+        Some(("sweep", text)) => paid_sweep(alloc, text).map(Status::Sweep),
         Some(("venue", text)) => venue_status(alloc, text).map(Status::Venue),
         _ => Err(PlayFault::NotUnderstood),
     }

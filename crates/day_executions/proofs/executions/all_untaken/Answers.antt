@@ -1,8 +1,8 @@
-use Rattle.std.proofs.Common.{◌≡◌, List, subst}
-use Rattle.std.specs.Prelude.{IfOk}
+use Rattle.std.proofs.Common.{List, map, ap, ◌∙◌}
+use Rattle.std.proofs.lemmas.Result.{IfOk-weaker}
 use Rattle.share_ledger.specs.declared.book_entry.BookEntry.{BookEntry}
 use Rattle.exec_collector.specs.Unbooked.{CountedParts}
-use Rattle.day_executions.specs.Executions.{IsIndex, untaken_behind}
+use Rattle.day_executions.specs.Executions.{IsIndex, said_by, untaken_behind}
 use Rattle.day_executions.proofs.Calls.{begins, nothing_looked}
 use Rattle.day_executions.proofs.Indexing.{index_end}
 use Rattle.day_executions.proofs.executions.all_untaken.Goals as goal
@@ -19,5 +19,7 @@ returns c =
     let looked = c.look_to_end.new.self in
     let are = index_end looked.entries looked.items looked.places.items history unbooked
     (c.in_ok-look_to_end.ensures.index index) c.in_ok-look_to_end.ensures.end in
-    subst (λ (l : List BookEntry). IfOk c.untaken_behind.result (λ notes. notes.items ≡ untaken_behind 0 l unbooked))
-    c.history-history.ensures (c.untaken_behind.ensures.notes are)
+    IfOk-weaker c.with_words.result _ _
+    (λ said is. is ∙ ap (map (said_by c.args.words.now))
+    (c.in_ok-notes.ensures.notes are ∙ ap (λ (l : List BookEntry). untaken_behind 0 l unbooked) c.history-history.ensures))
+    c.with_words.ensures

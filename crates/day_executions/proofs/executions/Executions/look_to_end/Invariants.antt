@@ -1,4 +1,3 @@
-use Rattle.std.proofs.Common.{ℕ}
 use Rattle.day_executions.specs.Executions.{IsIndex}
 use Rattle.day_executions.specs.Walk.{unseen}
 use Rattle.day_executions.proofs.executions.Executions.look_to_end.Given as goal

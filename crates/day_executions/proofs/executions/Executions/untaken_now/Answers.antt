@@ -9,7 +9,8 @@ pub returns-in-Some-lent : goal.returns-in-Some-lent
 returns-in-Some-lent g c =
     let told = c.in_ok-lent.ensures in
     let day = without_room told.0 in
+    let words = told.1.words in
     let lends = AreUntaken c.args.after in
-    let looked : Looks IsLeft lends day.book.entries day.unbooked (Ok c.in_ok-lent.lent) =
-    search (rules, told.3.met, told.3.shows) in
-    is_now IsLeft lends day c.in_ok-lent.lent c.in-Some-lent.lent told.1 told.2 looked c.in-Some-lent.is
+    let looked : Looks IsLeft lends day.book.entries day.unbooked words (Ok c.in_ok-lent.lent) =
+    search (rules, told.5.met, told.5.shows) in
+    is_now IsLeft lends day words c.in_ok-lent.lent c.in-Some-lent.lent told.2 told.3 told.4.words looked c.in-Some-lent.is
