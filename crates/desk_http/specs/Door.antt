@@ -1,7 +1,8 @@
 -- Who may ask what.
 use Rattle.std.specs.Prelude.{ℕ, ⊤, Bool, true, false, not, ◌&&◌, ◌||◌, ◌==◌, List, drop, length, Option, Some, None, Result, Ok, Err, String, string_bytes, codes, nat_eq, if◌then◌else◌}
 use Rattle.std.specs.declared.alloc.Global.{Global}
-use Rattle.std.specs.List.{starts_with}
+use Rattle.std.specs.Char.{is_ascii_digit}
+use Rattle.std.specs.List.{list_all, starts_with}
 use Rattle.std.specs.Str.{bytes_eq}
 use Rattle.sweep_text.specs.Legs.{and_then}
 use Rattle.desk_http.specs.declared.call.Call.{Call}
@@ -19,18 +20,31 @@ abbrev pub is_named : Option (String Global) → List ℕ → Bool
 is_named None host = false
 is_named (Some name) host = bytes_eq host (string_bytes name)
 
--- whether a host is the address that is served
-abbrev pub is_served : Door → List ℕ → Bool
-is_served door host = bytes_eq host (string_bytes door.host) || is_named door.other_name host
+-- whether a byte is a digit, a dot (46) or a colon (58)
+abbrev pub is_of_numbers : ℕ → Bool
+is_of_numbers c = is_ascii_digit c || (c == 46) || (c == 58)
 
--- whether an origin is our own page's: `http://` and the address
-abbrev pub is_our_page : Door → List ℕ → Bool
-is_our_page door origin =
-    starts_with nat_eq origin (codes "http://") && is_served door (drop 7 origin)
+-- whether a host is an address in numbers, as `10.0.0.7:8080`
+abbrev pub is_in_numbers : List ℕ → Bool
+is_in_numbers host = not (length host == 0) && list_all is_of_numbers host
+
+-- whether a host is the address that is served, or, where every address is, one in numbers
+abbrev pub is_served : Door → List ℕ → Bool
+is_served door host =
+    bytes_eq host (string_bytes door.host) || is_named door.other_name host || (door.is_open && is_in_numbers host)
+
+-- whether a host of an origin is our own page's, where a request has this host: where every address is served, the same
+abbrev pub is_our_host : Door → List ℕ → List ℕ → Bool
+is_our_host door host origin = if door.is_open then bytes_eq origin host else is_served door origin
+
+-- whether an origin is our own page's, `http://` and its host, where a request has this host
+abbrev pub is_our_page : Door → List ℕ → List ℕ → Bool
+is_our_page door host origin =
+    starts_with nat_eq origin (codes "http://") && is_our_host door host (drop 7 origin)
 
 -- whether a request comes of our own page or of no page at all
 abbrev pub is_ours : Door → Request → Bool
-is_ours door request = (length request.origin.items == 0) || is_our_page door request.origin.items
+is_ours door request = (length request.origin.items == 0) || is_our_page door request.host.items request.origin.items
 
 -- whether a body is said to be JSON
 abbrev pub is_json : List ℕ → Bool

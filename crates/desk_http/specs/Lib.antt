@@ -9,3 +9,4 @@ pub mod Answer
 pub mod MetricText
 pub mod VenueMetric
 pub mod Metrics
+pub mod Following

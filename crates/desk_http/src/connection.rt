@@ -36,14 +36,15 @@ fn carry_out<S: Write, D: Day>(
     page: &str,
     run: &Run,
     call: Call,
-    body: &[u8],
+    request: &Request,
 ) -> io::Result<()>
     ensures close { call ≡ Call.Close → OnOk result (D.closes day.old day.new) }
 {
-    if call == Call::Events && follow_day(alloc, stream, day, run)? {
+    let last = request.last_event_id.as_slice();
+    if call == Call::Events && follow_day(alloc, stream, day, run, last)? {
         return Ok(());
     }
-    let reply = answer(alloc, day, page, run, call, body)?;
+    let reply = answer(alloc, day, page, run, call, request.body.as_slice())?;
     send_reply(alloc, stream, run, &reply)
 }
 
@@ -62,15 +63,15 @@ fn respond<S: Write, D: Day>(
     ensures close { allowed door.now request.now ≡ Ok Call.Close → OnOk result (D.closes day.old day.new) }
 {
     match allowed(door, request) {
-        Ok(call) => carry_out(alloc, stream, day, page, run, call, request.body.as_slice()),
+        Ok(call) => carry_out(alloc, stream, day, page, run, call, request),
         Err(refused) => refuse(alloc, stream, run, refused),
     }
 }
 
 /// Serves one request of a stream in this run of the program: it is read, answered over the day, and the connection is
-/// to be closed behind it.
-/// A read of the stream is to give up after half a second, a write after some seconds; either is the stream's fault
-/// then, or a 408. Out of memory, or a fault of the stream, ends the connection with no answer or a part of one.
+/// to be closed behind it. A read of the stream is to give up after half a second, a write after some seconds; either
+/// is the stream's fault then, or a 408. Out of memory, or a fault of the stream, ends the connection with no answer or
+/// a part of one.
 pub fn serve<R: Clock, S: Read + Write, D: Day>(
     rt: &R,
     alloc: Global,

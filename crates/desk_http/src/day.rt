@@ -18,10 +18,10 @@ use desk_words::VenueName;
 use leg::Sweep;
 use std::alloc::AllocError;
 
-/// What changed since a moment of the day.
+/// What changed in the day.
 #[derive(Debug, Drop)]
 pub struct Changes {
-    /// The moment behind the last of them.
+    /// The number of the last execution that was told: the next ones come behind it.
     pub cursor: u64,
     /// In their order.
     pub events: Vec<Event>,
@@ -88,10 +88,12 @@ pub trait Day {
     fn close(&mut self)
         ensures { closes self.old self.new };
 
-    /// Begins to follow the day from now on, or says no where too many follow it.
-    fn follow(&mut self) -> Option<u64>;
+    /// Begins to follow the day, and says behind which execution: behind this one where a client names one, and else
+    /// behind the last until now. It says no where too many follow it.
+    fn follow(&mut self, after: Option<u64>) -> Option<u64>;
 
-    /// What changed since a moment. Where nothing did it waits for a second at most.
+    /// What changed since it was asked last, and the executions behind a number. Where there are none it waits for a
+    /// second at most.
     fn changes(&mut self, since: u64) -> Result<Changes, AllocError>;
 
     /// Ends what `follow` began.

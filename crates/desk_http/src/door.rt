@@ -1,8 +1,9 @@
 //! Who may ask what.
 
 ghost use Rattle.std.specs.Prelude.{◌≡◌};
-ghost use Rattle.desk_http.specs.Door.{allowed, call_of, is_json, is_named, is_our_page, is_ours, is_served};
-ghost use Rattle.desk_http.specs.Door.{knows_token, may_change};
+ghost use Rattle.std.specs.List.{list_all};
+ghost use Rattle.desk_http.specs.Door.{allowed, call_of, is_in_numbers, is_json, is_named, is_of_numbers, is_our_host};
+ghost use Rattle.desk_http.specs.Door.{is_our_page, is_ours, is_served, knows_token, may_change};
 
 use crate::call::{Call, call_at, changes_the_day, place_of};
 use crate::parts::parts_at;
@@ -17,6 +18,8 @@ pub struct Door {
     pub host: String,
     /// What else the address may be called, as `localhost:8080` where it is a loopback one.
     pub other_name: Option<String>,
+    /// Whether every address of the machine is served: a `Host` may then be any of them in numbers, as `10.0.0.7:8080`.
+    pub is_open: bool,
     /// What `Authorization` has to be where a call changes the day, as `Bearer WORD`; empty where no token is asked
     /// for.
     pub authorization: String,
@@ -32,25 +35,60 @@ fn is_named(name: &Option<String>, host: &[u8]) -> bool
     }
 }
 
+/// Whether a byte is a digit, a dot or a colon.
+fn is_of_numbers(byte: u8) -> bool
+    ensures { result ≡ is_of_numbers byte }
+{
+    byte.is_ascii_digit() || byte == b'.' || byte == b':'
+}
+
+/// Whether each byte of a host is one of those.
+fn are_of_numbers(host: &[u8]) -> bool
+    ensures { result ≡ list_all is_of_numbers host.now }
+{
+    host.iter().all(|byte| is_of_numbers(*byte))
+}
+
+/// Whether a host is an address in numbers, as `10.0.0.7:8080`. No name that another site may have is one.
+fn is_in_numbers(host: &[u8]) -> bool
+    ensures { result ≡ is_in_numbers host.now }
+{
+    !host.is_empty() && are_of_numbers(host)
+}
+
 /// Whether a host is the address that is served.
 fn is_served(door: &Door, host: &[u8]) -> bool
     ensures { result ≡ is_served door.now host.now }
 {
-    host == door.host.as_str().as_bytes() || is_named(&door.other_name, host)
+    host == door.host.as_str().as_bytes()
+        || is_named(&door.other_name, host)
+        || (door.is_open && is_in_numbers(host))
 }
 
-/// Whether an `Origin` is our own page's, as `http://127.0.0.1:8080`.
-fn is_our_page(door: &Door, origin: &[u8]) -> bool
-    ensures { result ≡ is_our_page door.now origin.now }
+/// Whether a host of an `Origin` is our own page's, where a request has this `Host`. Another address in numbers may be
+/// another site's, so where every address is served the two have to be the same.
+fn is_our_host(door: &Door, host: &[u8], origin: &[u8]) -> bool
+    ensures { result ≡ is_our_host door.now host.now origin.now }
 {
-    origin.starts_with(b"http://") && is_served(door, &origin[7..])
+    if door.is_open {
+        return origin == host;
+    }
+    is_served(door, origin)
+}
+
+/// Whether an `Origin` is our own page's, as `http://127.0.0.1:8080`, where a request has this `Host`.
+fn is_our_page(door: &Door, host: &[u8], origin: &[u8]) -> bool
+    ensures { result ≡ is_our_page door.now host.now origin.now }
+{
+    origin.starts_with(b"http://") && is_our_host(door, host, &origin[7..])
 }
 
 /// Whether a request comes of our own page or of no page at all.
 fn is_ours(door: &Door, request: &Request) -> bool
     ensures { result ≡ is_ours door.now request.now }
 {
-    request.origin.is_empty() || is_our_page(door, request.origin.as_slice())
+    request.origin.is_empty()
+        || is_our_page(door, request.host.as_slice(), request.origin.as_slice())
 }
 
 /// Whether a body is said to be JSON, whatever parameters stand behind it.

@@ -63,6 +63,7 @@ fn no_request(alloc: Global) -> Request {
         origin: Vec::new(alloc),
         content_type: Vec::new(alloc),
         authorization: Vec::new(alloc),
+        last_event_id: Vec::new(alloc),
         body: Vec::new(alloc),
     }
 }
@@ -101,6 +102,9 @@ impl Request {
         }
         if name.eq_ignore_ascii_case(b"authorization") {
             return keep(&mut self.authorization, value);
+        }
+        if name.eq_ignore_ascii_case(b"last-event-id") {
+            return keep(&mut self.last_event_id, value);
         }
         Ok(true)
     }

@@ -18,5 +18,6 @@ pub struct Request {
     pub origin: Vec<u8>,
     pub content_type: Vec<u8>,
     pub authorization: Vec<u8>,
+    pub last_event_id: Vec<u8>,
     pub body: Vec<u8>,
 }

@@ -1,9 +1,13 @@
 //! The stream of events.
 
+ghost use Rattle.std.specs.Prelude.{◌≡◌};
+ghost use Rattle.desk_http.specs.Following.{after_of};
+
 use crate::day::{Changes, Day};
 use crate::reply::{SAFE_HEAD, run_field};
 use crate::run::Run;
 use desk_json::{Event, event_text};
+use fix_tags::read_number;
 use std::alloc::{AllocError, Global};
 use std::io;
 use std::io::Write;
@@ -36,7 +40,7 @@ fn send_changes<S: Write>(alloc: Global, stream: &mut S, changes: &Changes) -> i
     Ok(changes.is_over)
 }
 
-/// Sends what changes from a moment on, until the day is over or the client is gone.
+/// Sends what changes and the executions behind a number, until the day is over or the client is gone.
 fn send_all<S: Write, D: Day>(
     alloc: Global,
     stream: &mut S,
@@ -78,14 +82,26 @@ fn stream_events<S: Write, D: Day>(
     send_all(alloc, stream, day, from)
 }
 
+/// Behind which execution a client goes on, by the Last-Event-ID that it sends: one that is no number goes on behind
+/// none, so that no execution is missed. None where it sends no such field.
+fn after_of(last_event_id: &[u8]) -> Option<u64>
+    ensures { result ≡ after_of last_event_id.now }
+{
+    if last_event_id.is_empty() {
+        return None;
+    }
+    Some(read_number(last_event_id).unwrap_or(0))
+}
+
 /// Streams the day's events, or says that too many are streamed. What was begun is ended in every case.
 pub(crate) fn follow_day<S: Write, D: Day>(
     alloc: Global,
     stream: &mut S,
     day: &mut D,
     run: &Run,
+    last_event_id: &[u8],
 ) -> io::Result<bool> {
-    match day.follow() {
+    match day.follow(after_of(last_event_id)) {
         Some(from) => {
             let sent = stream_events(alloc, stream, day, run, from);
             day.unfollow();

@@ -17,6 +17,8 @@ use Rattle.desk_executions.specs.Untaken.{untaken, untaken_text}
 use Rattle.dialect.specs.declared.fault.DialectFault.{DialectFault}
 use Rattle.desk_json.specs.declared.standing.ExecutionsPage.{ExecutionsPage}
 use Rattle.desk_json.specs.Parted.{parted}
+use Rattle.desk_json.specs.Words.{beside_json, fields_json}
+use Rattle.report_words.specs.declared.report_words.ReportWords.{ReportWords}
 
 -- a trade, with its price as the exchange wrote it
 abbrev pub fill_json : FillParts → List ℕ
@@ -49,15 +51,20 @@ report_json report =
 abbrev pub refused_json : LegIdParts → List ℕ
 refused_json id = leg_keys id ++ codes "\"kind\":\"refused\""
 
--- that a report can't be read, and why
-abbrev pub unread_json : DialectFault → List ℕ
-unread_json fault = codes "\"kind\":\"unread\",\"fault\":\"" ++ fault_text fault ++ codes "\""
+-- that a report can't be read, and why, with what it says of its order
+abbrev pub unread_json : DialectFault → ReportWords → List ℕ
+unread_json fault words =
+    codes "\"kind\":\"unread\",\"fault\":\"" ++ fault_text fault ++ codes "\"" ++ fields_json words
 
 -- what an exchange said
-abbrev pub note_json : Note → List ℕ
-note_json (note.Report report) = report_json report
-note_json (note.Refused id) = refused_json id
-note_json (note.Unread fault) = unread_json fault
+abbrev pub note_json : Note → ReportWords → List ℕ
+note_json (note.Report report) words = report_json report
+note_json (note.Refused id) words = refused_json id
+note_json (note.Unread fault) words = unread_json fault words
+
+-- that, with what it says beside it
+unfoldable pub said_json : Note → ReportWords → List ℕ
+said_json note words = note_json note words ++ beside_json words
 
 -- why the book didn't take it, as it stands in an object: nothing where it did
 abbrev pub untaken_json : Option Untaken → List ℕ
@@ -65,11 +72,12 @@ untaken_json None = []
 untaken_json (Some why) = codes ",\"unbooked\":\"" ++ untaken_text why ++ codes "\""
 
 -- as `{"execution":2,"venue":"NYSE","sweep":1,"leg":"S1L1","kind":"fill","shares":60,"price":"10.25","exec":"E2"}`,
--- and with `"unbooked":"overfill"` at its end where the book didn't take it
+-- with what is said beside it, and with `"unbooked":"overfill"` at its end where the book didn't take it
 abbrev pub execution_json : Execution → List ℕ
 execution_json execution =
     codes "{\"execution\":" ++ decimal execution.number ++ codes ",\"venue\":\"" ++ execution.venue ++ codes "\","
-    ++ note_json execution.note ++ untaken_json (untaken execution.note execution.answer) ++ codes "}"
+    ++ said_json execution.note execution.words
+    ++ untaken_json (untaken execution.note execution.answer) ++ codes "}"
 
 -- how many notes of a venue weren't taken, as `{"duplicate":0,"overfill":1,"stray":2,"unread":0}`
 unfoldable pub unbooked_json : UnbookedCounts → List ℕ

@@ -10,7 +10,7 @@ use Rattle.leg.specs.declared.leg_state.LegState.TheVariants.{Queued, Doubt, Tak
 use Rattle.desk_json.specs.declared.standing.LegRow.{LegRow}
 use Rattle.desk_json.specs.declared.standing.SweepLegs.{SweepLegs}
 use Rattle.desk_json.specs.Parted.{parted}
-use Rattle.desk_json.specs.Sweeps.{parts_json}
+use Rattle.desk_json.specs.Sweeps.{shares_json}
 
 -- how far a leg has come
 abbrev pub state_text : LegState → List ℕ
@@ -30,7 +30,8 @@ terms_json terms =
 abbrev pub leg_json : LegRow → List ℕ
 leg_json leg =
     codes "{\"leg\":\"" ++ leg_id_text leg.id ++ codes "\",\"venue\":\"" ++ leg.venue ++ codes "\","
-    ++ terms_json leg.terms ++ parts_json leg.totals ++ codes ",\"state\":\"" ++ state_text leg.state ++ codes "\"}"
+    ++ terms_json leg.terms ++ shares_json leg.totals leg.paid ++ codes ",\"state\":\""
+    ++ state_text leg.state ++ codes "\"}"
 
 -- as `{"sweep":12,"legs":[..]}`
 abbrev pub legs_json : SweepLegs → List ℕ

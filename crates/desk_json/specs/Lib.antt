@@ -5,8 +5,10 @@ pub mod Sweep
 pub mod Outcome
 pub mod FaultJson
 pub mod Parted
+pub mod Paid
 pub mod Sweeps
 pub mod Legs
 pub mod Venues
+pub mod Words
 pub mod Event
 pub mod Executions

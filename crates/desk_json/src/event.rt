@@ -3,12 +3,14 @@
 ghost use Rattle.std.specs.Prelude.{◌≡◌, ◌++◌, IfOk, codes, string_bytes};
 ghost use Rattle.desk_json.specs.Event.{audit_json, event_text};
 
+use crate::executions_written::execution_json;
 use crate::outcome::{closing_json, refusal_json};
 use crate::quoted::quoted;
 use crate::standing::VenueRow;
 use crate::sweeps_written::{day_json, sweep_json};
 use crate::venues_written::venue_json;
-use desk_news::{DayTotals, SweepParts, Told};
+use desk_executions::Execution;
+use desk_news::{DayTotals, PaidSweep, Told};
 use std::alloc::{AllocError, Global};
 use sweep_text::Refusal;
 
@@ -22,10 +24,12 @@ pub enum Audit {
 }
 
 /// A change of the day.
-#[derive(Debug, PartialEq, Eq, Drop)]
+#[derive(Debug, Drop)]
 pub enum Event {
-    /// The parts of a sweep changed.
-    Sweep(SweepParts),
+    /// The parts of a sweep changed, or what was paid for it.
+    Sweep(PaidSweep),
+    /// An exchange said something of an order.
+    Execution(Execution),
     /// A venue stands otherwise than before.
     Venue(VenueRow),
     /// A sweep was refused, whoever handed it in.
@@ -52,7 +56,7 @@ fn audit_json(alloc: Global, audit: &Audit) -> Result<String, AllocError>
 }
 
 /// An event with its JSON, as a stream of events tells it: `event: day`, `data: {"placed":300,..}` and an empty line.
-/// The only refusal is out of memory.
+/// That of an execution has the execution's number as its id. The only refusal is out of memory.
 pub fn event_text(alloc: Global, event: &Event) -> Result<String, AllocError>
     ensures { IfOk result (λ text. string_bytes text ≡ event_text event.now) }
 {
@@ -60,6 +64,11 @@ pub fn event_text(alloc: Global, event: &Event) -> Result<String, AllocError>
         Event::Sweep(parts) => {
             let json = sweep_json(alloc, parts)?;
             format!(in alloc; "event: sweep\ndata: {json}\n\n")
+        }
+        Event::Execution(execution) => {
+            let number = execution.number;
+            let json = execution_json(alloc, execution)?;
+            format!(in alloc; "id: {number}\nevent: execution\ndata: {json}\n\n")
         }
         Event::Venue(venue) => {
             let json = venue_json(alloc, venue)?;

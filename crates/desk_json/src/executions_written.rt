@@ -4,15 +4,18 @@ ghost use Rattle.std.specs.Prelude.{◌≡◌, [], ◌++◌, IfOk, OnOk, codes, 
 ghost use Rattle.json.specs.Print.{quoted};
 ghost use Rattle.desk_words.specs.Printable.{shown};
 ghost use Rattle.desk_executions.specs.Untaken.{untaken};
-ghost use Rattle.desk_json.specs.Executions.{bust_json, execution_json, executions_json, fill_json, kind_json, leg_keys, note_json, refused_json, report_json, unbooked_json, unread_json, untaken_json};
+ghost use Rattle.desk_json.specs.Executions.{bust_json, execution_json, executions_json, fill_json, kind_json, leg_keys, note_json};
+ghost use Rattle.desk_json.specs.Executions.{refused_json, report_json, said_json, unbooked_json, unread_json, untaken_json};
 ghost use Rattle.desk_json.specs.Parted.{parted};
 
 use crate::quoted::quoted;
 use crate::standing::ExecutionsPage;
+use crate::words_written::{write_beside, write_fields};
 use desk_executions::{Execution, IdShown, PriceShown, UnbookedCounts, UnreadText, Untaken};
 use desk_words::shown;
 use dialect::{DialectFault, ExecId, Fill, LastPx, Note, Report, ReportKind};
 use leg::LegId;
+use report_words::ReportWords;
 use std::alloc::{AllocError, Global};
 
 /// The id of a report, as a string of JSON.
@@ -90,23 +93,47 @@ fn write_refused(text: &mut String, leg: &LegId) -> Result<(), AllocError>
     write!(text, "\"kind\":\"refused\"")
 }
 
-/// Appends that a report can't be read, and why.
-fn write_unread(text: &mut String, fault: DialectFault) -> Result<(), AllocError>
-    ensures { OnOk result (string_bytes text.new ≡ string_bytes text.old ++ unread_json fault) }
+/// Appends that a report can't be read, and why, with what it says of its order.
+fn write_unread(
+    alloc: Global,
+    text: &mut String,
+    fault: DialectFault,
+    words: &ReportWords,
+) -> Result<(), AllocError>
+    ensures { OnOk result (string_bytes text.new ≡ string_bytes text.old ++ unread_json fault words.now) }
 {
     let fault = UnreadText(fault);
-    write!(text, "\"kind\":\"unread\",\"fault\":\"{fault}\"")
+    write!(text, "\"kind\":\"unread\",\"fault\":\"{fault}\"")?;
+    write_fields(alloc, text, words)
 }
 
 /// Appends what an exchange said.
-fn write_note(alloc: Global, text: &mut String, note: &Note) -> Result<(), AllocError>
-    ensures { OnOk result (string_bytes text.new ≡ string_bytes text.old ++ note_json note.now) }
+fn write_note(
+    alloc: Global,
+    text: &mut String,
+    note: &Note,
+    words: &ReportWords,
+) -> Result<(), AllocError>
+    ensures { OnOk result (string_bytes text.new ≡ string_bytes text.old ++ note_json note.now words.now) }
 {
     match note {
         Note::Report(report) => write_report(alloc, text, report),
         Note::Refused(leg) => write_refused(text, leg),
-        Note::Unread(fault) => write_unread(text, *fault),
+        Note::Unread(fault) => write_unread(alloc, text, *fault, words),
     }
+}
+
+/// Appends what an exchange said, and what it says beside it.
+fn write_said(
+    alloc: Global,
+    text: &mut String,
+    note: &Note,
+    words: &ReportWords,
+) -> Result<(), AllocError>
+    ensures { OnOk result (string_bytes text.new ≡ string_bytes text.old ++ said_json note.now words.now) }
+{
+    write_note(alloc, text, note, words)?;
+    write_beside(alloc, text, words)
 }
 
 /// Appends why the book didn't take what was said, if it didn't.
@@ -132,7 +159,7 @@ fn write_execution(
     let venue = &execution.venue;
     write!(text, "{mark}{{\"execution\":{number}")?;
     write!(text, ",\"venue\":\"{venue}\",")?;
-    write_note(alloc, text, &execution.note)?;
+    write_said(alloc, text, &execution.note, &execution.words)?;
     write_untaken(text, execution.untaken())?;
     write!(text, "}}")
 }

@@ -6,7 +6,7 @@ ghost use Rattle.desk_json.specs.Parted.{parted};
 
 use crate::price_words::price_text;
 use crate::standing::{LegRow, SweepLegs};
-use crate::sweeps_written::write_parts;
+use crate::sweeps_written::write_shares;
 use fix_tags::price_short_text;
 use leg::{LegState, Terms};
 use std::alloc::{AllocError, Global};
@@ -46,12 +46,13 @@ fn write_leg(text: &mut String, mark: &str, leg: &LegRow) -> Result<(), AllocErr
         venue,
         terms,
         totals,
+        paid,
         state,
     } = leg;
     let state = state_text(*state);
     write!(text, "{mark}{{\"leg\":\"{id}\",\"venue\":\"{venue}\",")?;
     write_terms(text, terms)?;
-    write_parts(text, totals)?;
+    write_shares(text, totals, paid)?;
     write!(text, ",\"state\":\"{state}\"}}")
 }
 

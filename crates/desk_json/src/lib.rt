@@ -21,6 +21,7 @@ mod key_fault;
 mod leg_in;
 mod legs_written;
 mod outcome;
+mod paid_written;
 mod price_words;
 mod quoted;
 mod standing;
@@ -28,6 +29,7 @@ mod sweep_fault;
 mod sweep_in;
 mod sweeps_written;
 mod venues_written;
+mod words_written;
 
 pub use event::{Audit, Event, event_text};
 pub use executions_written::{execution_json, executions_json, unbooked_json};

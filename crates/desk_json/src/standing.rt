@@ -4,7 +4,7 @@ ghost use Rattle.std.specs.Prelude.{◌≡◌};
 ghost use Rattle.desk_json.specs.Venues.{accepted};
 
 use desk_executions::{Execution, UnbookedCounts};
-use desk_news::{DayTotals, SweepParts, VenueStatus};
+use desk_news::{DayTotals, Paid, PaidSweep, VenueStatus};
 use desk_words::VenueName;
 use leg::{LegId, LegState, Terms, Totals};
 
@@ -69,6 +69,8 @@ pub struct LegRow {
     pub terms: Terms,
     /// What became of its shares.
     pub totals: Totals,
+    /// What was paid for it.
+    pub paid: Paid,
     pub state: LegState,
 }
 
@@ -76,7 +78,7 @@ pub struct LegRow {
 #[derive(Debug, Drop)]
 pub struct SweepsPage {
     /// By rising number.
-    pub sweeps: Vec<SweepParts>,
+    pub sweeps: Vec<PaidSweep>,
     pub day: DayTotals,
     pub is_closing: bool,
 }

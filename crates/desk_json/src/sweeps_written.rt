@@ -2,15 +2,16 @@
 
 ghost use Rattle.std.specs.Prelude.{◌≡◌, [], ◌++◌, IfOk, OnOk, codes, string_bytes};
 ghost use Rattle.desk_json.specs.Parted.{parted};
-ghost use Rattle.desk_json.specs.Sweeps.{closing_json, day_json, parts_json, sweep_json, sweeps_json};
+ghost use Rattle.desk_json.specs.Sweeps.{closing_json, day_json, parts_json, shares_json, sweep_json, sweeps_json};
 
+use crate::paid_written::write_paid;
 use crate::standing::SweepsPage;
-use desk_news::{DayTotals, SweepParts};
+use desk_news::{DayTotals, Paid, PaidSweep};
 use leg::Totals;
 use std::alloc::{AllocError, Global};
 
 /// Appends the five parts of shares.
-pub(crate) fn write_parts(text: &mut String, totals: &Totals) -> Result<(), AllocError>
+fn write_parts(text: &mut String, totals: &Totals) -> Result<(), AllocError>
     ensures { OnOk result (string_bytes text.new ≡ string_bytes text.old ++ parts_json totals.now) }
 {
     let Totals {
@@ -25,23 +26,35 @@ pub(crate) fn write_parts(text: &mut String, totals: &Totals) -> Result<(), Allo
     write!(text, ",\"open\":{still_open}")
 }
 
-/// Appends what became of a sweep's shares behind a mark.
-fn write_sweep(text: &mut String, mark: &str, parts: &SweepParts) -> Result<(), AllocError>
-    ensures { OnOk result (string_bytes text.new ≡ string_bytes text.old ++ mark.now ++ sweep_json parts.now) }
+/// Appends the five parts of shares, and what was paid for them.
+pub(crate) fn write_shares(
+    text: &mut String,
+    totals: &Totals,
+    paid: &Paid,
+) -> Result<(), AllocError>
+    ensures { OnOk result (string_bytes text.new ≡ string_bytes text.old ++ shares_json totals.now paid.now) }
 {
-    let number = parts.sweep;
-    let shares = parts.shares;
+    write_parts(text, totals)?;
+    write_paid(text, paid)
+}
+
+/// Appends what became of a sweep's shares and what was paid for them, behind a mark.
+fn write_sweep(text: &mut String, mark: &str, sweep: &PaidSweep) -> Result<(), AllocError>
+    ensures { OnOk result (string_bytes text.new ≡ string_bytes text.old ++ mark.now ++ sweep_json sweep.now) }
+{
+    let number = sweep.parts.sweep;
+    let shares = sweep.parts.shares;
     write!(text, "{mark}{{\"sweep\":{number},\"legs\":{shares},")?;
-    write_parts(text, &parts.totals)?;
+    write_shares(text, &sweep.parts.totals, &sweep.paid)?;
     text.push_str("}")
 }
 
 /// What became of a sweep's shares, as `{"sweep":12,"legs":150,"filled":60,..}`. The only refusal is out of memory.
-pub fn sweep_json(alloc: Global, parts: &SweepParts) -> Result<String, AllocError>
-    ensures { IfOk result (λ text. string_bytes text ≡ sweep_json parts.now) }
+pub fn sweep_json(alloc: Global, sweep: &PaidSweep) -> Result<String, AllocError>
+    ensures { IfOk result (λ text. string_bytes text ≡ sweep_json sweep.now) }
 {
     let mut text = String::new(alloc);
-    write_sweep(&mut text, "", parts)?;
+    write_sweep(&mut text, "", sweep)?;
     Ok(text)
 }
 
@@ -70,12 +83,12 @@ pub fn day_json(alloc: Global, day: &DayTotals) -> Result<String, AllocError>
 }
 
 /// Appends sweeps, parted by commas.
-fn write_sweeps(text: &mut String, sweeps: &[SweepParts]) -> Result<(), AllocError>
+fn write_sweeps(text: &mut String, sweeps: &[PaidSweep]) -> Result<(), AllocError>
     ensures { OnOk result (string_bytes text.new ≡ string_bytes text.old ++ parted sweep_json [] sweeps.now) }
 {
     let mut mark = "";
-    for parts in sweeps {
-        write_sweep(text, mark, parts)?;
+    for sweep in sweeps {
+        write_sweep(text, mark, sweep)?;
         mark = ",";
     }
     Ok(())

@@ -7,10 +7,12 @@ use crate::venues::Venues;
 use desk_executions::Execution;
 use desk_http::{Changes, Day, DaySums, RefusalCounts};
 use desk_json::{Audit, Event, ExecutionsPage, LegRow, Outcome, SweepLegs, SweepsPage, VenueRow};
-use desk_news::{DayTotals, SweepParts};
+use desk_news::{DayTotals, Paid, PaidSweep};
 use desk_words::VenueName;
 use dialect::Note;
 use leg::{LegId, LegState, MAX_PLACE, MAX_SWEEP, Routed, Sweep, Totals};
+use leg_worth::Worth;
+use report_words::ReportWords;
 use share_ledger::Applied;
 use std::alloc::{AllocError, Global};
 use sweep_text::{Refusal, write_sweep};
@@ -22,7 +24,7 @@ pub struct MadeUpDay {
     pub venues: Venues,
     /// What becomes of the next sweep.
     pub outcome: Outcome,
-    pub sweeps: Vec<SweepParts>,
+    pub sweeps: Vec<PaidSweep>,
     pub executions: Vec<Execution>,
     pub day: DayTotals,
     /// How many sweeps weren't placed until now.
@@ -34,6 +36,8 @@ pub struct MadeUpDay {
     legs: Vec<LegRow>,
     /// What was asked, a line each.
     asked: String,
+    /// How often a follower asked what changed.
+    looks: u64,
 }
 
 const NO_SHARES: DayTotals = DayTotals {
@@ -52,6 +56,16 @@ const NO_REFUSALS: RefusalCounts = RefusalCounts {
     out_of_memory: 0,
     wrong_book: 0,
     closing: 0,
+};
+
+/// What is paid for no shares.
+pub const NOT_PAID: Paid = Paid {
+    worth: Worth {
+        value: 0,
+        unpriced: 0,
+    },
+    filled: 0,
+    disputed: 0,
 };
 
 /// Of no shares.
@@ -100,6 +114,7 @@ fn new_leg(
             withdrawn: 0,
             still_open: leg.terms.shares(),
         },
+        paid: NOT_PAID,
         state: LegState::Queued,
     }))
 }
@@ -118,6 +133,7 @@ impl MadeUpDay {
             is_crowded: false,
             legs: Vec::new(alloc),
             asked: String::new(alloc),
+            looks: 0,
         }
     }
 
@@ -142,6 +158,7 @@ impl MadeUpDay {
         venue: VenueName,
         note: Note,
         answer: Applied,
+        words: ReportWords,
     ) -> Result<(), AllocError> {
         let number = (self.executions.len() as u64).saturating_add(1);
         self.executions.push(Execution {
@@ -149,6 +166,7 @@ impl MadeUpDay {
             venue,
             note,
             answer,
+            words,
         })?;
         Ok(())
     }
@@ -222,9 +240,9 @@ impl Day for MadeUpDay {
         let line = format!(in self.alloc; "sweeps after {after} most {most}")?;
         self.ask(line.as_str())?;
         let mut sweeps = Vec::new(self.alloc);
-        for parts in self.sweeps.iter() {
-            if parts.sweep > after && (sweeps.len() as u64) < most {
-                sweeps.push(*parts)?;
+        for sweep in self.sweeps.iter() {
+            if sweep.parts.sweep > after && (sweeps.len() as u64) < most {
+                sweeps.push(*sweep)?;
             }
         }
         Ok(SweepsPage {
@@ -275,7 +293,7 @@ impl Day for MadeUpDay {
     fn sums(&mut self) -> Result<DaySums, AllocError> {
         let mut parts = NOTHING;
         for sweep in self.sweeps.iter() {
-            parts = with(&parts, &sweep.totals);
+            parts = with(&parts, &sweep.parts.totals);
         }
         Ok(DaySums {
             sweeps: self.sweeps.len() as u64,
@@ -293,19 +311,30 @@ impl Day for MadeUpDay {
         let _ = self.ask("close");
     }
 
-    fn follow(&mut self) -> Option<u64> {
-        if self.is_crowded { None } else { Some(0) }
+    fn follow(&mut self, after: Option<u64>) -> Option<u64> {
+        if self.is_crowded {
+            return None;
+        }
+        self.looks = 0;
+        Some(after.unwrap_or(self.executions.len() as u64))
     }
 
     /// What is to be told is told at once: first nothing, as if a second went by, then all, and then that the day is
     /// closed.
     fn changes(&mut self, since: u64) -> Result<Changes, AllocError> {
         let mut events = Vec::new(self.alloc);
-        match since {
+        let mut cursor = since;
+        match self.looks {
             0 => {}
             1 => {
-                for parts in self.sweeps.iter() {
-                    events.push(Event::Sweep(*parts))?;
+                for execution in self.executions.iter() {
+                    if execution.number > since {
+                        cursor = execution.number;
+                        events.push(Event::Execution(same_as(execution)?))?;
+                    }
+                }
+                for sweep in self.sweeps.iter() {
+                    events.push(Event::Sweep(*sweep))?;
                 }
                 for row in self.venues.rows()? {
                     events.push(Event::Venue(row))?;
@@ -315,8 +344,9 @@ impl Day for MadeUpDay {
             }
             _ => events.push(Event::Closed(Audit::Whole))?,
         }
+        self.looks = self.looks.saturating_add(1);
         Ok(Changes {
-            cursor: since.saturating_add(1),
+            cursor,
             events,
             is_over: false,
         })
@@ -333,6 +363,7 @@ fn copy_of(leg: &LegRow) -> Result<LegRow, AllocError> {
         venue: leg.venue.clone()?,
         terms: leg.terms.clone()?,
         totals: leg.totals,
+        paid: leg.paid,
         state: leg.state,
     })
 }
@@ -347,5 +378,21 @@ fn same_as(execution: &Execution) -> Result<Execution, AllocError> {
             Note::Unread(fault) => Note::Unread(*fault),
         },
         answer: execution.answer,
+        words: same_words(&execution.words)?,
+    })
+}
+
+fn same_words(words: &ReportWords) -> Result<ReportWords, AllocError> {
+    Ok(ReportWords {
+        id: words.id.clone()?,
+        exec_type: words.exec_type.clone()?,
+        order: words.order.clone()?,
+        shares: words.shares.clone()?,
+        price: words.price.clone()?,
+        time: words.time.clone()?,
+        text: words.text.clone()?,
+        reason: words.reason.clone()?,
+        refused: words.refused.clone()?,
+        message: words.message.clone()?,
     })
 }

@@ -2,6 +2,7 @@
 //! the file with the answers as they are. `cases/api/README.md` has the commands.
 #![tactic(auto)]
 
+mod beside;
 mod executions;
 mod made_up_day;
 mod player;

@@ -1,12 +1,14 @@
 //! The commands of a case, and what they work on.
 
+use crate::beside::words_of;
 use crate::executions::{answered, named_venue, note, unbooked_counts};
 use crate::made_up_day::MadeUpDay;
 use crate::still::Still;
 use crate::talk::Talk;
-use crate::words::{day_totals, outcome, refusal_counts, sweep_parts};
+use crate::words::{day_totals, outcome, paid_sweep, refusal_counts};
 use case_text::{Answers, PlayFault, Player, number};
 use desk_http::{Door, Run, serve};
+use report_words::ReportWords;
 use share_ledger::Applied;
 use std::alloc::Global;
 use std::str;
@@ -26,8 +28,12 @@ pub struct ApiPlayer {
     token: String,
     /// The token that the client has.
     known: String,
+    /// Whether the desk serves every address of its machine.
+    is_open: bool,
     /// What the client said so far.
     said: Vec<u8>,
+    /// The fields of the next execution's message.
+    beside: String,
 }
 
 impl ApiPlayer {
@@ -37,7 +43,9 @@ impl ApiPlayer {
             day: MadeUpDay::new(alloc),
             token: String::new(alloc),
             known: String::new(alloc),
+            is_open: false,
             said: Vec::new(alloc),
+            beside: String::new(alloc),
         }
     }
 
@@ -48,8 +56,20 @@ impl ApiPlayer {
             authorization.push_str(self.token.as_str())?;
         }
         Ok(Door {
-            host: String::from_str(self.alloc, "127.0.0.1:8080")?,
-            other_name: Some(String::from_str(self.alloc, "localhost:8080")?),
+            host: String::from_str(
+                self.alloc,
+                if self.is_open {
+                    "0.0.0.0:8080"
+                } else {
+                    "127.0.0.1:8080"
+                },
+            )?,
+            other_name: if self.is_open {
+                None
+            } else {
+                Some(String::from_str(self.alloc, "localhost:8080")?)
+            },
+            is_open: self.is_open,
             authorization,
         })
     }
@@ -174,6 +194,13 @@ impl ApiPlayer {
         self.tell_short(answers)
     }
 
+    /// The words of the next execution: those of the fields that were set, once.
+    fn next_words(&mut self) -> Result<ReportWords, PlayFault> {
+        let words = words_of(self.beside.as_str())?;
+        self.beside.clear();
+        Ok(words)
+    }
+
     /// What the day says or is.
     fn set(&mut self, name: &str, text: &str) -> Result<(), PlayFault> {
         match name {
@@ -184,21 +211,23 @@ impl ApiPlayer {
                 Ok(())
             }
             "sweep" => {
-                let parts = sweep_parts(self.alloc, text)?;
-                self.day.sweeps.push(parts)?;
+                let sweep = paid_sweep(self.alloc, text)?;
+                self.day.sweeps.push(sweep)?;
                 Ok(())
             }
             "execution" => {
                 let (venue, text) = named_venue(text)?;
                 let note = note(self.alloc, text)?;
-                self.day.report(venue, note, Applied::Moved)?;
+                let words = self.next_words()?;
+                self.day.report(venue, note, Applied::Moved, words)?;
                 Ok(())
             }
             "unbooked" => {
                 let (answer, text) = answered(text)?;
                 let (venue, text) = named_venue(text)?;
                 let note = note(self.alloc, text)?;
-                self.day.report(venue, note, answer)?;
+                let words = self.next_words()?;
+                self.day.report(venue, note, answer, words)?;
                 Ok(())
             }
             "counts" => {
@@ -211,6 +240,10 @@ impl ApiPlayer {
             }
             "refusals" => {
                 self.day.refusals = refusal_counts(self.alloc, text)?;
+                Ok(())
+            }
+            "beside" => {
+                self.beside = String::from_str(self.alloc, text)?;
                 Ok(())
             }
             "token" => {
@@ -238,6 +271,10 @@ impl Player for ApiPlayer {
             "served" => return self.tell_whole(false, answers),
             "late" => return self.tell_whole(true, answers),
             "words" => return self.tell_words(answers),
+            "open" => {
+                self.is_open = true;
+                return Ok(());
+            }
             "crowded" => {
                 self.day.is_crowded = true;
                 return Ok(());

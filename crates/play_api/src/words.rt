@@ -1,11 +1,13 @@
 //! The words of a case, read.
 
+use crate::made_up_day::NOT_PAID;
 use case_text::{PlayFault, number, words};
 use desk_http::RefusalCounts;
 use desk_json::Outcome;
-use desk_news::{DayTotals, SweepParts};
+use desk_news::{DayTotals, Paid, PaidSweep, SweepParts};
 use desk_words::VenueName;
 use leg::Totals;
+use leg_worth::Worth;
 use std::alloc::Global;
 use sweep_text::Refusal;
 
@@ -19,7 +21,7 @@ fn numbers(alloc: Global, text: &str) -> Result<Vec<u64>, PlayFault> {
 }
 
 /// A sweep: its number, its shares, and what is filled, busted, cancelled, withdrawn and open.
-pub fn sweep_parts(alloc: Global, text: &str) -> Result<SweepParts, PlayFault> {
+fn sweep_parts(alloc: Global, text: &str) -> Result<SweepParts, PlayFault> {
     match *numbers(alloc, text)?.as_slice() {
         [
             sweep,
@@ -41,6 +43,40 @@ pub fn sweep_parts(alloc: Global, text: &str) -> Result<SweepParts, PlayFault> {
             },
         }),
         _ => Err(PlayFault::NotUnderstood),
+    }
+}
+
+/// What was paid for so many filled shares: the value in hundred-millionths, the shares of no known price, and those
+/// that are disputed.
+fn paid(alloc: Global, filled: u64, text: &str) -> Result<Paid, PlayFault> {
+    match *numbers(alloc, text)?.as_slice() {
+        [value, unpriced, disputed] => Ok(Paid {
+            worth: Worth {
+                value: u128::from(value),
+                unpriced,
+            },
+            filled,
+            disputed,
+        }),
+        _ => Err(PlayFault::NotUnderstood),
+    }
+}
+
+/// A sweep, and behind `paid` what was paid for it.
+pub fn paid_sweep(alloc: Global, text: &str) -> Result<PaidSweep, PlayFault> {
+    match text.split_once(" paid ") {
+        Some((text, paid_text)) => {
+            let parts = sweep_parts(alloc, text)?;
+            let paid = paid(alloc, parts.totals.filled, paid_text)?;
+            Ok(PaidSweep { parts, paid })
+        }
+        None => {
+            let parts = sweep_parts(alloc, text)?;
+            Ok(PaidSweep {
+                parts,
+                paid: NOT_PAID,
+            })
+        }
     }
 }
 
