@@ -1,24 +1,22 @@
 -- One place of a sweep more.
-use Rattle.std.proofs.Common.{◌≡◌, ℕ, zero, suc, ◌+◌, ◌-◌, ◌≤◌, List, ◌++◌, Option, Some, sym, subst, arith}
+use Rattle.std.proofs.Common.{◌≡◌, ℕ, zero, suc, ◌+◌, ◌-◌, ◌≤◌, List, ◌++◌, Option, Some, subst, arith}
 use Rattle.std.specs.Prelude.{option_to_list}
 use Rattle.leg.specs.LegId.{LegIdParts}
 use Rattle.share_ledger.specs.declared.booked_leg.BookedLeg.{BookedLeg}
-use Rattle.share_ledger.specs.Book.{BookParts, leg_in}
-use Rattle.exec_collector.specs.Resolved.{Replays}
+use Rattle.desk_news.specs.declared.paid.Paid.{Paid}
 use Rattle.desk_floor.specs.declared.legs.LegStanding.{LegStanding}
-use Rattle.desk_floor.specs.Legs.{ArePlaces, IsPlace, IsStanding}
+use Rattle.desk_floor.specs.Legs.{ArePlaces, IsPaidLeg, IsPlace, IsStanding}
 
-pub place_told : (venues : ℕ) (id parts : LegIdParts) (booked : BookedLeg) (asked told : Option LegStanding)
-    → id ≡ parts → (book : BookParts) × Replays book × (Some booked ≡ leg_in book id)
-    → IsStanding venues id booked asked → asked ≡ told → IsPlace venues parts told
-place_told venues id parts booked asked told same (book, replays, there) standing is =
+pub place_told : (venues : ℕ) (id parts : LegIdParts) (booked : BookedLeg) (paid : Paid) (asked told : Option LegStanding)
+    → id ≡ parts → IsPaidLeg id (Some (booked, paid)) → IsStanding venues id booked paid asked → asked ≡ told
+    → IsPlace venues parts told
+place_told venues id parts booked paid asked told same there standing is =
     subst (λ (i : LegIdParts). IsPlace venues i told) same
     (record {
-      book = book;
-      replays = replays;
       booked = booked;
-      there = sym there;
-      standing = subst (λ (leg : Option LegStanding). IsStanding venues id booked leg) is standing;
+      paid = paid;
+      there = there;
+      standing = subst (λ (leg : Option LegStanding). IsStanding venues id booked paid leg) is standing;
     })
 
 pub places_more : (venues sweep place : ℕ) (legs next : List LegStanding) (told : Option LegStanding) → 1 ≤ place

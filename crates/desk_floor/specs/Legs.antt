@@ -1,5 +1,5 @@
 -- The legs of a sweep as they are told: each by a book, a desk, and the counts that its venue's worker told.
-use Rattle.std.specs.Prelude.{◌≡◌, ◌⊎◌, ℕ, zero, suc, ◌<◌, ◌≤◌, ◌==◌, ◌&&◌, ◌||◌, Bool, true, false, nat_lt, List, [], ◌++◌, find, option_to_list, Option, Some, None, if◌then◌else◌}
+use Rattle.std.specs.Prelude.{◌≡◌, ◌⊎◌, ℕ, zero, suc, ◌<◌, ◌≤◌, ◌==◌, ◌&&◌, ◌||◌, Bool, true, false, nat_lt, List, [], ◌++◌, find, option_map, option_to_list, Option, Some, None, if◌then◌else◌}
 use Rattle.std.specs.List.Sorted.{IsPartitionedBy, IsPartitionPoint}
 use Rattle.leg.specs.LegId.{LegIdParts}
 use Rattle.leg.specs.declared.leg.Leg.{Leg}
@@ -7,7 +7,12 @@ use Rattle.leg.specs.declared.placed_leg.PlacedLeg.{PlacedLeg}
 use Rattle.share_ledger.specs.declared.booked_leg.BookedLeg.{BookedLeg}
 use Rattle.share_ledger.specs.Book.{BookParts, leg_in}
 use Rattle.share_ledger.specs.Entries.{is_same_leg}
+use Rattle.exec_collector.specs.Beside.{IsBeside}
 use Rattle.exec_collector.specs.Resolved as collector
+use Rattle.exec_collector.specs.Unbooked.{CountedParts, IsListOf}
+use Rattle.exec_collector.specs.declared.beside.Beside.{Beside}
+use Rattle.day_sweeps.specs.Paid.{leg_paid_beside}
+use Rattle.desk_news.specs.declared.paid.Paid.{Paid}
 use Rattle.sweep_release.specs.Desk.{DeskParts}
 use Rattle.sweep_release.specs.History.{KeptDesk}
 use Rattle.release_lock.specs.Locked.{Replays}
@@ -35,9 +40,24 @@ one_of id ordinal (Some leg) =
 abbrev pub released_under : DeskParts → ℕ → LegIdParts → Option PlacedLeg
 released_under desk venue id = find (λ placed. is_same_leg placed.leg.id id) (released_to desk venue)
 
--- a leg that a book has stands so: a desk that replays has released it to its venue, with its terms, and its state
--- follows from its parts, its ordinal there, and two counts that the venue's worker told, of which nothing is known
-pub record Stands (id : LegIdParts) (booked : BookedLeg) (leg : LegStanding) : Type 0 where
+-- a leg of a book, with what was paid for it as that is kept beside the book
+abbrev pub paid_leg_in : BookParts → Beside → LegIdParts → Option (BookedLeg × Paid)
+paid_leg_in book beside id =
+    option_map (λ booked. (booked, leg_paid_beside beside id booked.parts.filled)) (leg_in book id)
+
+-- a leg, or that there is none, is told as a book that replays has it, with what was paid for it
+pub record IsPaidLeg (id : LegIdParts) (leg : Option (BookedLeg × Paid)) : Type 0 where
+  pub day : CountedParts
+  pub beside : Beside
+  pub replays : collector.Replays day.book
+  pub list : IsListOf day.book day.unbooked
+  pub kept : IsBeside day beside
+  pub is : leg ≡ paid_leg_in day.book beside id
+
+-- a leg that a book has stands so, with this paid for it: a desk that replays has released it to its venue, with its
+-- terms, and its state follows from its parts, its ordinal there, and two counts that the venue's worker told, of which
+-- nothing is known
+pub record Stands (id : LegIdParts) (booked : BookedLeg) (paid : Paid) (leg : LegStanding) : Type 0 where
   pub desk : KeptDesk
   pub replays : Replays desk
   pub placed : PlacedLeg
@@ -49,6 +69,7 @@ pub record Stands (id : LegIdParts) (booked : BookedLeg) (leg : LegStanding) : T
     venue = booked.venue;
     terms = placed.leg.terms;
     parts = booked.parts;
+    paid = paid;
     state = leg_state_of booked.parts placed.ordinal taken settled;
   }
 
@@ -59,17 +80,16 @@ pub record IsUnreleased (id : LegIdParts) (booked : BookedLeg) : Type 0 where
   pub unreleased : released_under desk.desk booked.venue id ≡ None
 
 -- a leg that a book has is told as it stands, or not where its venue is none of so many or has no such leg
-abbrev pub IsStanding : ℕ → LegIdParts → BookedLeg → Option LegStanding → Type 0
-IsStanding venues id booked (Some leg) = Stands id booked leg
-IsStanding venues id booked None = (venues ≤ booked.venue) ⊎ IsUnreleased id booked
+abbrev pub IsStanding : ℕ → LegIdParts → BookedLeg → Paid → Option LegStanding → Type 0
+IsStanding venues id booked paid (Some leg) = Stands id booked paid leg
+IsStanding venues id booked paid None = (venues ≤ booked.venue) ⊎ IsUnreleased id booked
 
--- what is told of a place that a sweep has in a book that replays
+-- what is told of a place that a sweep has in a book that replays, with what was paid there
 pub record IsPlace (venues : ℕ) (id : LegIdParts) (told : Option LegStanding) : Type 0 where
-  pub book : BookParts
-  pub replays : collector.Replays book
   pub booked : BookedLeg
-  pub there : leg_in book id ≡ Some booked
-  pub standing : IsStanding venues id booked told
+  pub paid : Paid
+  pub there : IsPaidLeg id (Some (booked, paid))
+  pub standing : IsStanding venues id booked paid told
 
 -- what is told of the places of a sweep up to this one, in order
 abbrev pub ArePlaces : ℕ → ℕ → ℕ → List LegStanding → Type 0
@@ -77,12 +97,6 @@ ArePlaces venues sweep zero legs = legs ≡ []
 ArePlaces venues sweep (suc place) legs =
     (before : List LegStanding) × (told : Option LegStanding) × ArePlaces venues sweep place before
     × IsPlace venues (record { sweep = sweep; place = suc place }) told × (legs ≡ before ++ option_to_list told)
-
--- a book that replays hasn't got a leg
-pub record IsUnbooked (id : LegIdParts) : Type 0 where
-  pub book : BookParts
-  pub replays : collector.Replays book
-  pub none : leg_in book id ≡ None
 
 -- the legs of a sweep, by their places up to the first that a book hasn't got, or to the last of 32; of a number that
 -- no sweep can have none is told
@@ -92,4 +106,4 @@ pub record AreLegs (venues sweep : ℕ) (legs : List LegStanding) : Type 0 where
   pub none : 999999999999 < sweep → places ≡ 0
   pub told : ArePlaces venues sweep places legs
   pub end : places < 32 → 1 ≤ sweep → sweep ≤ 999999999999
-      → IsUnbooked (record { sweep = sweep; place = suc places })
+      → IsPaidLeg (record { sweep = sweep; place = suc places }) None

@@ -1,17 +1,18 @@
 //! The legs of a sweep, as the book, the desk and the venues' workers have them.
 
 ghost use Rattle.std.specs.Prelude.{◌≡◌, ◌≤◌, ◌+◌, length, slice_get, IfOk};
-ghost use Rattle.share_ledger.specs.Book.{BookParts, leg_in};
-ghost use Rattle.exec_collector.specs.Resolved.{Replays};
 ghost use Rattle.sweep_release.specs.History.{KeptDesk};
-ghost use Rattle.release_lock.specs.Locked.{OnlyTurns, Replays as DeskReplays};
-ghost use Rattle.desk_floor.specs.Legs.{AreLegs, IsHalved, IsStanding, is_before, one_of, released_under};
+ghost use Rattle.release_lock.specs.Locked.{OnlyTurns, Replays};
+ghost use Rattle.desk_floor.specs.Legs.{AreLegs, IsHalved, IsPaidLeg, IsStanding, is_before, one_of, paid_leg_in};
+ghost use Rattle.desk_floor.specs.Legs.{released_under};
 ghost use Rattle.desk_floor.specs.Standing.{leg_state_of};
 ghost use Rattle.leg.specs.LegId.{IsLegId};
 
 use crate::floor::Floor;
 use crate::venue_view::VenueView;
-use exec_collector::{Accounts, Collector};
+use day_sweeps::leg_paid;
+use desk_news::Paid;
+use exec_collector::{Accounts, Beside, Collector, Unbooked};
 use leg::{Leg, LegId, LegState, MAX_PLACE, MAX_SWEEP, PlacedLeg, Split, Terms, VenueId};
 use release_lock::{ReleaseLock, Run};
 use share_ledger::{Book, BookedLeg};
@@ -27,6 +28,8 @@ pub struct LegStanding {
     pub venue: VenueId,
     pub terms: Terms,
     pub parts: Split,
+    /// What was paid for it, and what is disputed of it.
+    pub paid: Paid,
     pub state: LegState,
 }
 
@@ -46,20 +49,29 @@ fn state_of(parts: &Split, ordinal: u64, taken: u64, settled: u64) -> LegState
     }
 }
 
-/// The leg of this number, if its sweep was opened, of a book that replays from its own history. It may wait for the
-/// lock.
-pub fn leg_now<M: Accounts>(
+/// A leg of a book, with what was paid for it.
+fn paid_leg(book: &Book, beside: &Beside, id: LegId) -> Option<(BookedLeg, Paid)>
+    ensures { result ≡ paid_leg_in book.now beside.now id }
+{
+    let leg = book.leg(id)?;
+    let paid = leg_paid(beside, id, leg.parts.filled());
+    Some((leg, paid))
+}
+
+/// The leg of this number, if its sweep was opened, of a book that replays from its own history, with what was paid for
+/// it, as both are at one moment. It may wait for the lock.
+fn paid_leg_now<M: Accounts>(
     rt: &impl Wait,
     collector: &Collector<M>,
     id: LegId,
-) -> Option<BookedLeg>
-    ensures { (book : BookParts) × Replays book × (result ≡ leg_in book id) }
+) -> Option<(BookedLeg, Paid)>
+    ensures { IsPaidLeg id result }
 {
-    collector.read(
+    collector.read_day(
         rt,
-        |book: &Book| -> Option<BookedLeg>
-            ensures { result ≡ leg_in book.now id }
-        { book.leg(id) },
+        |book: &Book, _unbooked: &[Unbooked], beside: &Beside| -> Option<(BookedLeg, Paid)>
+            ensures { result ≡ paid_leg_in book.now beside.now id }
+        { paid_leg(book, beside, id) },
     )
 }
 
@@ -112,7 +124,7 @@ fn released_now<L: Run>(
     venue: VenueId,
     id: LegId,
 ) -> Result<Option<PlacedLeg>, AllocError>
-    ensures { (desk : KeptDesk) × DeskReplays desk
+    ensures { (desk : KeptDesk) × Replays desk
         × IfOk result (λ found. found ≡ released_under desk.desk venue id) }
 {
     lock.with(rt, |desk: &mut Desk| released_leg(desk, venue, id))
@@ -124,8 +136,9 @@ fn standing_of<L: Run, M: Accounts, W: Write + Drop>(
     floor: &Floor<L, M, W>,
     id: LegId,
     booked: &BookedLeg,
+    paid: Paid,
 ) -> Result<Option<LegStanding>, AllocError>
-    ensures { IfOk result (λ leg. IsStanding (length floor.now.views.items) id booked.now leg) }
+    ensures { IfOk result (λ leg. IsStanding (length floor.now.views.items) id booked.now paid leg) }
 {
     let venue = booked.venue;
     let Some(view) = floor.views.get(usize::from(venue.number())) else {
@@ -139,6 +152,7 @@ fn standing_of<L: Run, M: Accounts, W: Write + Drop>(
         venue,
         terms: placed.leg.terms,
         parts: booked.parts,
+        paid,
         state: state_of(&booked.parts, placed.ordinal, view.taken(), view.settled()),
     }))
 }
@@ -159,10 +173,10 @@ pub fn sweep_legs<L: Run, M: Accounts, W: Write + Drop>(
     }
     for place in 1..=MAX_PLACE {
         let id = LegId::new(number, place);
-        let Some(booked) = leg_now(rt, &floor.collector, id) else {
+        let Some((booked, paid)) = paid_leg_now(rt, &floor.collector, id) else {
             break;
         };
-        if let Some(leg) = standing_of(rt, floor, id, &booked)? {
+        if let Some(leg) = standing_of(rt, floor, id, &booked, paid)? {
             legs.push(leg)?;
         }
     }

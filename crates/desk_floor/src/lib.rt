@@ -12,15 +12,16 @@
 //!   definition, and so does what is told of it (`standing_of`, `Standing::state`). How a leg stands follows from the
 //!   book and from how far its venue's worker is (`state_of`). What a look finds there isn't said, as other threads
 //!   write it.
-//! - A leg is told as a book has it that its own history leads to (`leg_now`), as a sweep is by crate `day_sweeps`; and
-//!   the legs of a sweep in the order of their places, each with the terms that a desk of such a history released
-//!   (`sweep_legs`). Among the legs released to a venue the one of a number is found, if there is one (`released_leg`,
-//!   private).
+//! - A leg is told as a book has it that its own history leads to, with what was paid for it (`paid_leg_now`, private),
+//!   as a sweep is by crate `day_sweeps`; and the legs of a sweep in the order of their places, each with the terms
+//!   that a desk of such a history released (`sweep_legs`). Among the legs released to a venue the one of a number is
+//!   found, if there is one (`released_leg`, private).
 //! - A venue is told under the name at its place, with how many legs such a desk released to it beyond those that its
 //!   worker told as taken (`venue_status`). A day's open shares are those placed less those that such a book resolved
 //!   (`Floor::totals`). Which moment's book or desk a look finds isn't said.
 //! - The entries of the book's history that a look goes through give exactly the sweeps that they are about
-//!   (`note_entries`, private). That each entry is gone through once is only tested.
+//!   (`note_entries`, private), and so do the notes that it didn't take (`note_unbooked`, private). That each is gone
+//!   through once is only tested.
 //! - The count of refused sweeps by their reasons, and the last of them, are only tested.
 //!
 //! See `docs/run.md`.
@@ -44,7 +45,7 @@ pub use bells::Bells;
 pub use changes::Changes;
 pub use counter::Counter;
 pub use floor::{Floor, Left};
-pub use legs::{LegStanding, leg_now, sweep_legs};
+pub use legs::{LegStanding, sweep_legs};
 pub use refusals::{Refusals, RefusedCounts, RefusedSince};
 pub use signals::{Begun, Closing, Manner, Signals};
 pub use standing::Standing;

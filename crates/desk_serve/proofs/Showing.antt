@@ -3,22 +3,23 @@ use Rattle.std.proofs.Common.{◌≡◌, ℕ, suc, ◌+◌, ◌<◌, ◌≤◌, 
 use Rattle.std.specs.Prelude.{filter_map}
 use Rattle.std.proofs.lemmas.List.{append-nil, length-append}
 use Rattle.std.proofs.lemmas.List.Elements.{filter_map-append}
-use Rattle.desk_news.specs.declared.sweep_parts.SweepParts.{SweepParts}
+use Rattle.desk_news.specs.declared.paid.PaidSweep.{PaidSweep}
 use Rattle.desk_json.specs.declared.standing.VenueRow.{VenueRow}
-use Rattle.day_sweeps.specs.Sweeps.{AddsUp, IsBooked}
+use Rattle.day_sweeps.specs.Paid.{IsPaid}
+use Rattle.day_sweeps.specs.Sweeps.{AddsUp}
 use Rattle.desk_serve.specs.Shown.{AreBooked, AreVenues, IsVenue}
 
-pub booked_more : (number : ℕ) (sweeps : List SweepParts) (sweep : SweepParts) → AreBooked number sweeps
-    → IsBooked (number + length sweeps) (Some sweep) → AddsUp sweep → AreBooked number (sweeps ++ sweep ∷ [])
+pub booked_more : (number : ℕ) (sweeps : List PaidSweep) (sweep : PaidSweep) → AreBooked number sweeps
+    → IsPaid (number + length sweeps) (Some sweep) → AddsUp sweep.parts → AreBooked number (sweeps ++ sweep ∷ [])
 booked_more number [] sweep booked next adds =
     let same : number + 0 ≡ number = omega arith in
-    (subst (λ (n : ℕ). IsBooked n (Some sweep)) same next, adds, tt)
+    (subst (λ (n : ℕ). IsPaid n (Some sweep)) same next, adds, tt)
 booked_more number (first ∷ sweeps) sweep booked next adds =
     let same : number + length (first ∷ sweeps) ≡ suc number + length sweeps = omega arith in (
       booked.0,
       booked.1,
       booked_more (suc number) sweeps sweep booked.2
-          (subst (λ (n : ℕ). IsBooked n (Some sweep)) same next) adds,
+          (subst (λ (n : ℕ). IsPaid n (Some sweep)) same next) adds,
     )
 
 pub filtered_more : {X Y : Type 0} (h : X → Option Y) (xs : List X) (x : X) (y : Y) (ys zs : List Y)

@@ -6,11 +6,12 @@ use Rattle.leg.specs.declared.totals.Totals.{Totals}
 use Rattle.share_ledger.specs.Book.{BookParts}
 use Rattle.share_ledger.specs.Entries.{opened}
 use Rattle.exec_collector.specs.Resolved.{Replays}
-use Rattle.desk_news.specs.declared.sweep_parts.SweepParts.{SweepParts}
+use Rattle.desk_news.specs.declared.paid.PaidSweep.{PaidSweep}
 use Rattle.desk_floor.specs.declared.legs.LegStanding.{LegStanding}
 use Rattle.desk_floor.specs.Legs.{AreLegs}
 use Rattle.desk_floor.specs.Status.{IsStatus}
-use Rattle.day_sweeps.specs.Sweeps.{AddsUp, IsBooked, IsDay}
+use Rattle.day_sweeps.specs.Sweeps.{AddsUp, IsDay}
+use Rattle.day_sweeps.specs.Paid.{IsPaid}
 use Rattle.day_executions.specs.Counts.{AreCounts}
 use Rattle.desk_json.specs.declared.standing.LegRow.{LegRow}
 use Rattle.desk_json.specs.declared.standing.SweepLegs.{SweepLegs}
@@ -19,19 +20,19 @@ use Rattle.desk_json.specs.declared.standing.VenueRow.{VenueRow}
 use Rattle.desk_http.specs.declared.day_sums.DaySums.{DaySums}
 use Rattle.desk_serve.specs.Sums.{AreParts}
 
--- these sweeps are told as books that replay have them, the first of them having this number and each other the next
--- one, and the parts of each add up
-abbrev pub AreBooked : ℕ → List SweepParts → Type 0
+-- these sweeps are told as books that replay have them, with what was paid for each, the first of them having this
+-- number and each other the next one, and the parts of each add up
+abbrev pub AreBooked : ℕ → List PaidSweep → Type 0
 AreBooked number [] = Unit {0}
-AreBooked number (sweep ∷ sweeps) = IsBooked number (Some sweep) × AddsUp sweep × AreBooked (suc number) sweeps
+AreBooked number (sweep ∷ sweeps) = IsPaid number (Some sweep) × AddsUp sweep.parts × AreBooked (suc number) sweeps
 
 -- the sweeps behind a number, at most so many; where they are fewer, none has the next number, unless that would have
 -- more than 64 bits
-pub record AreBehind (after most : ℕ) (sweeps : List SweepParts) : Type 0 where
+pub record AreBehind (after most : ℕ) (sweeps : List PaidSweep) : Type 0 where
   pub few : length sweeps ≤ most
   pub booked : AreBooked (suc after) sweeps
   pub last : after + length sweeps < min (after + most) 18446744073709551615
-      → IsBooked (suc (after + length sweeps)) None
+      → IsPaid (suc (after + length sweeps)) None
 
 -- a page of sweeps, with the day's shares; whether the day is closing isn't said
 pub record IsPage (after most : ℕ) (page : SweepsPage) : Type 0 where
@@ -57,6 +58,7 @@ row_of names leg =
       venue = name;
       terms = leg.terms;
       totals = totals_of leg.parts;
+      paid = leg.paid;
       state = leg.state;
     }) (slice_get names leg.venue)
 

@@ -13,7 +13,7 @@ use clock::UtcClock;
 use day_log::LineLog;
 use desk_floor::{Closing, Floor, sweep_legs};
 use desk_http::{Changes, Day, DaySums, RefusalCounts};
-use desk_json::{ExecutionsPage, LegRow, Outcome, SweepLegs, SweepsPage, VenueRow};
+use desk_json::{Event, ExecutionsPage, LegRow, Outcome, SweepLegs, SweepsPage, VenueRow};
 use desk_words::VenueName;
 use exec_collector::Accounts;
 use leg::Sweep;
@@ -26,6 +26,9 @@ use sweep_text::{Answer, Refusal, write_sweep};
 
 /// How many milliseconds pass between two tellings, at least: what comes in a burst is told once.
 const TELL_MILLIS: u64 = 1;
+
+/// How many executions are told at once, at most.
+const MOST_EXECUTIONS: u64 = 200;
 
 /// How many seconds a change is waited for.
 const LOOK_SECONDS: u64 = 1;
@@ -100,6 +103,16 @@ impl<'a, L: Run, M: Accounts, W: Write + Drop, R: Wait + Clock> DayView<'a, L, M
         })
     }
 
+    /// Begins to follow the day, and gives the number of the execution behind which it does. The only refusal is out of
+    /// memory.
+    fn begin(&mut self, after: Option<u64>) -> Result<u64, AllocError> {
+        self.follower = Some(Follower::new(self.rt, self.alloc, self.floor)?);
+        match after {
+            Some(number) => Ok(number),
+            None => Ok(self.executions_behind(u64::MAX, 0)?.last),
+        }
+    }
+
     /// Whether the connection followed the day to its end.
     pub fn is_over(&self) -> bool {
         self.is_over
@@ -112,17 +125,41 @@ impl<'a, L: Run, M: Accounts, W: Write + Drop, R: Wait + Clock> DayView<'a, L, M
         changes
     }
 
-    /// What changed since it was asked last.
-    fn news(&mut self) -> Result<Changes, AllocError> {
+    /// The executions behind a number, at most so many. It may wait for locks. The only refusal is out of memory.
+    fn executions_behind(&self, after: u64, most: u64) -> Result<ExecutionsPage, AllocError>
+        ensures { IfOk result (IsExecutions self.now.floor.now.names.items after most) }
+    {
+        let names = self.floor.names.as_slice();
+        self.page.executions(
+            self.rt,
+            self.alloc,
+            names,
+            &self.floor.collector,
+            after,
+            most,
+        )
+    }
+
+    /// What changed since it was asked last, behind the executions that come next after this number. Where there are
+    /// more of these than are told at once the day isn't over yet.
+    fn news(&mut self, since: u64) -> Result<Changes, AllocError> {
         let is_over = self.floor.signals.is_over();
-        let events = match &mut self.follower {
-            Some(follower) => follower.news(self.rt, &self.clock, self.alloc, self.floor)?,
-            None => Vec::new(self.alloc),
-        };
+        let page = self.executions_behind(since, MOST_EXECUTIONS)?;
+        let mut cursor = since;
+        let mut events = Vec::new(self.alloc);
+        for execution in page.executions {
+            cursor = execution.number;
+            events.push(Event::Execution(execution))?;
+        }
+        if let Some(follower) = &mut self.follower {
+            for event in follower.news(self.rt, &self.clock, self.alloc, self.floor)? {
+                events.push(event)?;
+            }
+        }
         Ok(Changes {
-            cursor: 0,
+            cursor,
             events,
-            is_over,
+            is_over: is_over && cursor >= page.last,
         })
     }
 }
@@ -179,15 +216,7 @@ impl<'a, L: Run, M: Accounts, W: Write + Drop, R: Wait + Clock> Day for DayView<
     }
 
     fn executions(&mut self, after: u64, most: u64) -> Result<ExecutionsPage, AllocError> {
-        let names = self.floor.names.as_slice();
-        self.page.executions(
-            self.rt,
-            self.alloc,
-            names,
-            &self.floor.collector,
-            after,
-            most,
-        )
+        self.executions_behind(after, most)
     }
 
     fn venues(&mut self) -> Result<Vec<VenueRow>, AllocError> {
@@ -221,15 +250,12 @@ impl<'a, L: Run, M: Accounts, W: Write + Drop, R: Wait + Clock> Day for DayView<
         self.closing = Some(self.floor.ask_to_close(self.rt));
     }
 
-    fn follow(&mut self) -> Option<u64> {
+    fn follow(&mut self, after: Option<u64>) -> Option<u64> {
         if !self.page.begin_following() {
             return None;
         }
-        match Follower::new(self.rt, self.alloc, self.floor) {
-            Ok(follower) => {
-                self.follower = Some(follower);
-                Some(0)
-            }
+        match self.begin(after) {
+            Ok(from) => Some(from),
             Err(_) => {
                 self.page.end_following();
                 None
@@ -237,7 +263,7 @@ impl<'a, L: Run, M: Accounts, W: Write + Drop, R: Wait + Clock> Day for DayView<
         }
     }
 
-    fn changes(&mut self, _since: u64) -> Result<Changes, AllocError> {
+    fn changes(&mut self, since: u64) -> Result<Changes, AllocError> {
         let floor = self.floor;
         if self.has_told {
             let turn = floor.bells.turns().count();
@@ -247,13 +273,13 @@ impl<'a, L: Run, M: Accounts, W: Write + Drop, R: Wait + Clock> Day for DayView<
             }
         }
         let seen = floor.bells.news().count();
-        let changes = self.news()?;
+        let changes = self.news(since)?;
         if !is_still(&changes) {
             return Ok(self.telling(changes));
         }
         let most = Duration::from_secs(LOOK_SECONDS);
         floor.bells.news().wait(self.rt, seen, most);
-        let changes = self.news()?;
+        let changes = self.news(since)?;
         Ok(self.telling(changes))
     }
 

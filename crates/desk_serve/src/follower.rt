@@ -2,7 +2,7 @@
 
 use crate::rows::venue_row;
 use clock::Clock;
-use day_sweeps::sweep_now;
+use day_sweeps::paid_sweep_now;
 use desk_floor::{Changes, Floor, Standing};
 use desk_json::{Audit, Event, event_text};
 use desk_news::DayTotals;
@@ -96,7 +96,7 @@ impl Follower {
             if *number == 0 {
                 continue;
             }
-            if let Some(sweep) = sweep_now(rt, &floor.collector, *number) {
+            if let Some(sweep) = paid_sweep_now(rt, &floor.collector, *number) {
                 events.push(Event::Sweep(sweep))?;
             }
         }

@@ -105,6 +105,7 @@ impl Page {
             door: Door {
                 host: host_of(alloc, &address.host, at.port())?,
                 other_name: other_name(alloc, at)?,
+                is_open: at.ip().is_unspecified(),
                 authorization: authorization(alloc, token)?,
             },
             run: run_now(rt, alloc)?,

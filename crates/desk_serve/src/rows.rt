@@ -92,6 +92,7 @@ pub(crate) fn leg_row(names: &[VenueName], leg: LegStanding) -> Option<LegRow>
         venue,
         terms,
         parts,
+        paid,
         state,
     } = leg;
     let name = names.get(usize::from(venue.number()))?;
@@ -100,6 +101,7 @@ pub(crate) fn leg_row(names: &[VenueName], leg: LegStanding) -> Option<LegRow>
         venue: name.clone().unwrap(),
         terms,
         totals: totals_of(&parts),
+        paid,
         state,
     })
 }

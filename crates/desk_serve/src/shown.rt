@@ -5,10 +5,10 @@ ghost use Rattle.desk_serve.specs.Shown.{AreAll, AreBehind, row_of};
 
 use crate::rows::{leg_row, venue_row};
 use clock::Clock;
-use day_sweeps::sweep_now;
+use day_sweeps::paid_sweep_now;
 use desk_floor::{Floor, LegStanding};
 use desk_json::{LegRow, VenueRow};
-use desk_news::SweepParts;
+use desk_news::PaidSweep;
 use desk_words::VenueName;
 use exec_collector::{Accounts, Collector};
 use release_lock::Run;
@@ -24,12 +24,12 @@ pub(crate) fn sweeps_behind<M: Accounts>(
     collector: &Collector<M>,
     after: u64,
     most: u64,
-) -> Result<Vec<SweepParts>, AllocError>
+) -> Result<Vec<PaidSweep>, AllocError>
     ensures { IfOk result (λ sweeps. AreBehind after most sweeps.items) }
 {
     let mut sweeps = Vec::new(alloc);
     for before in after..after.saturating_add(most) {
-        match sweep_now(rt, collector, before + 1) {
+        match paid_sweep_now(rt, collector, before + 1) {
             Some(sweep) => sweeps.push(sweep)?,
             None => return Ok(sweeps),
         }

@@ -2,7 +2,7 @@
 
 use crate::news::Told;
 use change_count::ChangeCount;
-use desk_floor::{Floor, TalkFault};
+use desk_floor::{Floor, Manner, TalkFault};
 use exec_collector::Accounts;
 use release_lock::Run;
 use std::alloc::Global;
@@ -12,6 +12,9 @@ use std::time::{Clock, Duration, Instant};
 
 /// How many milliseconds pass between two tellings: so what comes in a burst is told once, and a lone change at once.
 const TELL_MILLIS: u64 = 1;
+
+/// How many pass where nothing is told but what the book doesn't take: so a quiet day's reports seldom wake the keeper.
+const QUIET_MILLIS: u64 = 100;
 
 /// How many seconds the keeper waits for a change before it looks by itself: what memory was wanted for is told then.
 const LOOK_SECONDS: u64 = 1;
@@ -130,9 +133,24 @@ fn has_come_meanwhile<L: Run, M: Accounts, W: Write + Drop, R: Wait + Clock>(
     if is_reached(rt, floor, until) {
         return true;
     }
-    let most = Duration::from_millis(TELL_MILLIS);
+    let most = Duration::from_millis(rest_of(floor.manner, until));
     floor.bells.turns().wait(rt, seen, most);
     false
+}
+
+/// How many milliseconds the keeper rests at most, unless the day takes a turn. Where it waits for the last share it
+/// looks as often as on a day that tells what changes.
+fn rest_of(manner: Manner, until: Until) -> u64 {
+    match until {
+        Until::Resolved => TELL_MILLIS,
+        Until::Closing | Until::Ended => {
+            if manner.tells_news || manner.tells_executions {
+                TELL_MILLIS
+            } else {
+                QUIET_MILLIS
+            }
+        }
+    }
 }
 
 /// Tells what changed; where the output can't be written, nothing is told any more. What memory is wanted for is told

@@ -5,12 +5,11 @@ ghost use Rattle.desk_news.specs.declared.news.News.TheVariants as news;
 ghost use Rattle.desk_floor.specs.Standing.{state_of};
 
 use crate::executions::ToldExecutions;
-use day_sweeps::sweep_now;
+use day_sweeps::paid_sweep_now;
 use desk_floor::{Changes, Floor, Manner, Standing, TalkFault};
-use desk_news::News;
+use desk_news::{News, PaidSweep};
 use desk_words::VenueName;
 use exec_collector::Accounts;
-use leg::Totals;
 use release_lock::Run;
 use std::alloc::Global;
 use std::io::Write;
@@ -22,7 +21,7 @@ pub struct Told {
     // How each venue was told to stand. That it is dialled is never told.
     venues: Vec<Standing>,
     // What was told of each sweep, by its number.
-    sweeps: Vec<Totals>,
+    sweeps: Vec<PaidSweep>,
     // The sweeps that changed since then.
     changes: Changes,
     // Which executions were told.
@@ -47,30 +46,31 @@ fn venue_news(
     }
 }
 
-/// Whether the totals of the sweep at a place differ from what was told of it, and notes them.
-fn notes(told: &mut Vec<Totals>, place: usize, totals: Totals) -> Result<bool, TalkFault> {
+/// Whether the sweep at a place stands otherwise than it was told to, and notes how it stands.
+fn notes(told: &mut Vec<PaidSweep>, place: usize, sweep: PaidSweep) -> Result<bool, TalkFault> {
     match told.get_mut(place) {
-        None => told.push(totals)?,
-        Some(before) if *before == totals => return Ok(false),
-        Some(before) => *before = totals,
+        None => told.push(sweep)?,
+        Some(before) if *before == sweep => return Ok(false),
+        Some(before) => *before = sweep,
     }
     Ok(true)
 }
 
-/// Tells the parts of the sweep of this number, if they differ from what was told of it, and notes them.
+/// Tells the sweep of this number with what was paid for it and what is disputed of it, if that differs from what was
+/// told of it, and notes it.
 fn tell_sweep<L: Run, M: Accounts, W: Write + Drop>(
     rt: &impl Wait,
     floor: &Floor<L, M, W>,
-    told: &mut Vec<Totals>,
+    told: &mut Vec<PaidSweep>,
     number: u64,
 ) -> Result<(), TalkFault> {
     let Some(place) = number.checked_sub(1) else {
         return Ok(());
     };
-    let Some(sweep) = sweep_now(rt, &floor.collector, number) else {
+    let Some(sweep) = paid_sweep_now(rt, &floor.collector, number) else {
         return Ok(());
     };
-    if notes(told, place as usize, sweep.totals)? {
+    if notes(told, place as usize, sweep)? {
         floor.voice.say(rt, &News::Sweep(sweep))?;
     }
     Ok(())
@@ -124,7 +124,7 @@ impl Told {
         Ok(())
     }
 
-    /// Tells each sweep whose parts changed.
+    /// Tells each sweep that stands otherwise.
     fn tell_sweeps<L: Run, M: Accounts, W: Write + Drop>(
         &mut self,
         rt: &impl Wait,

@@ -4,7 +4,7 @@ use crate::open_sweeps::OpenSweeps;
 use clock::Clock;
 use day_executions::unbooked_now;
 use day_log::LineLog;
-use day_sweeps::sweep_now;
+use day_sweeps::paid_sweep_now;
 use desk_executions::{UnbookedCounts, UnbookedStatus};
 use desk_floor::{Floor, TalkFault, venue_status};
 use desk_news::Status;
@@ -61,7 +61,7 @@ pub fn tell_status<'a, L: Run, M: Accounts, W: Write + Drop, R: Wait, C: Clock +
         if *number == 0 {
             continue;
         }
-        if let Some(sweep) = sweep_now(rt, &floor.collector, *number) {
+        if let Some(sweep) = paid_sweep_now(rt, &floor.collector, *number) {
             floor.answer(rt, log, &Status::Sweep(sweep))?;
         }
     }

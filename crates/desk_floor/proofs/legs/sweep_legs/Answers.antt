@@ -11,12 +11,12 @@ loop-place-preserved g c =
     elim c.match-branch-2.branch [
       | in-Some-2+in_ok-push w ↦ places_more venues c.args.number c.loop-place.place c.loop-place.legs.items _
           (Some w.in-Some-2.leg) c.loop-place.auto.place c.loop-place.invariant
-          (place_told venues _ _ c.in-Some.booked _ _ c.new-id.ensures.value c.in-Some.ensures c.in_ok-leg.ensures
+          (place_told venues _ _ c.in-Some.booked c.in-Some.paid _ _ c.new-id.ensures.value c.in-Some.ensures c.in_ok-leg.ensures
           w.in-Some-2.is)
           (ap (λ (legs : Vec LegStanding _). legs.items) w.legs-is ∙ w.in_ok-push.ensures.items)
       | in_default-2 w ↦ places_more venues c.args.number c.loop-place.place c.loop-place.legs.items _ None
           c.loop-place.auto.place c.loop-place.invariant
-          (place_told venues _ _ c.in-Some.booked _ _ c.new-id.ensures.value c.in-Some.ensures c.in_ok-leg.ensures
+          (place_told venues _ _ c.in-Some.booked c.in-Some.paid _ _ c.new-id.ensures.value c.in-Some.ensures c.in_ok-leg.ensures
           w.in_default-2.is)
           (ap (λ (legs : Vec LegStanding _). legs.items) w.legs-is ∙ sym (append-nil c.loop-place.legs.items))
     ]
