@@ -1,3 +1,5 @@
 mod AllSeats
-pub mod Auditing
+mod Auditing
+mod DoubtsTold
 mod LegsInDoubt
+pub mod Whole

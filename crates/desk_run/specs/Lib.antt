@@ -1,4 +1,6 @@
 pub mod Audited
 pub mod Doubts
 pub mod Seats
+pub mod Told
 pub mod Unbooked
+pub mod Whole

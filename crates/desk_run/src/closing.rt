@@ -1,41 +1,38 @@
 //! A day whose threads have ended.
 
-ghost use Rattle.std.specs.Prelude.{◌≡◌, ◌+◌, ◌<◌, ◌++◌, map, None, Ok, option_to_list, IfOk, IfErr};
-ghost use Rattle.share_ledger.specs.Book.{BookParts};
-ghost use Rattle.exec_collector.specs.Resolved.{Replays};
+ghost use Rattle.std.specs.Prelude.{◌≡◌, ◌+◌, ◌<◌, ◌++◌, length, map, None, Ok, option_to_list, IfOk, IfErr};
+ghost use Rattle.exec_collector.specs.Day.{note_count};
 ghost use Rattle.exec_collector.specs.Seats.{parts_of as seat_parts, shares_of};
+ghost use Rattle.exec_collector.specs.Unbooked.{without_room};
 ghost use Rattle.release_lock.specs.Queues.{AreInOrder};
-ghost use Rattle.session_worker.specs.Audit.{AuditedDay};
+ghost use Rattle.session_worker.specs.Audit.{AuditedDay, counted_of};
 ghost use Rattle.session_worker.specs.Ends.{queues_of, seats_of};
 ghost use Rattle.session_worker.specs.Places.{place, new_places};
-ghost use Rattle.day_sweeps.specs.Sweeps.{sweeps_in};
 ghost use Rattle.desk_venues.specs.Faults.{IsNoMismatch};
-ghost use Rattle.desk_run.specs.Audited.{IsAudited};
+ghost use Rattle.desk_run.specs.Told.{IsTold};
 ghost use Rattle.desk_run.specs.Seats.{shared_parts};
-ghost use Rattle.desk_run.specs.Unbooked.{AreUnbooked};
+ghost use Rattle.desk_run.specs.Unbooked.{unbooked_in};
 
 use crate::DeskDay;
 use crate::doubts::{doubts_of, is_given_up};
 use crate::followers::tell_followers;
-use day_executions::{Executions, named};
-use day_sweeps::booked_sweeps;
+use day_executions::{all_untaken, named};
+use day_sweeps::paid_sweeps;
 use desk_executions::Execution;
 use desk_floor::{Floor, Left, TalkFault};
 use desk_threads::Ended;
 use desk_venues::DayFault;
 use desk_words::VenueName;
-use exec_collector::{Accounts, Collector, CountedBook};
+use exec_collector::{Accounts, CountedBook, DayBook};
 use link::Link;
 use release_lock::{CallerSeat, ReleaseLock, Run};
 use session_worker::{AuditFault, DayReport, WorkerEnd, audit_opened};
 use std::alloc::{AllocError, Global};
 use std::io::Write;
-use std::sync::Wait;
 
 /// What became of a day whose threads have ended, and whose callers left these seats; lines were broken off for this
 /// reason, if they were. It is audited, and those who followed it are told.
 pub fn close_day<K: Link, L: Run, M: Accounts, W: Write + Drop>(
-    rt: &impl Wait,
     alloc: Global,
     floor: Floor<L, M, W>,
     ended: Ended<K, L, M>,
@@ -45,9 +42,8 @@ pub fn close_day<K: Link, L: Run, M: Accounts, W: Write + Drop>(
     requires workers { map (λ e. place e.parts) ended.workers.items ≡ new_places M.parts }
     requires some { 0 < M.parts }
     requires seats { seat_parts seats.items + shared_parts floor.shared ≡ 1024 }
-    ensures audited { IfOk result (λ day. IsAudited ended.workers.items day.sweeps.items day.report) }
-    ensures sweeps { IfOk result (λ day. (book : BookParts) × Replays book × (day.sweeps.items ≡ sweeps_in book)) }
-    ensures unbooked { IfOk result (λ day. AreUnbooked floor.names.items day.unbooked.items) }
+    ensures told { IfOk result (IsTold floor.names.items ended.workers.items) }
+    ensures broken_off { IfOk result (λ day. day.broken_off ≡ broken_off) }
     ensures placed { IfOk result (λ day. floor.shared ≡ None → day.report.placed ≡ shares_of seats.items) }
     ensures only { IfErr result IsNoMismatch }
 {
@@ -59,9 +55,10 @@ pub fn close_day<K: Link, L: Run, M: Accounts, W: Write + Drop>(
         shared,
     } = floor.into_left();
     let seats = with_shared(seats, shared)?;
-    let unbooked = unbooked_executions(rt, alloc, &collector, names.as_slice())?;
-    let mut counted = collector.into_counted();
-    let sweeps = booked_sweeps(alloc, counted.book())?;
+    let booked = collector.into_day();
+    let unbooked = unbooked_executions(alloc, &booked, names.as_slice())?;
+    let sweeps = paid_sweeps(alloc, &booked)?;
+    let mut counted = booked.into_counted();
     let doubts = doubts_of(alloc, names.as_slice(), workers.as_slice())?;
     let is_given_up = is_given_up(workers.as_slice());
     let report = audited(alloc, lock, &mut counted, seats, workers);
@@ -76,19 +73,20 @@ pub fn close_day<K: Link, L: Run, M: Accounts, W: Write + Drop>(
     })
 }
 
-/// What exchanges said and the book didn't take, with the names of their venues. It may wait for the book's lock. The
-/// only refusal is out of memory.
+/// What exchanges said and this book didn't take, with its words and the names of their venues. The only refusal is out
+/// of memory.
 fn unbooked_executions<M: Accounts>(
-    rt: &impl Wait,
     alloc: Global,
-    collector: &Collector<M>,
+    day: &DayBook<M>,
     names: &[VenueName],
 ) -> Result<Vec<Execution>, AllocError>
-    ensures { IfOk result (λ executions. AreUnbooked names.now executions.items) }
+    ensures told { IfOk result (λ executions.
+        executions.items ≡ unbooked_in names.now (without_room day.now.counted) day.now.words) }
+    ensures one_each { length day.now.words ≡ note_count (without_room day.now.counted) }
 {
-    let mut executions = Executions::new(alloc);
-    let lent = executions.untaken_now(rt, alloc, collector, 0)?;
-    let unbooked = named(alloc, names, lent.notes)?;
+    let counted = day.counted();
+    let notes = all_untaken(alloc, counted.book(), counted.unbooked(), day.words())?;
+    let unbooked = named(alloc, names, notes)?;
     Ok(unbooked)
 }
 
@@ -120,7 +118,7 @@ fn audited<K: Link, L: Run, M: Accounts>(
     requires some { 0 < M.parts }
     requires seats { seat_parts seats.items ≡ 1024 }
     ensures audited { IfOk result (λ report. (day : AuditedDay seats.items (queues_of workers.items)
-        (seats_of workers.items) (Ok report)) × (day.book ≡ counted.old.book)) }
+        (seats_of workers.items) (Ok report)) × (counted_of day ≡ without_room counted.old)) }
     ensures placed { IfOk result (λ report. report.placed ≡ shares_of seats.items) }
     ensures only { IfErr result (λ fault. fault ≡ DayFault.OutOfMemory) }
 {

@@ -2,7 +2,7 @@
 
 use desk_executions::Execution;
 use desk_floor::TalkFault;
-use desk_news::SweepParts;
+use desk_news::PaidSweep;
 use desk_words::VenueName;
 use leg::LegId;
 use session_worker::DayReport;
@@ -18,8 +18,8 @@ pub struct VenueDoubt {
 /// What became of a day.
 #[derive(Debug, Drop)]
 pub struct DeskDay {
-    /// The sweeps, in the order of their numbers.
-    pub sweeps: Vec<SweepParts>,
+    /// The sweeps, in the order of their numbers, with what was paid for each.
+    pub sweeps: Vec<PaidSweep>,
     /// The venues with legs that stay in doubt, in the order of the file.
     pub doubts: Vec<VenueDoubt>,
     /// What exchanges said and the book didn't take, by rising numbers.

@@ -6,12 +6,17 @@
 //! - `run_day` is refused for want of an address, a page, a log, a socket, a thread or memory alone, since the audit
 //!   finds no mismatch, whatever the threads do. The sweeps and the report that it tells at the end are those of the
 //!   day that was audited (`IsDeskDay`): the worker of each venue ran from its start, and the audit was of what these
-//!   workers left, and of the book that the sweeps are read from.
+//!   workers left, and of the book that the sweeps are read from. The rest is told of the same audit (`IsToldDay`):
+//!   what was paid for each sweep by its book, and what is disputed of it by the list of what that didn't take; all
+//!   that is on this list, by the names of the venues, each with the words that were kept under its number; each venue
+//!   whose worker left legs in doubt, with all of them; and whether some worker gave its session up.
+//! - Where none of that is told, nothing is left of the day (`IsWhole`, for `run_command`).
+//! - There are words for each note, in the order in which the notes were given. That they are those which came with it
+//!   is said by `DayBook::apply` (`exec_collector`), and isn't carried through the lock.
 //! - The two halves of it serve whoever calls. `open_day` gives the callers a seat with all parts of the run but that
-//!   of the page's clients. `close_day` audits what the workers left (`IsAudited`), has placed what the callers' seats
-//!   count, where there is no page, and lists what exchanges said and a book that its own history leads to didn't take
-//!   (`AreUnbooked`).
-//! - Of a worker the legs told in doubt are those that its session has so (`legs_in_doubt`, private).
+//!   of the page's clients. `close_day` audits what the workers left, and tells the rest of that audit (`IsTold`); it
+//!   has placed what the callers' seats count, where there is no page.
+//! - Why lines were broken off is told as `desk_talk` tells it, of which nothing is promised.
 //! - What is promised of the venues and their workers is said by `desk_venues`, what is answered and told while the day
 //!   runs by `desk_talk`, and of the threads by `desk_threads`. That a day ends is only tested.
 //!

@@ -2,17 +2,13 @@
 
 ghost use Rattle.std.specs.Prelude.{◌≡◌, ◌≤◌, length, map, IfOk, IfErr};
 ghost use Rattle.std.specs.List.{All};
-ghost use Rattle.share_ledger.specs.Book.{BookParts};
-ghost use Rattle.exec_collector.specs.Resolved.{Replays};
 ghost use Rattle.release_lock.specs.Queues.{IsFresh};
 ghost use Rattle.desk_config.specs.Apart.{AreVenues};
 ghost use Rattle.desk_venues.specs.Faults.{IsNoMismatch};
 ghost use Rattle.desk_venues.specs.Starts.{any_wording};
 ghost use Rattle.session_worker.specs.Ends.{AllRan};
 ghost use Rattle.session_worker.specs.Places.{place};
-ghost use Rattle.day_sweeps.specs.Sweeps.{sweeps_in};
-ghost use Rattle.desk_run.specs.Audited.{IsDeskDay};
-ghost use Rattle.desk_run.specs.Unbooked.{AreUnbooked};
+ghost use Rattle.desk_run.specs.Told.{IsToldDay};
 
 use crate::DeskDay;
 use crate::closing::close_day;
@@ -74,10 +70,7 @@ where
     I: Read + Drop,
     W: Write + Drop + Send,
     requires { AreVenues config.now.venues.items }
-    ensures day { IfOk result (λ day. IsDeskDay config.now.venues.items day.sweeps.items day.report) }
-    ensures sweeps { IfOk result (λ day. (book : BookParts) × Replays book × (day.sweeps.items ≡ sweeps_in book)) }
-    ensures unbooked { IfOk result (λ day.
-        AreUnbooked (map (λ v. v.name) config.now.venues.items) day.unbooked.items) }
+    ensures day { IfOk result (IsToldDay config.now.venues.items) }
     ensures only { IfErr result IsNoMismatch }
 {
     let venues = config.venues.as_slice();
@@ -135,9 +128,7 @@ where
     requires tied { L.sweeps ≡ M.sweeps }
     requires rings { (length rings.items ≡ length venues.now) × All IsFresh rings.items }
     requires queues { L.queues ≡ map (λ ends. ends.0.table) rings.items }
-    ensures day { IfOk result (λ day. IsDeskDay venues.now day.sweeps.items day.report) }
-    ensures sweeps { IfOk result (λ day. (book : BookParts) × Replays book × (day.sweeps.items ≡ sweeps_in book)) }
-    ensures unbooked { IfOk result (λ day. AreUnbooked (map (λ v. v.name) venues.now) day.unbooked.items) }
+    ensures day { IfOk result (IsToldDay venues.now) }
     ensures only { IfErr result IsNoMismatch }
 {
     let day = open_day::<L, M, R, W>(rt, alloc, venues, means, callers, workers, rings)?;
@@ -151,7 +142,7 @@ where
     let LinesEnd { seat, broken_off } = called;
     let mut seats = Vec::new(alloc);
     seats.push(seat)?;
-    close_day(rt, alloc, floor, ended, seats, broken_off)
+    close_day(alloc, floor, ended, seats, broken_off)
 }
 
 /// Runs the threads of a day beside the caller who takes the lines of this input, in this thread.

@@ -2,17 +2,17 @@
 use Rattle.std.specs.Prelude.{ℕ, List, [], ◌∷◌, ◌++◌, codes, decimal, Some}
 use Rattle.std.specs.List.{flat_map}
 use Rattle.world_text.specs.SweepLine.{shares_line}
-use Rattle.desk_news.specs.declared.sweep_parts.SweepParts.{SweepParts}
+use Rattle.desk_news.specs.declared.paid.PaidSweep.{PaidSweep}
 use Rattle.live_load.specs.declared.day.LiveDay.{LiveDay}
 use Rattle.live_load.specs.declared.day.LiveVenue.{LiveVenue}
 use Rattle.session_worker.specs.declared.day_report.DayReport.{DayReport}
 
 -- the line of a sweep
-abbrev pub sweep_line : SweepParts → List ℕ
-sweep_line sweep = shares_line sweep.sweep sweep.shares (Some sweep.totals)
+abbrev pub sweep_line : PaidSweep → List ℕ
+sweep_line sweep = shares_line sweep.parts.sweep sweep.parts.shares (Some sweep.parts.totals)
 
 -- a line for each sweep
-abbrev pub sweep_lines : List SweepParts → List ℕ
+abbrev pub sweep_lines : List PaidSweep → List ℕ
 sweep_lines sweeps = flat_map sweep_line sweeps
 
 -- the line of a venue: how often its session was connected, how many of its legs stay in doubt, and how many were lost

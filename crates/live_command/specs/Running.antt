@@ -3,11 +3,11 @@ use Rattle.std.specs.Prelude.{◌≡◌, ◌⊎◌, ◌+◌, ◌*◌, ℕ, Bool,
 use Rattle.std.specs.Io.KnownBytes.{Appends, Keeps}
 use Rattle.clap.specs.declared.parser.matches.ArgMatches.{ArgMatches}
 use Rattle.command_line.specs.ExitStatus.{exit_status}
-use Rattle.desk_run.specs.Audited.{IsDeskDay}
 use Rattle.live_load.specs.Config.{venues_to}
 use Rattle.live_load.specs.declared.day.LiveDay.{LiveDay}
 use Rattle.live_load.specs.declared.live_plan.LivePlan.{LivePlan}
 use Rattle.live_load.specs.Day.{shares_each}
+use Rattle.live_load.specs.Told.{IsLiveDay}
 use Rattle.live_command.specs.declared.fault.CommandFault.{CommandFault}
 use Rattle.live_command.specs.declared.fault.CommandFault.TheVariants.{
   CommandLine,
@@ -31,10 +31,9 @@ IsOfWords (NoNumber option) = Unit {0}
 IsOfWords OutOfMemory = Unit {0}
 IsOfWords other = ⊥
 
--- a day of the plan's venues was audited, with these sweeps and this report, and all its shares were placed but those
--- of the sweeps that were given up
+-- a day of the plan's venues was audited, and all its shares were placed but those of the sweeps that were given up
 pub record IsDay (plan : LivePlan) (day : LiveDay) : Type 0 where
-  pub audited : IsDeskDay (venues_to plan.venues) day.sweeps.items day.report
+  pub live_day : IsLiveDay (venues_to plan.venues) day
   pub placed : day.report.placed + day.unplaced * shares_each plan
       ≡ plan.callers * (plan.sweeps * shares_each plan)
 

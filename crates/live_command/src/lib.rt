@@ -2,9 +2,10 @@
 //!
 //! Promises:
 //! - `live_run` ends with the status of what it did (`ExitsSo`). Its words were refused, or have a bad value that is
-//!   the first one (`plan_of`), and nothing is printed. Or the text of a day is printed (`day_text`) that was
-//!   audited with these sweeps and this report (`IsDeskDay`), and whose shares were all placed but those of sweeps that
-//!   were given up: with status 0 where an exchange answered, else with that of `no exchange answered`. No audit fails.
+//!   the first one (`plan_of`), and nothing is printed. Or the text of a day is printed (`day_text`) that was audited,
+//!   whose venues are told as their workers left them (`IsLiveDay`), and whose shares were all placed but those of
+//!   sweeps that were given up: with status 0 where an exchange answered, else with that of `no exchange answered`. No
+//!   audit fails.
 //! - What the words match is the command line parser's. What is told on the screen while a day runs, and that the day
 //!   is cut short where its input asks for it, isn't said.
 #![tactic(auto)]

@@ -2,7 +2,7 @@
 ghost use Rattle.std.specs.Prelude.{◌≡◌, ◌++◌, IfOk, OnOk, string_bytes};
 ghost use Rattle.live_command.specs.LiveText.{day_text, report_line, sweep_lines, venue_line, venue_lines};
 
-use desk_news::SweepParts;
+use desk_news::PaidSweep;
 use live_load::{LiveDay, LiveVenue};
 use session_worker::DayReport;
 use std::alloc::{AllocError, Global};
@@ -24,11 +24,12 @@ pub fn day_text(alloc: Global, day: &LiveDay) -> Result<Vec<u8>, AllocError>
 }
 
 /// Appends the lines of sweeps.
-fn write_sweeps(text: &mut String, sweeps: &[SweepParts]) -> Result<(), AllocError>
+fn write_sweeps(text: &mut String, sweeps: &[PaidSweep]) -> Result<(), AllocError>
     ensures { OnOk result (string_bytes text.new ≡ string_bytes text.old ++ sweep_lines sweeps.now) }
 {
     for sweep in sweeps {
-        write_sweep_line(text, sweep.sweep, sweep.shares, Some(sweep.totals))?;
+        let parts = sweep.parts;
+        write_sweep_line(text, parts.sweep, parts.shares, Some(parts.totals))?;
     }
     Ok(())
 }

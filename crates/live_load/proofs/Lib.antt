@@ -1,4 +1,5 @@
 mod CallersLeft
+mod LiveDays
 mod Names
 mod Orders
 mod VenuesMade

@@ -2,3 +2,4 @@ pub mod Config
 pub mod Sweeps
 pub mod Venues
 pub mod Day
+pub mod Told

@@ -1,5 +1,5 @@
 -- The venues of a day, as their workers left them.
-use Rattle.std.specs.Prelude.{ℕ, Bool, true, false, List, Option, Some, length}
+use Rattle.std.specs.Prelude.{ℕ, Bool, true, false, List, Option, Some, length, nat_lt}
 use Rattle.std.specs.List.{count_by}
 use Rattle.leg.specs.declared.leg_state.LegState.{LegState}
 use Rattle.leg.specs.declared.leg_state.LegState.TheVariants.{Withdrawn}
@@ -27,3 +27,7 @@ venue_left worker = record {
   doubts = length (in_doubt_of worker.session worker.took.taken);
   lost = lost_of worker.session worker.took.taken;
 }
+
+-- whether an exchange answered a worker's Logon: the session expects a later message than the first
+abbrev pub was_answered : WorkerParts → Bool
+was_answered worker = nat_lt 1 worker.session.expected

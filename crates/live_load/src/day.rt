@@ -1,6 +1,6 @@
 //! What became of a day.
 
-use desk_news::SweepParts;
+use desk_news::PaidSweep;
 use session_worker::DayReport;
 
 /// A venue at the end of a day.
@@ -20,7 +20,7 @@ pub struct LiveVenue {
 #[derive(Debug, Drop)]
 pub struct LiveDay {
     /// The sweeps, in the order of their numbers.
-    pub sweeps: Vec<SweepParts>,
+    pub sweeps: Vec<PaidSweep>,
     /// The venues, in the order of their numbers.
     pub venues: Vec<LiveVenue>,
     /// How many sweeps were given up, since each try of them was refused.

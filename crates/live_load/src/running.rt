@@ -2,22 +2,21 @@
 
 ghost use Rattle.std.specs.Prelude.{◌≡◌, ◌+◌, ◌*◌, ◌<◌, ◌≤◌, length, map, sum_by, None, IfOk, IfErr};
 ghost use Rattle.std.specs.List.{All};
-ghost use Rattle.share_ledger.specs.Book.{BookParts};
-ghost use Rattle.exec_collector.specs.Resolved.{Replays};
-ghost use Rattle.day_sweeps.specs.Sweeps.{sweeps_in};
+ghost use Rattle.day_sweeps.specs.Paid.{parts_of};
 ghost use Rattle.release_lock.specs.Queues.{IsFresh};
 ghost use Rattle.desk_venues.specs.Starts.{any_wording};
 ghost use Rattle.session_worker.specs.Ends.{AllRan};
 ghost use Rattle.session_worker.specs.Places.{place, new_places};
-ghost use Rattle.desk_run.specs.Audited.{IsAudited, IsDeskDay};
+ghost use Rattle.desk_run.specs.Audited.{IsAudited};
 ghost use Rattle.live_load.specs.Config.{venues_to};
 ghost use Rattle.desk_venues.specs.Faults.{IsNoMismatch};
+ghost use Rattle.live_load.specs.Told.{IsLiveDay, TellsEnds};
 ghost use Rattle.live_load.specs.Day.{IsLivePlan, AllCalled, AreCalled, caller_of, left_of, shares_each};
 
 use crate::caller::{CallerEnd, split_seats};
 use crate::callers::run_callers;
 use crate::config::venues_of;
-use crate::venues::left_venues;
+use crate::venues::{is_answered, left_venues};
 use crate::{LiveDay, LivePlan, Progress};
 use clock::Clock;
 use desk_config::Venue;
@@ -61,8 +60,7 @@ where
         + Sync,
     P: Progress + Drop,
     requires { IsLivePlan plan }
-    ensures day { IfOk result (λ day. IsDeskDay (venues_to plan.venues) day.sweeps.items day.report) }
-    ensures sweeps { IfOk result (λ day. (book : BookParts) × Replays book × (day.sweeps.items ≡ sweeps_in book)) }
+    ensures day { IfOk result (IsLiveDay (venues_to plan.venues)) }
     ensures placed { IfOk result (λ day. day.report.placed + day.unplaced * shares_each plan
         ≡ plan.callers * (plan.sweeps * shares_each plan)) }
     ensures only { IfErr result IsNoMismatch }
@@ -117,8 +115,7 @@ where
     requires tied { L.sweeps ≡ M.sweeps }
     requires rings { (length rings.items ≡ plan.venues) × All IsFresh rings.items }
     requires queues { L.queues ≡ map (λ ends. ends.0.table) rings.items }
-    ensures day { IfOk result (λ day. IsDeskDay venues.now day.sweeps.items day.report) }
-    ensures sweeps { IfOk result (λ day. (book : BookParts) × Replays book × (day.sweeps.items ≡ sweeps_in book)) }
+    ensures day { IfOk result (IsLiveDay venues.now) }
     ensures placed { IfOk result (λ day. day.report.placed + day.unplaced * shares_each plan
         ≡ plan.callers * (plan.sweeps * shares_each plan)) }
     ensures only { IfErr result IsNoMismatch }
@@ -138,7 +135,7 @@ where
     let OpenDay { floor, cast, seat } = day;
     let seats = split_seats(alloc, seat, plan.callers)?;
     let (ended, called) = with_callers(rt, alloc, &floor, cast, plan, seats, progress)?;
-    told(rt, alloc, plan, floor, ended, called)
+    told(alloc, plan, floor, ended, called)
 }
 
 /// Runs the threads of a day beside those of its callers.
@@ -186,7 +183,6 @@ where
 
 /// What became of a day whose threads have ended.
 fn told<K: Link, L: Run, M: Accounts, W: Write + Drop>(
-    rt: &impl Wait,
     alloc: Global,
     plan: LivePlan,
     floor: Floor<L, M, W>,
@@ -198,16 +194,16 @@ fn told<K: Link, L: Run, M: Accounts, W: Write + Drop>(
     requires workers { map (λ e. place e.parts) ended.workers.items ≡ new_places M.parts }
     requires some { 0 < M.parts }
     requires callers { AreCalled plan (map (λ e. left_of e.seat e.unplaced) called.items) }
-    ensures audited { IfOk result (λ day. IsAudited ended.workers.items day.sweeps.items day.report) }
-    ensures sweeps { IfOk result (λ day. (book : BookParts) × Replays book × (day.sweeps.items ≡ sweeps_in book)) }
+    ensures audited { IfOk result (λ day. IsAudited ended.workers.items (parts_of day.sweeps.items) day.report) }
+    ensures ends { IfOk result (TellsEnds ended.workers.items) }
     ensures placed { IfOk result (λ day. day.report.placed + day.unplaced * shares_each plan
         ≡ plan.callers * (plan.sweeps * shares_each plan)) }
     ensures only { IfErr result IsNoMismatch }
 {
     let (seats, unplaced) = parted(alloc, called)?;
-    let is_answered = ended.workers.iter().any(|end| end.session.next_in() > 1);
+    let is_answered = is_answered(ended.workers.as_slice());
     let venues = left_venues(alloc, ended.workers.as_slice())?;
-    let day = close_day(rt, alloc, floor, ended, seats, None)?;
+    let day = close_day(alloc, floor, ended, seats, None)?;
     let DeskDay {
         sweeps,
         doubts: _,

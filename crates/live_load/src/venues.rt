@@ -1,7 +1,8 @@
 //! The venues of a day, as their workers left them.
 
 ghost use Rattle.std.specs.Prelude.{◌≡◌, map, IfOk};
-ghost use Rattle.live_load.specs.Venues.{lost_of, venue_left};
+ghost use Rattle.std.specs.List.{list_any};
+ghost use Rattle.live_load.specs.Venues.{lost_of, venue_left, was_answered};
 
 use crate::day::LiveVenue;
 use exec_collector::Accounts;
@@ -25,6 +26,13 @@ pub fn left_venues<K: Link, L: Run, M: Accounts>(
         venues.push(venue)?;
     }
     Ok(venues)
+}
+
+/// Whether some worker's exchange answered a Logon.
+pub fn is_answered<K: Link, L: Run, M: Accounts>(ends: &[WorkerEnd<K, L, M>]) -> bool
+    ensures { result ≡ list_any (λ left. was_answered left.parts) ends.now }
+{
+    ends.iter().any(|end| end.session.next_in() > 1)
 }
 
 /// The venue of a worker.

@@ -37,7 +37,7 @@ fn is_whole(rt: &impl Abort, plan: LivePlan, day: &LiveDay) {
             sweep: told,
             shares: of_legs,
             totals,
-        } = *sweep;
+        } = sweep.parts;
         let parts = (told, of_legs, settled(totals), totals.busted);
         assert_eq!(rt; parts, (number, shares, shares, 0));
     }

@@ -1,11 +1,11 @@
 -- Faults of the words and of the file, and those of a day.
-use Rattle.std.proofs.Common.{◌≡◌, ◌⊎◌, inr, ℕ, List, [], map, false, None, Ok, Err, subst}
+use Rattle.std.proofs.Common.{◌≡◌, ◌⊎◌, inr, ℕ, List, [], false, None, Ok, Err, subst}
 use Rattle.std.specs.Prelude.{Option, Result, IfErr, OnOk}
 use Rattle.std.specs.Io.KnownBytes.{Appends, Keeps}
 use Rattle.desk_config.specs.Config.{AnswersText}
 use Rattle.desk_config.specs.declared.config.DeskConfig.{DeskConfig}
-use Rattle.desk_run.specs.Audited.{IsDeskDay}
-use Rattle.desk_run.specs.Unbooked.{AreUnbooked}
+use Rattle.desk_run.proofs.Whole.{whole_day}
+use Rattle.desk_run.specs.Told.{IsToldDay}
 use Rattle.desk_run.specs.declared.day.DeskDay.{DeskDay}
 use Rattle.json_lines.specs.declared.form.Form.{Form}
 use Rattle.run_command.specs.Ending.{end_text, PrintsDay}
@@ -79,17 +79,13 @@ of_day said Unbooked it = tt
 
 -- the text of a day that ended well is printed
 pub prints_day : (config : DeskConfig) (form : Form) (day : DeskDay) (before after : Option (List ℕ)) (bytes : List ℕ)
-    → IsDeskDay config.venues.items day.sweeps.items day.report → day.broken_off ≡ None → day.is_given_up ≡ false
-    → AreUnbooked (map (λ v. v.name) config.venues.items) day.unbooked.items → day.unbooked.items ≡ []
+    → IsToldDay config.venues.items day → day.broken_off ≡ None → day.is_given_up ≡ false → day.unbooked.items ≡ []
     → day.doubts.items ≡ [] → bytes ≡ end_text form day → Appends before after bytes → PrintsDay config after
-prints_day config form day before after bytes audited taken closed unbooked booked settled is printed = record {
+prints_day config form day before after bytes told taken closed booked settled is printed = record {
   day = day;
-  audited = audited;
+  told = told;
   taken = taken;
-  closed = closed;
-  unbooked = unbooked;
-  booked = booked;
-  settled = settled;
+  whole = whole_day config.venues.items day told closed booked settled;
   form = form;
   held = before;
   printed = subst (λ (text : List ℕ). Appends before after text) is printed;

@@ -1,7 +1,7 @@
 -- What `dispatch run --json` prints at the end of a day, an object a line.
 use Rattle.std.specs.Prelude.{ℕ, List, ◌∷◌, [], ◌++◌, codes}
 use Rattle.std.specs.List.{flat_map}
-use Rattle.desk_news.specs.declared.sweep_parts.SweepParts.{SweepParts}
+use Rattle.desk_news.specs.declared.paid.PaidSweep.{PaidSweep}
 use Rattle.desk_executions.specs.declared.execution.Execution.{Execution}
 use Rattle.desk_json.specs.Executions.{execution_json}
 use Rattle.desk_json.specs.Sweeps.{sweep_json}
@@ -12,7 +12,7 @@ use Rattle.session_worker.specs.declared.day_report.DayReport.{DayReport}
 use Rattle.run_command.specs.Text.{totals_of}
 
 -- the line of a sweep
-abbrev pub sweep_line : SweepParts → List ℕ
+abbrev pub sweep_line : PaidSweep → List ℕ
 sweep_line sweep = sweep_json sweep ++ 10 ∷ []
 
 -- the line of a venue's legs that stay in doubt

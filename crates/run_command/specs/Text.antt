@@ -1,10 +1,10 @@
 -- What `dispatch run` prints at the end of a day.
 use Rattle.std.specs.Prelude.{ℕ, List, ◌∷◌, [], ◌++◌, codes}
 use Rattle.std.specs.List.{flat_map}
-use Rattle.desk_news.specs.Sweep.{sweep_text}
+use Rattle.desk_news.specs.Paid.{paid_sweep_text}
 use Rattle.desk_news.specs.Doubt.{doubt_text}
 use Rattle.desk_news.specs.Day.{day_text as totals_text}
-use Rattle.desk_news.specs.declared.sweep_parts.SweepParts.{SweepParts}
+use Rattle.desk_news.specs.declared.paid.PaidSweep.{PaidSweep}
 use Rattle.desk_news.specs.declared.day_totals.DayTotals.{DayTotals}
 use Rattle.desk_executions.specs.declared.execution.Execution.{Execution}
 use Rattle.desk_executions.specs.Execution.{execution_text}
@@ -12,9 +12,9 @@ use Rattle.desk_run.specs.declared.day.DeskDay.{DeskDay}
 use Rattle.desk_run.specs.declared.day.VenueDoubt.{VenueDoubt}
 use Rattle.session_worker.specs.declared.day_report.DayReport.{DayReport}
 
--- the line of a sweep
-abbrev pub sweep_line : SweepParts → List ℕ
-sweep_line sweep = sweep_text sweep ++ 10 ∷ []
+-- the line of a sweep, with what was paid for it
+abbrev pub sweep_line : PaidSweep → List ℕ
+sweep_line sweep = paid_sweep_text sweep ++ 10 ∷ []
 
 -- the line of a venue's legs that stay in doubt
 abbrev pub doubt_line : VenueDoubt → List ℕ

@@ -6,7 +6,7 @@ ghost use Rattle.run_command.specs.JsonText.{booked_json, doubt_line, json_text,
 use crate::text::totals_of;
 use desk_executions::Execution;
 use desk_json::{execution_json, sweep_json};
-use desk_news::SweepParts;
+use desk_news::PaidSweep;
 use desk_run::{DeskDay, VenueDoubt};
 use json_lines::{AUDIT_JSON, doubt_json, totals_json};
 use session_worker::DayReport;
@@ -43,7 +43,7 @@ fn write_totals(alloc: Global, text: &mut String, report: DayReport) -> Result<(
 }
 
 /// Appends sweeps, a line each.
-fn write_sweeps(alloc: Global, text: &mut String, sweeps: &[SweepParts]) -> Result<(), AllocError>
+fn write_sweeps(alloc: Global, text: &mut String, sweeps: &[PaidSweep]) -> Result<(), AllocError>
     ensures { OnOk result (string_bytes text.new ≡ string_bytes text.old ++ flat_map sweep_line sweeps.now) }
 {
     for sweep in sweeps {

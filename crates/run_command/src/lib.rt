@@ -2,15 +2,16 @@
 //!
 //! Promises:
 //! - The exit status is 0, or that of the fault (`run_run`). A fault of the words or of the file prints nothing. At 0 a
-//!   file's bytes spell a configuration, and either it is told that they do, or a day of this configuration was audited
-//!   (`IsDeskDay`), which lists no leg in doubt and no report as unbooked. The day's text is printed last (`EndsWell`).
-//!   That these lists are complete, which bytes a file gives, and what the output holds when the day is over, no
-//!   contract says.
+//!   file's bytes spell a configuration, and either what it says is printed (`check_text`), or a day of this
+//!   configuration was audited and is told (`IsToldDay`). Of that day no worker gave its session up or left a leg in
+//!   doubt, and of no venue is a report on the audited book's list of what it didn't take (`IsWhole`). The day's text
+//!   is printed last (`EndsWell`). Which bytes a file gives, that a fault of the input is told, and what the output
+//!   holds when the day is over, no contract says.
 //! - What is printed behind a day is exactly the stated text of what became of it (`day_text`, or `json_text` with
 //!   `--json`).
 //! - Out of memory while the file is read is never told as a fault of the file (`file_fault`, private).
 //! - The folder of the logs is that which the file names, from the file's own folder on (`folder_of`, private).
-//! - That `--check` prints the file's venues, and that a day runs as the command line asks, is only tested.
+//! - That `--check` dials nothing, and that a day runs as the command line asks, is only tested.
 //!
 //! See `docs/run.md`.
 #![tactic(auto)]

@@ -4,7 +4,7 @@ ghost use Rattle.std.specs.List.{flat_map};
 ghost use Rattle.run_command.specs.Text.{booked_text, day_text, doubt_line, sweep_line, totals_lines, totals_of, unbooked_line};
 
 use desk_executions::Execution;
-use desk_news::{DayTotals, SweepParts, doubt_line};
+use desk_news::{DayTotals, PaidSweep, doubt_line};
 use desk_run::{DeskDay, VenueDoubt};
 use session_worker::DayReport;
 use std::alloc::{AllocError, Global};
@@ -53,7 +53,7 @@ pub(crate) fn totals_of(report: DayReport) -> DayTotals
 }
 
 /// Appends the lines of sweeps.
-fn write_sweeps(text: &mut String, sweeps: &[SweepParts]) -> Result<(), AllocError>
+fn write_sweeps(text: &mut String, sweeps: &[PaidSweep]) -> Result<(), AllocError>
     ensures { OnOk result (string_bytes text.new ≡ string_bytes text.old ++ flat_map sweep_line sweeps.now) }
 {
     for sweep in sweeps {

@@ -13,7 +13,7 @@ returns-then-day g c =
     let after = g.W.Write.contents c.print.new.out in
     let done : Result (Unit {0}) CommandFault = Ok tt in
     let is_day : IsDay c.in_ok-plan.plan c.in_ok-day.day = record {
-      audited = c.in_ok-day.ensures.day;
+      live_day = c.in_ok-day.ensures.day;
       placed = c.in_ok-day.ensures.placed;
     } in
     let printed = subst (λ (bytes : List ℕ). Appends before after bytes) (c.deref.ensures.value ∙ c.in_ok-day_text.ensures) c.in_ok-print.ensures.ok in
@@ -31,7 +31,7 @@ returns g c =
     let after = g.W.Write.contents c.print.new.out in
     let done : Result (Unit {0}) CommandFault = Err NoAnswer in
     let is_day : IsDay c.in_ok-plan.plan c.in_ok-day.day = record {
-      audited = c.in_ok-day.ensures.day;
+      live_day = c.in_ok-day.ensures.day;
       placed = c.in_ok-day.ensures.placed;
     } in
     let printed = subst (λ (bytes : List ℕ). Appends before after bytes) (c.deref.ensures.value ∙ c.in_ok-day_text.ensures) c.in_ok-print.ensures.ok in

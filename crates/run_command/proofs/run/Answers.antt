@@ -11,11 +11,8 @@ returns-then-options g c =
       bytes = c.in_ok-config.ensures.says.0;
       config = c.in_ok-config.config;
       says = c.in_ok-config.ensures.says.1;
-      prints = inl (
-        c.in_ok-check_text.field-0.items,
-        c.in_ok-check_text.ensures,
-        subst (λ (bytes : List ℕ). Appends before after bytes) c.deref.ensures.value c.in_ok-print.ensures.ok,
-      );
+      prints = inl (subst (λ (bytes : List ℕ). Appends before after bytes) c.in_ok-check_text.ensures
+          (subst (λ (bytes : List ℕ). Appends before after bytes) c.deref.ensures.value c.in_ok-print.ensures.ok));
     }
 
 pub returns : goal.returns

@@ -1,6 +1,14 @@
-use Rattle.std.proofs.Common.{◌∙◌, ap, sym}
+use Rattle.std.proofs.Common.{◌≡◌, ℕ, List, Vec, map, ◌∙◌, ap, sym}
+use Rattle.std.specs.List.{list_any}
+use Rattle.day_sweeps.specs.Paid.{paid_in}
 use Rattle.day_sweeps.specs.Sweeps.{sweeps_in}
+use Rattle.exec_collector.specs.Day.{note_count}
+use Rattle.exec_collector.specs.Unbooked.{CountedParts, without_room}
+use Rattle.session_worker.specs.Audit.{counted_of}
+use Rattle.session_worker.specs.Ends.{WorkerLeft}
 use Rattle.session_worker.proofs.Places.{in_order, all_parts}
+use Rattle.desk_run.specs.Doubts.{doubts_in, was_given_up}
+use Rattle.desk_run.specs.Unbooked.{unbooked_in}
 use Rattle.desk_run.proofs.AllSeats.{whole_parts, callers_shares}
 use Rattle.desk_run.proofs.closing.close_day.Goals as goal
 
@@ -22,14 +30,37 @@ returns-clause-placed g c =
     ∙ callers_shares c.args.seats.items _ c.args.floor.shared c.into_left-names.result.shared c.in_ok-seats.ensures
     c.into_left-names.ensures.shared none
 
-pub returns-clause-audited : goal.returns-clause-audited
-returns-clause-audited g c =
-    let told = rw c.in_ok-report.was at c.audited-report.ensures.audited in
+pub returns-clause-told : goal.returns-clause-told
+returns-clause-told g c =
+    let audited = rw c.in_ok-report.was at c.audited-report.ensures.audited in
+    let day = audited.0 in
+    let names = c.args.floor.names.items in
+    let named : c.into_left-names.result.names.items ≡ names = ap (λ (v : Vec (List ℕ) _). v.items) c.into_left-names.ensures.names in
+    let listed = c.as_slice.ensures.value ∙ named in
+    let told = c.as_slice-2.ensures.value ∙ named in
+    let booked = c.into_day-booked.result in
+    let counted : without_room booked.counted ≡ counted_of day = ap without_room (sym c.into_counted-counted.ensures) ∙ sym audited.1 in
     record {
-      callers = c.in_ok-seats.seats.items;
-      day = told.0;
-      told = c.in_ok-sweeps.ensures.value ∙ ap sweeps_in (c.book.ensures.value ∙ sym told.1);
-      all_placed = told.0.all_placed
-          (whole_parts c.args.seats.items _ c.args.floor.shared c.into_left-names.result.shared c.in_ok-seats.ensures
-          c.into_left-names.ensures.shared c.requires.seats);
+      audited = record {
+        callers = c.in_ok-seats.seats.items;
+        day = day;
+        told = c.in_ok-sweeps.ensures.parts ∙ ap (λ (parts : CountedParts). sweeps_in parts.book) counted;
+        all_placed = day.all_placed
+            (whole_parts c.args.seats.items _ c.args.floor.shared c.into_left-names.result.shared c.in_ok-seats.ensures
+            c.into_left-names.ensures.shared c.requires.seats);
+      };
+      rest = record {
+        paid = c.in_ok-sweeps.ensures.paid
+            ∙ ap (λ (parts : CountedParts). map (paid_in parts.book parts.unbooked) (sweeps_in parts.book)) counted;
+        words = booked.words;
+        one_each = c.unbooked_executions.ensures.one_each ∙ ap note_count counted;
+        unbooked = c.in_ok-unbooked.ensures.told
+            ∙ (ap (λ (n : List (List ℕ)). unbooked_in n (without_room booked.counted) booked.words) listed
+            ∙ ap (λ (parts : CountedParts). unbooked_in names parts booked.words) counted);
+        doubts = c.in_ok-doubts.ensures
+            ∙ (ap (λ (n : List (List ℕ)). doubts_in n c.as_slice-3.result.now) told
+            ∙ ap (doubts_in names) c.as_slice-3.ensures.value);
+        given_up = c.is_given_up-is_given_up.ensures
+            ∙ ap (list_any (λ (left : WorkerLeft). was_given_up left.reason)) c.as_slice-4.ensures.value;
+      };
     }

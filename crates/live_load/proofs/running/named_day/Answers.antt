@@ -1,7 +1,7 @@
 use Rattle.std.proofs.Common.{◌∙◌, sym, ap}
 use Rattle.session_worker.specs.Places.{new_places}
-use Rattle.desk_run.proofs.Auditing.{desk_day}
 use Rattle.live_load.proofs.CallersLeft.{are_called}
+use Rattle.live_load.proofs.LiveDays.{live_day}
 use Rattle.live_load.proofs.running.named_day.Goals as goal
 
 pub told-requires-clause-workers : goal.told-requires-clause-workers
@@ -16,5 +16,5 @@ told-requires-clause-callers g c =
 
 pub returns-clause-day : goal.returns-clause-day
 returns-clause-day g c =
-    desk_day (λ day. day.sweeps.items) (λ day. day.report) c.args.venues.now _ _ c.told.result c.in_ok-day.ensures.starts
-    c.in_ok-ended.ensures.ran c.told.ensures.audited
+    live_day c.args.venues.now _ _ c.told.result c.in_ok-day.ensures.starts c.in_ok-ended.ensures.ran
+    c.told.ensures.audited c.told.ensures.ends

@@ -27,4 +27,4 @@ returns-clause-placed g c =
     omega (arith, total, placed, seats, each)
 
 pub returns-clause-audited : goal.returns-clause-audited
-returns-clause-audited g c = c.in_ok-day.ensures.audited
+returns-clause-audited g c = c.in_ok-day.ensures.told.audited

@@ -1,8 +1,0 @@
-use Rattle.desk_run.proofs.closing.unbooked_executions.Goals as goal
-
-pub returns : goal.returns
-returns g c = record {
-  lent = c.in_ok-lent.lent;
-  now = c.in_ok-lent.ensures;
-  told = c.in_ok-unbooked.ensures;
-}

@@ -1,0 +1,39 @@
+-- What `dispatch run FILE --check` prints.
+use Rattle.std.specs.Prelude.{ℕ, List, [], ◌∷◌, ◌++◌, codes, decimal, Option, Some, None}
+use Rattle.std.specs.List.{flat_map}
+use Rattle.day_log.specs.Header.{head_of_words, words_text}
+use Rattle.desk_config.specs.Address.{address_text}
+use Rattle.desk_config.specs.declared.address.Address.{Address}
+use Rattle.desk_config.specs.declared.config.DeskConfig.{DeskConfig}
+use Rattle.desk_config.specs.declared.endpoint.Endpoint.{Endpoint}
+use Rattle.desk_config.specs.declared.endpoint.Endpoint.TheVariants.{At, Simulated}
+use Rattle.desk_config.specs.declared.venue.Venue.{Venue}
+
+-- where a venue's exchange is, as `at 127.0.0.1:9001`, or that it is simulated, as `simulated fill 60`
+abbrev pub place_text : Endpoint → List ℕ
+place_text (At address) = codes "at " ++ address_text address
+place_text (Simulated fill) = codes "simulated fill " ++ decimal fill
+
+-- a venue, as `venue NYSE at 127.0.0.1:9001 plain heartbeat 30`
+abbrev pub venue_line : Venue → List ℕ
+venue_line venue =
+    codes "venue " ++ venue.name ++ codes " " ++ place_text venue.endpoint ++ codes " " ++ words_text venue.words
+    ++ codes " heartbeat " ++ decimal venue.session.heartbeat
+
+-- the line of a venue, and those of its table, if it has one, as its log has them
+abbrev pub venue_lines : Venue → List ℕ
+venue_lines venue = venue_line venue ++ 10 ∷ [] ++ head_of_words venue.words
+
+-- where the page is served, as `page at 127.0.0.1:8080 callers 8`
+abbrev pub page_text : ℕ → Address → List ℕ
+page_text callers page = codes "page at " ++ address_text page ++ codes " callers " ++ decimal callers ++ 10 ∷ []
+
+-- if it is served
+abbrev pub page_line : ℕ → Option Address → List ℕ
+page_line callers None = []
+page_line callers (Some page) = page_text callers page
+
+-- the lines of each venue, where the page is, and that the file is a day's
+abbrev pub check_text : DeskConfig → List ℕ
+check_text config =
+    flat_map venue_lines config.venues.items ++ page_line config.callers config.page ++ codes "file ok\n"
