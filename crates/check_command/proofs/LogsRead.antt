@@ -1,6 +1,6 @@
 -- Logs that are read one after the other.
 use Rattle.std.proofs.Common.{◌≡◌, ℕ, Bool, true, false, List, [], ◌∷◌, ◌++◌, map, Option, refl, sym, ap, subst, ◌∙◌}
-use Rattle.std.specs.Prelude.{◌||◌, is_some, if◌then◌else◌}
+use Rattle.std.specs.Prelude.{◌||◌, if◌then◌else◌}
 use Rattle.std.specs.Io.KnownBytes.{Appends}
 use Rattle.day_rules.specs.VenueDay.{VenueParts}
 use Rattle.day_check.specs.LogText.{ChecksLog, Style, checked, log_text, style_of}

@@ -1,4 +1,5 @@
 pub mod Fault
+pub mod FaultText
 pub mod Request
 pub mod PathName
 pub mod Runs

@@ -8,10 +8,11 @@
 //!   this program wrote it (`holds_exactly`).
 //! - What is printed as text is exactly what those lines come to: of each log of a venue `log_text` of `day_check`, in
 //!   their order, and then `day_text` of the day, with each sentence as `judged` of `day_rules` has it.
+//! - The object of a fault has its log and its line, its words where this crate has them, and what to do (`IsObject`).
 //! - Not said: that the logs are those of the words, whose parse no clause pins, so that a body which takes none meets
 //!   it; that lines are those of files; that a line shown beside a broken sentence stands in its log; which words stand
-//!   for a rule; what is printed with `--json` or before a fault; and what `explain` of `session_trace` said of a log,
-//!   whose answer is printed.
+//!   for a rule; what is printed with `--json` or before a fault, and that `err` is given that object; and what
+//!   `explain` of `session_trace` said of a log, whose answer is printed.
 #![tactic(auto)]
 
 ghost use Rattle.std.specs.Prelude.{◌≡◌, IfErr, IfOk};

@@ -28,7 +28,7 @@ impl fmt::Display for LogFault {
     fn fmt<W: fmt::Write>(&self, f: &mut fmt::Formatter<W>) -> fmt::Result {
         match self {
             LogFault::BadLine { number, fault } => write!(f, "line {number}: {fault}"),
-            LogFault::NoDialect => write!(f, "the log's first line names no dialect"),
+            LogFault::NoDialect => write!(f, "the log's head names no dialect"),
             LogFault::ReadFailed => write!(f, "read failed"),
             LogFault::WriteFailed => write!(f, "write failed"),
             LogFault::OutOfMemory => write!(f, "out of memory"),
