@@ -65,6 +65,14 @@ def sweep_of(said):
     return [said["legs"], *(said[part] for part in PARTS)]
 
 
+def price_of(said):
+    """The words behind the parts of a sweep or a leg: its average price, and which shares have none or are disputed."""
+    words = [said["average"]] if said["average"] else []
+    words += [f"{said['price_unknown']:,} at an unknown price"] if said["price_unknown"] else []
+    words += [f"{said['disputed']:,} disputed"] if said["disputed"] else []
+    return ", ".join(words) or "–"
+
+
 def fill_leg(page, at, venue, side, shares, symbol, price):
     """Fills the form's leg at a place."""
     for name, value in (("venue", venue), ("side", side)):
@@ -109,6 +117,8 @@ def compare_sweeps(trial):
         widths = trial.page.run(f"""[...document.querySelectorAll('#sweep-{sweep["sweep"]} tr:first-child .bar span')]
             .map(part => part.getBoundingClientRect().width > 0)""")
         expect(widths, [sweep[part] > 0 for part in PARTS], f"the bar of sweep {sweep['sweep']}")
+        price = trial.page.run(f"[...document.querySelector('#sweep-{sweep['sweep']} tr').cells].at(-1).textContent")
+        expect(price, price_of(sweep), f"the price of sweep {sweep['sweep']}")
     for part in ("placed", "resolved", "open"):
         expect(text(trial.page, f"#sum-{part}"), f"{said['day'][part]:,}", part)
 
@@ -138,7 +148,7 @@ def compare_legs(trial, number):
         leg_row = f"document.querySelector('#sweep-{number} tr:nth-child({at})')"
         cells = trial.page.run(f"[...{leg_row}.cells].map(cell => cell.textContent)")
         head = f"{leg['venue']} {leg['side']} {leg['symbol']} at {leg['price']}{leg['leg']}, {leg['state']}"
-        expect(cells, [head, f"{leg['shares']:,}", "", *(f"{leg[part]:,}" for part in PARTS)], leg["leg"])
+        expect(cells, [head, f"{leg['shares']:,}", "", *(f"{leg[part]:,}" for part in PARTS), price_of(leg)], leg["leg"])
 
 
 def shows_the_venues(trial):

@@ -11,6 +11,7 @@ import re
 import threading
 import time
 from datetime import datetime, timezone
+from decimal import Decimal
 from http.server import BaseHTTPRequestHandler, ThreadingHTTPServer
 from pathlib import Path
 from urllib.parse import parse_qs, urlsplit
@@ -20,11 +21,20 @@ PARTS = ("filled", "busted", "cancelled", "withdrawn", "open")
 MOST_LEGS = 32
 MOST_STREAMS = 4
 MOST_AT_ONCE = 100
+E8 = 10**8
 LEG_KEYS = ("venue", "symbol", "side", "shares", "price")
 
 
 class BadSweep(Exception):
     """What is answered where a body is no sweep."""
+
+
+def average(value, shares):
+    """The average price of shares of this value, both as the interface has them."""
+    if shares == 0:
+        return None
+    rounded = (value * 2 + shares) // (shares * 2)
+    return f"{rounded // E8}.{rounded % E8:08}".rstrip("0").rstrip(".")
 
 
 class Day:
@@ -90,7 +100,8 @@ class Day:
     @staticmethod
     def new_leg(number, at, leg):
         parts = {"filled": 0, "cancelled": 0, "withdrawn": 0, "busted": 0, "open": leg["shares"]}
-        return {"leg": f"S{number}L{at}", **leg, **parts, "state": "doubt"}
+        paid = {"paid_e8": 0, "average": None, "price_unknown": 0, "disputed": 0}
+        return {"leg": f"S{number}L{at}", **leg, **parts, **paid, "state": "doubt"}
 
     def refusal(self, legs):
         if self.closing:
@@ -112,6 +123,8 @@ class Day:
             leg[source] -= shares
             self.still_open -= shares if source == "open" else 0
             leg[part] += shares
+            leg["paid_e8"] = leg["filled"] * int(Decimal(leg["price"]) * E8)
+            leg["average"] = average(leg["paid_e8"], leg["filled"])
             leg["state"] = state
             self.venues[leg["venue"]]["received"] += 1
             self.venues[leg["venue"]]["heard"] = time.monotonic()
@@ -119,8 +132,15 @@ class Day:
 
     def totals(self, number):
         legs = self.sweeps[number - 1]
-        sums = {part: sum(leg[part] for leg in legs) for part in PARTS}
-        return {"sweep": number, "legs": sum(leg["shares"] for leg in legs), **sums}
+        sums = {key: sum(leg[key] for leg in legs) for key in (*PARTS, "paid_e8", "price_unknown", "disputed")}
+        price = average(sums["paid_e8"], sums["filled"] - sums["price_unknown"])
+        return {"sweep": number, "legs": sum(leg["shares"] for leg in legs), **sums, "average": price}
+
+    def dispute(self, number, at, shares):
+        """A trade of so many shares of a leg is told that the book doesn't take."""
+        with self.lock:
+            self.sweeps[number - 1][at - 1]["disputed"] += shares
+            self.tell_sweep(number)
 
     def sums(self):
         resolved = self.placed - self.still_open
@@ -342,6 +362,7 @@ def morning():
     day.move(1, 1, "filled", 100)
     day.move(1, 2, "filled", 30)
     day.move(1, 2, "cancelled")
+    day.dispute(1, 2, 20)
     day.place([leg("NSDQ", "MSFT", "buy", 4000, "415.1"), leg("NYSE", "MSFT", "buy", 1500, "415.1"),
                leg("BATS", "MSFT", "buy", 900, "415.12"), leg("EDGX", "MSFT", "buy", 600, "415.12")])
     day.move(2, 1, "filled", 2600)

@@ -5,7 +5,7 @@ pub const PAGE: &str = r###"<!doctype html>
 <html lang="en">
 <head>
 <meta charset="utf-8">
-<meta http-equiv="Content-Security-Policy" content="default-src 'none'; script-src 'sha256-+hF0RK8bQGo63SU+s3zCpsojgn/wa0qRrO+TxmuRpYo='; style-src 'sha256-0qjEFkkSesv6BzSjmetRvEM4XrfV9ppqU5wvqz2THMc='; connect-src 'self'; base-uri 'none'; form-action 'none'; require-trusted-types-for 'script'; trusted-types 'none'">
+<meta http-equiv="Content-Security-Policy" content="default-src 'none'; script-src 'sha256-n8bGqd8XOt47APec/qQO7A0aGQwa34rX+gJdX0uxspE='; style-src 'sha256-0qjEFkkSesv6BzSjmetRvEM4XrfV9ppqU5wvqz2THMc='; connect-src 'self'; base-uri 'none'; form-action 'none'; require-trusted-types-for 'script'; trusted-types 'none'">
 <meta name="viewport" content="width=device-width, initial-scale=1">
 <meta name="referrer" content="no-referrer">
 <meta name="color-scheme" content="light dark">
@@ -241,6 +241,7 @@ dialog input { width: 100%; display: block; margin-top: .3rem; }
             <th scope="col"><span class="swatch cancelled"></span>Cancelled</th>
             <th scope="col"><span class="swatch withdrawn"></span>Withdrawn</th>
             <th scope="col"><span class="swatch open"></span>Open</th>
+            <th scope="col">Average price</th>
           </tr>
         </thead>
       </table>
@@ -527,7 +528,18 @@ function drawBar(bar, split) {
 
 function makeRow(head, kind) {
   const cells = PARTS.map(() => make("td"));
-  return make("tr", kind, head, make("td"), make("td", { class: "bar-cell" }, makeBar()), ...cells);
+  const price = make("td");
+  return make("tr", kind, head, make("td"), make("td", { class: "bar-cell" }, makeBar()), ...cells, price);
+}
+
+// The average price, and behind it the shares whose price isn't known and those that are disputed.
+function drawPrice(cell, split) {
+  const words = [split.average ?? ""];
+  if (split.price_unknown > 0) words.push(`${digits(split.price_unknown)} at an unknown price`);
+  if (split.disputed > 0) words.push(`${digits(split.disputed)} disputed`);
+  const said = words.filter(Boolean);
+  setText(cell, said.length > 0 ? said.join(", ") : "–");
+  cell.className = split.disputed > 0 ? "bad" : said.length > 0 ? "" : "none";
 }
 
 function drawRow(row, shares, split) {
@@ -538,6 +550,7 @@ function drawRow(row, shares, split) {
     setText(cell, digits(split[part]));
     cell.className = split[part] ? "" : "none";
   });
+  drawPrice(row.cells[PARTS.length + 3], split);
 }
 
 function makeBody(number) {
