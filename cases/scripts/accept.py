@@ -9,8 +9,12 @@ the step:
     again    it uses a number again, and waits for the end
     serve    it answers TestRequests until the desk logs out, and then that; no line is wanted
     hold     it says nothing, and waits for the end
-    late     as `serve`, but it waits for the line before it answers the Logon"""
+    late     as `serve`, but it waits for the line before it answers the Logon
+    say      as `serve`, but once an order came it sends, for each line on standard input, the next line of the file $SAYS:
+             the kind of a message and its fields, with | for SOH, and @S1L2 for the number of that order's message"""
 
+import os
+import re
 import select
 import socket
 import sys
@@ -30,6 +34,7 @@ class Session:
 
     def __init__(self):
         self.number = 0
+        self.orders = {}
         self.link = None
         self.unread = b""
 
@@ -81,6 +86,14 @@ class Session:
             self.write(b"0", b"112=%s|" % message[b"112"])
         elif message[b"35"] == b"5":
             self.write(b"5")
+        elif message[b"35"] == b"D":
+            self.orders[message[b"11"]] = message[b"34"]
+
+    def number_of(self, order):
+        """The number of an order's message, once it came."""
+        while order not in self.orders:
+            self.answer(self.read())
+        return self.orders[order]
 
     def serve(self):
         while message := self.read():
@@ -101,12 +114,24 @@ class Session:
         ACTS.readline()
 
 
+def say(session):
+    session.number_of(b"S1L1")
+    with open(os.environ["SAYS"], "rb") as lines:
+        for line in lines:
+            session.serve_until_act()
+            kind, fields = line.rstrip(b"\n").split(b"|", 1)
+            session.write(kind, re.sub(rb"@(\w+)", lambda order: session.number_of(order[1]), fields))
+    session.serve()
+
+
 def play(session, step):
     if step == "hold":
         return session.await_end()
     if step == "late":
         ACTS.readline()
     session.log_on()
+    if step == "say":
+        return say(session)
     if step in ("late", "serve"):
         return session.serve()
     session.serve_until_act()

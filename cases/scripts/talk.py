@@ -50,9 +50,9 @@ class Day:
 
     def take(self, line):
         """Prints a line, or keeps it back where it answers what is asked."""
-        if self.asked is not None and line.endswith(f"no command {MARK}"):
+        if self.asked is not None and f"no command {MARK}" in line:
             self.asked.append(None)
-        elif self.asked is not None and line.startswith("status "):
+        elif self.asked is not None and line.startswith(("status ", '{"status":')):
             self.asked.append(line)
         else:
             self.lines.append(line)

@@ -6,4 +6,7 @@ arca() { printf '[[venue]]\nname = "ARCA"\naddress = "simulated"\ntarget = "ARCA
 listens() { grep -q ":$(printf %04X $PORT) 00000000:0000 0A" /proc/net/tcp; }
 # An exchange that does these steps, and listens already. It ends with the case.
 accept() { mkfifo $ACTS; python3 scripts/accept.py $PORT "$@" <> $ACTS & until listens; do sleep 0.05; done; }
+# What `say` of that exchange sends, a message for each word.
+export SAYS=$ROOM/says
+says() { printf '%s\n' "$@" > $SAYS; }
 talk() { python3 scripts/talk.py "$@"; }
