@@ -46,8 +46,7 @@ and with --legs, for each order and then for each sweep:
   sweep 1 legs 100 filled 60 busted 0 cancelled 40 withdrawn 0 open 0
 and with --exact, behind the rules, the first line that isn't what the session writes, and a line for this rule:
   line N exact: the session writes 8=FIX.4.4|9=..|
-The dialect is that of the log's orders; auto stands for the one that the log's first line names, as dispatch run
-writes it.
+The dialect is that of the log's orders; auto stands for the one that the log's head names, as dispatch run writes it.
 With sweeps.log among the logs, behind all of them what the day came to, for each sweep that was placed, and then
 whether each sentence of the sweep theorem holds, or where it doesn't; each log whose first line says that dispatch
 run wrote it is held against what its session writes, as with --exact auto:

@@ -1,6 +1,7 @@
 //! The dialect that the head of a log names.
 ghost use Rattle.std.specs.Prelude.{◌≡◌, option_map};
-ghost use Rattle.day_check.specs.LogHead.{dialect_in, field_in, first_head, head_after, known, named, next_head, piece_at};
+ghost use Rattle.day_check.specs.LogHead.{dialect_in, field_in, first_head, head_after, known, named, next_head};
+ghost use Rattle.day_check.specs.LogHead.{piece_at};
 ghost use Rattle.day_check.specs.LogHead.{says, table_in, text_in, with_id_of, with_mark_of, with_price_of};
 ghost use Rattle.day_check.specs.LogHead.{with_symbol_of, word_at};
 ghost use Rattle.day_check.specs.declared.head.Head.TheVariants.{Unknown};

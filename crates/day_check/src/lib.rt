@@ -7,9 +7,10 @@
 //!   that a line breaks, in the order of the lines and of the rules, a note where the log ends within a line, a
 //!   line for each rule, how many reports weren't counted, and where it is asked for what became of its orders. The
 //!   lines are those of the bytes that the reader tells, and so is what is left (`AreCutLines`).
-//! - `print_exact` prints what `explain` of `session_trace` says of a log (`HoldsExactly`), and `read_sweeps` hears
-//!   each line of the desk's log exactly as the definition does (`HearsLog`). `print_sweeps` prints the sums of each
-//!   sweep (`sweeps_text`).
+//! - `print_exact` prints how many frames of a log held and the first line that didn't, and answers whether there is
+//!   one (`HoldsExactly`). That `explain` of `session_trace` answered so isn't said.
+//! - `read_sweeps` hears each line of the desk's log exactly as the definition does (`HearsLog`). `print_sweeps` prints
+//!   the sums of each sweep (`sweeps_text`).
 //! - A line that isn't one of a log is named with its own fault (`NamesBadLine`, `NamesBad`).
 //! - What the lines at the head of a log say of the dialect of its orders is exactly `head_after`, and the dialect that
 //!   is known by them `dialect_in`. That `print_exact` takes that one isn't said.

@@ -30,4 +30,5 @@ sweep_fault_text (sweep.Leg place fault) = key_fault_text fault
 -- why a body asks for no sweep
 abbrev pub body_fault_text : BodyFault → List ℕ
 body_fault_text (body.NoJson line column) = codes "no JSON"
+body_fault_text body.KeyTwice = codes "an object has a key twice"
 body_fault_text (body.Sweep fault) = sweep_fault_text fault

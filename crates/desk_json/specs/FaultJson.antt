@@ -7,7 +7,7 @@ use Rattle.desk_json.specs.declared.sweep_fault.SweepFault.{SweepFault}
 use Rattle.desk_json.specs.declared.sweep_fault.SweepFault.TheVariants as sweep
 use Rattle.desk_json.specs.declared.sweep_fault.BodyFault.{BodyFault}
 use Rattle.desk_json.specs.declared.sweep_fault.BodyFault.TheVariants as body
-use Rattle.desk_json.specs.Fault.{key_fault_text, sweep_fault_text}
+use Rattle.desk_json.specs.Fault.{body_fault_text, key_fault_text, sweep_fault_text}
 use Rattle.desk_json.specs.Key.{key_text}
 
 -- as `{"fault":"no such place"}`
@@ -46,4 +46,5 @@ sweep_fault_json (sweep.Leg place fault) = leg_fault_json place fault
 abbrev pub body_fault_json : BodyFault → List ℕ
 body_fault_json (body.NoJson line column) =
     codes "{\"fault\":\"no JSON\",\"line\":" ++ decimal line ++ codes ",\"column\":" ++ decimal column ++ codes "}"
+body_fault_json body.KeyTwice = said_json (body_fault_text body.KeyTwice)
 body_fault_json (body.Sweep fault) = sweep_fault_json fault

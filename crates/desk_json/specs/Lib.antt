@@ -1,6 +1,7 @@
 pub mod Key
 pub mod Fault
 pub mod Leg
+pub mod Twice
 pub mod Sweep
 pub mod Outcome
 pub mod FaultJson

@@ -9,6 +9,7 @@ use Rattle.leg.specs.declared.sweep.Routed.{Routed}
 use Rattle.desk_words.specs.Printable.{shown}
 use Rattle.sweep_text.specs.Legs.{and_then, before, or_fault, result_map}
 use Rattle.desk_json.specs.Leg.{keys_of, leg_in}
+use Rattle.desk_json.specs.Twice.{HasKeyTwice, HasKeysOnce}
 use Rattle.desk_json.specs.declared.key_fault.KeyFault.{KeyFault}
 use Rattle.desk_json.specs.declared.sweep_fault.SweepFault.{SweepFault}
 use Rattle.desk_json.specs.declared.sweep_fault.SweepFault.TheVariants.{NoSweep, Unknown, Leg}
@@ -53,8 +54,10 @@ abbrev pub Says : List (List ℕ) → Option Data → Result (List Routed) Sweep
 Says names (Some sweep) answer = sweep_in names sweep ≡ answer
 Says names None answer = ⊥
 
--- the body is JSON that asks for these legs, or has this fault; or it is no JSON in UTF-8
+-- the body is JSON in which no object has a key twice, and asks for these legs or has this fault; or an object of it
+-- has a key twice; or it is no JSON in UTF-8
 abbrev pub BodySays : List (List ℕ) → List ℕ → Result (List Routed) BodyFault → Type 0
-BodySays names text (Ok legs) = Says names (read text) (Ok legs)
-BodySays names text (Err (body.Sweep fault)) = Says names (read text) (Err fault)
+BodySays names text (Ok legs) = Says names (read text) (Ok legs) × HasKeysOnce text
+BodySays names text (Err (body.Sweep fault)) = Says names (read text) (Err fault) × HasKeysOnce text
+BodySays names text (Err body.KeyTwice) = HasKeyTwice text
 BodySays names text (Err (body.NoJson line column)) = IsUtf8 text → read text ≡ None

@@ -75,6 +75,7 @@ pub fn body_fault_json(alloc: Global, fault: &BodyFault) -> Result<String, Alloc
         BodyFault::NoJson { line, column } => {
             format!(in alloc; "{{\"fault\":\"no JSON\",\"line\":{line},\"column\":{column}}}")
         }
+        BodyFault::KeyTwice => said_json(alloc, "an object has a key twice"),
         BodyFault::Sweep(fault) => sweep_fault_json(alloc, fault),
     }
 }

@@ -23,6 +23,8 @@ pub enum SweepFault {
 pub enum BodyFault {
     /// It is no JSON in UTF-8: where the reader stood, counted from 1.
     NoJson { line: usize, column: usize },
+    /// An object, at any depth, has a key twice.
+    KeyTwice,
     Sweep(SweepFault),
 }
 
@@ -44,6 +46,7 @@ impl fmt::Display for BodyFault {
     fn fmt<W: fmt::Write>(&self, f: &mut fmt::Formatter<W>) -> fmt::Result {
         match self {
             BodyFault::NoJson { .. } => write!(f, "no JSON"),
+            BodyFault::KeyTwice => write!(f, "an object has a key twice"),
             BodyFault::Sweep(fault) => write!(f, "{fault}"),
         }
     }

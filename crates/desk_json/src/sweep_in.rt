@@ -10,6 +10,7 @@ ghost use Rattle.desk_json.specs.Sweep.{BodySays, leg_values, legs_in, other_key
 
 use crate::leg_in::leg_in;
 use crate::sweep_fault::{BodyFault, SweepFault};
+use crate::twice::has_key_twice;
 use desk_words::{VenueName, shown};
 use leg::{Legs, Sweep};
 use serde_json::{Map, Value};
@@ -97,8 +98,8 @@ fn sweep_in(
 }
 
 /// The sweep that a body asks for, as `{"legs":[{"venue":"NYSE","symbol":"BRK.B","side":"buy","shares":100,
-/// "price":"10.25"}]}`, or its first fault. Of a key that is there twice the last value counts. The only refusal is
-/// out of memory.
+/// "price":"10.25"}]}`, or its first fault. A body in which an object has a key twice asks for none. The only refusal
+/// is out of memory.
 #[tactic(auto, using(crate::proofs::SaysIt::says))]
 pub fn read_sweep(
     alloc: Global,
@@ -118,6 +119,9 @@ pub fn read_sweep(
             }));
         }
     };
+    if has_key_twice(alloc, body)? {
+        return Ok(Err(BodyFault::KeyTwice));
+    }
     match sweep_in(alloc, names, &value)? {
         Ok(sweep) => Ok(Ok(sweep)),
         Err(fault) => Ok(Err(BodyFault::Sweep(fault))),

@@ -1,6 +1,6 @@
 //! The exchange's end of a session.
 
-ghost use Rattle.std.specs.Prelude.{◌≡◌, ◌<◌, ◌≤◌, [], true, false, drop, length, option_map, IfOk, IfSome, OnOk};
+ghost use Rattle.std.specs.Prelude.{◌≡◌, ◌<◌, ◌++◌, [], true, false, drop, length, min, option_map, take, IfOk, IfSome, OnOk};
 ghost use Rattle.fix_text.specs.Reading.{fed, next_read};
 ghost use Rattle.exchange_core.specs.Exchange.{new_exchange, drop_connection};
 ghost use Rattle.exchange_sim.specs.Hearing.{Hears, next_heard, one_more};
@@ -180,7 +180,8 @@ impl<D: Dialect, C: Clock> Acceptor<D, C> {
     /// Puts the first of the bytes that wait into a buffer, as many as it has room for and at most so many, and says
     /// how many. They still wait.
     pub fn copy_waiting(&self, most: usize, buf: &mut [u8]) -> usize
-        ensures { result ≤ length buf.new }
+        ensures count { result ≡ min (min (length self.now.engine.outbox) most) (length buf.old) }
+        ensures bytes { buf.new ≡ take result self.now.engine.outbox ++ drop result buf.old }
     {
         let waiting = self.waiting();
         let count = waiting.len().min(most).min(buf.len());

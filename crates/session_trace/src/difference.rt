@@ -1,5 +1,7 @@
 //! Where a log differs from what a session writes.
 
+ghost use Rattle.std.specs.Prelude.{◌≡◌, ◌↔◌, IsTrue};
+
 use fix_text::ReaderFault;
 use session_core::SessionFault;
 use std::alloc::{AllocError, AllocFailed};
@@ -26,7 +28,9 @@ pub struct Differs {
 
 impl Differs {
     /// Whether it isn't known what the session writes, since there is no memory: that tells nothing of the log.
-    pub fn is_unknown(&self) -> bool {
+    pub fn is_unknown(&self) -> bool
+        ensures { IsTrue result ↔ (self.now.why ≡ Difference.OutOfMemory) }
+    {
         matches!(&self.why, Difference::OutOfMemory)
     }
 }
