@@ -6,6 +6,7 @@ import subprocess
 import threading
 import time
 import urllib.request
+from decimal import ROUND_HALF_UP, Decimal
 
 import mock
 from browser import WITHIN, Failed, Page
@@ -65,9 +66,15 @@ def sweep_of(said):
     return [said["legs"], *(said[part] for part in PARTS)]
 
 
+def rounded(price):
+    """A price to four decimals, of which at least two are shown."""
+    whole, decimals = f"{Decimal(price).quantize(Decimal('0.0001'), ROUND_HALF_UP):,}".split(".")
+    return f"{whole}.{decimals[:2]}{decimals[2:].rstrip('0')}"
+
+
 def price_of(said):
     """The words behind the parts of a sweep or a leg: its average price, and which shares have none or are disputed."""
-    words = [said["average"]] if said["average"] else []
+    words = [rounded(said["average"])] if said["average"] else []
     words += [f"{said['price_unknown']:,} at an unknown price"] if said["price_unknown"] else []
     words += [f"{said['disputed']:,} disputed"] if said["disputed"] else []
     return ", ".join(words) or "–"

@@ -5,7 +5,7 @@ pub const PAGE: &str = r###"<!doctype html>
 <html lang="en">
 <head>
 <meta charset="utf-8">
-<meta http-equiv="Content-Security-Policy" content="default-src 'none'; script-src 'sha256-n8bGqd8XOt47APec/qQO7A0aGQwa34rX+gJdX0uxspE='; style-src 'sha256-0qjEFkkSesv6BzSjmetRvEM4XrfV9ppqU5wvqz2THMc='; connect-src 'self'; base-uri 'none'; form-action 'none'; require-trusted-types-for 'script'; trusted-types 'none'">
+<meta http-equiv="Content-Security-Policy" content="default-src 'none'; script-src 'sha256-tCcUvkwGFwMsriejRmaCZapIgj2truKnbChvWHrt4Pc='; style-src 'sha256-YZSIKH6yJWE1TJiqAl/uWIG5QHVgjG9MX/tOSwLKO1Y='; connect-src 'self'; base-uri 'none'; form-action 'none'; require-trusted-types-for 'script'; trusted-types 'none'">
 <meta name="viewport" content="width=device-width, initial-scale=1">
 <meta name="referrer" content="no-referrer">
 <meta name="color-scheme" content="light dark">
@@ -109,15 +109,16 @@ section { min-width: 0; }
 
 .roll { overflow-x: auto; }
 table { border-collapse: collapse; width: 100%; }
-th, td { padding: .32rem .5rem; text-align: right; white-space: nowrap; }
+th, td { padding: .32rem .4rem; text-align: right; white-space: nowrap; }
 thead th {
   color: var(--soft); font-size: .85rem; font-weight: 600; border-bottom: 2px solid var(--line);
-  vertical-align: bottom;
+  vertical-align: bottom; white-space: normal;
 }
 tbody th { font-weight: 600; }
 thead th:first-child, tbody th { text-align: left; }
 tbody + tbody { border-top: 1px solid var(--line); }
-td.bar-cell, th.bar-cell { width: 40%; min-width: 8rem; text-align: left; }
+td.bar-cell, th.bar-cell { width: 40%; min-width: 6rem; text-align: left; }
+td:last-child { white-space: normal; }
 td.none { color: var(--soft); font-weight: 400; }
 td { font-weight: 600; }
 .whole { color: var(--soft); font-weight: 400; }
@@ -179,8 +180,8 @@ dialog p { margin-bottom: .7rem; }
 dialog .row { margin-top: 1.1rem; }
 dialog input { width: 100%; display: block; margin-top: .3rem; }
 
-@media (min-width: 74rem) {
-  main { grid-template-columns: minmax(0, 1fr) 23rem; }
+@media (min-width: 88rem) {
+  main { grid-template-columns: minmax(0, 1fr) 21.5rem; }
   #venues { grid-column: 1 / -1; }
 }
 @media (max-width: 40rem) {
@@ -344,6 +345,8 @@ function digits(count) {
   if (typeof count === "number") return count.toLocaleString("en-US");
   return /^\d+$/.test(count ?? "") ? BigInt(count).toLocaleString("en-US") : "–";
 }
+
+const PRICES = new Intl.NumberFormat("en-US", { minimumFractionDigits: 2, maximumFractionDigits: 4 });
 
 const counted = (count, word) => `${digits(count)} ${word}${count === 1 ? "" : "s"}`;
 const clock = moment => `${moment.toISOString().slice(11, 19)} UTC`;
@@ -532,13 +535,15 @@ function makeRow(head, kind) {
   return make("tr", kind, head, make("td"), make("td", { class: "bar-cell" }, makeBar()), ...cells, price);
 }
 
-// The average price, and behind it the shares whose price isn't known and those that are disputed.
+// The average price to four decimals, and behind it the shares whose price isn't known and those that are disputed. The
+// title has the whole average.
 function drawPrice(cell, split) {
-  const words = [split.average ?? ""];
+  const words = [split.average ? PRICES.format(split.average) : ""];
   if (split.price_unknown > 0) words.push(`${digits(split.price_unknown)} at an unknown price`);
   if (split.disputed > 0) words.push(`${digits(split.disputed)} disputed`);
   const said = words.filter(Boolean);
   setText(cell, said.length > 0 ? said.join(", ") : "–");
+  cell.title = split.average ?? "";
   cell.className = split.disputed > 0 ? "bad" : said.length > 0 ? "" : "none";
 }
 
