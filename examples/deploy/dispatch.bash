@@ -6,7 +6,7 @@ _dispatch_options() {
     case $1 in
         order) echo --dialect --sweep --leg --symbol --side --shares --price --number --from --to --at --raw --read --help ;;
         replay) echo --steps --frames --summary --ladder --check --help ;;
-        check) echo --from --desk --json --legs --exact --help ;;
+        check) echo --from --desk --json --legs --executions --exact --help ;;
         live) echo --venues --callers --sweeps --cut --turns --cut-short --stop-on-input --help ;;
         run) echo --check --executions --json --patience --quiet --help ;;
         exchange) echo --port --sender --target --dialect --fill --cut --lose --help ;;
@@ -18,7 +18,7 @@ _dispatch_takes_value() {
     case $1:$2 in
         *:--help | order:--raw | order:--read | live:--cut-short | live:--stop-on-input) return 1 ;;
         replay:--ladder) return 0 ;;
-        replay:* | check:--json | check:--legs | run:--check | run:--executions | run:--json | run:--quiet) return 1 ;;
+        replay:* | check:--executions | check:--json | check:--legs | run:--check | run:--executions | run:--json | run:--quiet) return 1 ;;
         *:--*) return 0 ;;
         *) return 1 ;;
     esac

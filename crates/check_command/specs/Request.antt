@@ -33,4 +33,5 @@ pub record IsRequest (matches : ArgMatches) (r : Request) : Type 0 where
   pub words : length r.words.items ≡ 22
   pub is_json : IsFlag matches (codes "json") r.is_json
   pub tells_legs : IsFlag matches (codes "legs") r.tells_legs
+  pub tells_executions : IsFlag matches (codes "executions") r.tells_executions
   pub exact : is_some r.exact ≡ is_some (first_value (found_of matches) (codes "exact"))

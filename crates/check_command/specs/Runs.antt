@@ -69,7 +69,8 @@ style_asked r of_day = record {
   words = r.words.items;
   form = r.form;
   tells_legs = r.tells_legs;
-  keeps_legs = r.tells_legs || of_day;
+  tells_executions = r.tells_executions;
+  keeps_legs = r.tells_legs || r.tells_executions || of_day;
 }
 
 abbrev pub is_own_form : Form → Bool

@@ -24,6 +24,8 @@ const JSON: &str = "json";
 
 const LEGS: &str = "legs";
 
+const EXECUTIONS: &str = "executions";
+
 const EXACT: &str = "exact";
 
 /// The engines of others whose logs are read.
@@ -44,6 +46,11 @@ Blank lines and lines that begin with # are passed over. Printed are, for each l
 and with --legs, for each order and then for each sweep:
   leg S1L1 taken number 3 sent 1 IBM buy 100 10.25 filled 60 busted 0 cancelled 40 withdrawn 0 open 0
   sweep 1 legs 100 filled 60 busted 0 cancelled 40 withdrawn 0 open 0
+and with --executions, as soon as their lines are read, each report and each refusal of an order that counts, and
+behind the rules how many there were, and how many of them the desk's book doesn't take:
+  execution S1L1 fill 60 at 10.25 id E2
+  unbooked execution S1L1 fill 300 at 10.25 id E9: overfill
+  executions 2 duplicate 0 overfill 1 stray 0 unread 0
 and with --exact, behind the rules, the first line that isn't what the session writes, and a line for this rule:
   line N exact: the session writes 8=FIX.4.4|9=..|
 The dialect is that of the log's orders; auto stands for the one that the log's head names, as dispatch run writes it.
@@ -69,6 +76,8 @@ pub(crate) struct Request<'a> {
     pub is_json: bool,
     /// Whether it is told what became of each leg.
     pub tells_legs: bool,
+    /// Whether each execution is told.
+    pub tells_executions: bool,
     /// The dialect in which each log is held against what the session writes.
     pub exact: Option<DialectBy>,
 }
@@ -97,7 +106,8 @@ impl<'a> Request<'a> {
             words: self.words.as_slice(),
             is_json: self.is_json,
             tells_legs: self.tells_legs,
-            keeps_legs: self.tells_legs || is_of_day,
+            tells_executions: self.tells_executions,
+            keeps_legs: self.tells_legs || self.tells_executions || is_of_day,
         }
     }
 
@@ -154,6 +164,13 @@ fn legs_arg<'a>(alloc: Global) -> Arg<'a> {
         .action(ArgAction::SetTrue)
 }
 
+fn executions_arg<'a>(alloc: Global) -> Arg<'a> {
+    Arg::new(alloc, EXECUTIONS)
+        .long(EXECUTIONS)
+        .help("tells each execution, and how many the desk's book doesn't take")
+        .action(ArgAction::SetTrue)
+}
+
 /// The command `check`.
 pub fn check_command<'a>(alloc: Global) -> Result<Command<'a>, AllocError> {
     Command::new(alloc, "check")
@@ -169,6 +186,7 @@ pub fn check_command<'a>(alloc: Global) -> Result<Command<'a>, AllocError> {
         .arg(from_arg(alloc)?)?
         .arg(desk_arg(alloc)?)?
         .arg(legs_arg(alloc))?
+        .arg(executions_arg(alloc))?
         .arg(exact_arg(alloc)?)?
         .arg(json_arg(alloc))
 }
@@ -222,6 +240,7 @@ pub(crate) fn read_words<'a, S: AsStr>(
     let paths = paths_in(alloc, &matches)?;
     let is_json = matches.get_flag(JSON);
     let tells_legs = matches.get_flag(LEGS);
+    let tells_executions = matches.get_flag(EXECUTIONS);
     let exact = dialect_of(matches.get_str(EXACT));
     Ok(Request {
         paths,
@@ -229,6 +248,7 @@ pub(crate) fn read_words<'a, S: AsStr>(
         words: Vec::from_slice(alloc, &RuleWords::of_all())?,
         is_json,
         tells_legs,
+        tells_executions,
         exact,
     })
 }

@@ -9,13 +9,15 @@ use Rattle.day_check.specs.Judge.{ChecksAs, Judges, Told}
 use Rattle.day_check.specs.LogChecked.{LogParts, entry_checked}
 use Rattle.day_check.specs.LogText.{Style, entry_findings}
 use Rattle.day_check.specs.Tallies.{tallied_upto}
+use Rattle.day_check.specs.declared.execution_counts.ExecutionCounts.{ExecutionCounts}
 
 pub counted : (number : ℕ) (entry : Result Told LineFault) (log : LogParts) (day : VenueParts)
-    (tallies between : List Tally) (own : Bool) (said : List Verdict) → Judges number entry log.day day (Ok said)
+    (tallies between : List Tally) (own : Bool) (executions : ExecutionCounts) (said : List Verdict) → Judges number entry log.day day (Ok said)
     → tallies ≡ tallied_upto 22 said between → between ≡ log.tallies → own ≡ log.is_own
-    → record { day = day; tallies = tallies; is_own = own } ≡ entry_checked number entry log
-counted number (Err fault) log day tallies between own said judges is same still = absurd judges
-counted number (Ok entry) log day tallies between own said judges is same still = cc
+    → executions ≡ log.executions
+    → record { day = day; tallies = tallies; is_own = own; executions = executions } ≡ entry_checked number entry log
+counted number (Err fault) log day tallies between own executions said judges is same still kept = absurd judges
+counted number (Ok entry) log day tallies between own executions said judges is same still kept = cc
 
 pub told : (s : Style) (number : ℕ) (line : List ℕ) (entry : Result Told LineFault) (old day : VenueParts)
     (said : List Verdict) → Judges number entry old day (Ok said)

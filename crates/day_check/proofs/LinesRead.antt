@@ -78,7 +78,7 @@ none_checked s is_json all out log new = record {
 
 pub one_checked : (s : Style) (is_json : Bool) (all left next before out after : Option (List ℕ)) (number : ℕ)
     (log later : LogParts) (raw text : List ℕ) → IfSome left (ReadsNext true raw next)
-    → later ≡ line_checked s.form number (strip_last 10 raw) log
+    → later ≡ line_checked s.form s.tells_executions number (strip_last 10 raw) log
     → (is_json ≡ false → text ≡ line_findings s number (strip_last 10 raw) log.day)
     → Appends out after text
     → CheckedSoFar s is_json all left before out number log
@@ -88,8 +88,8 @@ one_checked s is_json all left next before out after number log later raw text r
       lines = line ∷ so_far.lines;
       read = read_on all left next raw so_far.lines reads so_far.read;
       count = add-one number ∙ ap suc so_far.count;
-      parts = is ∙ (ap (λ (n : ℕ). line_checked s.form n line log) so_far.count
-          ∙ ap (line_checked s.form (suc (length so_far.lines)) line) so_far.parts);
+      parts = is ∙ (ap (λ (n : ℕ). line_checked s.form s.tells_executions n line log) so_far.count
+          ∙ ap (line_checked s.form s.tells_executions (suc (length so_far.lines)) line) so_far.parts);
       printed = λ off. behind before out after (findings s so_far.lines)
           (line_findings s (suc (length so_far.lines)) line (checked s so_far.lines).day) (so_far.printed off)
           (subst (Appends out after)

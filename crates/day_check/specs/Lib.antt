@@ -7,6 +7,9 @@ pub mod Lines
 pub mod Tallies
 pub mod Finding
 pub mod Head
+pub mod ExecutionText
+pub mod ExecutionJson
+pub mod LineTold
 pub mod LogHead
 pub mod LogChecked
 pub mod LogText

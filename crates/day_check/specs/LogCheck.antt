@@ -8,7 +8,8 @@ use Rattle.day_check.specs.LogChecked.{LogParts}
 use Rattle.day_check.specs.declared.log_check.LogCheck.{LogCheck}
 
 abbrev pub log_parts : LogCheck → LogParts
-log_parts log = record { day = log.day; tallies = log.tallies; is_own = log.is_own }
+log_parts log =
+    record { day = log.day; tallies = log.tallies; is_own = log.is_own; executions = log.executions }
 
 -- some lines were read, and this is the log behind them; and where text is printed, it is their findings
 pub record ChecksLines (p : Printing) (input before after : Option (List ℕ)) (log : LogCheck) : Type 0 where

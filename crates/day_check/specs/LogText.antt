@@ -7,8 +7,10 @@ use Rattle.log_rules.specs.Ledger.{uncounted_of}
 use Rattle.log_text.specs.Line.{is_passed_over}
 use Rattle.log_text.specs.declared.fault.LineFault.{LineFault}
 use Rattle.day_rules.specs.VenueDay.{VenueParts}
+use Rattle.day_check.specs.ExecutionText.{counts_if, execution_if}
 use Rattle.day_check.specs.Finding.{findings_upto, summary_upto}
 use Rattle.day_check.specs.Judge.{Told, judged, line_entry}
+use Rattle.day_check.specs.LineTold.{asked_execution}
 use Rattle.day_check.specs.Lines.{AreCutLines}
 use Rattle.day_check.specs.LogChecked.{LogParts, log_checked}
 use Rattle.day_check.specs.Tallies.{breaks_a_rule}
@@ -17,12 +19,13 @@ use Rattle.day_check.specs.declared.form.Form.{Form}
 use Rattle.day_check.specs.declared.checked_log.CheckedLog.{CheckedLog}
 use Rattle.day_check.specs.declared.rule_words.RuleWords.{RuleWords}
 
--- how a log is told: the words of the rules, how its lines are written, whether it is told what became of each leg, and
--- whether orders are kept
+-- how a log is told: the words of the rules, how its lines are written, whether it is told what became of each leg,
+-- whether each execution is told, and whether orders are kept
 pub record Style : Type 0 where
   pub words : List RuleWords
   pub form : Form
   pub tells_legs : Bool
+  pub tells_executions : Bool
   pub keeps_legs : Bool
 
 abbrev pub style_of : Printing → Style
@@ -30,6 +33,7 @@ style_of p = record {
   words = p.words.now;
   form = p.form.now;
   tells_legs = p.tells_legs;
+  tells_executions = p.tells_executions;
   keeps_legs = p.keeps_legs;
 }
 
@@ -38,16 +42,18 @@ abbrev pub entry_findings : Style → ℕ → List ℕ → Result Told LineFault
 entry_findings s number line (Err fault) day = []
 entry_findings s number line (Ok entry) day = findings_upto s.words s.form number line (judged day entry) 22
 
--- the findings of the line of a number
+-- what the line of a number says of an order, where that is asked for, and its findings
 abbrev pub line_findings : Style → ℕ → List ℕ → VenueParts → List ℕ
 line_findings s number line day =
-    if is_passed_over line then [] else entry_findings s number line (line_entry s.form line) day
+    if is_passed_over line then []
+    else execution_if (asked_execution s.tells_executions s.form line day.watch)
+    ++ entry_findings s number line (line_entry s.form line) day
 
 -- what is known behind these lines, of which the last one stands first
 abbrev pub checked : Style → List (List ℕ) → LogParts
-checked s lines = log_checked s.form s.keeps_legs lines
+checked s lines = log_checked s.form s.tells_executions s.keeps_legs lines
 
--- the findings of these lines
+-- the executions and the findings of these lines
 abbrev pub findings : Style → List (List ℕ) → List ℕ
 findings s [] = []
 findings s (line ∷ earlier) =
@@ -72,13 +78,15 @@ abbrev pub cut_text : Bool → List ℕ
 cut_text false = []
 cut_text true = codes "note what stands behind the last line feed is no line, and isn't judged\n"
 
--- the note, a line for each rule, the reports that weren't counted, and where it is asked for what became of the orders
+-- the note, a line for each rule, the reports that weren't counted, and where it is asked for how many executions there
+-- were, and what became of the orders
 abbrev pub log_end : Style → Bool → LogParts → List ℕ
 log_end s is_cut log =
     cut_text is_cut ++ summary_upto s.words log.tallies 22 ++ uncounted_in log.day.watch.checker
-    ++ legs_if s.tells_legs log.day
+    ++ counts_if s.tells_executions log.executions ++ legs_if s.tells_legs log.day
 
--- the log's path, its findings, a note where it is cut, a line for each rule, and what became of the orders
+-- the log's path, its executions and findings, a note where it is cut, a line for each rule, and what became of the
+-- orders
 abbrev pub log_text : Style → List ℕ → List (List ℕ) → Bool → List ℕ
 log_text s path lines is_cut = path_line path ++ findings s lines ++ log_end s is_cut (checked s lines)
 

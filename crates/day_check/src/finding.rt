@@ -31,7 +31,9 @@ pub struct Printing<'a> {
     pub is_json: bool,
     /// Whether it is told what became of each leg.
     pub tells_legs: bool,
-    /// Whether orders are kept: it is told what became of them, or they are judged with the day.
+    /// Whether each execution is told.
+    pub tells_executions: bool,
+    /// Whether orders are kept: it is told what became of them, or each execution, or they are judged with the day.
     pub keeps_legs: bool,
 }
 

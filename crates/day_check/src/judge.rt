@@ -25,7 +25,7 @@ pub(crate) enum Way<'a> {
 }
 
 /// Which way a message went.
-fn direction_of(way: &Way<'_>, message: &EnvelopeRef<'_>) -> Option<Direction>
+pub(crate) fn direction_of(way: &Way<'_>, message: &EnvelopeRef<'_>) -> Option<Direction>
     ensures { result ≡ direction_told way.now message.now }
 {
     match way {

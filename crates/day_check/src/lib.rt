@@ -3,10 +3,13 @@
 //!
 //! Promises:
 //! - `print_log` says of the lines that it read exactly what the rules do (`ChecksLog`): what is known behind them,
-//!   whether a rule is broken, and, where text is printed, that it is the log's (`log_text`): a finding for each rule
-//!   that a line breaks, in the order of the lines and of the rules, a note where the log ends within a line, a
-//!   line for each rule, how many reports weren't counted, and where it is asked for what became of its orders. The
-//!   lines are those of the bytes that the reader tells, and so is what is left (`AreCutLines`).
+//!   whether a rule is broken, and, where text is printed, that it is the log's (`log_text`): for each line, in their
+//!   order, the execution that it tells, where that is asked for, and a finding for each rule that it breaks, in the
+//!   order of the rules; a note where the log ends within a line, a line for each rule, how many reports weren't
+//!   counted, and where it is asked for how many executions there were, and what became of its orders. The lines are
+//!   those of the bytes that the reader tells, and so is what is left (`AreCutLines`).
+//! - The execution of a line is exactly that of `execution_of` of `log_legs`, by what is known behind the lines before
+//!   it (`line_execution`), and the counts are those of these executions (`counted_if`).
 //! - `print_exact` prints how many frames of a log held and the first line that didn't, and answers whether there is
 //!   one (`HoldsExactly`). That `explain` of `session_trace` answered so isn't said.
 //! - `read_sweeps` hears each line of the desk's log exactly as the definition does (`HearsLog`). `print_sweeps` prints
@@ -21,6 +24,9 @@
 
 mod checked_log;
 mod exact;
+mod execution_counts;
+mod execution_json;
+mod execution_text;
 mod fault;
 mod finding;
 mod form;
@@ -29,6 +35,7 @@ mod input;
 mod json;
 mod judge;
 mod legs_json;
+mod line_told;
 mod log_check;
 mod print_day;
 mod rule_words;
@@ -39,6 +46,7 @@ mod told_fault;
 
 pub use checked_log::{CheckedLog, print_log};
 pub use exact::{DialectBy, print_exact};
+pub use execution_counts::ExecutionCounts;
 pub use fault::LogFault;
 pub use finding::Printing;
 pub use form::Form;

@@ -15,7 +15,12 @@ pub struct ToldFault<'a> {
     pub advice: Option<&'a str>,
 }
 
-fn append_text_member(line: &mut Vec<u8>, name: &str, said: &str) -> Result<(), AllocError>
+/// Appends a member of text.
+pub(crate) fn append_text_member(
+    line: &mut Vec<u8>,
+    name: &str,
+    said: &str,
+) -> Result<(), AllocError>
     ensures { OnOk result (line.new.items ≡ line.old.items ++ text_member name.now said.now) }
 {
     append_string(line, name.as_bytes())?;

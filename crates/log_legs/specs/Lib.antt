@@ -5,3 +5,6 @@ pub mod Legs
 pub mod Fate
 pub mod Sweeps
 pub mod LegLine
+pub mod Execution
+-- Examples.
+pub mod Rows

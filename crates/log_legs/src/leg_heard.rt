@@ -38,7 +38,7 @@ fn order_heard(
 }
 
 /// Whether the order at a place was asked for again in doubt.
-fn is_withdrawn_at(checker: &Checker, place: usize) -> bool
+pub(crate) fn is_withdrawn_at(checker: &Checker, place: usize) -> bool
     ensures { result ≡ is_withdrawn_at checker.now.ledger.orders place }
 {
     match checker.orders().get(place) {

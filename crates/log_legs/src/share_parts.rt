@@ -1,6 +1,6 @@
 //! What became of an order's shares by the reports on it.
 
-ghost use Rattle.std.specs.Prelude.{◌≡◌, ◌==◌};
+ghost use Rattle.std.specs.Prelude.{◌≡◌, ◌==◌, nat_le};
 ghost use Rattle.log_legs.specs.Parts.{all_open, busted, ended, moved, parts_sum, totals_of, traded};
 
 use crate::share_move::Move;
@@ -92,6 +92,20 @@ impl ShareParts {
             Move::Ends => self.end(),
             Move::Busts(shares) => self.bust(shares),
         }
+    }
+
+    /// Whether so many shares are open.
+    pub(crate) fn can_trade(&self, shares: u64) -> bool
+        ensures { result ≡ nat_le shares self.now.still_open }
+    {
+        shares <= self.still_open
+    }
+
+    /// Whether so many shares are filled.
+    pub(crate) fn can_bust(&self, shares: u64) -> bool
+        ensures { result ≡ nat_le shares self.now.filled }
+    {
+        shares <= self.filled
     }
 
     /// Whether all of the order's shares are open.

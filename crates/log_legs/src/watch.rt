@@ -3,12 +3,15 @@
 ghost use Rattle.std.specs.Prelude.{◌≡◌, Some, None, length, IfOk, OnOk, OnErr};
 ghost use Rattle.log_rules.specs.Checker.{unread_verdicts, verdicts};
 ghost use Rattle.log_rules.specs.Ledger.{newest_order, uncounted_of};
+ghost use Rattle.std.specs.Option.{option_map};
+ghost use Rattle.log_legs.specs.Execution.{is_gone_at, leg_at};
 ghost use Rattle.log_legs.specs.Fate.{leg_said};
 ghost use Rattle.log_legs.specs.Legs.{judged, late_by, new_watch, no_legs, watched, watched_unread};
 
 use crate::close::Close;
 use crate::fate::Fate;
-use crate::leg_heard::LegHeard;
+use crate::kept_leg::KeptLeg;
+use crate::leg_heard::{LegHeard, is_withdrawn_at};
 use crate::leg_list::LegList;
 use crate::leg_said::LegSaid;
 use log_rules::{Checker, Entry, Says, Verdict};
@@ -125,6 +128,30 @@ impl Watch {
         ensures err { OnErr result (self.new ≡ self.old) }
     {
         self.checker.hear_unread(direction, bytes)
+    }
+
+    /// What is known of the rules.
+    pub(crate) fn checker(&self) -> &Checker
+        ensures { result.now ≡ self.now.checker }
+    {
+        &self.checker
+    }
+
+    /// The order at a place, where orders are kept.
+    pub(crate) fn kept_leg(&self, place: usize) -> Option<&KeptLeg>
+        ensures { option_map (λ leg. leg.now) result ≡ leg_at self.now.legs place }
+    {
+        self.legs.as_ref()?.get(place)
+    }
+
+    /// Whether the order at a place is withdrawn.
+    pub(crate) fn is_gone_at(&self, place: usize) -> bool
+        ensures { result ≡ is_gone_at self.now place }
+    {
+        match self.kept_leg(place) {
+            Some(leg) => leg.is_gone(is_withdrawn_at(&self.checker, place)),
+            None => false,
+        }
     }
 
     /// How far the session's end is.

@@ -12,6 +12,7 @@ returns-clause-asked g c = (
     words = search rules;
     is_json = (c.get_flag-is_json.ensures.value, c.get_flag-is_json.ensures.other);
     tells_legs = (c.get_flag-tells_legs.ensures.value, c.get_flag-tells_legs.ensures.other);
+    tells_executions = (c.get_flag-tells_executions.ensures.value, c.get_flag-tells_executions.ensures.other);
     exact = c.dialect_of-exact.ensures ∙ ap is_some c.get_str-2.ensures;
   },
 )

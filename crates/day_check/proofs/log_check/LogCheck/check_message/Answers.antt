@@ -14,7 +14,8 @@ pub returns-clause-checked : goal.returns-clause-checked
 returns-clause-checked c =
     counted c.args.number (line_entry c.args.printing.now.form.now c.args.line.now) (log_parts c.args.self.now)
     c.judge.new.self.day c.count.new.tallies c.judge.new.self.tallies c.judge.new.self.is_own
-    c.in_ok-verdicts.verdicts c.in_ok-verdicts.ensures.judged c.count.ensures c.judge.ensures.tallies c.judge.ensures.own
+    c.judge.new.self.executions c.in_ok-verdicts.verdicts c.in_ok-verdicts.ensures.judged c.count.ensures
+    c.judge.ensures.tallies c.judge.ensures.own c.judge.ensures.executions
 
 pub returns-clause-text : goal.returns-clause-text
 returns-clause-text c off =
