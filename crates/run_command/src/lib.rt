@@ -10,15 +10,16 @@
 //! - What is printed behind a day is exactly the stated text of what became of it (`day_text`, or `json_text` with
 //!   `--json`).
 //! - Out of memory while the file is read is never told as a fault of the file (`file_fault`, private).
-//! - The folder of the logs is that which the file names, from the file's own folder on (`folder_of`, private).
+//! - The folder of the logs is that which the file names, from the file's own folder on (`log_folder`, private).
 //! - That `--check` dials nothing, and that a day runs as the command line asks, is only tested.
 //!
 //! See `docs/run.md`.
 #![tactic(auto)]
 
-ghost use Rattle.std.specs.Prelude.{◌≡◌, IfErr, IfOk, OnOk};
+ghost use Rattle.std.specs.Prelude.{◌≡◌, option_map, string_bytes, IfErr, IfOk, OnOk};
 ghost use Rattle.desk_config.specs.Apart.{AreVenues};
 ghost use Rattle.run_command.specs.Ending.{end_text, PrintsDay};
+ghost use Rattle.run_command.specs.Folder.{folder_of};
 ghost use Rattle.run_command.specs.Running.{EndsRun, ExitsSo, IsOfDay};
 
 mod check;
@@ -116,11 +117,9 @@ where
 }
 
 /// The folder of the logs that the configuration of a file asks for, if it does.
-fn log_folder(
-    alloc: Global,
-    file: &str,
-    config: &DeskConfig,
-) -> Result<Option<String>, AllocError> {
+fn log_folder(alloc: Global, file: &str, config: &DeskConfig) -> Result<Option<String>, AllocError>
+    ensures { IfOk result (λ found. option_map string_bytes found ≡ option_map (folder_of file.now) config.now.log) }
+{
     match &config.log {
         Some(folder) => Ok(Some(folder_of(alloc, file, folder.as_str())?)),
         None => Ok(None),
