@@ -2,6 +2,7 @@
 
 import re
 from collections import Counter, defaultdict
+from decimal import ROUND_HALF_UP, Decimal
 
 
 def leg_of(id):
@@ -34,6 +35,24 @@ def filled_of(order, fill):
     return 0 if order.is_ignored else min(fill, order.shares)
 
 
+def dollars(amount):
+    """An amount to eight decimals, without zeros behind the last digit."""
+    return f"{amount.quantize(Decimal('1e-8'), ROUND_HALF_UP):f}".rstrip("0").rstrip(".")
+
+
+def price_of(order, legs):
+    """The limit at which an order trades; one that was never placed has none."""
+    place = leg_of(order.id)[1] - 1
+    return Decimal(legs[place].price if place < len(legs) else 0)
+
+
+def paid_words(legs, orders, fill):
+    """What is said of the money behind a sweep's parts: each order trades at its limit."""
+    filled = sum(filled_of(order, fill) for order in orders)
+    paid = sum(filled_of(order, fill) * price_of(order, legs) for order in orders)
+    return f" paid {dollars(paid)} average {dollars(paid / filled)}" if filled else ""
+
+
 def sweep_line(number, legs, orders, fill):
     """What the dispatcher has to say of a sweep at the end, by those of its legs that were accepted."""
     shares = sum(leg.shares for leg in legs)
@@ -42,7 +61,7 @@ def sweep_line(number, legs, orders, fill):
     still_open = sum(order.shares for order in orders if order.is_ignored)
     return (
         f"sweep {number} legs {shares} filled {filled} busted 0 cancelled {accepted - filled - still_open} "
-        f"withdrawn {shares - accepted} open {still_open}"
+        f"withdrawn {shares - accepted} open {still_open}{paid_words(legs, orders, fill)}"
     )
 
 

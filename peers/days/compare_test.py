@@ -6,7 +6,10 @@ from days.acceptor import Order
 from days.compare import day_faults
 from days.sweeps import Leg
 
-PLACED = {1: [Leg("V1", 1), Leg("V2", 8)], 2: [Leg("V1", 16), Leg("V1", 2)]}
+PLACED = {
+    1: [Leg("V1", 1, "10.25"), Leg("V2", 8, "20.5")],
+    2: [Leg("V1", 16, "30"), Leg("V1", 2, "40.25")],
+}
 ORDERS = [
     Order("S1L1", "V1", 2, 1, False),
     Order("S1L2", "V2", 2, 8, False),
@@ -16,8 +19,8 @@ ORDERS = [
 # At most 6 shares of an order trade.
 LINES = [
     "placed 1 shares 9",
-    "sweep 1 legs 9 filled 7 busted 0 cancelled 2 withdrawn 0 open 0",
-    "sweep 2 legs 18 filled 8 busted 0 cancelled 10 withdrawn 0 open 0",
+    "sweep 1 legs 9 filled 7 busted 0 cancelled 2 withdrawn 0 open 0 paid 133.25 average 19.03571429",
+    "sweep 2 legs 18 filled 8 busted 0 cancelled 10 withdrawn 0 open 0 paid 260.5 average 32.5625",
     "day placed 27 resolved 27 open 0",
     "audit ok",
 ]
@@ -37,11 +40,11 @@ class DaysThatWentWell(unittest.TestCase):
         self.assertEqual(faults(), [])
 
     def test_a_leg_is_withdrawn(self):
-        lines = changed(2, "sweep 2 legs 18 filled 2 busted 0 cancelled 0 withdrawn 16 open 0")
+        lines = changed(2, "sweep 2 legs 18 filled 2 busted 0 cancelled 0 withdrawn 16 open 0 paid 80.5 average 40.25")
         self.assertEqual(faults([ORDERS[0], ORDERS[1], ORDERS[3]], lines=lines), [])
 
     def test_an_order_is_ignored(self):
-        lines = changed(1, "sweep 1 legs 9 filled 1 busted 0 cancelled 0 withdrawn 0 open 8")
+        lines = changed(1, "sweep 1 legs 9 filled 1 busted 0 cancelled 0 withdrawn 0 open 8 paid 10.25 average 10.25")
         lines[3] = "day placed 27 resolved 19 open 8"
         self.assertEqual(faults([ORDERS[0], Order("S1L2", "V2", 2, 8, True), *ORDERS[2:]], lines=lines), [])
 
@@ -91,6 +94,9 @@ class DaysThatWentWrong(unittest.TestCase):
 
     def test_other_shares_are_told(self):
         self.assertEqual(len(faults(lines=changed(1, LINES[1].replace("filled 7", "filled 6")))), 1)
+
+    def test_another_price_is_told(self):
+        self.assertEqual(len(faults(lines=changed(1, LINES[1].replace("paid 133.25", "paid 133.5")))), 1)
 
     def test_another_sum_is_told(self):
         self.assertEqual(len(faults(lines=changed(3, "day placed 27 resolved 26 open 1"))), 1)

@@ -10,8 +10,8 @@ MOST_SECONDS = 600
 # What a check says of a line that breaks a rule.
 FINDING = re.compile(r"line \d+ [a-z-]+: ")
 
-# What a run and a check say of a sweep.
-SWEEP = re.compile(r"sweep \d+ legs ")
+# What a run and a check say of a sweep. A run says behind it what was paid.
+SWEEP = re.compile(r"sweep \d+ legs .* open \d+")
 
 
 def log_faults(dispatch, folder, venues, dialect="plain"):
@@ -33,6 +33,11 @@ def has_logged_out(log):
     return bool(sent) and "|35=5|" in sent[-1]
 
 
+def sweeps_in(lines):
+    """What these lines say of sweeps, without what was paid."""
+    return [found[0] for found in map(SWEEP.match, lines) if found]
+
+
 def unless_unsent(said):
     """What is said of a sweep, with its withdrawn and its open shares as one: where a session never logged out, no log
     shows that the desk withdrew what was never sent."""
@@ -44,8 +49,8 @@ def truth_faults(dispatch, folder, venues, lines, count):
     """Where a check of the whole day says otherwise of one of so many sweeps than the run did at its end, in these lines."""
     logs = [folder / LOGS / f"{name}.log" for name in (*venues, "sweeps")]
     ran = subprocess.run([dispatch, "check", *logs], capture_output=True, text=True, timeout=MOST_SECONDS)
-    by_check = [said for said in ran.stdout.splitlines() if SWEEP.match(said)]
-    by_run = [said for said in lines if SWEEP.match(said)][-count:]
+    by_check = sweeps_in(ran.stdout.splitlines())
+    by_run = sweeps_in(lines)[-count:]
     if len(by_check) != count:
         yield f"the check of the day tells {len(by_check)} sweeps of {count}: {ran.stderr}"
     told = str if all(has_logged_out(log) for log in logs[:-1]) else unless_unsent

@@ -10,14 +10,20 @@ SYMBOLS = ("IBM", "BRK.B", "MSFT", "F")
 class Leg:
     venue: str
     shares: int
+    # Its limit, in dollars.
+    price: str
 
 
 def line_of(legs, random):
     """The line that asks for these legs."""
     return "sweep " + " + ".join(
-        f"{leg.venue} {random.choice(SYMBOLS)} {random.choice(('buy', 'sell'))} {leg.shares} {random.randint(1, 99)}.25"
+        f"{leg.venue} {random.choice(SYMBOLS)} {random.choice(('buy', 'sell'))} {leg.shares} {leg.price}"
         for leg in legs
     )
+
+
+def price_of(random):
+    return f"{random.randint(1, 99)}.25"
 
 
 def sweeps_of(venues, count, most_legs, seed):
@@ -27,7 +33,7 @@ def sweeps_of(venues, count, most_legs, seed):
     for _ in range(count):
         shares = [2**power for power in range(random.randint(1, most_legs))]
         random.shuffle(shares)
-        legs = [Leg(random.choice(venues), number) for number in shares]
+        legs = [Leg(random.choice(venues), number, price_of(random)) for number in shares]
         yield legs, line_of(legs, random)
 
 
@@ -37,5 +43,5 @@ def wide_sweeps_of(venues, count, seed):
     for _ in range(count):
         shares = [2**power for power in range(len(venues))]
         random.shuffle(shares)
-        legs = [Leg(venue, number) for venue, number in zip(venues, shares)]
+        legs = [Leg(venue, number, price_of(random)) for venue, number in zip(venues, shares)]
         yield legs, line_of(legs, random)
