@@ -1,6 +1,6 @@
 """accept.py PORT STEP..: an exchange NYSE of the desk DESK at a port of this machine. It takes a connection for each step.
-In each but `hold` it answers the Logon, and the TestRequests behind it, until a line comes on standard input; then it does
-the step:
+In each but `hold` and `forget` it answers the Logon, and the TestRequests behind it, until a line comes on standard input;
+then it does the step:
 
     cut      it closes the connection
     logout   it logs out, and waits for the end
@@ -9,6 +9,7 @@ the step:
     again    it uses a number again, and waits for the end
     serve    it answers TestRequests until the desk logs out, and then that; no line is wanted
     hold     it says nothing, and waits for the end
+    forget   it answers the Logon, asks again for all from number 1 on, and waits for the end; no line is wanted
     late     as `serve`, but it waits for the line before it answers the Logon
     say      as `serve`, but once an order came it sends, for each line on standard input, the next line of the file $SAYS:
              the kind of a message and its fields, with | for SOH, and @S1L2 for the number of that order's message"""
@@ -130,6 +131,9 @@ def play(session, step):
     if step == "late":
         ACTS.readline()
     session.log_on()
+    if step == "forget":
+        session.write(b"2", b"7=1|16=0|")
+        return session.await_end()
     if step == "say":
         return say(session)
     if step in ("late", "serve"):

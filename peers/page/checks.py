@@ -359,6 +359,19 @@ def says_when_an_answer_is_lost(trial):
     page.until("following && document.querySelector('#banner').hidden", "it follows again")
 
 
+def finds_a_sweep_whose_answer_is_lost(trial):
+    """A sweep whose answer got lost is asked for by its reference, and is placed once."""
+    day, page = trial.stand_in(), trial.page
+    before = len(day.sweeps)
+    fill_leg(page, 0, "NYSE", "buy", 7, "IBM", "187.5")
+    press(page, "#send")
+    page.until("document.querySelector('#ask').open", "it is asked back")
+    day.loses = 1
+    press(page, "#ask-yes")
+    page.until("document.querySelector('#answer').textContent.startsWith('Placed as sweep')", "it is placed")
+    expect((day.loses, len(day.sweeps)), (0, before + 1), "an answer was lost, and it is placed once")
+
+
 def begins_anew_with_another_run(trial):
     """Where the program is started again under an open page, the page shows the new run alone and says so, keeps what
     was typed, and says of the new run how it ended."""
@@ -570,5 +583,5 @@ CHECKS = [
     shows_the_sweeps, opens_a_sweep, shows_the_venues, hands_in, names_a_fault, says_why_refused, turns_a_lamp,
     keeps_text_text, is_reached_by_tab, has_names, can_be_read, says_when_it_lost_events,
     begins_anew_with_another_run, asks_for_the_token, reads_a_long_day, stays_at_home, says_when_an_answer_is_lost,
-    closes_the_day,
+    finds_a_sweep_whose_answer_is_lost, closes_the_day,
 ]

@@ -52,6 +52,10 @@ class Day:
         self.streams = []
         self.takes_streams = True
         self.answers = True
+        # What was placed under a reference, and its answer.
+        self.refs = {}
+        # How many answers to sweeps are lost from now on.
+        self.loses = 0
 
     @staticmethod
     def new_venue(name):
@@ -80,10 +84,16 @@ class Day:
         ago = int((time.monotonic() - venue["heard"]) * 1000)
         return {**{key: value for key, value in venue.items() if key != "heard"}, "heard_ms_ago": ago}
 
-    def place(self, legs):
+    def place(self, legs, ref=None):
         """A status and its answer."""
         with self.lock:
-            refusal = self.refusal(legs)
+            if ref in self.refs:
+                placed, answer = self.refs[ref]
+                if placed == legs:
+                    return 200, {**answer, "again": True}
+                refusal = {"refused": "R09", "text": "its reference is another sweep's"}
+            else:
+                refusal = self.refusal(legs)
             if refusal:
                 self.tell("refused", refusal)
                 return 409, refusal
@@ -95,7 +105,10 @@ class Day:
             for leg in legs:
                 self.venues[leg["venue"]]["sent"] += 1
             self.tell_sweep(number)
-            return 201, {"placed": number, "shares": shares}
+            answer = {"placed": number, "shares": shares}
+            if ref is not None:
+                self.refs[ref] = legs, answer
+            return 201, answer
 
     @staticmethod
     def new_leg(number, at, leg):
@@ -179,17 +192,17 @@ class Day:
 
 
 def sweep_of(text, names):
-    """The legs that a body asks for."""
+    """The legs that a body asks for, and its reference, if it has one."""
     try:
         body = json.loads(text)
     except json.JSONDecodeError as fault:
         raise BadSweep({"fault": fault.msg, "line": fault.lineno, "column": fault.colno}) from None
-    if not isinstance(body, dict) or set(body) != {"legs"} or not isinstance(body["legs"], list):
+    if not isinstance(body, dict) or not {"legs"} <= set(body) <= {"legs", "ref"} or not isinstance(body["legs"], list):
         raise BadSweep({"fault": "a sweep is an object with legs"})
     for at, leg in enumerate(body["legs"], 1):
         for key, words in faults_of(leg, names):
             raise BadSweep({"fault": words, "leg": at, "key": key})
-    return body["legs"]
+    return body["legs"], body.get("ref")
 
 
 def faults_of(leg, names):
@@ -254,7 +267,12 @@ class Handler(BaseHTTPRequestHandler):
             with day.lock:
                 self.answer(200, {"venues": [day.shown(venue) for venue in day.venues.values()]})
         elif place.path == "/api/sweeps":
-            self.answer_sweeps({key: int(values[0]) for key, values in parse_qs(place.query).items()})
+            asked = parse_qs(place.query)
+            if "ref" in asked:
+                _, answer = day.refs.get(asked["ref"][0], (None, {"placed": 0}))
+                self.answer_legs(answer["placed"])
+            else:
+                self.answer_sweeps({key: int(values[0]) for key, values in asked.items()})
         elif found := re.fullmatch(r"/api/sweeps/(\d+)", place.path):
             self.answer_legs(int(found[1]))
         else:
@@ -330,11 +348,17 @@ class Handler(BaseHTTPRequestHandler):
 
     def place(self, body):
         try:
-            legs = sweep_of(body.decode(), self.server.day.venues)
+            legs, ref = sweep_of(body.decode(), self.server.day.venues)
+            ref = ref or self.headers.get("Idempotency-Key")
         except BadSweep as fault:
             self.answer(400, fault.args[0])
             return
-        self.answer(*self.server.day.place(legs))
+        status, answer = self.server.day.place(legs, ref)
+        if self.server.day.loses > 0:
+            self.server.day.loses -= 1
+            self.close_connection = True
+            return
+        self.answer(status, answer)
 
 
 class Server(ThreadingHTTPServer):

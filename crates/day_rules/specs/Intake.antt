@@ -1,6 +1,6 @@
 -- The log of the lines that a desk took: which sweeps were placed.
-use Rattle.std.specs.Prelude.{ℕ, suc, Bool, true, false, ◌&&◌, List, [], ◌∷◌, ◌++◌, codes, ◌==◌, Option, Some, None, Result, Ok, length, nat_le, if◌then◌else◌}
-use Rattle.std.specs.List.{starts_with}
+use Rattle.std.specs.Prelude.{ℕ, suc, Bool, true, false, not, ◌&&◌, List, [], ◌∷◌, ◌++◌, codes, ◌==◌, Option, Some, None, Result, Ok, length, nat_le, if◌then◌else◌}
+use Rattle.std.specs.List.{ends_with, starts_with}
 use Rattle.std.specs.Str.{bytes_eq}
 use Rattle.leg.specs.declared.sweep.Routed.{Routed}
 use Rattle.message_log.specs.declared.direction.Direction.{Direction}
@@ -21,12 +21,14 @@ pub record IntakeParts : Type 0 where
   pub sweeps : List (List Routed)
 
 abbrev pub legs_asked : Result Command LineFault → Option (List Routed)
-legs_asked (Ok (Sweep sweep)) = Some sweep.legs
+legs_asked (Ok (Sweep submission)) = Some submission.sweep.legs
 legs_asked _ = None
 
--- whether an answer says that a sweep was placed: it begins with `placed `
+-- whether an answer says that a sweep was placed: it begins with `placed `, and doesn't end with ` again`, as one does
+-- of a sweep that was placed before
 abbrev pub is_placing : List ℕ → Bool
-is_placing text = starts_with (λ a b. a == b) text (codes "placed ")
+is_placing text =
+    starts_with (λ a b. a == b) text (codes "placed ") && not (ends_with (λ a b. a == b) text (codes " again"))
 
 -- whether it says so of a sweep of this number and these legs
 abbrev pub is_placed_as : ℕ → List Routed → List ℕ → Bool

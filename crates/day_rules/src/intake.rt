@@ -40,17 +40,17 @@ fn legs_asked(alloc: Global, names: &[VenueName], line: &[u8]) -> Result<Option<
     ensures { IfOk result (λ legs. legs ≡ legs_asked (line_says names.now line.now)) }
 {
     match read_line(alloc, names, line) {
-        Ok(Command::Sweep(sweep)) => Ok(Some(sweep.legs)),
+        Ok(Command::Sweep(submission)) => Ok(Some(submission.sweep.legs)),
         Err(LineFault::OutOfMemory) => Err(AllocError),
         _ => Ok(None),
     }
 }
 
-/// Whether an answer says that a sweep was placed.
+/// Whether an answer says that a sweep was placed, and not that it was placed before.
 fn is_placing(text: &[u8]) -> bool
     ensures { result ≡ is_placing text.now }
 {
-    text.starts_with(b"placed ")
+    text.starts_with(b"placed ") && !text.ends_with(b" again")
 }
 
 /// Whether an answer says that a sweep of this number and these legs was placed.

@@ -1,15 +1,20 @@
 -- What a sweep is answered.
-use Rattle.std.specs.Prelude.{◌≡◌, ℕ, List, [], ◌∷◌, ◌++◌, Option, Some, None, slice_get, Result, Ok, Err, IsSomeAnd}
+use Rattle.std.specs.Prelude.{◌≡◌, ◌≢◌, ◌⊎◌, ℕ, Bool, true, false, List, [], ◌∷◌, ◌++◌, Option, Some, None, slice_get, option_map, Result, Ok, Err, IsSomeAnd}
 use Rattle.leg.specs.declared.sweep.Routed.{Routed}
 use Rattle.share_ledger.specs.Entries.{sweep_shares}
 use Rattle.exec_collector.specs.declared.placed_sweep.PlacedSweep.{PlacedSweep}
 use Rattle.exec_collector.specs.Seats.{Seat}
+use Rattle.release_lock.specs.Locked.{Replays, Releases}
 use Rattle.release_lock.specs.Seats.{placing}
+use Rattle.sweep_refs.specs.Placed.{AreDistinct, Entry, placed_under}
+use Rattle.sweep_refs.specs.declared.placement.Placement.{Placement}
+use Rattle.sweep_refs.specs.declared.submission.Submission.{Submission}
+use Rattle.sweep_release.specs.History.{KeptDesk}
 use Rattle.sweep_release.specs.declared.receipt.Receipt.{Receipt}
 use Rattle.sweep_release.specs.declared.release_fault.ReleaseFault.{ReleaseFault}
 use Rattle.sweep_release.specs.declared.release_fault.ReleaseFault.TheVariants as fault
 use Rattle.sweep_text.specs.declared.answer.Answer.{Answer}
-use Rattle.sweep_text.specs.declared.answer.Answer.TheVariants.{Placed, Refused, Closing}
+use Rattle.sweep_text.specs.declared.answer.Answer.TheVariants.{Placed, Again, Refused, Closing}
 use Rattle.sweep_text.specs.declared.answer.Refusal.{Refusal}
 use Rattle.sweep_text.specs.declared.answer.Refusal.TheVariants as refusal
 
@@ -33,6 +38,57 @@ refusal_of names fault.WrongBook = refusal.WrongBook
 abbrev pub answer_of : List (List ℕ) → Result Receipt ReleaseFault → Answer
 answer_of names (Ok receipt) = Placed receipt.number receipt.shares
 answer_of names (Err why) = Refused (refusal_of names why)
+
+-- a sweep of these legs is answered with what became of it at a desk that replays from its own history
+abbrev pub IsReleased : List (List ℕ) → List Routed → Answer → Type 0
+IsReleased names legs answer =
+    (before : KeptDesk) × (after : KeptDesk) × (done : Result Receipt ReleaseFault)
+    × Replays before × Replays after × Releases legs before done after × (answer ≡ answer_of names done)
+
+-- what a placed sweep is noted as
+abbrev pub placement : ℕ → ℕ → List Routed → Placement
+placement sweep shares legs = record { number = sweep; shares = shares; legs = legs }
+
+-- what is answered under a reference that is known: the number and the shares that were placed under it, for the same
+-- legs; for others a refusal
+abbrev pub IsKnown : Placement → List Routed → Answer → Type 0
+IsKnown known legs (Again sweep shares) = known ≡ placement sweep shares legs
+IsKnown known legs (Refused refusal.OtherLegs) = known.legs ≢ legs
+IsKnown known legs answer = ⊥
+
+-- what is answered under a reference: as it is known, or what becomes of the sweep. Out of memory, nothing does
+abbrev pub IsJudged : List (List ℕ) → Option Placement → List Routed → Answer → Type 0
+IsJudged names (Some known) legs answer = IsKnown known legs answer
+IsJudged names None legs answer = IsReleased names legs answer ⊎ (answer ≡ Refused refusal.OutOfMemory)
+
+-- what is placed under references, once a sweep is answered: one entry more where it is placed
+abbrev pub noted : List Entry → List ℕ → List Routed → Answer → List Entry
+noted entries reference legs (Placed sweep shares) = entries ++ (reference, placement sweep shares legs) ∷ []
+noted entries reference legs answer = entries
+
+-- a sweep under a reference is answered so where these were placed before, and these are placed from then on
+pub record AnswersOnce (names : List (List ℕ)) (before : List Entry) (reference : List ℕ) (legs : List Routed)
+    (answer : Answer) (after : List Entry) : Type 0 where
+  pub distinct : AreDistinct before
+  pub judged : IsJudged names (placed_under before reference) legs answer
+  pub after_is : after ≡ noted before reference legs answer
+
+-- a sweep is answered so, at a desk that may want a reference of each
+abbrev pub IsAnsweredUnder : List (List ℕ) → Bool → Option (List ℕ) → List Routed → Answer → Type 0
+IsAnsweredUnder names true None legs answer = answer ≡ Refused refusal.NoReference
+IsAnsweredUnder names false None legs answer = IsReleased names legs answer
+IsAnsweredUnder names wants (Some reference) legs answer =
+    (before : List Entry) × (after : List Entry) × AnswersOnce names before reference legs answer after
+
+abbrev pub IsAnswered : List (List ℕ) → Bool → Submission → Answer → Type 0
+IsAnswered names wants submission answer =
+    IsAnsweredUnder names wants submission.reference submission.sweep.legs answer
+
+-- the number under which a sweep was placed under a reference, of entries of which no two have one reference
+abbrev pub IsNumber : List ℕ → Option ℕ → Type 0
+IsNumber reference number =
+    (entries : List Entry) × AreDistinct entries
+    × (number ≡ option_map (λ known. known.number) (placed_under entries reference))
 
 -- what is told of a sweep: its answer; or, where it is shown that the day is closing, that
 abbrev pub told : {Shown : Type 0} → Result Answer Shown → Answer

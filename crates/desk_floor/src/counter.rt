@@ -1,19 +1,17 @@
 //! The seat on which the clients of a day's page count.
 
 ghost use Rattle.std.specs.Prelude.{◌≡◌, IfErr, IfOk};
-ghost use Rattle.sweep_release.specs.History.{KeptDesk};
-ghost use Rattle.release_lock.specs.Locked.{Replays, Releases};
-ghost use Rattle.desk_floor.specs.Release.{answer_of, placed_after, told};
+ghost use Rattle.desk_floor.specs.Release.{IsAnswered, placed_after, told};
 
 use crate::floor::Floor;
 use crate::signals::Closing;
 use day_log::LineLog;
 use exec_collector::Accounts;
-use leg::Sweep;
 use release_lock::{CallerSeat, Run};
 use std::io::Write;
 use std::sync::Wait;
 use std::time::Clock;
+use sweep_refs::Submission;
 use sweep_text::Answer;
 
 /// A seat with one part of the run, on which the sweeps are counted that clients of the page hand in.
@@ -38,20 +36,18 @@ impl<L: Run> Counter<L> {
         floor: &'f Floor<L, M, W>,
         log: &mut LineLog<'a, R, C>,
         line: &[u8],
-        sweep: Sweep,
+        submission: Submission,
     ) -> Result<Answer, Closing<'f>>
     where
         M: Accounts,
         W: Write + Drop,
         R: Wait + Clock,
         C: clock::Clock + Drop,
-        ensures answer { IfOk result (λ answer. (before : KeptDesk) × (after : KeptDesk) × (done : _)
-            × Replays before × Replays after × Releases sweep.legs before done after
-            × (answer ≡ answer_of floor.now.names.items done)) }
+        ensures answer { IfOk result (IsAnswered floor.now.names.items floor.now.manner.wants_refs submission) }
         ensures closing { IfErr result (λ shown. shown.of ≡ floor.now.signals.closing.id) }
-        ensures placed { self.new.seat.placed ≡ placed_after self.old.seat.placed (told result) sweep.legs }
+        ensures placed { self.new.seat.placed ≡ placed_after self.old.seat.placed (told result) submission.sweep.legs }
     {
-        floor.hand_in(rt, &mut self.seat, log, line, sweep)
+        floor.hand_in(rt, &mut self.seat, log, line, submission)
     }
 
     /// The seat.

@@ -5,11 +5,12 @@ ghost use Rattle.share_ledger.specs.Book.{BookParts};
 ghost use Rattle.share_ledger.specs.Entries.{opened};
 ghost use Rattle.exec_collector.specs.Resolved.{Replays};
 ghost use Rattle.day_sweeps.specs.Sweeps.{IsDay};
-ghost use Rattle.desk_floor.specs.Release.{IsOnePart};
+ghost use Rattle.desk_floor.specs.Release.{IsNumber, IsOnePart};
 ghost use Rattle.desk_floor.specs.Status.{IsSeen};
 
 use crate::bells::Bells;
 use crate::counter::Counter;
+use crate::refs::Refs;
 use crate::refusals::Refusals;
 use crate::signals::{Closing, Manner, Signals};
 use crate::standing::Standing;
@@ -30,6 +31,7 @@ use std::io::Write;
 use std::sync::{Arc, Mutex, Wait};
 use std::thread;
 use std::time::{Clock, Duration};
+use sweep_refs::SweepRef;
 
 /// How many milliseconds pass between two looks whether the venues are up.
 const LOOK_MILLIS: u64 = 5;
@@ -51,6 +53,8 @@ pub struct Floor<L: Run, M: Accounts, W: Write + Drop> {
     pub shared: Option<Mutex<Counter<L>>>,
     /// Is held while a sweep is handed in and answered.
     pub turn: Mutex<()>,
+    /// The sweeps that were placed under references. Is held while a sweep under one is handed in.
+    pub refs: Mutex<Refs>,
     /// The sweeps that were refused.
     pub refusals: Refusals,
     pub voice: Voice<W>,
@@ -125,6 +129,14 @@ impl<L: Run, M: Accounts, W: Write + Drop> Floor<L, M, W> {
             Some(log) => Ok(Some(log.clone()?)),
             None => Ok(None),
         }
+    }
+
+    /// The number under which a sweep was placed under a reference, if one was. It may wait for a sweep under one that
+    /// is handed in.
+    pub fn find(&self, rt: &impl Wait, reference: &SweepRef) -> Option<u64>
+        ensures { IsNumber reference.now result }
+    {
+        self.refs.lock(rt).number(reference)
     }
 
     /// Whether all shares placed are filled, busted, cancelled or withdrawn.
@@ -224,6 +236,7 @@ impl<L: Run, M: Accounts, W: Write + Drop> Floor<L, M, W> {
             collector,
             shared,
             turn: _,
+            refs: _,
             refusals: _,
             voice: _,
             line_log: _,

@@ -1,9 +1,7 @@
 //! A sweep is handed in, and answered.
 
-ghost use Rattle.std.specs.Prelude.{◌≡◌, ◌≢◌, ◌+◌, slice_get, IfErr, IfOk};
-ghost use Rattle.sweep_release.specs.History.{KeptDesk};
-ghost use Rattle.release_lock.specs.Locked.{Replays, Releases};
-ghost use Rattle.desk_floor.specs.Release.{refusal_of, answer_of, placed_after, placed_shares, told};
+ghost use Rattle.std.specs.Prelude.{◌≡◌, ◌≢◌, ◌+◌, None, slice_get, IfErr, IfOk};
+ghost use Rattle.desk_floor.specs.Release.{IsAnswered, IsAnsweredUnder, IsReleased, refusal_of, answer_of, placed_after, placed_shares, told};
 
 use crate::floor::Floor;
 use crate::signals::Closing;
@@ -15,6 +13,7 @@ use release_lock::{CallerSeat, Run};
 use std::io::Write;
 use std::sync::Wait;
 use std::time::Clock;
+use sweep_refs::Submission;
 use sweep_release::{Receipt, ReleaseFault};
 use sweep_text::{Answer, Refusal};
 
@@ -76,23 +75,23 @@ fn venues_of(legs: &[Routed]) -> [bool; VENUES] {
 impl<L: Run, M: Accounts, W: Write + Drop> Floor<L, M, W> {
     /// Hands a sweep in that this line asks for, for a caller who counts on this seat, and answers with what became of
     /// it; or shows that the day is closing. The seat gains the sweep under the number that is answered, and else
-    /// nothing. The line and its answer stand behind one another in the log. It may wait for the locks; once those of
-    /// the desk and the book are given up it wakes the workers of the sweep's venues.
+    /// nothing. Under a reference a sweep is placed at most once: these legs again are answered as the first time, and
+    /// others are refused. The line and its answer stand behind one another in the log. It may wait for the locks; once
+    /// those of the desk and the book are given up it wakes the workers of the sweep's venues.
     pub fn hand_in<'a, R: Wait + Clock, C: clock::Clock + Drop>(
         &self,
         rt: &'a R,
         seat: &mut CallerSeat<L>,
         log: &mut LineLog<'a, R, C>,
         line: &[u8],
-        sweep: Sweep,
+        submission: Submission,
     ) -> Result<Answer, Closing<'_>>
-        ensures answer { IfOk result (λ answer. (before : KeptDesk) × (after : KeptDesk) × (done : _)
-            × Replays before × Replays after × Releases sweep.legs before done after
-            × (answer ≡ answer_of self.now.names.items done)) }
+        ensures answer { IfOk result (IsAnswered self.now.names.items self.now.manner.wants_refs submission) }
         ensures closing { IfErr result (λ shown. shown.of ≡ self.now.signals.closing.id) }
         ensures parts { seat.new.parts ≡ seat.old.parts }
-        ensures counted { seat.new.shares ≡ seat.old.shares + placed_shares (told result) sweep.legs }
-        ensures placed { seat.new.placed ≡ placed_after seat.old.placed (told result) sweep.legs }
+        ensures counted { seat.new.shares
+            ≡ seat.old.shares + placed_shares (told result) submission.sweep.legs }
+        ensures placed { seat.new.placed ≡ placed_after seat.old.placed (told result) submission.sweep.legs }
     {
         let _turn = self.turn.lock(rt);
         log.taken(line);
@@ -100,9 +99,41 @@ impl<L: Run, M: Accounts, W: Write + Drop> Floor<L, M, W> {
             self.note_answer(rt, log, &Answer::Closing);
             return Err(shown);
         }
-        let answer = self.release(rt, seat, sweep);
+        let answer = self.place(rt, seat, submission);
         self.note_answer(rt, log, &answer);
         Ok(answer)
+    }
+
+    /// Places a sweep, under its reference if it has one, and answers with what became of it.
+    fn place<R: Wait + Clock>(
+        &self,
+        rt: &R,
+        seat: &mut CallerSeat<L>,
+        submission: Submission,
+    ) -> Answer
+        ensures answer { IsAnswered self.now.names.items self.now.manner.wants_refs submission result }
+        ensures parts { seat.new.parts ≡ seat.old.parts }
+        ensures counted { seat.new.shares ≡ seat.old.shares + placed_shares result submission.sweep.legs }
+        ensures placed { seat.new.placed ≡ placed_after seat.old.placed result submission.sweep.legs }
+    {
+        let Submission { reference, sweep } = submission;
+        match reference {
+            Some(reference) => self.refs.lock(rt).place(rt, self, seat, reference, sweep),
+            None => self.place_bare(rt, seat, sweep),
+        }
+    }
+
+    /// Places a sweep that has no reference, where the desk takes such ones.
+    fn place_bare<R: Wait + Clock>(&self, rt: &R, seat: &mut CallerSeat<L>, sweep: Sweep) -> Answer
+        ensures answer { IsAnsweredUnder self.now.names.items self.now.manner.wants_refs None sweep.legs result }
+        ensures parts { seat.new.parts ≡ seat.old.parts }
+        ensures counted { seat.new.shares ≡ seat.old.shares + placed_shares result sweep.legs }
+        ensures placed { seat.new.placed ≡ placed_after seat.old.placed result sweep.legs }
+    {
+        if self.manner.wants_refs {
+            return Answer::Refused(Refusal::NoReference);
+        }
+        self.release(rt, seat, sweep)
     }
 
     /// Notes an answer to a sweep in the log, and a refusal among the refusals, and tells that there is news.
@@ -124,14 +155,13 @@ impl<L: Run, M: Accounts, W: Write + Drop> Floor<L, M, W> {
         rt: &'a R,
         log: &mut LineLog<'a, R, C>,
         line: &[u8],
-        sweep: Sweep,
+        submission: Submission,
     ) -> Answer
-        ensures { result ≢ Answer.Closing → (before : KeptDesk) × (after : KeptDesk) × (done : _)
-            × Replays before × Replays after × Releases sweep.legs before done after
-            × (result ≡ answer_of self.now.names.items done) }
+        ensures { result ≢ Answer.Closing
+            → IsAnswered self.now.names.items self.now.manner.wants_refs submission result }
     {
         match &self.shared {
-            Some(counter) => match counter.lock(rt).hand_in(rt, self, log, line, sweep) {
+            Some(counter) => match counter.lock(rt).hand_in(rt, self, log, line, submission) {
                 Ok(answer) => answer,
                 Err(_) => Answer::Closing,
             },
@@ -140,10 +170,13 @@ impl<L: Run, M: Accounts, W: Write + Drop> Floor<L, M, W> {
     }
 
     /// Releases a sweep for a caller who counts on this seat, and answers with what became of that.
-    fn release<R: Wait + Clock>(&self, rt: &R, seat: &mut CallerSeat<L>, sweep: Sweep) -> Answer
-        ensures answer { (before : KeptDesk) × (after : KeptDesk) × (done : _)
-            × Replays before × Replays after × Releases sweep.legs before done after
-            × (result ≡ answer_of self.now.names.items done) }
+    pub(crate) fn release<R: Wait + Clock>(
+        &self,
+        rt: &R,
+        seat: &mut CallerSeat<L>,
+        sweep: Sweep,
+    ) -> Answer
+        ensures answer { IsReleased self.now.names.items sweep.legs result }
         ensures parts { seat.new.parts ≡ seat.old.parts }
         ensures counted { seat.new.shares ≡ seat.old.shares + placed_shares result sweep.legs }
         ensures placed { seat.new.placed ≡ placed_after seat.old.placed result sweep.legs }

@@ -8,6 +8,11 @@
 //!   seat gains it, once, under the number that is answered, and its shares; else it gains nothing (`Floor::hand_in`).
 //!   The clients of the page count on a seat of their own, which has one part of the run whenever its lock is free
 //!   (`Counter`).
+//! - Under a reference a sweep is placed at most once. No two of the sweeps that were placed under references have one
+//!   reference; what is answered to a known one is the number and the shares that were placed under it, for the same
+//!   legs, and then nothing is placed. Other legs are refused, and out of memory nothing is placed. Where a sweep is
+//!   placed, it is one entry more; else they stay (`AnswersOnce`, of `Refs::place`). Which moment's entries a call
+//!   outside of their lock finds isn't said.
 //! - How a venue stands follows from what its worker told last, its gate and the dial that failed last, by the stated
 //!   definition, and so does what is told of it (`standing_of`, `Standing::state`). How a leg stands follows from the
 //!   book and from how far its venue's worker is (`state_of`). What a look finds there isn't said, as other threads
@@ -33,6 +38,7 @@ mod counter;
 mod floor;
 mod hand_in;
 mod legs;
+mod refs;
 mod refusals;
 mod signals;
 mod standing;
@@ -46,6 +52,7 @@ pub use changes::Changes;
 pub use counter::Counter;
 pub use floor::{Floor, Left};
 pub use legs::{LegStanding, sweep_legs};
+pub use refs::Refs;
 pub use refusals::{Refusals, RefusedCounts, RefusedSince};
 pub use signals::{Begun, Closing, Manner, Signals};
 pub use standing::Standing;

@@ -21,6 +21,8 @@ pub struct RefusedCounts {
     pub sweeps_spent: u64,
     pub out_of_memory: u64,
     pub wrong_book: u64,
+    pub other_legs: u64,
+    pub no_reference: u64,
     /// Since the day was closing.
     pub closing: u64,
 }
@@ -63,6 +65,8 @@ fn copy_of(refusal: &Refusal) -> Refusal
         Refusal::SweepsSpent => Refusal::SweepsSpent,
         Refusal::OutOfMemory => Refusal::OutOfMemory,
         Refusal::WrongBook => Refusal::WrongBook,
+        Refusal::OtherLegs => Refusal::OtherLegs,
+        Refusal::NoReference => Refusal::NoReference,
     }
 }
 
@@ -78,6 +82,8 @@ impl RefusedCounts {
             sweeps_spent: 0,
             out_of_memory: 0,
             wrong_book: 0,
+            other_legs: 0,
+            no_reference: 0,
             closing: 0,
         }
     }
@@ -93,6 +99,8 @@ impl RefusedCounts {
             Some(Refusal::SweepsSpent) => &mut self.sweeps_spent,
             Some(Refusal::OutOfMemory) => &mut self.out_of_memory,
             Some(Refusal::WrongBook) => &mut self.wrong_book,
+            Some(Refusal::OtherLegs) => &mut self.other_legs,
+            Some(Refusal::NoReference) => &mut self.no_reference,
             None => &mut self.closing,
         }
     }
@@ -145,7 +153,7 @@ impl Refusals {
         match answer {
             Answer::Refused(refusal) => self.kept.lock(rt).note(Some(refusal)),
             Answer::Closing => self.kept.lock(rt).note(None),
-            Answer::Placed { .. } | Answer::BadLine { .. } => {}
+            Answer::Placed { .. } | Answer::Again { .. } | Answer::BadLine { .. } => {}
         }
     }
 

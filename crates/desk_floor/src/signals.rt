@@ -22,6 +22,8 @@ pub struct Manner {
     pub tells_news: bool,
     /// Whether executions are.
     pub tells_executions: bool,
+    /// Whether a sweep without a reference is refused.
+    pub wants_refs: bool,
 }
 
 /// Whether threads that others rest on have begun.

@@ -1,6 +1,10 @@
 -- What a call is answered, over what the day says.
-use Rattle.std.specs.Prelude.{◌≡◌, ◌⊎◌, ℕ, List, Option, Some, None, Ok, Err, codes}
-use Rattle.leg.specs.declared.sweep.Routed.{Routed}
+use Rattle.std.specs.Prelude.{◌≡◌, ◌⊎◌, ℕ, ◌==◌, List, drop, length, Option, Some, None, Result, Ok, Err, codes, if◌then◌else◌}
+use Rattle.std.specs.Str.{bytes_eq}
+use Rattle.percent_encoding.specs.Percent.{percent_decode}
+use Rattle.sweep_refs.specs.Ref.{ref_of}
+use Rattle.sweep_refs.specs.declared.submission.Submission.{Submission}
+use Rattle.sweep_text.specs.Legs.{and_then, or_fault, result_map}
 use Rattle.desk_json.specs.declared.outcome.Outcome.{Outcome}
 use Rattle.desk_json.specs.declared.outcome.Outcome.TheVariants as outcome
 use Rattle.desk_json.specs.declared.standing.ExecutionsPage.{ExecutionsPage}
@@ -8,6 +12,7 @@ use Rattle.desk_json.specs.declared.standing.SweepLegs.{SweepLegs}
 use Rattle.desk_json.specs.declared.standing.SweepsPage.{SweepsPage}
 use Rattle.desk_json.specs.declared.standing.VenueRow.{VenueRow}
 use Rattle.desk_json.specs.declared.sweep_fault.BodyFault.{BodyFault}
+use Rattle.desk_json.specs.declared.sweep_fault.BodyFault.TheVariants.{BadKey, TwoReferences}
 use Rattle.desk_json.specs.Executions.{executions_json}
 use Rattle.desk_json.specs.FaultJson.{body_fault_json, said_json}
 use Rattle.desk_json.specs.Legs.{legs_json}
@@ -23,40 +28,65 @@ use Rattle.desk_http.specs.declared.run.Run.{Run}
 use Rattle.desk_http.specs.declared.status.Status.{Status}
 use Rattle.desk_http.specs.declared.status.Status.TheVariants as status
 use Rattle.desk_http.specs.Metrics.{metrics_text}
+use Rattle.desk_http.specs.Parts.{parts_at}
 use Rattle.desk_http.specs.Reply.{IsReply}
 
--- 201 where a sweep was placed, 409 where it was refused
+-- 201 where a sweep was placed, 200 where it was placed before, 409 where it was refused
 abbrev pub outcome_status : Outcome → Status
 outcome_status (outcome.Placed sweep shares) = status.Created
+outcome_status (outcome.Again sweep shares) = status.Ok
 outcome_status (outcome.Refused refusal) = status.Conflict
 outcome_status outcome.Closing = status.Conflict
 
--- the sweep of these legs was handed in, and the answer is what became of it
-pub record Placed {S : Type 0} (places : S → List Routed → Outcome → S → Type 0) (old : S) (legs : List Routed)
+-- the sweep was handed in, and the answer is what became of it
+pub record Placed {S : Type 0} (places : S → Submission → Outcome → S → Type 0) (old : S) (submission : Submission)
     (reply : Reply) (new : S) : Type 0 where
   pub said : Outcome
-  pub by_the_day : places old legs said new
+  pub by_the_day : places old submission said new
   pub answer : IsReply reply (outcome_status said) Json (outcome_json said)
 
--- the body asks for legs, whose sweep was handed in
-pub record HandedIn {S : Type 0} (names : List (List ℕ)) (places : S → List Routed → Outcome → S → Type 0)
-    (body : List ℕ) (old : S) (reply : Reply) (new : S) : Type 0 where
-  pub legs : List Routed
-  pub read : BodySays names body (Ok legs)
-  pub placed : Placed places old legs reply new
+-- the key of a head, read: none where the head has none
+abbrev pub key_in : List ℕ → Result (Option (List ℕ)) BodyFault
+key_in key = if length key == 0 then Ok None else result_map Some (or_fault BadKey (ref_of key))
 
--- the body has a fault, the day was asked nothing, and the answer is the fault
-pub record NoSweep {S : Type 0} (names : List (List ℕ)) (body : List ℕ) (old : S) (reply : Reply) (new : S)
+-- one reference of the two that head and body may have: where both have one, they have to be the same
+abbrev pub one_of : Option (List ℕ) → Option (List ℕ) → Result (Option (List ℕ)) BodyFault
+one_of None reference = Ok reference
+one_of (Some key) None = Ok (Some key)
+one_of (Some key) (Some reference) = if bytes_eq key reference then Ok (Some key) else Err TwoReferences
+
+-- the sweep of a body under the key of the head
+abbrev pub keyed : List ℕ → Submission → Result Submission BodyFault
+keyed key submission =
+    and_then (key_in key) (λ head. and_then (one_of head submission.reference) (λ reference.
+    Ok (record submission { reference = reference })))
+
+-- body and head ask for this sweep, or have this fault
+pub record Asks (names : List (List ℕ)) (body key : List ℕ) (asked : Result Submission BodyFault) : Type 0 where
+  pub in_body : Result Submission BodyFault
+  pub read : BodySays names body in_body
+  pub asked_is : asked ≡ and_then in_body (keyed key)
+
+-- they ask for a sweep, which was handed in
+pub record HandedIn {S : Type 0} (names : List (List ℕ)) (places : S → Submission → Outcome → S → Type 0)
+    (body key : List ℕ) (old : S) (reply : Reply) (new : S) : Type 0 where
+  pub submission : Submission
+  pub asks : Asks names body key (Ok submission)
+  pub placed : Placed places old submission reply new
+
+-- they have a fault, the day was asked nothing, and the answer is the fault
+pub record NoSweep {S : Type 0} (names : List (List ℕ)) (body key : List ℕ) (old : S) (reply : Reply) (new : S)
     : Type 0 where
   pub fault : BodyFault
-  pub read : BodySays names body (Err fault)
+  pub asks : Asks names body key (Err fault)
   pub unasked : new ≡ old
   pub answer : IsReply reply status.BadRequest Json (body_fault_json fault)
 
--- a body is handed in, or has a fault
-abbrev pub Handles : {S : Type 0} → List (List ℕ) → (S → List Routed → Outcome → S → Type 0) → List ℕ → S → Reply → S
-    → Type 0
-Handles names places body old reply new = HandedIn names places body old reply new ⊎ NoSweep names body old reply new
+-- a body is handed in under the key of its head, or one of them has a fault
+abbrev pub Handles : {S : Type 0} → List (List ℕ) → (S → Submission → Outcome → S → Type 0) → List ℕ → List ℕ → S
+    → Reply → S → Type 0
+Handles names places body key old reply new =
+    HandedIn names places body key old reply new ⊎ NoSweep names body key old reply new
 
 -- the answer is the page of sweeps that the day said
 pub record ShowsSweeps {S : Type 0} (pages : S → ℕ → ℕ → SweepsPage → S → Type 0) (after most : ℕ) (old : S)
@@ -75,6 +105,22 @@ pub record ShowsLegs {S : Type 0} (shows : S → ℕ → Option SweepLegs → S 
   pub said : Option SweepLegs
   pub by_the_day : shows old number said new
   pub answer : IsLegs reply said
+
+-- the reference that a target's query asks for, behind its `ref=`
+abbrev pub ref_asked : List ℕ → Option (List ℕ)
+ref_asked target = ref_of (percent_decode (drop 4 (parts_at 63 target).1))
+
+-- the answer is that there is no such sweep, or the legs that the day said of the one that was found
+abbrev pub ShowsFound : {S : Type 0} → (S → ℕ → Option SweepLegs → S → Type 0) → Option ℕ → S → Reply → S → Type 0
+ShowsFound shows None old reply new = IsLegs reply None × (new ≡ old)
+ShowsFound shows (Some number) old reply new = ShowsLegs shows number old reply new
+
+-- the same, of the sweep that the day finds under a reference; under a text that is no reference there is none
+abbrev pub Finds : {S : Type 0} → (S → List ℕ → Option ℕ → Type 0) → (S → ℕ → Option SweepLegs → S → Type 0)
+    → Option (List ℕ) → S → Reply → S → Type 0
+Finds finds shows None old reply new = IsLegs reply None × (new ≡ old)
+Finds finds shows (Some reference) old reply new =
+    (number : Option ℕ) × finds old reference number × ShowsFound shows number old reply new
 
 -- the answer is the page of executions that the day said
 pub record ShowsExecutions {S : Type 0} (reports : S → ℕ → ℕ → ExecutionsPage → S → Type 0) (after most : ℕ) (old : S)

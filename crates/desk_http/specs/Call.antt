@@ -45,7 +45,8 @@ executions_in (Some window) = Ok (call.Executions window.after window.most)
 
 -- what is asked of the sweeps
 abbrev pub sweeps_call : Method → List ℕ → Result Call Refused
-sweeps_call Get query = window_call (window_of query)
+sweeps_call Get query =
+    if starts_with nat_eq query (codes "ref=") then Ok call.Find else window_call (window_of query)
 sweeps_call Post query = Ok call.Place
 sweeps_call Other query = Err (NoMethod allow.Both)
 
@@ -84,6 +85,7 @@ changes_the_day call.Page = false
 changes_the_day call.Place = true
 changes_the_day (call.Sweeps after most) = false
 changes_the_day (call.Sweep number) = false
+changes_the_day call.Find = false
 changes_the_day (call.Executions after most) = false
 changes_the_day call.Venues = false
 changes_the_day call.Events = false

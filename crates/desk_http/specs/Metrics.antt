@@ -47,7 +47,8 @@ refused_legs counts =
 unfoldable pub refused_desk : RefusalCounts → List ℕ
 refused_desk counts =
     refused_sample (codes "R06") counts.sweeps_spent ++ refused_sample (codes "R07") counts.out_of_memory
-    ++ refused_sample (codes "R08") counts.wrong_book ++ refused_sample (codes "closing") counts.closing
+    ++ refused_sample (codes "R08") counts.wrong_book ++ refused_sample (codes "R09") counts.other_legs
+    ++ refused_sample (codes "R10") counts.no_reference ++ refused_sample (codes "closing") counts.closing
 
 -- how many sweeps were refused, by their codes
 unfoldable pub refusals_text : RefusalCounts → List ℕ

@@ -34,6 +34,8 @@ pub enum Call {
     Sweeps { after: u64, most: u64 },
     /// The legs of a sweep.
     Sweep(u64),
+    /// The legs of the sweep that was placed under a reference, which the query has.
+    Find,
     /// The executions behind a number, at most so many.
     Executions { after: u64, most: u64 },
     Venues,
@@ -87,6 +89,7 @@ fn sweeps_call(method: Method, query: &[u8]) -> Result<Call, Refused>
 {
     match method {
         Method::Post => Ok(Call::Place),
+        Method::Get if query.starts_with(b"ref=") => Ok(Call::Find),
         Method::Get => match window_of(query) {
             Some(window) => Ok(Call::Sweeps {
                 after: window.after,

@@ -44,7 +44,7 @@ fn carry_out<S: Write, D: Day>(
     if call == Call::Events && follow_day(alloc, stream, day, run, last)? {
         return Ok(());
     }
-    let reply = answer(alloc, day, page, run, call, request.body.as_slice())?;
+    let reply = answer(alloc, day, page, run, call, request)?;
     send_reply(alloc, stream, run, &reply)
 }
 

@@ -2,7 +2,7 @@
 
 ghost use Rattle.std.specs.Prelude.{◌≡◌, ◌≤◌, ℕ, List, Option, length, IfOk};
 ghost use Rattle.std.specs.Option.{option_map};
-ghost use Rattle.leg.specs.declared.sweep.Routed.{Routed};
+ghost use Rattle.sweep_refs.specs.declared.submission.Submission.{Submission};
 ghost use Rattle.desk_json.specs.declared.outcome.Outcome.{Outcome};
 ghost use Rattle.desk_json.specs.declared.standing.ExecutionsPage.{ExecutionsPage};
 ghost use Rattle.desk_json.specs.declared.standing.SweepLegs.{SweepLegs};
@@ -15,8 +15,8 @@ use crate::day_sums::DaySums;
 use crate::refusal_counts::RefusalCounts;
 use desk_json::{Event, ExecutionsPage, Outcome, SweepLegs, SweepsPage, VenueRow};
 use desk_words::VenueName;
-use leg::Sweep;
 use std::alloc::AllocError;
+use sweep_refs::{Submission, SweepRef};
 
 /// What changed in the day.
 #[derive(Debug, Drop)]
@@ -35,9 +35,11 @@ pub trait Day {
     ghost venue_names: { Self → List (List ℕ) };
 
     // What the day answers, and what it is from then on.
-    ghost places: { Self → List Routed → Outcome → Self → Type 0 };
+    ghost places: { Self → Submission → Outcome → Self → Type 0 };
 
     ghost pages: { Self → ℕ → ℕ → SweepsPage → Self → Type 0 };
+
+    ghost finds: { Self → List ℕ → Option ℕ → Type 0 };
 
     ghost shows: { Self → ℕ → Option SweepLegs → Self → Type 0 };
 
@@ -57,8 +59,12 @@ pub trait Day {
         ensures few { length result.now ≤ 16 };
 
     /// Hands a sweep in, and says what becomes of it.
-    fn place(&mut self, sweep: Sweep) -> Outcome
-        ensures { places self.old sweep.legs result self.new };
+    fn place(&mut self, submission: Submission) -> Outcome
+        ensures { places self.old submission result self.new };
+
+    /// The number under which a sweep was placed under a reference, if one was.
+    fn find(&self, reference: &SweepRef) -> Option<u64>
+        ensures { finds self.now reference.now result };
 
     /// The sweeps behind a number, at most so many, with the sums of the day.
     fn sweeps(&mut self, after: u64, most: u64) -> Result<SweepsPage, AllocError>

@@ -78,6 +78,8 @@ fn write_refused_desk(text: &mut String, counts: &RefusalCounts) -> Result<(), A
     write_refused(text, "R06", counts.sweeps_spent)?;
     write_refused(text, "R07", counts.out_of_memory)?;
     write_refused(text, "R08", counts.wrong_book)?;
+    write_refused(text, "R09", counts.other_legs)?;
+    write_refused(text, "R10", counts.no_reference)?;
     write_refused(text, "closing", counts.closing)
 }
 

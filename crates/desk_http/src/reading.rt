@@ -64,6 +64,7 @@ fn no_request(alloc: Global) -> Request {
         content_type: Vec::new(alloc),
         authorization: Vec::new(alloc),
         last_event_id: Vec::new(alloc),
+        idempotency_key: Vec::new(alloc),
         body: Vec::new(alloc),
     }
 }
@@ -105,6 +106,9 @@ impl Request {
         }
         if name.eq_ignore_ascii_case(b"last-event-id") {
             return keep(&mut self.last_event_id, value);
+        }
+        if name.eq_ignore_ascii_case(b"idempotency-key") {
+            return keep(&mut self.idempotency_key, value);
         }
         Ok(true)
     }

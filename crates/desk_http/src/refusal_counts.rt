@@ -12,5 +12,7 @@ pub struct RefusalCounts {
     pub sweeps_spent: u64,
     pub out_of_memory: u64,
     pub wrong_book: u64,
+    pub other_legs: u64,
+    pub no_reference: u64,
     pub closing: u64,
 }

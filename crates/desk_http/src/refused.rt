@@ -8,7 +8,8 @@ use crate::status::{Allow, Status};
 /// Why a request isn't carried out. The desk was asked nothing.
 #[derive(Clone, Copy, Debug, PartialEq, Eq)]
 pub enum Refused {
-    /// What came is no HTTP request, or has `Host`, `Origin`, `Content-Type` or `Authorization` twice.
+    /// What came is no HTTP request, or has `Host`, `Origin`, `Content-Type`, `Authorization` or `Idempotency-Key`
+    /// twice.
     Unreadable,
     /// No whole request came in time.
     TooSlow,

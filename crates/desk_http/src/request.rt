@@ -19,5 +19,7 @@ pub struct Request {
     pub content_type: Vec<u8>,
     pub authorization: Vec<u8>,
     pub last_event_id: Vec<u8>,
+    /// The reference of a sweep, where it stands in the head.
+    pub idempotency_key: Vec<u8>,
     pub body: Vec<u8>,
 }

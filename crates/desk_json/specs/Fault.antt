@@ -25,6 +25,8 @@ key_fault_text (key.BadPrice word) = codes "bad price " ++ word
 abbrev pub sweep_fault_text : SweepFault → List ℕ
 sweep_fault_text sweep.NoSweep = codes "a sweep is an object with legs"
 sweep_fault_text (sweep.Unknown word) = codes "unknown key " ++ word
+sweep_fault_text sweep.RefNotText = codes "ref has to be text"
+sweep_fault_text (sweep.BadReference word) = codes "bad reference " ++ word
 sweep_fault_text (sweep.Leg place fault) = key_fault_text fault
 
 -- why a body asks for no sweep
@@ -32,3 +34,5 @@ abbrev pub body_fault_text : BodyFault → List ℕ
 body_fault_text (body.NoJson line column) = codes "no JSON"
 body_fault_text body.KeyTwice = codes "an object has a key twice"
 body_fault_text (body.Sweep fault) = sweep_fault_text fault
+body_fault_text body.BadKey = codes "bad Idempotency-Key"
+body_fault_text body.TwoReferences = codes "Idempotency-Key and ref differ"

@@ -40,6 +40,8 @@ leg_fault_json place fault = at_leg_json (quoted (key_fault_text fault)) place (
 abbrev pub sweep_fault_json : SweepFault → List ℕ
 sweep_fault_json sweep.NoSweep = said_json (sweep_fault_text sweep.NoSweep)
 sweep_fault_json (sweep.Unknown word) = said_json (sweep_fault_text (sweep.Unknown word))
+sweep_fault_json sweep.RefNotText = said_json (sweep_fault_text sweep.RefNotText)
+sweep_fault_json (sweep.BadReference word) = said_json (sweep_fault_text (sweep.BadReference word))
 sweep_fault_json (sweep.Leg place fault) = leg_fault_json place fault
 
 -- why a body asks for no sweep, as `{"fault":"no JSON","line":1,"column":5}` where it is no JSON
@@ -48,3 +50,5 @@ body_fault_json (body.NoJson line column) =
     codes "{\"fault\":\"no JSON\",\"line\":" ++ decimal line ++ codes ",\"column\":" ++ decimal column ++ codes "}"
 body_fault_json body.KeyTwice = said_json (body_fault_text body.KeyTwice)
 body_fault_json (body.Sweep fault) = sweep_fault_json fault
+body_fault_json body.BadKey = said_json (codes "bad Idempotency-Key")
+body_fault_json body.TwoReferences = said_json (codes "Idempotency-Key and ref differ")

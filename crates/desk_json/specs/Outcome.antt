@@ -1,9 +1,9 @@
 -- What a sweep that is handed in is answered, in JSON.
 use Rattle.std.specs.Prelude.{ℕ, List, ◌++◌, codes, decimal}
 use Rattle.sweep_text.specs.declared.answer.Refusal.{Refusal}
-use Rattle.sweep_text.specs.declared.answer.Refusal.TheVariants.{NoLegs, TooManyLegs, UnknownVenue, GateDown, BacklogFull, SweepsSpent, OutOfMemory, WrongBook}
+use Rattle.sweep_text.specs.declared.answer.Refusal.TheVariants.{NoLegs, TooManyLegs, UnknownVenue, GateDown, BacklogFull, SweepsSpent, OutOfMemory, WrongBook, OtherLegs, NoReference}
 use Rattle.desk_json.specs.declared.outcome.Outcome.{Outcome}
-use Rattle.desk_json.specs.declared.outcome.Outcome.TheVariants.{Placed, Refused, Closing}
+use Rattle.desk_json.specs.declared.outcome.Outcome.TheVariants.{Placed, Again, Refused, Closing}
 
 -- why a sweep isn't placed; a venue that is to blame is named
 abbrev pub refusal_json : Refusal → List ℕ
@@ -17,14 +17,18 @@ refusal_json (BacklogFull venue) =
 refusal_json SweepsSpent = codes "{\"refused\":\"R06\",\"text\":\"the numbers of sweeps are spent\"}"
 refusal_json OutOfMemory = codes "{\"refused\":\"R07\",\"text\":\"out of memory\"}"
 refusal_json WrongBook = codes "{\"refused\":\"R08\",\"text\":\"the book isn't the desk's\"}"
+refusal_json OtherLegs = codes "{\"refused\":\"R09\",\"text\":\"its reference is another sweep's\"}"
+refusal_json NoReference = codes "{\"refused\":\"R10\",\"text\":\"it has no reference\"}"
 
 -- the refusal of a day that is closing
 abbrev pub closing_json : List ℕ
 closing_json = codes "{\"refused\":\"closing\",\"text\":\"the day is closing\"}"
 
--- as `{"placed":12,"shares":150}`, or the refusal
+-- as `{"placed":12,"shares":150}`, with `"again":true` where it was placed before, or the refusal
 abbrev pub outcome_json : Outcome → List ℕ
 outcome_json (Placed sweep shares) =
     codes "{\"placed\":" ++ decimal sweep ++ codes ",\"shares\":" ++ decimal shares ++ codes "}"
+outcome_json (Again sweep shares) =
+    codes "{\"placed\":" ++ decimal sweep ++ codes ",\"shares\":" ++ decimal shares ++ codes ",\"again\":true}"
 outcome_json (Refused refusal) = refusal_json refusal
 outcome_json Closing = closing_json

@@ -2,7 +2,7 @@
 use Rattle.std.specs.Prelude.{ℕ, ◌-◌, List, [], ◌++◌, codes, decimal, Option, Some, None}
 use Rattle.json.specs.Print.{quoted}
 use Rattle.session_core.specs.declared.ended.Ended.{Ended}
-use Rattle.session_core.specs.declared.ended.Ended.TheVariants.{FirstNotLogon, TooLow, WrongComp, ResetRefused, ResendInDoubt, BadResend, PeerLogout, LogonAgain, BadGapFill, Silent, Malformed, LogoutDone, BadNextExpected}
+use Rattle.session_core.specs.declared.ended.Ended.TheVariants.{FirstNotLogon, TooLow, WrongComp, ResetRefused, ResendInDoubt, BadResend, PeerLogout, LogonAgain, BadGapFill, Silent, Malformed, LogoutDone, BadNextExpected, PeerForgot}
 use Rattle.desk_news.specs.declared.cause.Cause.{Cause}
 use Rattle.desk_news.specs.declared.cause.Cause.TheVariants as cause
 use Rattle.desk_news.specs.declared.venue_state.VenueState.{VenueState}
@@ -26,6 +26,7 @@ ending_words Silent = codes "it was silent"
 ending_words Malformed = codes "it sent a malformed message"
 ending_words LogoutDone = codes "it answered our logout"
 ending_words BadNextExpected = codes "it expects a number that was not sent"
+ending_words PeerForgot = codes "it forgot numbers that it had taken"
 
 -- its code
 abbrev pub ending_code : Ended → List ℕ
@@ -42,6 +43,7 @@ ending_code Silent = codes "E10"
 ending_code Malformed = codes "E11"
 ending_code LogoutDone = codes "E12"
 ending_code BadNextExpected = codes "E13"
+ending_code PeerForgot = codes "E14"
 
 -- why a session ended its connection, as it stands in an object behind the state
 abbrev pub ended_json : Ended → List ℕ

@@ -62,6 +62,11 @@ fn sweep_fault_json(alloc: Global, fault: &SweepFault) -> Result<String, AllocEr
             let words = format!(in alloc; "{fault}")?;
             said_json(alloc, words.as_str())
         }
+        SweepFault::RefNotText => said_json(alloc, "ref has to be text"),
+        SweepFault::BadReference(_) => {
+            let words = format!(in alloc; "{fault}")?;
+            said_json(alloc, words.as_str())
+        }
         SweepFault::Leg { place, fault } => leg_fault_json(alloc, *place, fault),
     }
 }
@@ -77,5 +82,7 @@ pub fn body_fault_json(alloc: Global, fault: &BodyFault) -> Result<String, Alloc
         }
         BodyFault::KeyTwice => said_json(alloc, "an object has a key twice"),
         BodyFault::Sweep(fault) => sweep_fault_json(alloc, fault),
+        BodyFault::BadKey => said_json(alloc, "bad Idempotency-Key"),
+        BodyFault::TwoReferences => said_json(alloc, "Idempotency-Key and ref differ"),
     }
 }

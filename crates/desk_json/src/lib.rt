@@ -2,9 +2,9 @@
 //! written.
 //!
 //! Promises:
-//! - `read_sweep` gives exactly the legs that a body asks for (`sweep_in` of the JSON that it is), or the first fault
-//!   with its leg and key, or says that it is no JSON in UTF-8, or that an object of it has a key twice (`BodySays`).
-//!   Where in a body that is no JSON the reader stood isn't said.
+//! - `read_sweep` gives exactly the sweep that a body asks for, with its reference (`sweep_in` of the JSON that it is),
+//!   or the first fault with its leg and key, or says that it is no JSON in UTF-8, or that an object of it has a key
+//!   twice (`BodySays`). Where in a body that is no JSON the reader stood isn't said.
 //! - Each text that is written is the stated one, over the values that it is written of: `outcome_json`,
 //!   `body_fault_json`, `sweeps_json`, `legs_json`, `executions_json`, `venues_json`, `event_text`. Texts of others
 //!   stand in them as strings of JSON (`quoted`). That a whole text is JSON is only tested.

@@ -11,6 +11,8 @@ use sweep_text::Refusal;
 pub enum Outcome {
     /// The number of the sweep, and the shares of all its legs.
     Placed { sweep: u64, shares: u64 },
+    /// Nothing is placed: these legs were placed before under the same reference, as this number.
+    Again { sweep: u64, shares: u64 },
     Refused(Refusal),
     /// Refused, since the day is closing.
     Closing,
@@ -55,6 +57,14 @@ pub fn refusal_json(alloc: Global, refusal: &Refusal) -> Result<String, AllocErr
             alloc,
             r#"{"refused":"R08","text":"the book isn't the desk's"}"#,
         ),
+        Refusal::OtherLegs => String::from_str(
+            alloc,
+            r#"{"refused":"R09","text":"its reference is another sweep's"}"#,
+        ),
+        Refusal::NoReference => String::from_str(
+            alloc,
+            r#"{"refused":"R10","text":"it has no reference"}"#,
+        ),
     }
 }
 
@@ -68,13 +78,17 @@ pub(crate) fn closing_json(alloc: Global) -> Result<String, AllocError>
     )
 }
 
-/// What became of a sweep, as `{"placed":12,"shares":150}`, or why it was refused. The only refusal is out of memory.
+/// What became of a sweep, as `{"placed":12,"shares":150}`, with `"again":true` where it was placed before, or why it
+/// was refused. The only refusal is out of memory.
 pub fn outcome_json(alloc: Global, outcome: &Outcome) -> Result<String, AllocError>
     ensures { IfOk result (λ text. string_bytes text ≡ outcome_json outcome.now) }
 {
     match outcome {
         Outcome::Placed { sweep, shares } => {
             format!(in alloc; "{{\"placed\":{sweep},\"shares\":{shares}}}")
+        }
+        Outcome::Again { sweep, shares } => {
+            format!(in alloc; "{{\"placed\":{sweep},\"shares\":{shares},\"again\":true}}")
         }
         Outcome::Refused(refusal) => refusal_json(alloc, refusal),
         Outcome::Closing => closing_json(alloc),

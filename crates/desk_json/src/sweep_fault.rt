@@ -12,8 +12,12 @@ use sweep_text::Word;
 pub enum SweepFault {
     /// It is no object with `legs`, an array.
     NoSweep,
-    /// A key beside `legs`; of several the first by its bytes.
+    /// A key beside `legs` and `ref`; of several the first by its bytes.
     Unknown(Word),
+    /// The reference isn't a text.
+    RefNotText,
+    /// It isn't 1 to 64 printable characters without a space.
+    BadReference(Word),
     /// A leg has a fault, the first that has one; places are counted from 1.
     Leg { place: usize, fault: KeyFault },
 }
@@ -26,6 +30,10 @@ pub enum BodyFault {
     /// An object, at any depth, has a key twice.
     KeyTwice,
     Sweep(SweepFault),
+    /// What stands in the head as `Idempotency-Key` is no reference.
+    BadKey,
+    /// Head and body have two references.
+    TwoReferences,
 }
 
 impl fmt::Display for SweepFault {
@@ -35,6 +43,8 @@ impl fmt::Display for SweepFault {
         match self {
             SweepFault::NoSweep => write!(f, "a sweep is an object with legs"),
             SweepFault::Unknown(key) => write!(f, "unknown key {key}"),
+            SweepFault::RefNotText => write!(f, "ref has to be text"),
+            SweepFault::BadReference(word) => write!(f, "bad reference {word}"),
             SweepFault::Leg { fault, .. } => write!(f, "{fault}"),
         }
     }
@@ -48,6 +58,8 @@ impl fmt::Display for BodyFault {
             BodyFault::NoJson { .. } => write!(f, "no JSON"),
             BodyFault::KeyTwice => write!(f, "an object has a key twice"),
             BodyFault::Sweep(fault) => write!(f, "{fault}"),
+            BodyFault::BadKey => write!(f, "bad Idempotency-Key"),
+            BodyFault::TwoReferences => write!(f, "Idempotency-Key and ref differ"),
         }
     }
 }

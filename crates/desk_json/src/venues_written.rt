@@ -30,6 +30,7 @@ fn ending_words(ended: Ended) -> &'static str
         Ended::Malformed => "it sent a malformed message",
         Ended::LogoutDone => "it answered our logout",
         Ended::BadNextExpected => "it expects a number that was not sent",
+        Ended::PeerForgot => "it forgot numbers that it had taken",
     }
 }
 
@@ -51,6 +52,7 @@ fn ending_code(ended: Ended) -> &'static str
         Ended::Malformed => "E11",
         Ended::LogoutDone => "E12",
         Ended::BadNextExpected => "E13",
+        Ended::PeerForgot => "E14",
     }
 }
 

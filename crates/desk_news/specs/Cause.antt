@@ -1,7 +1,7 @@
 -- Why a connection ended, in words.
 use Rattle.std.specs.Prelude.{ℕ, List, ◌++◌, codes}
 use Rattle.session_core.specs.declared.ended.Ended.{Ended}
-use Rattle.session_core.specs.declared.ended.Ended.TheVariants.{FirstNotLogon, TooLow, WrongComp, ResetRefused, ResendInDoubt, BadResend, PeerLogout, LogonAgain, BadGapFill, Silent, Malformed, LogoutDone, BadNextExpected}
+use Rattle.session_core.specs.declared.ended.Ended.TheVariants.{FirstNotLogon, TooLow, WrongComp, ResetRefused, ResendInDoubt, BadResend, PeerLogout, LogonAgain, BadGapFill, Silent, Malformed, LogoutDone, BadNextExpected, PeerForgot}
 use Rattle.desk_news.specs.declared.cause.Cause.{Cause}
 use Rattle.desk_news.specs.declared.cause.Cause.TheVariants as cause
 
@@ -20,6 +20,7 @@ ending_text Silent = codes "it was silent (E10)"
 ending_text Malformed = codes "it sent a malformed message (E11)"
 ending_text LogoutDone = codes "it answered our logout (E12)"
 ending_text BadNextExpected = codes "it expects a number that was not sent (E13)"
+ending_text PeerForgot = codes "it forgot numbers that it had taken (E14)"
 
 -- why a connection ended, as `it was silent (E10)`, `it logged out (E07): back at noon` or `connection reset`
 abbrev pub cause_text : Cause → List ℕ

@@ -28,6 +28,7 @@ impl fmt::Display for Ending {
             Ended::Malformed => write!(f, "it sent a malformed message (E11)"),
             Ended::LogoutDone => write!(f, "it answered our logout (E12)"),
             Ended::BadNextExpected => write!(f, "it expects a number that was not sent (E13)"),
+            Ended::PeerForgot => write!(f, "it forgot numbers that it had taken (E14)"),
         }
     }
 }

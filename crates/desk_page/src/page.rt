@@ -5,7 +5,7 @@ pub const PAGE: &str = r###"<!doctype html>
 <html lang="en">
 <head>
 <meta charset="utf-8">
-<meta http-equiv="Content-Security-Policy" content="default-src 'none'; script-src 'sha256-tCcUvkwGFwMsriejRmaCZapIgj2truKnbChvWHrt4Pc='; style-src 'sha256-YZSIKH6yJWE1TJiqAl/uWIG5QHVgjG9MX/tOSwLKO1Y='; connect-src 'self'; base-uri 'none'; form-action 'none'; require-trusted-types-for 'script'; trusted-types 'none'">
+<meta http-equiv="Content-Security-Policy" content="default-src 'none'; script-src 'sha256-Rh2cZLANyR4dWriUm8/ysELc+NYSPGYBIclxMq49Fsc='; style-src 'sha256-YZSIKH6yJWE1TJiqAl/uWIG5QHVgjG9MX/tOSwLKO1Y='; connect-src 'self'; base-uri 'none'; form-action 'none'; require-trusted-types-for 'script'; trusted-types 'none'">
 <meta name="viewport" content="width=device-width, initial-scale=1">
 <meta name="referrer" content="no-referrer">
 <meta name="color-scheme" content="light dark">
@@ -722,7 +722,9 @@ async function ask(path) {
   const signal = AbortSignal.timeout(ANSWER_WITHIN);
   const response = await fetch(path, { cache: "no-store", redirect: "error", signal });
   if (!isOfThisRun(response.headers.get("Dispatch-Run"))) throw ANOTHER_RUN;
-  if (!response.ok) throw new Error(`${path} was answered ${response.status}`);
+  if (!response.ok) {
+    throw Object.assign(new Error(`${path} was answered ${response.status}`), { status: response.status });
+  }
   return parse(await response.text());
 }
 
@@ -1189,6 +1191,44 @@ function summary(legs) {
 
 let handing = false;
 
+// What this sweep is called: under one reference the desk places a sweep at most once.
+function newReference() {
+  const bytes = [...crypto.getRandomValues(new Uint8Array(16))];
+  return bytes.map(byte => byte.toString(16).padStart(2, "0")).join("");
+}
+
+// How often a sweep is submitted where no answer comes, and the milliseconds between two tries.
+const MOST_TRIES = 4;
+const TRY_AFTER = 1000;
+
+// Submits a sweep under one reference until an answer comes, a few times. A try again needs an answer of the same run
+// first: if the program was started again, the new run doesn't know the reference.
+async function submit(sweep) {
+  const began = run;
+  let answer = await post("/api/sweeps", sweep);
+  for (let tries = 1; answer?.lost && tries < MOST_TRIES; tries += 1) {
+    say("warn", "Asking again, since no answer came…");
+    await new Promise(resolve => setTimeout(resolve, TRY_AFTER));
+    const found = await foundUnder(sweep.ref);
+    if (run !== began) break;
+    if (found) {
+      const shares = sweep.legs.reduce((sum, leg) => sum + leg.shares, 0);
+      return { status: 200, said: { placed: found, shares } };
+    }
+    if (found === 0) answer = await post("/api/sweeps", sweep);
+  }
+  return answer;
+}
+
+// The number of the sweep that was placed under a reference, 0 for none, and null where the desk doesn't answer.
+async function foundUnder(reference) {
+  try {
+    return (await ask(`/api/sweeps?ref=${reference}`)).sweep;
+  } catch (fault) {
+    return fault.status === 404 ? 0 : null;
+  }
+}
+
 async function handIn(event) {
   event.preventDefault();
   if (handing || at("send").disabled) return;
@@ -1199,7 +1239,7 @@ async function handIn(event) {
   drawStanding();
   say("calm", "Handing in…");
   const said = legs.map(({ shares, ...leg }) => ({ ...leg, shares: Number(shares) }));
-  const answer = await post("/api/sweeps", { legs: said });
+  const answer = await submit({ ref: newReference(), legs: said });
   handing = false;
   drawStanding();
   takeAnswer(answer);
@@ -1212,7 +1252,7 @@ function takeAnswer(answer) {
     return say("bad", `No answer came. ${what}`);
   }
   const { status, said } = answer;
-  if (status === 201) {
+  if (status === 201 || status === 200) {
     say("good", `Placed as sweep ${said.placed}: ${counted(said.shares, "share")}.`);
     at("legs").replaceChildren();
     addLeg().querySelector("select").focus();

@@ -11,7 +11,7 @@ ghost use Rattle.desk_run.specs.Seats.{shared_parts};
 
 use clock::UtcClock;
 use desk_config::Venue;
-use desk_floor::{Bells, Counter, Floor, Manner, Refusals, Signals, Voice};
+use desk_floor::{Bells, Counter, Floor, Manner, Refs, Refusals, Signals, Voice};
 use desk_serve::PageServer;
 use desk_threads::Cast;
 use desk_venues::{DayFault, DeskLink, Exchange, OpenVenues, Sight, open_venues};
@@ -130,6 +130,7 @@ where
         collector,
         shared,
         turn: Mutex::new(()),
+        refs: Mutex::new(Refs::new(alloc)),
         refusals: Refusals::new(alloc),
         voice,
         line_log,

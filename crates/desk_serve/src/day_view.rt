@@ -2,6 +2,7 @@
 
 ghost use Rattle.std.specs.Prelude.{◌≡◌, ⊤, IfOk, filter_map, length};
 ghost use Rattle.std.specs.Option.{IsSomeAnd};
+ghost use Rattle.desk_floor.specs.Release.{IsNumber};
 ghost use Rattle.desk_serve.specs.Answered.{IsAnswered, outcome_of};
 ghost use Rattle.desk_serve.specs.Executions.{IsExecutions};
 ghost use Rattle.desk_serve.specs.Shown.{AreAll, AreShown, IsPage, IsSums, IsSweep};
@@ -16,12 +17,12 @@ use desk_http::{Changes, Day, DaySums, RefusalCounts};
 use desk_json::{Event, ExecutionsPage, LegRow, Outcome, SweepLegs, SweepsPage, VenueRow};
 use desk_words::VenueName;
 use exec_collector::Accounts;
-use leg::Sweep;
 use release_lock::Run;
 use std::alloc::{AllocError, Global};
 use std::io::Write;
 use std::sync::Wait;
 use std::time::{Clock, Duration};
+use sweep_refs::{Submission, SweepRef};
 use sweep_text::{Answer, Refusal, write_sweep};
 
 /// How many milliseconds pass between two tellings, at least: what comes in a burst is told once.
@@ -57,6 +58,7 @@ fn outcome_of(answer: Answer) -> Outcome
 {
     match answer {
         Answer::Placed { sweep, shares } => Outcome::Placed { sweep, shares },
+        Answer::Again { sweep, shares } => Outcome::Again { sweep, shares },
         Answer::Refused(refusal) => Outcome::Refused(refusal),
         Answer::Closing => Outcome::Closing,
         Answer::BadLine { .. } => Outcome::Refused(Refusal::OutOfMemory),
@@ -167,9 +169,12 @@ impl<'a, L: Run, M: Accounts, W: Write + Drop, R: Wait + Clock> DayView<'a, L, M
 impl<'a, L: Run, M: Accounts, W: Write + Drop, R: Wait + Clock> Day for DayView<'a, L, M, W, R> {
     ghost venue_names = { λ day. day.floor.now.names.items };
 
-    ghost places = { λ day legs outcome _. IsAnswered day.floor.now.names.items legs outcome };
+    ghost places = { λ day submission outcome _.
+        IsAnswered day.floor.now.names.items day.floor.now.manner.wants_refs submission outcome };
 
     ghost pages = { λ _ after most page _. IsPage after most page };
+
+    ghost finds = { λ _ reference number. IsNumber reference number };
 
     ghost shows = { λ day number shown _.
         IsSweep day.floor.now.names.items (length day.floor.now.views.items) number shown };
@@ -188,17 +193,22 @@ impl<'a, L: Run, M: Accounts, W: Write + Drop, R: Wait + Clock> Day for DayView<
         self.floor.names.as_slice()
     }
 
-    fn place(&mut self, sweep: Sweep) -> Outcome {
+    fn place(&mut self, submission: Submission) -> Outcome {
         let names = self.floor.names.as_slice();
-        let written = write_sweep(self.alloc, names, sweep.legs.as_slice());
+        let legs = submission.sweep.legs.as_slice();
+        let written = write_sweep(self.alloc, names, submission.reference.as_ref(), legs);
         let line = match &written {
             Ok(line) => line.as_bytes(),
             Err(_) => b"",
         };
         outcome_of(
             self.floor
-                .hand_in_shared(self.rt, &mut self.log, line, sweep),
+                .hand_in_shared(self.rt, &mut self.log, line, submission),
         )
+    }
+
+    fn find(&self, reference: &SweepRef) -> Option<u64> {
+        self.floor.find(self.rt, reference)
     }
 
     fn sweeps(&mut self, after: u64, most: u64) -> Result<SweepsPage, AllocError> {
@@ -242,6 +252,8 @@ impl<'a, L: Run, M: Accounts, W: Write + Drop, R: Wait + Clock> Day for DayView<
             sweeps_spent: counts.sweeps_spent,
             out_of_memory: counts.out_of_memory,
             wrong_book: counts.wrong_book,
+            other_legs: counts.other_legs,
+            no_reference: counts.no_reference,
             closing: counts.closing,
         }
     }

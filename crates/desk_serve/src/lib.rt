@@ -1,8 +1,10 @@
 //! The page and the interface for programs, served over TCP while a desk's day runs.
 //!
 //! Promises:
-//! - Unless the day is closing, a sweep that comes over HTTP is answered with what became of it at a desk that replays
-//!   from its own history (`IsAnswered`, which stands for `places` of `desk_http`).
+//! - Unless the day is closing, a sweep that comes over HTTP is answered as the day's floor answers it: with what
+//!   became of it at a desk that replays from its own history, or as it was placed before under its reference
+//!   (`IsAnswered`, which stands for `places` of `desk_http`). Under a reference the sweep is found that was placed
+//!   under it (`IsNumber`, for `finds`).
 //! - The sweeps of a page are those behind the number that was asked for, in order, each as a book has it that its own
 //!   history leads to, with what was paid for it, up to so many or to the first that such a book hasn't got (`IsPage`,
 //!   for `pages`).

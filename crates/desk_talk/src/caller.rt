@@ -135,8 +135,8 @@ where
 {
     let line = lines.line();
     match read_line(alloc, floor.names.as_slice(), line) {
-        Ok(Command::Sweep(sweep)) => {
-            let handed = floor.hand_in(rt, seat, log, line, sweep);
+        Ok(Command::Sweep(submission)) => {
+            let handed = floor.hand_in(rt, seat, log, line, submission);
             let answer = handed.unwrap_or(Answer::Closing);
             floor.voice.say(rt, &answer)
         }

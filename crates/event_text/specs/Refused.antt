@@ -3,7 +3,7 @@ use Rattle.std.specs.Prelude.{ℕ, List, ◌++◌, codes, decimal}
 use Rattle.exchange_core.specs.declared.exchange_fault.ExchangeFault.{ExchangeFault}
 use Rattle.exchange_core.specs.declared.exchange_fault.ExchangeFault.TheVariants as exchange
 use Rattle.session_core.specs.declared.ended.Ended.{Ended}
-use Rattle.session_core.specs.declared.ended.Ended.TheVariants.{FirstNotLogon, TooLow, WrongComp, ResetRefused, ResendInDoubt, BadResend, PeerLogout, LogonAgain, BadGapFill, Silent, Malformed, LogoutDone, BadNextExpected}
+use Rattle.session_core.specs.declared.ended.Ended.TheVariants.{FirstNotLogon, TooLow, WrongComp, ResetRefused, ResendInDoubt, BadResend, PeerLogout, LogonAgain, BadGapFill, Silent, Malformed, LogoutDone, BadNextExpected, PeerForgot}
 use Rattle.session_core.specs.declared.session_fault.SessionFault.{SessionFault}
 use Rattle.session_core.specs.declared.session_fault.SessionFault.TheVariants as session
 use Rattle.sweep_release.specs.declared.gate_fault.GateFault.{GateFault}
@@ -67,3 +67,4 @@ ended_text Silent = codes "E10 silent"
 ended_text Malformed = codes "E11 malformed"
 ended_text LogoutDone = codes "E12 logout done"
 ended_text BadNextExpected = codes "E13 bad next expected number"
+ended_text PeerForgot = codes "E14 peer forgot what it took"

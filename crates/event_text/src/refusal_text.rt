@@ -119,5 +119,6 @@ pub(crate) fn ended_text(ended: Ended) -> &'static str
         Ended::Malformed => "E11 malformed",
         Ended::LogoutDone => "E12 logout done",
         Ended::BadNextExpected => "E13 bad next expected number",
+        Ended::PeerForgot => "E14 peer forgot what it took",
     }
 }

@@ -18,7 +18,8 @@ use Rattle.desk_news.specs.declared.status.VenueStatus.{VenueStatus}
 use Rattle.desk_news.specs.declared.day_totals.DayTotals.{DayTotals}
 use Rattle.desk_executions.specs.declared.counts.UnbookedStatus.{UnbookedStatus}
 use Rattle.desk_json.specs.Executions.{unbooked_json}
-use Rattle.desk_json.specs.Outcome.{refusal_json, closing_json}
+use Rattle.desk_json.specs.Outcome.{closing_json, outcome_json, refusal_json}
+use Rattle.desk_json.specs.declared.outcome.Outcome.TheVariants as outcome
 use Rattle.desk_json.specs.Parted.{parted}
 use Rattle.desk_json.specs.Sweeps.{sweep_json, day_json}
 
@@ -35,6 +36,7 @@ bad_line_json number fault =
 -- the answer to a line
 abbrev pub answer_json : Answer → List ℕ
 answer_json (answer.Placed sweep shares) = placed_json sweep shares
+answer_json (answer.Again sweep shares) = outcome_json (outcome.Again sweep shares)
 answer_json (answer.Refused why) = refusal_json why
 answer_json answer.Closing = closing_json
 answer_json (answer.BadLine number fault) = bad_line_json number fault

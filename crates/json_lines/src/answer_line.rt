@@ -25,6 +25,13 @@ impl Line for Answer {
             Answer::Placed { sweep, shares } => {
                 format!(in alloc; "{{\"placed\":{sweep},\"shares\":{shares}}}")
             }
+            Answer::Again { sweep, shares } => {
+                let again = Outcome::Again {
+                    sweep: *sweep,
+                    shares: *shares,
+                };
+                outcome_json(alloc, &again)
+            }
             Answer::Refused(refusal) => refusal_json(alloc, refusal),
             Answer::Closing => outcome_json(alloc, &Outcome::Closing),
             Answer::BadLine { number, fault } => bad_line_json(alloc, *number, fault),

@@ -19,7 +19,7 @@ use Rattle.session_core.specs.declared.ended.Ended.{Ended}
 use Rattle.session_core.specs.declared.ended.Ended.TheVariants as ended
 use Rattle.session_core.specs.Session.{SessionParts, is_connected, is_logging_on, is_settling, is_logged_out, may_write}
 use Rattle.session_core.specs.Turn.{Turn, quietly, puts_fence, writes_fence, asks, fills, settles_at, counts, ends, unless_ended}
-use Rattle.session_core.specs.Receiving.{is_reset, counts_if, told_number, is_too_high, settles_told, asks_if, logon_row, filled_if, resend_while_settling, resend_later, resend_row, row, by_number, was_requested, asks_missing, received, hearing, receive}
+use Rattle.session_core.specs.Receiving.{is_reset, counts_if, told_number, is_too_high, has_passed, is_forgotten, settles_told, asks_if, logon_row, filled_if, resend_while_settling, resend_later, resend_row, row, by_number, was_requested, asks_missing, received, hearing, receive}
 use Rattle.session_core.specs.Onward.{may_withdraw}
 use Rattle.session_core.proofs.Adding.{chosen}
 use Rattle.session_core.proofs.Received.{receive_is_received}
@@ -118,11 +118,13 @@ module _ (s : SessionParts) where
   fine_resend begin last due =
       chosen Fine (not (is_range (last_number s.log) begin last)) (ends ended.BadResend s) _
       (λ bad is. none_withdrawn)
-      (λ good. fine_counts due _
+      (λ good. chosen Fine (is_settling s.phase && has_passed s begin) (ends ended.PeerForgot s) _
+      (λ forgot is. none_withdrawn)
+      (λ passed. fine_counts due _
       (chosen Fine (is_settling s.phase) (resend_while_settling s begin last)
       (resend_later (fill_for begin last s.settled s.log) s)
       (λ on is. absurd (wrote_resend begin last (not_false (is_range (last_number s.log) begin last) good) is))
-      (λ off. fine_later (fill_for begin last s.settled s.log))))
+      (λ off. fine_later (fill_for begin last s.settled s.log)))))
 
   module _ (early : IsEarly s) where
     -- the number told is above the Logon's, and so above each leg's
@@ -152,10 +154,12 @@ module _ (s : SessionParts) where
         chosen Fine (not (is_logging_on s.phase)) (ends ended.LogonAgain s) _ (λ again is. none_withdrawn)
         (λ first. chosen Fine (is_too_high s (told_number s next)) (ends ended.BadNextExpected s) _
         (λ high is. none_withdrawn)
-        (λ low. fine_fence (asks_if (not due) (counts_if due (settles_told s (told_number s next))))
+        (λ low. chosen Fine (is_forgotten s (told_number s next)) (ends ended.PeerForgot s) _
+        (λ forgot is. none_withdrawn)
+        (λ passed. fine_fence (asks_if (not due) (counts_if due (settles_told s (told_number s next))))
         (fine_asked due (counts_if due (settles_told s (told_number s next)))
         (fine_counts due (settles_told s (told_number s next))
-        (fine_told (on_early s.phase (not_false (is_logging_on s.phase) first)) (told_number s next))))))
+        (fine_told (on_early s.phase (not_false (is_logging_on s.phase) first)) (told_number s next)))))))
 
 module _ (s : SessionParts) (m : Message) (early : IsEarly s) where
   abbrev h : SessionParts

@@ -18,6 +18,7 @@ use std::io::Write;
 use std::sync::Wait;
 use std::thread;
 use std::time::{Clock, Duration};
+use sweep_refs::Submission;
 use sweep_text::Answer;
 
 /// How many milliseconds a caller waits before it tries a refused sweep again.
@@ -96,11 +97,16 @@ fn hands_in<'a, L: Run, M: Accounts, W: Write + Drop, R: Wait + Clock>(
     let Some(sweep) = one_sweep(alloc, plan.venues) else {
         return false;
     };
-    let Ok(answer) = floor.hand_in(rt, seat, log, b"", sweep) else {
+    let submission = Submission {
+        reference: None,
+        sweep,
+    };
+    let Ok(answer) = floor.hand_in(rt, seat, log, b"", submission) else {
         return false;
     };
     match answer {
         Answer::Placed { .. } => true,
+        Answer::Again { .. } => false,
         Answer::Refused(_) => false,
         Answer::Closing => false,
         Answer::BadLine { .. } => false,

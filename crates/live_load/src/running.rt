@@ -125,6 +125,7 @@ where
             patience: PATIENCE,
             tells_news: true,
             tells_executions: false,
+            wants_refs: false,
         },
         folder: None,
         voice: Voice::new(alloc, Form::Words, sink()),

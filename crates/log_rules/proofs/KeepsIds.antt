@@ -50,8 +50,8 @@ number_if false o = refl
 
 pub withdrawn_keeps : (settled expected : ℕ) → KeepsNames (withdrawn_by settled expected)
 withdrawn_keeps settled expected = record {
-  id = λ o. id_if (nat_lt settled o.number && nat_le expected o.number) o;
-  number = λ o. number_if (nat_lt settled o.number && nat_le expected o.number) o;
+  id = λ o. id_if (nat_lt settled expected && nat_le expected o.number) o;
+  number = λ o. number_if (nat_lt settled expected && nat_le expected o.number) o;
 }
 
 summed_id : (cum leaves : Option ℕ) (o : OrderParts) → (summed_up cum leaves o).id ≡ o.id

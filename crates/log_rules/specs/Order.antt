@@ -29,10 +29,11 @@ new_order number said = record {
   is_withdrawn = false;
 }
 
--- it is withdrawn where it is in doubt, above the settled number, and the exchange expects its number or one below
+-- it is withdrawn where the exchange expects its number or one below. From the settled number down it expects what it
+-- had passed, and so has forgotten: that withdraws none
 abbrev pub withdrawn_by : ℕ → ℕ → OrderParts → OrderParts
 withdrawn_by settled expected o =
-    if nat_lt settled o.number && nat_le expected o.number then record o { is_withdrawn = true } else o
+    if nat_lt settled expected && nat_le expected o.number then record o { is_withdrawn = true } else o
 
 -- its sums are those of a report that says them
 abbrev pub summed_up : Option ℕ → Option ℕ → OrderParts → OrderParts

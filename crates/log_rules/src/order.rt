@@ -128,12 +128,12 @@ impl Order {
         self.is_withdrawn
     }
 
-    /// It is withdrawn where it was in doubt, above the settled number, and the exchange expects its number or one
-    /// below.
+    /// It is withdrawn where the exchange expects its number or one below, above the settled number: below, it expects
+    /// what it had passed.
     pub(crate) fn withdraw(&mut self, settled: u64, expected: u64)
         ensures { self.new ≡ withdrawn_by settled expected self.old }
     {
-        if settled < self.number && expected <= self.number {
+        if settled < expected && expected <= self.number {
             self.is_withdrawn = true;
         }
     }

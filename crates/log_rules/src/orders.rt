@@ -134,7 +134,8 @@ impl Orders {
         }
     }
 
-    /// Each order is withdrawn that is in doubt, above the settled number, and that the exchange expects, or one below.
+    /// Each order is withdrawn under the number that the exchange expects or a higher one, if that is above the settled
+    /// number.
     pub(crate) fn withdraw_from(&mut self, settled: u64, expected: u64)
         ensures { self.new ≡ map (withdrawn_by settled expected) self.old }
     {

@@ -15,6 +15,7 @@ use leg_worth::Worth;
 use report_words::ReportWords;
 use share_ledger::Applied;
 use std::alloc::{AllocError, Global};
+use sweep_refs::{Submission, SweepRef};
 use sweep_text::{Refusal, write_sweep};
 
 /// What a day says, and what it was asked.
@@ -36,6 +37,8 @@ pub struct MadeUpDay {
     legs: Vec<LegRow>,
     /// What was asked, a line each.
     asked: String,
+    /// The reference under which a sweep was placed last, and its number.
+    placed_under: Option<(SweepRef, u64)>,
     /// How often a follower asked what changed.
     looks: u64,
 }
@@ -55,6 +58,8 @@ const NO_REFUSALS: RefusalCounts = RefusalCounts {
     sweeps_spent: 0,
     out_of_memory: 0,
     wrong_book: 0,
+    other_legs: 0,
+    no_reference: 0,
     closing: 0,
 };
 
@@ -133,6 +138,7 @@ impl MadeUpDay {
             is_crowded: false,
             legs: Vec::new(alloc),
             asked: String::new(alloc),
+            placed_under: None,
             looks: 0,
         }
     }
@@ -183,8 +189,10 @@ impl MadeUpDay {
         Ok(())
     }
 
-    fn hand_in(&mut self, sweep: &Sweep) -> Result<Outcome, AllocError> {
-        let line = write_sweep(self.alloc, self.venues.names(), sweep.legs.as_slice())?;
+    fn hand_in(&mut self, submission: &Submission) -> Result<Outcome, AllocError> {
+        let Submission { reference, sweep } = submission;
+        let legs = sweep.legs.as_slice();
+        let line = write_sweep(self.alloc, self.venues.names(), reference.as_ref(), legs)?;
         self.ask(line.as_str())?;
         match &self.outcome {
             Outcome::Placed {
@@ -193,11 +201,21 @@ impl MadeUpDay {
             } => {
                 let (number, shares) = (*number, *shares);
                 self.keep(number, sweep)?;
+                self.placed_under = match reference {
+                    Some(reference) => Some((reference.clone()?, number)),
+                    None => None,
+                };
                 Ok(Outcome::Placed {
                     sweep: number,
                     shares,
                 })
             }
+            Outcome::Again { sweep, shares } => Ok(Outcome::Again {
+                sweep: *sweep,
+                shares: *shares,
+            }),
+            Outcome::Refused(Refusal::OtherLegs) => Ok(Outcome::Refused(Refusal::OtherLegs)),
+            Outcome::Refused(Refusal::NoReference) => Ok(Outcome::Refused(Refusal::NoReference)),
             Outcome::Refused(Refusal::GateDown(venue)) => {
                 Ok(Outcome::Refused(Refusal::GateDown(venue.clone()?)))
             }
@@ -215,6 +233,8 @@ impl Day for MadeUpDay {
 
     ghost pages = { λ _ _ _ _ _. ⊤ };
 
+    ghost finds = { λ _ _ _. ⊤ };
+
     ghost shows = { λ _ _ _ _. ⊤ };
 
     ghost reports = { λ _ _ _ _ _. ⊤ };
@@ -231,9 +251,16 @@ impl Day for MadeUpDay {
         self.venues.names()
     }
 
-    fn place(&mut self, sweep: Sweep) -> Outcome {
-        self.hand_in(&sweep)
+    fn place(&mut self, submission: Submission) -> Outcome {
+        self.hand_in(&submission)
             .unwrap_or(Outcome::Refused(Refusal::OutOfMemory))
+    }
+
+    fn find(&self, reference: &SweepRef) -> Option<u64> {
+        match &self.placed_under {
+            Some((known, number)) if known == reference => Some(*number),
+            _ => None,
+        }
     }
 
     fn sweeps(&mut self, after: u64, most: u64) -> Result<SweepsPage, AllocError> {

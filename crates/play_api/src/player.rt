@@ -30,6 +30,8 @@ pub struct ApiPlayer {
     known: String,
     /// Whether the desk serves every address of its machine.
     is_open: bool,
+    /// The reference that stands in the head of the next POST; empty where none does.
+    key: String,
     /// What the client said so far.
     said: Vec<u8>,
     /// The fields of the next execution's message.
@@ -44,6 +46,7 @@ impl ApiPlayer {
             token: String::new(alloc),
             known: String::new(alloc),
             is_open: false,
+            key: String::new(alloc),
             said: Vec::new(alloc),
             beside: String::new(alloc),
         }
@@ -189,6 +192,12 @@ impl ApiPlayer {
             let line = format!(in self.alloc; "Authorization: Bearer {known}\r\n")?;
             self.say(line.as_str())?;
         }
+        if !self.key.is_empty() {
+            let key = self.key.as_str();
+            let line = format!(in self.alloc; "Idempotency-Key: {key}\r\n")?;
+            self.key.clear();
+            self.say(line.as_str())?;
+        }
         self.say("\r\n")?;
         self.say(body)?;
         self.tell_short(answers)
@@ -252,6 +261,10 @@ impl ApiPlayer {
             }
             "know" => {
                 self.known = String::from_str(self.alloc, text)?;
+                Ok(())
+            }
+            "key" => {
+                self.key = String::from_str(self.alloc, text)?;
                 Ok(())
             }
             _ => Err(PlayFault::NotUnderstood),

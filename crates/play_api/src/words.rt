@@ -92,7 +92,7 @@ pub fn day_totals(alloc: Global, text: &str) -> Result<DayTotals, PlayFault> {
     }
 }
 
-/// How many sweeps were refused: with R01 to R08, and when the day was closing.
+/// How many sweeps were refused: with R01 to R10, and when the day was closing.
 pub fn refusal_counts(alloc: Global, text: &str) -> Result<RefusalCounts, PlayFault> {
     match *numbers(alloc, text)?.as_slice() {
         [
@@ -104,6 +104,8 @@ pub fn refusal_counts(alloc: Global, text: &str) -> Result<RefusalCounts, PlayFa
             sweeps_spent,
             out_of_memory,
             wrong_book,
+            other_legs,
+            no_reference,
             closing,
         ] => Ok(RefusalCounts {
             no_legs,
@@ -114,16 +116,25 @@ pub fn refusal_counts(alloc: Global, text: &str) -> Result<RefusalCounts, PlayFa
             sweeps_spent,
             out_of_memory,
             wrong_book,
+            other_legs,
+            no_reference,
             closing,
         }),
         _ => Err(PlayFault::NotUnderstood),
     }
 }
 
-/// What becomes of the next sweep: `placed NUMBER SHARES`, `refused R02`, `refused R04 VENUE` or `closing`.
+/// What becomes of the next sweep: `placed NUMBER SHARES`, `again NUMBER SHARES`, `refused R02`, `refused R04 VENUE` or
+/// `closing`.
 pub fn outcome(text: &str) -> Result<Outcome, PlayFault> {
     if let Some((sweep, shares)) = text.strip_prefix("placed ").and_then(|t| t.split_once(' ')) {
         return Ok(Outcome::Placed {
+            sweep: number(sweep)?,
+            shares: number(shares)?,
+        });
+    }
+    if let Some((sweep, shares)) = text.strip_prefix("again ").and_then(|t| t.split_once(' ')) {
+        return Ok(Outcome::Again {
             sweep: number(sweep)?,
             shares: number(shares)?,
         });
@@ -137,6 +148,8 @@ pub fn outcome(text: &str) -> Result<Outcome, PlayFault> {
     match text {
         "refused R01" => Ok(Outcome::Refused(Refusal::NoLegs)),
         "refused R02" => Ok(Outcome::Refused(Refusal::TooManyLegs)),
+        "refused R09" => Ok(Outcome::Refused(Refusal::OtherLegs)),
+        "refused R10" => Ok(Outcome::Refused(Refusal::NoReference)),
         "closing" => Ok(Outcome::Closing),
         _ => Err(PlayFault::NotUnderstood),
     }

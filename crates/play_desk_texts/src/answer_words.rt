@@ -23,6 +23,15 @@ pub fn placed(text: &str) -> Result<Answer, PlayFault> {
     })
 }
 
+/// The answer to a sweep that was placed before, of `NUMBER SHARES`.
+pub fn again(text: &str) -> Result<Answer, PlayFault> {
+    let (sweep, shares) = first_word(text)?;
+    Ok(Answer::Again {
+        sweep: number(sweep)?,
+        shares: number(shares)?,
+    })
+}
+
 /// The refusal that names a venue, of its code.
 fn refusal_at(code: &str, venue: VenueName) -> Result<Refusal, PlayFault> {
     match code {
@@ -41,6 +50,8 @@ fn plain_refusal(code: &str) -> Result<Refusal, PlayFault> {
         "R06" => Ok(Refusal::SweepsSpent),
         "R07" => Ok(Refusal::OutOfMemory),
         "R08" => Ok(Refusal::WrongBook),
+        "R09" => Ok(Refusal::OtherLegs),
+        "R10" => Ok(Refusal::NoReference),
         _ => Err(PlayFault::NotUnderstood),
     }
 }

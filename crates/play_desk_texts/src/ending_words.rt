@@ -22,6 +22,7 @@ fn ended(code: &str) -> Result<Ended, PlayFault> {
         "E11" => Ok(Ended::Malformed),
         "E12" => Ok(Ended::LogoutDone),
         "E13" => Ok(Ended::BadNextExpected),
+        "E14" => Ok(Ended::PeerForgot),
         _ => Err(PlayFault::NotUnderstood),
     }
 }

@@ -42,8 +42,10 @@ impl Lines {
             Command::Nothing => answers.say("nothing"),
             Command::Status => answers.say("status"),
             Command::Close => answers.say("close"),
-            Command::Sweep(sweep) => {
-                let text = write_sweep(self.alloc, &self.names, sweep.legs.as_slice())?;
+            Command::Sweep(submission) => {
+                let legs = submission.sweep.legs.as_slice();
+                let reference = submission.reference.as_ref();
+                let text = write_sweep(self.alloc, &self.names, reference, legs)?;
                 answers.say(text.as_str())
             }
         }

@@ -1,6 +1,6 @@
 //! The commands of a case, and what they work on.
 
-use crate::answer_words::{placed, refused};
+use crate::answer_words::{again, placed, refused};
 use crate::config_text::{say_config, say_fault};
 use crate::leg_words::say_doubt;
 use crate::lines::Lines;
@@ -98,6 +98,7 @@ impl DeskTextsPlayer {
             "line" => self.lines.read(text, answers),
             "spaces" => self.lines.read_spaces(text, answers),
             "placed" => say(self.alloc, &placed(text)?, answers),
+            "again" => say(self.alloc, &again(text)?, answers),
             "refused" => say(self.alloc, &refused(text)?, answers),
             "log" => say_line(self.alloc, text, answers),
             "queue" => self.begin_queue(text),

@@ -15,6 +15,7 @@ use Rattle.run_command.specs.declared.fault.CommandFault.TheVariants.{
   CommandLine,
   NoName,
   BadPatience,
+  BadRefs,
   NoFile,
   NotText,
   BadFile,
@@ -38,6 +39,7 @@ pub said_of : (said : Type 0) (fault : CommandFault) → said → IfBeforeDay sa
 said_of said (CommandLine error) it = it
 said_of said NoName it = it
 said_of said BadPatience it = it
+said_of said BadRefs it = it
 said_of said (NoFile name) it = it
 said_of said (NotText name) it = it
 said_of said (BadFile name fault) it = it
@@ -60,6 +62,7 @@ pub of_day : (said : Type 0) (fault : CommandFault) → IsOfDay fault → IfBefo
 of_day said (CommandLine error) it = absurd it
 of_day said NoName it = absurd it
 of_day said BadPatience it = absurd it
+of_day said BadRefs it = absurd it
 of_day said (NoFile name) it = absurd it
 of_day said (NotText name) it = absurd it
 of_day said (BadFile name fault) it = absurd it

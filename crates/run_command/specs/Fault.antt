@@ -16,6 +16,7 @@ use Rattle.run_command.specs.declared.fault.CommandFault.TheVariants.{
   CommandLine,
   NoName,
   BadPatience,
+  BadRefs,
   NoFile,
   NotText,
   BadFile,
@@ -48,6 +49,7 @@ abbrev pub fault_status : CommandFault → ℕ
 fault_status (CommandLine error) = 2
 fault_status NoName = 2
 fault_status BadPatience = 3
+fault_status BadRefs = 3
 fault_status (NotText name) = 3
 fault_status (BadFile name fault) = 3
 fault_status (NoFile name) = 4

@@ -9,6 +9,7 @@ use Rattle.run_command.specs.declared.fault.CommandFault.TheVariants.{
   CommandLine,
   NoName,
   BadPatience,
+  BadRefs,
   NoFile,
   NotText,
   BadFile,
@@ -19,6 +20,7 @@ abbrev pub IfBeforeDay : Type 0 → CommandFault → Type 0
 IfBeforeDay said (CommandLine error) = said
 IfBeforeDay said NoName = said
 IfBeforeDay said BadPatience = said
+IfBeforeDay said BadRefs = said
 IfBeforeDay said (NoFile name) = said
 IfBeforeDay said (NotText name) = said
 IfBeforeDay said (BadFile name fault) = said

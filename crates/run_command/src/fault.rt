@@ -25,6 +25,9 @@ pub enum CommandFault {
     /// The value of `--patience` is no number within its limits.
     #[error("bad value --patience")]
     BadPatience,
+    /// The value of `--refs` is another than `required`.
+    #[error("bad value --refs")]
+    BadRefs,
     /// The file can't be opened.
     #[error("{0}: it can't be opened")]
     NoFile(String),
@@ -101,8 +104,10 @@ impl Fault for CommandFault {
     fn status(&self) -> u8 {
         match self {
             CommandFault::CommandLine(_) | CommandFault::NoName => 2,
-            CommandFault::BadPatience | CommandFault::NotText(_) | CommandFault::BadFile { .. } =>
-                3,
+            CommandFault::BadPatience
+            | CommandFault::BadRefs
+            | CommandFault::NotText(_)
+            | CommandFault::BadFile { .. } => 3,
             CommandFault::NoFile(_)
             | CommandFault::NoPage
             | CommandFault::NoAddress(_)
@@ -123,6 +128,7 @@ impl Fault for CommandFault {
     fn reason(&self) -> Option<&'static str> {
         match self {
             CommandFault::BadPatience => Some("a whole number from 0 to 86400 is wanted"),
+            CommandFault::BadRefs => Some("required is its only value"),
             CommandFault::NoPage => Some(
                 "another program may have the address, or it isn't this machine's",
             ),

@@ -21,6 +21,8 @@ const PATIENCE: &str = "patience";
 
 const QUIET: &str = "quiet";
 
+const REFS: &str = "refs";
+
 /// How many seconds open shares are waited for at the end where the command line doesn't say.
 const USUAL_PATIENCE: u64 = 30;
 
@@ -32,6 +34,7 @@ const EXAMPLES: &str = "\
 Takes lines on standard input until it ends, or until `close`, and answers each:
 
   sweep NYSE BRK.B buy 100 10.25 + ARCA IBM sell 50 100
+  sweep ref=P7-3 NYSE IBM buy 100 10.25
   status
   close
 
@@ -65,6 +68,10 @@ pub fn run_command<'a>(alloc: Global) -> Result<Command<'a>, AllocError> {
         .help(
             "for how many seconds open shares are waited for at the end, 0 to 86400; 30 without it",
         );
+    let refs = Arg::new(alloc, REFS)
+        .long(REFS)
+        .value_name("required")
+        .help("refuses sweeps that have no reference");
     Command::new(alloc, "run")
         .about(
             "Runs the day of a desk's file: takes sweeps by lines, and tells what becomes of them",
@@ -75,7 +82,8 @@ pub fn run_command<'a>(alloc: Global) -> Result<Command<'a>, AllocError> {
         .arg(patience)?
         .arg(flag(alloc, EXECUTIONS, "tells each execution, with its number"))?
         .arg(flag(alloc, QUIET, "tells no changes while they come"))?
-        .arg(flag(alloc, JSON, "writes each line as an object of JSON"))
+        .arg(flag(alloc, JSON, "writes each line as an object of JSON"))?
+        .arg(refs)
 }
 
 /// The patience that the command line asks for.
@@ -91,6 +99,17 @@ fn patience_of(matches: &ArgMatches<'_>) -> Result<u64, CommandFault>
     }
 }
 
+/// Whether the command line asks for a reference of each sweep.
+fn wants_refs(matches: &ArgMatches<'_>) -> Result<bool, CommandFault>
+    ensures { IfErr result (λ fault. fault ≡ CommandFault.BadRefs) }
+{
+    match matches.get_str(REFS) {
+        None => Ok(false),
+        Some("required") => Ok(true),
+        Some(_) => Err(CommandFault::BadRefs),
+    }
+}
+
 /// The options in these words. A missing, unknown or repeated option is a fault of the command line.
 pub fn read_options<'a, S: AsStr>(
     alloc: Global,
@@ -102,6 +121,7 @@ pub fn read_options<'a, S: AsStr>(
         return Err(CommandFault::NoName);
     };
     let patience = patience_of(&matches)?;
+    let wants_refs = wants_refs(&matches)?;
     Ok(Options {
         file,
         checks: matches.get_flag(CHECK),
@@ -109,6 +129,7 @@ pub fn read_options<'a, S: AsStr>(
             patience,
             tells_news: !matches.get_flag(QUIET),
             tells_executions: matches.get_flag(EXECUTIONS),
+            wants_refs,
         },
         form: if matches.get_flag(JSON) {
             Form::Json

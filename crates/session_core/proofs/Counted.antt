@@ -22,7 +22,7 @@ use Rattle.session_core.specs.declared.ended.Ended.{Ended}
 use Rattle.session_core.specs.declared.ended.Ended.TheVariants as ended
 use Rattle.session_core.specs.Session.{SessionParts, is_connected, is_logging_on, is_settling, is_logged_out, may_write}
 use Rattle.session_core.specs.Turn.{Turn, quietly, with_session, puts, puts_fence, writes, writes_fence, asks, asking, fills, settles_at, counts, notes, logs_out, ends, ends_turn, unless_ended}
-use Rattle.session_core.specs.Receiving.{counts_if, asks_if, asks_missing, asks_anew, settles_told, told_number, is_too_high, in_phase, logon_row, filled_if, resend_while_settling, resend_later, resend_row, named_fence, passing, passed_in, passes_fence, answers_test, refused_leg, logout_row, report_note, row, was_requested, is_closing_fence, by_number, received, hearing, receive, is_reset}
+use Rattle.session_core.specs.Receiving.{counts_if, asks_if, asks_missing, asks_anew, settles_told, told_number, is_too_high, has_passed, is_forgotten, in_phase, logon_row, filled_if, resend_while_settling, resend_later, resend_row, named_fence, passing, passed_in, passes_fence, answers_test, refused_leg, logout_row, report_note, row, was_requested, is_closing_fence, by_number, received, hearing, receive, is_reset}
 use Rattle.session_core.proofs.Adding.{chosen}
 use Rattle.session_core.specs.Counting.{note_for, refusal_note, Quiet, Counted, stays, counted, passed, gives}
 
@@ -112,6 +112,8 @@ module _ (s : SessionParts) (still : s.current.pending ≡ false) where
       (λ again. inl (over ended.LogonAgain))
       (λ first. chosen (Row due s.expected) (is_too_high s (told_number s next)) (ends ended.BadNextExpected s) _
       (λ high. inl (over ended.BadNextExpected))
+      (λ low. chosen (Row due s.expected) (is_forgotten s (told_number s next)) (ends ended.PeerForgot s) _
+      (λ forgot. inl (over ended.PeerForgot))
       (λ fine.
       let told = settles_told s (told_number s next) in
       let counted = counts_if due told in
@@ -119,7 +121,7 @@ module _ (s : SessionParts) (still : s.current.pending ≡ false) where
       (λ n q.
       (let x = q_fence n (asks_if (not due) counted) (q_asks_if n (not due) counted q) in
       record { expected = x.expected; pending = x.pending; note = x.note }))
-      (row_counts_if due s.expected told (q_told (told_number s next)))))
+      (row_counts_if due s.expected told (q_told (told_number s next))))))
 
   q_later : (fill : Option GapFillParts) → Quiet s.expected (resend_later fill s)
   q_later None = over ended.ResendInDoubt
@@ -129,6 +131,8 @@ module _ (s : SessionParts) (still : s.current.pending ≡ false) where
   row_resend due begin last =
       chosen (Row due s.expected) (not (is_range (last_number s.log) begin last)) (ends ended.BadResend s) _
       (λ bad. inl (over ended.BadResend))
+      (λ sent. chosen (Row due s.expected) (is_settling s.phase && has_passed s begin) (ends ended.PeerForgot s) _
+      (λ forgot. inl (over ended.PeerForgot))
       (λ good.
       row_counts_if due s.expected _
       (chosen (Quiet s.expected) (is_settling s.phase) (resend_while_settling s begin last)
@@ -136,7 +140,7 @@ module _ (s : SessionParts) (still : s.current.pending ≡ false) where
       (λ settling.
       q_fence s.expected _
       (q_filled_if s.expected (fill_for begin last (last_number s.log) s.log) (settles_at begin s) (q_settles begin)))
-      (λ later. q_later (fill_for begin last s.settled s.log))))
+      (λ later. q_later (fill_for begin last s.settled s.log)))))
 
   q_passing : (fence : ℕ) → Quiet s.expected (quietly (passing fence s))
   q_passing fence = record { expected = refl; pending = still; note = refl }

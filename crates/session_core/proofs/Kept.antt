@@ -35,7 +35,7 @@ use Rattle.session_core.specs.declared.ended.Ended.{Ended}
 use Rattle.session_core.specs.declared.ended.Ended.TheVariants as ended
 use Rattle.session_core.specs.Session.{SessionParts, is_connected, is_logging_on, is_settling, is_logged_out, next_out, may_write}
 use Rattle.session_core.specs.Turn.{Turn, quietly, with_session, fence_id, asking, puts, puts_fence, writes, writes_fence, asks, fills, settles_at, settling_at, counts, notes, logs_out, after_peer_logout, ends, ends_turn, unless_ended}
-use Rattle.session_core.specs.Receiving.{is_reset, counts_if, told_number, is_too_high, settles_told, asks_if, in_phase, logon_row, filled_if, resend_while_settling, resend_later, resend_row, named_fence, passing, is_closing_fence, passed_in, passes_fence, answers_test, gap_fill_row, refused_leg, logout_row, report_note, in_turn, row, was_requested, asks_missing, asks_anew, by_number, received, hearing, receive}
+use Rattle.session_core.specs.Receiving.{is_reset, counts_if, told_number, is_too_high, has_passed, is_forgotten, settles_told, asks_if, in_phase, logon_row, filled_if, resend_while_settling, resend_later, resend_row, named_fence, passing, is_closing_fence, passed_in, passes_fence, answers_test, gap_fill_row, refused_leg, logout_row, report_note, in_turn, row, was_requested, asks_missing, asks_anew, by_number, received, hearing, receive}
 use Rattle.session_core.specs.Sound.{EveryLeg, LegsAreBelow, LegsStand, HasNoDoubt, IsFence, IsBeforeUp, IsSound, IsReadContent, IsRead, AreWritable}
 use Rattle.session_core.proofs.Adding.{chosen}
 use Rattle.session_core.specs.Onward.{FillSpares, FillsSpareDoubt}
@@ -412,6 +412,8 @@ module _ (s : SessionParts) (is : IsSound s) (heard : s.current.pending ≡ fals
       (λ again. kept-ends ended.LogonAgain s is)
       (λ first. chosen Kept (is_too_high s (told_number s next)) (ends ended.BadNextExpected s) _
       (λ high. kept-ends ended.BadNextExpected s is)
+      (λ low. chosen Kept (is_forgotten s (told_number s next)) (ends ended.PeerForgot s) _
+      (λ forgot. kept-ends ended.PeerForgot s is)
       (λ good.
       (let told = settles_told s (told_number s next) in
       let counted = counts_if due told in
@@ -423,7 +425,7 @@ module _ (s : SessionParts) (is : IsSound s) (heard : s.current.pending ≡ fals
       (phase-writes_fence asked
       ∙ (phase-asks_if (not due) counted
       ∙ (phase-counts_if due told
-      ∙ (phase-settles_told s (told_number s next) ∙ is_first s.phase first)))))))
+      ∙ (phase-settles_told s (told_number s next) ∙ is_first s.phase first))))))))
 
   good-filled_if : (begin last upto : ℕ) (fill : Option GapFillParts) → IfSome fill (IsFillFor begin last upto s.log)
       → (t : Turn) → Good top t → HasNoDoubt t.session.log → Good top (filled_if fill t)
@@ -449,6 +451,8 @@ module _ (s : SessionParts) (is : IsSound s) (heard : s.current.pending ≡ fals
   kept-resend begin last =
       chosen Kept (not (is_range (last_number s.log) begin last)) (ends ended.BadResend s) _
       (λ bad. kept-ends ended.BadResend s is)
+      (λ sent. chosen Kept (is_settling s.phase && has_passed s begin) (ends ended.PeerForgot s) _
+      (λ forgot. kept-ends ended.PeerForgot s is)
       (λ good.
       kept-counts_if due top due_is _
       (chosen (Good top) (is_settling s.phase) (resend_while_settling s begin last)
@@ -460,7 +464,7 @@ module _ (s : SessionParts) (is : IsSound s) (heard : s.current.pending ≡ fals
       (settles_at begin s) (good-settles_at top begin s is heard below) (settled-no_doubt begin s.log)))
       (λ later.
       good-resend_later begin last (fill_for begin last s.settled s.log)
-      (fill_is_for begin last s.settled s.log))))
+      (fill_is_for begin last s.settled s.log)))))
 
   -- a fence that is answered
   closes_at : (closing : Option ℕ) (fence z : ℕ) → option_map_or (λ n. nat_le n fence) closing false ≡ true

@@ -16,3 +16,4 @@ pub mod KeptOn
 pub mod Read
 pub mod CallsMade
 pub mod AnyCalls
+pub mod Forgotten

@@ -26,7 +26,7 @@ use Rattle.session_core.specs.declared.ended.Ended.{Ended}
 use Rattle.session_core.specs.declared.ended.Ended.TheVariants as ended
 use Rattle.session_core.specs.Session.{SessionParts, is_connected, is_logging_on, is_settling, is_logged_out}
 use Rattle.session_core.specs.Turn.{Turn, quietly, writes, writes_fence, fills, settles_at, counts, notes, logs_out, ends, ends_turn}
-use Rattle.session_core.specs.Receiving.{is_reset, counts_if, told_number, is_too_high, settles_told, asks_if, in_phase, logon_row, filled_if, resend_while_settling, resend_later, resend_row, named_fence, passing, is_closing_fence, passed_in, passes_fence, answers_test, gap_fill_row, refused_leg, refused_row, logout_row, report_note, in_turn, row, by_number, received, hearing, receive}
+use Rattle.session_core.specs.Receiving.{is_reset, counts_if, told_number, is_too_high, has_passed, is_forgotten, settles_told, asks_if, in_phase, logon_row, filled_if, resend_while_settling, resend_later, resend_row, named_fence, passing, is_closing_fence, passed_in, passes_fence, answers_test, gap_fill_row, refused_leg, refused_row, logout_row, report_note, in_turn, row, by_number, received, hearing, receive}
 use Rattle.session_core.specs.Onward.{IsOnward, IsReceived, SettlesAsTold, may_withdraw, told_taken}
 use Rattle.session_core.proofs.Ordinals.{last-settled_where}
 use Rattle.session_core.proofs.Told.{passed-told, settled-told, same-told}
@@ -116,6 +116,8 @@ module _ (may : Bool) (told : Option ℕ) where
       (λ again. received_ends ended.LogonAgain s)
       (λ first. chosen (Goes may told s) (is_too_high s (told_number s next)) (ends ended.BadNextExpected s) _
       (λ high. received_ends ended.BadNextExpected s)
+      (λ low. chosen (Goes may told s) (is_forgotten s (told_number s next)) (ends ended.PeerForgot s) _
+      (λ forgot. received_ends ended.PeerForgot s)
       (λ good.
       (let settled = settles_told s (told_number s next) in
       let counted = counts_if due settled in
@@ -130,7 +132,7 @@ module _ (may : Bool) (told : Option ℕ) where
       (adds-counts_if due settled))
       (adds-asks_if (not due) counted))
       (adds-writes_fence asked))
-      (adds-in_phase Settling fenced))))
+      (adds-in_phase Settling fenced)))))
 
   received_resend_settling : (s : SessionParts) (begin last : ℕ) → may ≡ true → Some begin ≡ told
       → Goes may told s (resend_while_settling s begin last)
@@ -152,13 +154,15 @@ module _ (may : Bool) (told : Option ℕ) where
   received_resend due s begin last is says =
       chosen (Goes may told s) (not (is_range (last_number s.log) begin last)) (ends ended.BadResend s) _
       (λ bad. received_ends ended.BadResend s)
+      (λ sent. chosen (Goes may told s) (is_settling s.phase && has_passed s begin) (ends ended.PeerForgot s) _
+      (λ forgot. received_ends ended.PeerForgot s)
       (λ good.
       received_by may told s _ _
       (chosen (Goes may told s) (is_settling s.phase) (resend_while_settling s begin last)
       (resend_later (fill_for begin last s.settled s.log) s)
       (λ settling. received_resend_settling s begin last (sym is ∙ settling) says)
       (λ later. received_resend_later s (fill_for begin last s.settled s.log)))
-      (adds-counts_if due _))
+      (adds-counts_if due _)))
 
   -- legs below a fence are taken
   received_passing : (s t : SessionParts) (fence : ℕ) → t.config ≡ s.config → t.log ≡ take_below fence s.log

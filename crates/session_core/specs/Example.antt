@@ -13,7 +13,7 @@ use Rattle.session_core.specs.declared.ended.Ended.{Ended}
 use Rattle.session_core.specs.Session.{SessionParts, new_session}
 use Rattle.session_core.specs.Turn.{StepParts, Turn}
 use Rattle.session_core.specs.Receiving.{receive}
-use Rattle.session_core.specs.Calling.{SessionAnswer, connect, send_leg, close}
+use Rattle.session_core.specs.Calling.{SessionAnswer, connect, send_leg, close, broken}
 
 abbrev pub config : ConfigParts
 config = record { me = codes "A"; peer = codes "B"; heart = 30; max_number = 1000; has_next = false }
@@ -65,6 +65,14 @@ leg = record {
 
 abbrev pub sent : SessionParts → ℕ → SessionParts
 sent s ordinal = (send_leg s ordinal leg).1
+
+-- a leg was sent, its connection broke, and the next one is settling; or it logs on, where the venue chose to be told
+-- the next expected number (789). The settled number is 2, and the leg in doubt has number 3
+abbrev pub settling_again : SessionParts
+settling_again = heard (connected (broken (sent up 1))) (from_b 3 (Session (Logon 30 false None)) ∷ [])
+
+abbrev pub logging_on_again : SessionParts
+logging_on_again = connected (broken (sent (up_of told_config) 1))
 
 -- a report that the leg's order was taken
 abbrev pub report : Report

@@ -17,7 +17,7 @@ use Rattle.resend.specs.Later.{IsLater, WithdrawsNone, withdrawn_since}
 use Rattle.session_core.specs.declared.phase.Phase.TheVariants.{Down, LoggingOn, Up}
 use Rattle.session_core.specs.Session.{SessionParts, is_logging_on, is_settling, next_out}
 use Rattle.session_core.specs.Turn.{StepParts, Turn}
-use Rattle.session_core.specs.Receiving.{told_number, named_fence}
+use Rattle.session_core.specs.Receiving.{told_number, has_passed, is_forgotten, named_fence}
 use Rattle.session_core.specs.Calling.{SessionAnswer, own_next, doubted}
 use Rattle.session_core.specs.Sound.{EveryLeg}
 
@@ -96,6 +96,12 @@ told_taken s (Session (ResendRequest begin last)) = Some begin
 told_taken s (Session (Logon heart reset next)) = told_number s next
 told_taken s _ = None
 
+-- whether a message that settles legs says that the exchange expects a number again which it had passed
+abbrev pub forgets : SessionParts → Content → Bool
+forgets s (Session (ResendRequest begin last)) = is_settling s.phase && has_passed s begin
+forgets s (Session (Logon heart reset next)) = is_logging_on s.phase && is_forgotten s (told_number s next)
+forgets s _ = false
+
 -- such a number was told, and a leg's is below it
 abbrev pub IsToldTaken : Option ℕ → ℕ → Type 0
 IsToldTaken told number = (n : ℕ) × (told ≡ Some n) × (number < n)
@@ -131,6 +137,13 @@ WritesFillAlone s written =
 pub record SparesLegs (before : SessionParts) (turn : Turn) : Type 0 where
   pub named : turn.step.withdrawn ≡ []
   pub settled : WithdrawsNone before.log turn.session.log
+
+-- nothing is written, and what was sent and settled is as it was
+pub record SettlesNothing (before : SessionParts) (turn : Turn) : Type 0 where
+  pub written : turn.step.written ≡ []
+  pub named : turn.step.withdrawn ≡ []
+  pub log : turn.session.log ≡ before.log
+  pub settled : turn.session.settled ≡ before.settled
 
 -- a message received: onward; the legs that are now withdrawn are named, and only such a message withdraws legs; and
 -- legs are settled at the number that it tells

@@ -21,7 +21,7 @@ use Rattle.resend.specs.Judging.{judged}
 use Rattle.resend.specs.Log.{GapFillParts, last_number, take_below, leg_at, fill_for}
 use Rattle.session_core.specs.declared.phase.Phase.{Phase}
 use Rattle.session_core.specs.declared.phase.Phase.TheVariants.{Settling, Up, Closing}
-use Rattle.session_core.specs.declared.ended.Ended.TheVariants.{FirstNotLogon, TooLow, WrongComp, ResetRefused, ResendInDoubt, BadResend, PeerLogout, LogonAgain, BadGapFill, LogoutDone, BadNextExpected}
+use Rattle.session_core.specs.declared.ended.Ended.TheVariants.{FirstNotLogon, TooLow, WrongComp, ResetRefused, ResendInDoubt, BadResend, PeerLogout, LogonAgain, BadGapFill, LogoutDone, BadNextExpected, PeerForgot}
 use Rattle.session_core.specs.Session.{SessionParts, is_connected, is_logging_on, is_settling, is_logged_out}
 use Rattle.session_core.specs.Turn.{Turn, quietly, with_session, writes, writes_fence, fence_id, asks, fills, settles_at, counting, counts, with_pending, notes, logs_out, ends, ends_turn, unless_ended}
 
@@ -44,6 +44,13 @@ told_number s next = if s.config.has_next then next else None
 abbrev pub is_too_high : SessionParts → Option ℕ → Bool
 is_too_high s next = option_map_or (λ n. nat_lt (s.current.logon_number + 1) n) next false
 
+-- whoever answered the settled fence had passed every number up to it: to expect one of them again is to forget it
+abbrev pub has_passed : SessionParts → ℕ → Bool
+has_passed s number = nat_le number s.settled
+
+abbrev pub is_forgotten : SessionParts → Option ℕ → Bool
+is_forgotten s next = option_map_or (λ n. has_passed s n) next false
+
 -- what lies between it and the session's own Logon is filled
 abbrev pub settles_told : SessionParts → Option ℕ → Turn
 settles_told s None = quietly s
@@ -62,7 +69,8 @@ abbrev pub logon_row : Bool → SessionParts → Option ℕ → Turn
 logon_row due s next =
     if not (is_logging_on s.phase) then ends LogonAgain s
     else (if is_too_high s (told_number s next) then ends BadNextExpected s
-    else in_phase Settling (writes_fence (asks_if (not due) (counts_if due (settles_told s (told_number s next))))))
+    else (if is_forgotten s (told_number s next) then ends PeerForgot s
+    else in_phase Settling (writes_fence (asks_if (not due) (counts_if due (settles_told s (told_number s next)))))))
 
 -- ResendRequest, while settling: what was lost is known, so every leg in doubt is settled, the range is filled, and a
 -- new fence is written
@@ -82,9 +90,10 @@ resend_later (Some fill) s = fills fill (quietly s)
 abbrev pub resend_row : Bool → SessionParts → ℕ → ℕ → Turn
 resend_row due s begin last =
     if not (is_range (last_number s.log) begin last) then ends BadResend s
+    else (if is_settling s.phase && has_passed s begin then ends PeerForgot s
     else counts_if due
     (if is_settling s.phase then resend_while_settling s begin last
-    else resend_later (fill_for begin last s.settled s.log) s)
+    else resend_later (fill_for begin last s.settled s.log) s))
 
 -- Heartbeat: the fence of this connection that an id names
 abbrev pub fence_in : List ℕ → List ℕ → Option ℕ

@@ -46,6 +46,10 @@ pub enum Ended {
     /// The number that a Logon expects next (789) is above what was sent.
     #[error("E13 bad next expected number")]
     BadNextExpected,
+    /// While legs are settled, the exchange expects a number again that it had passed, by a resend request or in its
+    /// Logon (789).
+    #[error("E14 peer forgot what it took")]
+    PeerForgot,
 }
 
 impl Ended {
@@ -69,6 +73,7 @@ impl Ended {
             Ended::Malformed => false,
             Ended::LogoutDone => false,
             Ended::BadNextExpected => false,
+            Ended::PeerForgot => false,
         }
     }
 }

@@ -1,12 +1,13 @@
 //! What follows from the definitions: each law is the contract of a function that does nothing.
 
-ghost use Rattle.std.specs.Prelude.{◌≡◌, ℕ, true, List, None, Err, IfOk};
+ghost use Rattle.std.specs.Prelude.{◌≡◌, ℕ, true, List, Some, None, Err, IfOk};
 ghost use Rattle.fix_tags.specs.Config.{ConfigParts, IsConfig};
 ghost use Rattle.leg.specs.Leg.{IsLeg};
 ghost use Rattle.leg.specs.declared.leg.Leg.{Leg as ALeg};
 ghost use Rattle.dialect.specs.declared.message.Message.{Message as AMessage};
 ghost use Rattle.dialect.specs.Outgoing.{alone};
 ghost use Rattle.dialect.specs.Writable.{IsWritable};
+ghost use Rattle.session_core.specs.declared.ended.Ended.TheVariants as ended;
 ghost use Rattle.session_core.specs.declared.phase.Phase.TheVariants as phase;
 ghost use Rattle.session_core.specs.declared.session_fault.SessionFault.TheVariants as fault;
 ghost use Rattle.session_core.specs.Session.{SessionParts, new_session, is_connected};
@@ -14,7 +15,7 @@ ghost use Rattle.session_core.specs.Turn.{quietly};
 ghost use Rattle.session_core.specs.Receiving.{hearing, receive, confirm};
 ghost use Rattle.session_core.specs.Calling.{connect, send_leg, quiet, silent, close, malformed, broken, abandon};
 ghost use Rattle.session_core.specs.Counting.{Counted};
-ghost use Rattle.session_core.specs.Onward.{OrUnchanged, IsOnward, KeepsLegs, IsConnection, SendsLeg, IsCall, IsReceived, WritesFillAlone, FillsSpareDoubt};
+ghost use Rattle.session_core.specs.Onward.{OrUnchanged, IsOnward, KeepsLegs, IsConnection, SendsLeg, IsCall, IsReceived, WritesFillAlone, FillsSpareDoubt, forgets, SettlesNothing};
 ghost use Rattle.session_core.specs.Sound.{IsSound, IsRead, AreWritable};
 ghost use Rattle.session_core.specs.declared.session_call.SessionCall.{SessionCall as ACall};
 ghost use Rattle.session_core.specs.Trial.{after_calls, AreRead, KeepsRules};
@@ -39,6 +40,15 @@ pub fn what_is_received_leads_onward()
 pub fn what_is_due_is_counted()
     ensures { (s : SessionParts) (m : AMessage) → is_connected s.phase ≡ true →
         Counted (hearing s) m.number m.content (receive s m) }
+{}
+
+/// An exchange that answered the settled fence had passed every number up to it. Where it expects one of them again
+/// while legs are settled, nothing is written and no leg changes its state; and only such a message ends a connection
+/// so.
+pub fn forgetting_settles_nothing()
+    ensures settles { (s : SessionParts) (m : AMessage) → forgets s m.content ≡ true → SettlesNothing s (receive s m) }
+    ensures ends { (s : SessionParts) (m : AMessage) → (receive s m).step.ended ≡ Some ended.PeerForgot →
+        forgets s m.content ≡ true }
 {}
 
 /// Every other call leaves each leg that was sent as it was: numbers are only added, each for a message that was

@@ -19,6 +19,7 @@
 //!   (`what_is_due_is_counted`).
 //! - The rules are functions and relations on plain data, in `specs/`. The worked cases are computed from them by
 //!   the checker, each as the contract of an empty function in `src/rows.rt`.
+//! - An exchange that expects a number again which it had passed settles nothing (`forgetting_settles_nothing`).
 //! - `laws`, each over one call, or over every list of calls where it says so: numbers only rise, a leg leaves doubt
 //!   at most once, and only what an exchange says while legs are settled withdraws one. A session keeps its own
 //!   promises (`a_session_keeps_its_promises`): fences are above the legs that they are to settle, nothing settled
@@ -48,7 +49,8 @@ pub use phase::Phase;
 pub use rows::{
     asks_for_what_is_missing, counts_what_is_due, ends_when_up, fills_when_logged_out,
     goes_on_when_up, is_told_the_next_number, keeps_alive_and_closes, keeps_doubt,
-    logs_on_and_settles, notes_are_confirmed, refuses_calls, withdraws_what_is_asked_for_again,
+    logs_on_and_settles, notes_are_confirmed, refuses_calls, settles_nothing_by_what_was_forgotten,
+    withdraws_what_is_asked_for_again,
 };
 pub use session::Session;
 pub use session_call::SessionCall;

@@ -98,6 +98,9 @@ impl Session {
         if at.is_too_high(told) {
             return ending(at, Ended::BadNextExpected);
         }
+        if at.is_forgotten(told) {
+            return ending(at, Ended::PeerForgot);
+        }
         let mut decision = self.settled_as_told(at, told);
         decision.count_if(due);
         decision.ask_if(self, !due);
@@ -147,6 +150,9 @@ impl Session {
             return ending(at, Ended::BadResend);
         }
         if at.phase.is_settling() {
+            if at.has_passed(begin) {
+                return ending(at, Ended::PeerForgot);
+            }
             let mut decision = self.resend_settling(at, begin, last);
             decision.count_if(due);
             return decision;

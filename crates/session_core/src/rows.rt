@@ -13,7 +13,7 @@ ghost use Rattle.session_core.specs.Session.{new_session, leg_state, has_doubt, 
 ghost use Rattle.session_core.specs.Turn.{no_step, quietly};
 ghost use Rattle.session_core.specs.Receiving.{receive, confirm};
 ghost use Rattle.session_core.specs.Calling.{connect, send_leg, quiet, silent, close, malformed, broken, abandon};
-ghost use Rattle.session_core.specs.Example.{config, told_config, few_config, from_b, again, connected, heard, settling, up, up_of, leg, report, sent, written_of, written_by, ended_by, ended_in, closing, logged_out};
+ghost use Rattle.session_core.specs.Example.{config, told_config, few_config, from_b, again, connected, heard, settling, up, up_of, leg, report, sent, settling_again, logging_on_again, written_of, written_by, ended_by, ended_in, closing, logged_out};
 
 /// A Logon, and once the exchange's came, a fence; once that is answered, the session is up.
 pub fn logs_on_and_settles()
@@ -56,6 +56,23 @@ pub fn withdraws_what_is_asked_for_again()
     ensures ends { (receive (sent up 1) (from_b 3 (Session (ResendRequest 3 0)))).step.ended ≡ Some ended.ResendInDoubt }
     ensures withdrawn { leg_state (heard (connected (broken (sent up 1))) (from_b 3 (Session (Logon 30 false None)) ∷ from_b 4 (Session (ResendRequest 3 0)) ∷ [])) 1 ≡ Some Withdrawn }
     ensures filled { written_of (receive (heard (connected (broken (sent up 1))) (from_b 3 (Session (Logon 30 false None)) ∷ [])) (from_b 4 (Session (ResendRequest 3 0)))) ≡ (3, Session (GapFill 6)) ∷ (6, Session (TestRequest (codes "F6"))) ∷ [] }
+{}
+
+/// An exchange that expects a number again that it had passed, up to the settled one: its connection ends while legs are
+/// settled, and a leg in doubt stays so.
+pub fn settles_nothing_by_what_was_forgotten()
+    ensures resend { ended_by (receive settling_again (from_b 4 (Session (ResendRequest 1 0)))) ≡ Some ended.PeerForgot }
+    ensures resend_of_settled { ended_by (receive settling_again (from_b 4 (Session (ResendRequest 2 2)))) ≡ Some ended.PeerForgot }
+    ensures resend_above { ended_by (receive settling_again (from_b 4 (Session (ResendRequest 3 0)))) ≡ None }
+    ensures ahead { ended_by (receive settling_again (from_b 9 (Session (ResendRequest 1 0)))) ≡ Some ended.PeerForgot }
+    ensures doubt { leg_state (receive settling_again (from_b 4 (Session (ResendRequest 1 0)))).session 1 ≡ Some Doubt }
+    ensures silence { written_of (receive settling_again (from_b 4 (Session (ResendRequest 1 0)))) ≡ [] }
+    ensures down { (receive settling_again (from_b 4 (Session (ResendRequest 1 0)))).session.phase ≡ phase.Down }
+    ensures told { ended_by (receive logging_on_again (from_b 3 (Session (Logon 30 false (Some 1))))) ≡ Some ended.PeerForgot }
+    ensures told_settled { ended_by (receive logging_on_again (from_b 3 (Session (Logon 30 false (Some 2))))) ≡ Some ended.PeerForgot }
+    ensures told_above { ended_by (receive logging_on_again (from_b 3 (Session (Logon 30 false (Some 3))))) ≡ None }
+    ensures told_doubt { leg_state (receive logging_on_again (from_b 3 (Session (Logon 30 false (Some 2))))).session 1 ≡ Some Doubt }
+    ensures not_chosen { ended_by (receive (connected (broken (sent up 1))) (from_b 3 (Session (Logon 30 false (Some 1))))) ≡ None }
 {}
 
 /// A note is counted when it is confirmed, and given up at the next message.

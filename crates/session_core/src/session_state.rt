@@ -30,7 +30,7 @@ pub(crate) struct SessionState {
 impl SessionState {
     ghost use Rattle.session_core.specs.Session.{SessionParts, is_connected};
     ghost use Rattle.session_core.specs.Kept.{standing_at};
-    ghost use Rattle.session_core.specs.Receiving.{is_too_high, was_requested};
+    ghost use Rattle.session_core.specs.Receiving.{is_too_high, is_forgotten, was_requested};
     ghost use Rattle.session_core.specs.Turn.{phase_after};
 
     /// Whether there is a connection.
@@ -55,6 +55,23 @@ impl SessionState {
     {
         match next {
             Some(number) => number > self.logon_number + 1,
+            None => false,
+        }
+    }
+
+    /// Whether the exchange had passed a number: it took, or was told to pass over, all up to the settled one.
+    pub fn has_passed(&self, number: u64) -> bool
+        ensures { result ≡ nat_le number self.now.settled }
+    {
+        number <= self.settled
+    }
+
+    /// Whether a number that the exchange expects next (789) is one that it had passed.
+    pub fn is_forgotten(&self, next: Option<u64>) -> bool
+        ensures { (s : SessionParts) → result ≡ is_forgotten (standing_at s self.now) next }
+    {
+        match next {
+            Some(number) => self.has_passed(number),
             None => false,
         }
     }

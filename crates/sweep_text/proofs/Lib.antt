@@ -3,6 +3,7 @@ pub mod Faults
 pub mod WordsBack
 pub mod WordsWritten
 pub mod LegBack
+pub mod RefBack
 pub mod SweepBack
 pub mod PriceUtf8
 pub mod LegsWritten

@@ -1,6 +1,6 @@
 -- The line that is written of a sweep is read as that sweep.
 use Rattle.std.proofs.Common.{◌≡◌, ℕ, ◌*◌, ◌<◌, ◌≤◌, ◌^◌, true, ◌&&◌, leb, List, [], ◌∷◌, ◌++◌, length, refl, ap, ap₂, ◌∙◌, arith, decimal, codes, length-append, append_assoc}
-use Rattle.std.specs.Prelude.{Ok}
+use Rattle.std.specs.Prelude.{Option, Some, None, Ok, if◌then◌else◌}
 use Rattle.std.specs.List.{AllByRecursion, list_all}
 use Rattle.std.proofs.lemmas.Bool.Decides.{nat_tests}
 use Rattle.std.proofs.lemmas.Fmt.{length-decimal-le}
@@ -16,16 +16,18 @@ use Rattle.leg.specs.declared.side.Side.{Side}
 use Rattle.leg.specs.declared.side.Side.TheVariants.{Buy, Sell}
 use Rattle.leg.specs.declared.sweep.Routed.{Routed}
 use Rattle.leg.proofs.SymbolText.{length-joined_text}
-use Rattle.desk_words.specs.Printable.{is_printable_byte}
-use Rattle.sweep_text.specs.declared.command.Command.TheVariants.{Sweep}
-use Rattle.sweep_text.specs.Legs.{and_then, before, legs_of, more_legs}
-use Rattle.sweep_text.specs.Line.{line_says, words_say}
+use Rattle.desk_words.specs.Printable.{is_printable_byte, shown}
+use Rattle.sweep_refs.specs.Ref.{IsRef}
+use Rattle.sweep_text.specs.declared.line_fault.LineFault.TheVariants.{BadReference}
+use Rattle.sweep_text.specs.Legs.{and_then, before, legs_of, more_legs, or_fault}
+use Rattle.sweep_text.specs.Line.{legs_say, line_says, ref_in, sweep_of, sweep_says, words_say}
 use Rattle.sweep_text.specs.Words.{words_of}
-use Rattle.sweep_text.specs.Written.{AreNames, IsNamed, ReadsBack, leg_text, legs_text, name_of, sweep_line}
+use Rattle.sweep_text.specs.Written.{AreNames, IsNamed, IsUnder, ReadsBack, leg_text, legs_text, name_of, ref_text, sweep_line}
 use Rattle.sweep_text.proofs.LegBack.{leg_back}
 use Rattle.sweep_text.proofs.LegsRead.{legs_of_five}
+use Rattle.sweep_text.proofs.RefBack.{no_name_begins_so, ref_back, ref_word}
 use Rattle.sweep_text.proofs.WordsBack.{IsWord, word_then, last_word, next_word}
-use Rattle.sweep_text.proofs.WordsWritten.{name_at, venue_word, symbol_word, side_word, number_word, price_word}
+use Rattle.sweep_text.proofs.WordsWritten.{name_at, word_bytes, venue_word, symbol_word, side_word, number_word, price_word}
 
 -- each leg is for a venue with a name
 abbrev AreNamed : List (List ℕ) → List Routed → Type 0
@@ -200,21 +202,91 @@ line_says_words names line short printable =
     let fits : leb (length line) 65_536 ≡ true = grind (arith, nat_tests) in
     rw (fits, printable) refl
 
--- the words of a written line ask for its sweep
-words_back : (names : List (List ℕ)) (legs : List Routed) → AreNames names → AreNamed names legs
-    → words_say names (words_of (sweep_line names legs)) ≡ Ok (Sweep (record { legs = legs }))
-words_back names [] are each = refl
-words_back names (leg ∷ legs) are each =
-    ap (λ words. words_say names (codes "sweep" ∷ words))
-    (words_of_leg names leg legs are each.0 ∙ ap (leg_words names leg) (words_of_more names legs are each.1))
-    ∙ ap (λ said. and_then said (λ (read : List Routed). Ok (Sweep (record { legs = read }))))
+-- the words of legs, none where there are none
+abbrev all_words : List (List ℕ) → List Routed → List (List ℕ)
+all_words names [] = []
+all_words names (leg ∷ legs) = leg_words names leg (more_words names legs)
+
+-- the words of legs behind a space
+words_of_legs : (names : List (List ℕ)) (legs : List Routed) → AreNames names → AreNamed names legs
+    → words_of (legs_text (codes " ") names legs) ≡ all_words names legs
+words_of_legs names [] are each = refl
+words_of_legs names (leg ∷ legs) are each =
+    words_of_leg names leg legs are each.0 ∙ ap (leg_words names leg) (words_of_more names legs are each.1)
+
+-- a word before legs
+word_then_legs : (names : List (List ℕ)) (word : List ℕ) (legs : List Routed) → IsWord word → AreNames names
+    → AreNamed names legs
+    → words_of (word ++ legs_text (codes " ") names legs) ≡ word ∷ all_words names legs
+word_then_legs names word [] is are each = ap words_of (append-nil word) ∙ last_word word is
+word_then_legs names word (leg ∷ legs) is are each =
+    word_then word (leg_text names leg ++ legs_text (codes " + ") names legs) is
+    ∙ ap (λ words. word ∷ words) (words_of_legs names (leg ∷ legs) are each)
+
+-- the words of legs ask for them
+legs_asked : (names : List (List ℕ)) (reference : Option (List ℕ)) (legs : List Routed) → AreNames names
+    → AreNamed names legs → legs_say names reference (all_words names legs) ≡ Ok (sweep_of reference legs)
+legs_asked names reference [] are each = refl
+legs_asked names reference (leg ∷ legs) are each =
+    ap (λ said. and_then said (λ (read : List Routed). Ok (sweep_of reference read)))
     (more_back names (leg ∷ legs) are each)
 
-pub sweep_back : (names : List (List ℕ)) (legs : List Routed) → ReadsBack names legs
-sweep_back names legs are each few =
+-- `sweep` is a word
+sweep_word : IsWord (codes "sweep")
+sweep_word = record { some = omega arith; bytes = word_bytes (codes "sweep") refl }
+
+-- words that ask for a sweep, with its reference before its legs
+under_ref : (names : List (List ℕ)) (reference : List ℕ) (words : List (List ℕ)) → IsRef reference
+    → sweep_says names ((codes "ref=" ++ reference) ∷ words) ≡ legs_say names (Some reference) words
+unfolding sweep_says
+under_ref names reference words is =
+    ap (λ read. and_then (or_fault (BadReference (shown 200 (codes "ref=" ++ reference))) read)
+    (λ (r : List ℕ). legs_say names (Some r) words)) (ref_back reference is)
+
+-- no leg's first word begins as a reference does
+no_ref : (names : List (List ℕ)) (legs : List Routed) → AreNames names → AreNamed names legs
+    → sweep_says names (all_words names legs) ≡ legs_say names None (all_words names legs)
+unfolding sweep_says
+no_ref names [] are each = refl
+no_ref names (leg ∷ legs) are each =
+    ap (λ begins. if begins
+    then and_then (ref_in (name_of names leg.venue)) (λ (r : List ℕ). legs_say names (Some r)
+    (symbol_text leg.terms.symbol ∷ side_text leg.terms.side ∷ decimal leg.terms.shares
+    ∷ price_short leg.terms.price ∷ more_words names legs))
+    else legs_say names None (all_words names (leg ∷ legs)))
+    (no_name_begins_so names leg.venue are each.0.venue)
+
+-- the words of a written line ask for its sweep
+words_back : (names : List (List ℕ)) (reference : Option (List ℕ)) (legs : List Routed) → AreNames names
+    → IsUnder reference → AreNamed names legs
+    → words_say names (words_of (sweep_line names reference legs)) ≡ Ok (sweep_of reference legs)
+words_back names None legs are under each =
+    ap (words_say names) (word_then_legs names (codes "sweep") legs sweep_word are each)
+    ∙ no_ref names legs are each ∙ legs_asked names None legs are each
+words_back names (Some reference) legs are under each =
+    ap (λ words. words_say names (codes "sweep" ∷ words))
+    (word_then_legs names (codes "ref=" ++ reference) legs (ref_word reference under) are each)
+    ∙ under_ref names reference (all_words names legs) under ∙ legs_asked names (Some reference) legs are each
+
+-- a reference takes at most 69 bytes, and is printable
+ref_short : (reference : Option (List ℕ)) → IsUnder reference → length (ref_text reference) ≤ 69
+ref_short None under = omega arith
+ref_short (Some reference) under = omega (arith, under.short)
+
+ref_printable : (reference : Option (List ℕ)) → IsUnder reference
+    → list_all is_printable_byte (ref_text reference) ≡ true
+ref_printable None under = refl
+ref_printable (Some reference) under = word_printable (codes "ref=" ++ reference) (ref_word reference under)
+
+pub sweep_back : (names : List (List ℕ)) (reference : Option (List ℕ)) (legs : List Routed)
+    → ReadsBack names reference legs
+sweep_back names reference legs are under each few =
     let named : AreNamed names legs = recursion_from_All (IsNamed names) legs each in
     let short : length (legs_text (codes " ") names legs) ≤ 55 * length legs =
     legs_short (codes " ") names legs (omega arith) are named in
-    line_says_words names (sweep_line names legs) (omega arith)
-    (legs_printable (codes " ") names legs refl are named)
-    ∙ words_back names legs are named
+    let head : length (ref_text reference) ≤ 69 = ref_short reference under in
+    let whole = length-append (codes "sweep" ++ ref_text reference) (legs_text (codes " ") names legs) in
+    line_says_words names (sweep_line names reference legs) (omega arith)
+    (both_printable (codes "sweep" ++ ref_text reference) (legs_text (codes " ") names legs)
+    (ref_printable reference under) (legs_printable (codes " ") names legs refl are named))
+    ∙ words_back names reference legs are under named

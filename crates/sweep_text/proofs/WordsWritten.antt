@@ -58,7 +58,7 @@ word_byte : (byte : ℕ) → is_word_byte byte ≡ true → IsWordByte byte
 word_byte byte passes = record { from = grind (arith, nat_tests); to = grind (arith, nat_tests) }
 
 -- what passes the test byte by byte is made of bytes of words
-word_bytes : (text : List ℕ) → list_all is_word_byte text ≡ true → All IsWordByte text
+pub word_bytes : (text : List ℕ) → list_all is_word_byte text ≡ true → All IsWordByte text
 word_bytes text passes =
     let each = AllPass-from_list_all is_word_byte text passes in λ k d within. word_byte _ (each k d within)
 

@@ -1,9 +1,9 @@
 -- What a line is answered.
 use Rattle.std.specs.Prelude.{ℕ, List, ◌++◌, codes, decimal}
 use Rattle.sweep_text.specs.declared.answer.Answer.{Answer}
-use Rattle.sweep_text.specs.declared.answer.Answer.TheVariants.{Placed, Refused, Closing, BadLine}
+use Rattle.sweep_text.specs.declared.answer.Answer.TheVariants.{Placed, Again, Refused, Closing, BadLine}
 use Rattle.sweep_text.specs.declared.answer.Refusal.{Refusal}
-use Rattle.sweep_text.specs.declared.answer.Refusal.TheVariants.{NoLegs, TooManyLegs, UnknownVenue, GateDown, BacklogFull, SweepsSpent, OutOfMemory, WrongBook}
+use Rattle.sweep_text.specs.declared.answer.Refusal.TheVariants.{NoLegs, TooManyLegs, UnknownVenue, GateDown, BacklogFull, SweepsSpent, OutOfMemory, WrongBook, OtherLegs, NoReference}
 use Rattle.sweep_text.specs.Fault.{fault_text}
 
 -- why a sweep isn't placed, as `R04 ARCA: its gate is down`
@@ -16,10 +16,15 @@ refusal_text (BacklogFull venue) = codes "R05 " ++ venue ++ codes ": its backlog
 refusal_text SweepsSpent = codes "R06: the numbers of sweeps are spent"
 refusal_text OutOfMemory = codes "R07: out of memory"
 refusal_text WrongBook = codes "R08: the book isn't the desk's"
+refusal_text OtherLegs = codes "R09: its reference is another sweep's"
+refusal_text NoReference = codes "R10: it has no reference"
 
--- an answer, as `placed 12 shares 150`, `refused R04 ARCA: its gate is down` or `bad line 7: no venue ARCA2`
+-- an answer, as `placed 12 shares 150`, `placed 12 shares 150 again`,
+-- `refused R04 ARCA: its gate is down` or `bad line 7: no venue ARCA2`
 abbrev pub answer_text : Answer → List ℕ
 answer_text (Placed sweep shares) = codes "placed " ++ decimal sweep ++ codes " shares " ++ decimal shares
+answer_text (Again sweep shares) =
+    codes "placed " ++ decimal sweep ++ codes " shares " ++ decimal shares ++ codes " again"
 answer_text (Refused refusal) = codes "refused " ++ refusal_text refusal
 answer_text Closing = codes "refused: the day is closing"
 answer_text (BadLine number fault) = codes "bad line " ++ decimal number ++ codes ": " ++ fault_text fault

@@ -1,7 +1,7 @@
 -- Why a line is bad.
 use Rattle.std.specs.Prelude.{ℕ, List, ◌++◌, codes}
 use Rattle.sweep_text.specs.declared.line_fault.LineFault.{LineFault}
-use Rattle.sweep_text.specs.declared.line_fault.LineFault.TheVariants.{TooLong, NotText, Unknown, Extra, Short, NoVenue, BadSymbol, BadSide, BadShares, BadPrice, OutOfMemory}
+use Rattle.sweep_text.specs.declared.line_fault.LineFault.TheVariants.{TooLong, NotText, Unknown, Extra, Short, NoVenue, BadSymbol, BadSide, BadShares, BadPrice, BadReference, OutOfMemory}
 
 -- the fault in words, as `no venue ARCA2`
 abbrev pub fault_text : LineFault → List ℕ
@@ -15,4 +15,5 @@ fault_text (BadSymbol word) = codes "bad symbol " ++ word
 fault_text (BadSide word) = codes "bad side " ++ word
 fault_text (BadShares word) = codes "bad shares " ++ word
 fault_text (BadPrice word) = codes "bad price " ++ word
+fault_text (BadReference word) = codes "bad reference " ++ word
 fault_text OutOfMemory = codes "out of memory"

@@ -1,15 +1,16 @@
 -- What a line asks for.
-use Rattle.std.specs.Prelude.{◌≡◌, ◌≢◌, ℕ, List, [], ◌∷◌, codes, Option, Some, None, Result, Ok, Err, Vec, Bool, false, length, nat_le, ◌==◌, if◌then◌else◌}
-use Rattle.std.specs.List.{list_all}
+use Rattle.std.specs.Prelude.{◌≡◌, ◌≢◌, ℕ, List, [], ◌∷◌, codes, Option, Some, None, Result, Ok, Err, Vec, Bool, false, drop, length, nat_eq, nat_le, ◌==◌, if◌then◌else◌}
+use Rattle.std.specs.List.{list_all, starts_with}
 use Rattle.std.specs.Str.{bytes_eq}
 use Rattle.std.specs.declared.alloc.Global.{Global}
 use Rattle.leg.specs.declared.sweep.Routed.{Routed}
 use Rattle.desk_words.specs.Printable.{is_printable_byte, shown}
+use Rattle.sweep_refs.specs.Ref.{ref_of}
 use Rattle.sweep_text.specs.declared.command.Command.{Command}
 use Rattle.sweep_text.specs.declared.command.Command.TheVariants.{Nothing, Status, Close, Sweep}
 use Rattle.sweep_text.specs.declared.line_fault.LineFault.{LineFault}
-use Rattle.sweep_text.specs.declared.line_fault.LineFault.TheVariants.{TooLong, NotText, Unknown, Extra, OutOfMemory}
-use Rattle.sweep_text.specs.Legs.{and_then, legs_of, more_legs}
+use Rattle.sweep_text.specs.declared.line_fault.LineFault.TheVariants.{TooLong, NotText, Unknown, Extra, BadReference, OutOfMemory}
+use Rattle.sweep_text.specs.Legs.{and_then, legs_of, more_legs, or_fault}
 use Rattle.sweep_text.specs.Words.{words_of}
 
 -- a command with nothing behind it
@@ -17,10 +18,27 @@ abbrev pub alone : Command → List (List ℕ) → Result Command LineFault
 alone command [] = Ok command
 alone command (word ∷ words) = Err (Extra (shown 200 word))
 
--- the sweep of the words behind `sweep`
-abbrev pub sweep_says : List (List ℕ) → List (List ℕ) → Result Command LineFault
-sweep_says names [] = Ok (Sweep (record { legs = [] }))
-sweep_says names (word ∷ words) = and_then (legs_of names (word ∷ words)) (λ legs. Ok (Sweep (record { legs = legs })))
+-- the sweep of these legs, under a reference, if there is one
+abbrev pub sweep_of : Option (List ℕ) → List Routed → Command
+sweep_of reference legs = Sweep (record { reference = reference; sweep = record { legs = legs } })
+
+-- the sweep of the words behind `sweep` and its reference
+abbrev pub legs_say : List (List ℕ) → Option (List ℕ) → List (List ℕ) → Result Command LineFault
+legs_say names reference [] = Ok (sweep_of reference [])
+legs_say names reference (word ∷ words) =
+    and_then (legs_of names (word ∷ words)) (λ legs. Ok (sweep_of reference legs))
+
+-- the reference of a word that begins with `ref=`
+abbrev pub ref_in : List ℕ → Result (List ℕ) LineFault
+ref_in word = or_fault (BadReference (shown 200 word)) (ref_of (drop 4 word))
+
+-- the sweep of the words behind `sweep`: a word that begins with `ref=` may stand before its legs
+unfoldable pub sweep_says : List (List ℕ) → List (List ℕ) → Result Command LineFault
+sweep_says names [] = Ok (sweep_of None [])
+sweep_says names (word ∷ words) =
+    if starts_with nat_eq word (codes "ref=")
+    then and_then (ref_in word) (λ reference. legs_say names (Some reference) words)
+    else legs_say names None (word ∷ words)
 
 -- whether a word begins a remark
 abbrev pub is_remark : List ℕ → Bool

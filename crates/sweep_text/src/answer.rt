@@ -26,6 +26,10 @@ pub enum Refusal {
     OutOfMemory,
     /// R08: desk and book don't belong together.
     WrongBook,
+    /// R09: other legs were placed under its reference.
+    OtherLegs,
+    /// R10: the desk takes no sweep without a reference.
+    NoReference,
 }
 
 /// The answer to a line, in one line.
@@ -33,6 +37,8 @@ pub enum Refusal {
 pub enum Answer {
     /// The number of the sweep, and the shares of all its legs.
     Placed { sweep: u64, shares: u64 },
+    /// Nothing is placed: these legs were placed before under the same reference, as this number.
+    Again { sweep: u64, shares: u64 },
     Refused(Refusal),
     /// Refused, since the day is closing.
     Closing,
@@ -55,6 +61,8 @@ impl fmt::Display for Refusal {
             Refusal::SweepsSpent => write!(f, "R06: the numbers of sweeps are spent"),
             Refusal::OutOfMemory => write!(f, "R07: out of memory"),
             Refusal::WrongBook => write!(f, "R08: the book isn't the desk's"),
+            Refusal::OtherLegs => write!(f, "R09: its reference is another sweep's"),
+            Refusal::NoReference => write!(f, "R10: it has no reference"),
         }
     }
 }
@@ -65,6 +73,7 @@ impl fmt::Display for Answer {
     fn fmt<W: fmt::Write>(&self, f: &mut fmt::Formatter<W>) -> fmt::Result {
         match self {
             Answer::Placed { sweep, shares } => write!(f, "placed {sweep} shares {shares}"),
+            Answer::Again { sweep, shares } => write!(f, "placed {sweep} shares {shares} again"),
             Answer::Refused(refusal) => write!(f, "refused {refusal}"),
             Answer::Closing => write!(f, "refused: the day is closing"),
             Answer::BadLine { number, fault } => write!(f, "bad line {number}: {fault}"),

@@ -1,6 +1,6 @@
 //! What a line asks for.
 
-use leg::Sweep;
+use sweep_refs::Submission;
 
 /// What a line of standard input asks for.
 #[derive(Debug, Drop)]
@@ -9,5 +9,6 @@ pub enum Command {
     Nothing,
     Status,
     Close,
-    Sweep(Sweep),
+    /// Under a reference, if it has one.
+    Sweep(Submission),
 }

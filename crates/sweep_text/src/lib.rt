@@ -4,8 +4,8 @@
 //! - `read_line` answers exactly what a line asks for (`line_says`), or its first fault from left to right; or
 //!   memory was wanted, which only a line that asks for legs does.
 //! - `write_sweep` gives exactly the line of a sweep (`sweep_line`). What is written is read back: the line of up to
-//!   a thousand legs, each in range and for a venue that has a name of its own, asks for those very legs
-//!   (`written_sweeps_read_back`). Answers are the stated texts (`answer_text`).
+//!   a thousand legs, each in range and for a venue that has a name of its own, asks for those very legs under their
+//!   reference (`written_sweeps_read_back`). Answers are the stated texts (`answer_text`).
 #![tactic(auto)]
 
 mod answer;

@@ -33,6 +33,8 @@ pub enum LineFault {
     BadSide(Word),
     BadShares(Word),
     BadPrice(Word),
+    /// Behind `ref=` is no reference.
+    BadReference(Word),
     /// No memory is left for the legs.
     OutOfMemory,
 }
@@ -52,6 +54,7 @@ impl fmt::Display for LineFault {
             LineFault::BadSide(word) => write!(f, "bad side {word}"),
             LineFault::BadShares(word) => write!(f, "bad shares {word}"),
             LineFault::BadPrice(word) => write!(f, "bad price {word}"),
+            LineFault::BadReference(word) => write!(f, "bad reference {word}"),
             LineFault::OutOfMemory => write!(f, "out of memory"),
         }
     }

@@ -1,12 +1,13 @@
 //! A line, read.
 
-ghost use Rattle.std.specs.Prelude.{◌≡◌, ◌≢◌, ◌≤◌, ◌<◌, [], ◌∷◌, Err, IfOk, IfSome, length};
+ghost use Rattle.std.specs.Prelude.{◌≡◌, ◌≢◌, ◌≤◌, ◌<◌, [], ◌∷◌, Err, IfNone, IfOk, IfSome, IsSome, length};
 ghost use Rattle.std.specs.List.{list_all};
 ghost use Rattle.std.specs.Option.{option_map};
 ghost use Rattle.desk_words.specs.Printable.{is_printable_byte};
 ghost use Rattle.sweep_text.specs.Legs.{legs_of, result_map};
-ghost use Rattle.sweep_text.specs.Line.{Answers, AnswersLegs, AskForLegs, FollowsLeg, alone, line_says, sweep_says};
+ghost use Rattle.sweep_text.specs.Line.{Answers, AnswersLegs, AskForLegs, FollowsLeg, alone, legs_say, line_says, ref_in, sweep_says};
 ghost use Rattle.sweep_text.specs.Words.{words_of};
+ghost use Rattle.text_pieces.specs.Pieces.{with_first};
 ghost use Rattle.sweep_text.specs.declared.line_fault.LineFault.TheVariants.{OutOfMemory};
 
 use crate::command::Command;
@@ -16,6 +17,7 @@ use crate::words::Words;
 use desk_words::{VenueName, shown};
 use leg::{Legs, Routed, Sweep};
 use std::alloc::Global;
+use sweep_refs::{Submission, SweepRef};
 
 /// The venue of the next leg, where `+` and a word follow a leg; none at the end of the line.
 fn next_venue<'a>(words: &mut Words<'a>) -> Result<Option<&'a [u8]>, LineFault>
@@ -55,8 +57,47 @@ fn read_legs(
     }
 }
 
-/// The sweep of the words behind `sweep`; without words it is one of no legs, which the desk refuses.
+/// The sweep of the words behind `sweep` and its reference, of which the first is for this venue; without words it is
+/// one of no legs, which the desk refuses.
 #[tactic(auto, using(crate::proofs::Faults::sweep_fault))]
+fn read_sweep_under(
+    alloc: Global,
+    names: &[VenueName],
+    reference: Option<SweepRef>,
+    first_venue: Option<&[u8]>,
+    words: &mut Words<'_>,
+) -> Result<Command, LineFault>
+    requires few { length names.now ≤ 16 }
+    requires ended { IfNone first_venue (words.old ≡ []) }
+    ensures answer { Answers (legs_say names.now reference
+        (with_first (option_map (λ venue. venue.now) first_venue.entry) words.old)) result }
+    ensures memory { result ≡ Err OutOfMemory → IsSome first_venue.entry }
+{
+    let legs = match first_venue {
+        Some(venue) => read_legs(alloc, names, venue, words)?,
+        None => Vec::new(alloc),
+    };
+    Ok(Command::Sweep(Submission {
+        reference,
+        sweep: Sweep {
+            legs: Legs::new(legs),
+        },
+    }))
+}
+
+/// The reference of a word that begins with `ref=`.
+fn ref_in(word: &[u8]) -> Result<SweepRef, LineFault>
+    requires { 4 ≤ length word.now }
+    ensures { result ≡ ref_in word.now }
+{
+    match SweepRef::new(&word[4..]) {
+        Some(reference) => Ok(reference),
+        None => Err(LineFault::BadReference(shown(word))),
+    }
+}
+
+/// The sweep of the words behind `sweep`.
+#[tactic(auto, unfolding(crate::specs::Line::sweep_says))]
 fn read_sweep(
     alloc: Global,
     names: &[VenueName],
@@ -66,13 +107,14 @@ fn read_sweep(
     ensures answer { Answers (sweep_says names.now words.old) result }
     ensures memory { result ≡ Err OutOfMemory → words.old ≢ [] }
 {
-    let legs = match words.next() {
-        Some(venue) => read_legs(alloc, names, venue, words)?,
-        None => Vec::new(alloc),
-    };
-    Ok(Command::Sweep(Sweep {
-        legs: Legs::new(legs),
-    }))
+    match words.next() {
+        Some(word) if word.starts_with(b"ref=") => {
+            let reference = ref_in(word)?;
+            let venue = words.next();
+            read_sweep_under(alloc, names, Some(reference), venue, words)
+        }
+        first => read_sweep_under(alloc, names, None, first, words),
+    }
 }
 
 /// A command of one word, with nothing behind it.
@@ -91,9 +133,9 @@ fn is_text(line: &[u8]) -> bool
     line.iter().all(|byte| b' ' <= *byte && *byte <= b'~')
 }
 
-/// What a line asks for, without its end: `sweep NYSE BRK.B buy 100 10.25 + ARCA IBM sell 50 100`, `status`, `close`,
-/// or nothing where it is blank or begins with `#`; or its first fault. Prices are in dollars, words are parted by
-/// spaces. Only legs take memory.
+/// What a line asks for, without its end: `sweep ref=P7-3 NYSE BRK.B buy 100 10.25 + ARCA IBM sell 50 100`, where the
+/// reference may be left out, `status`, `close`, or nothing where it is blank or begins with `#`; or its first fault.
+/// Prices are in dollars, words are parted by spaces. Only legs take memory.
 #[tactic(auto, unfolding(crate::specs::Line::line_says), using(crate::proofs::Faults::answers))]
 pub fn read_line(alloc: Global, names: &[VenueName], line: &[u8]) -> Result<Command, LineFault>
     requires { length names.now ≤ 16 }

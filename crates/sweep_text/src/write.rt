@@ -1,15 +1,17 @@
 //! A sweep, written as the line that asks for it.
 
-ghost use Rattle.std.specs.Prelude.{◌≡◌, ◌<◌, ◌++◌, ◌^◌, IfOk, OnOk, string_bytes};
+ghost use Rattle.std.specs.Prelude.{◌≡◌, ◌<◌, ◌++◌, ◌^◌, IfOk, OnOk, codes, string_bytes};
+ghost use Rattle.std.specs.Option.{option_map};
 ghost use Rattle.std.specs.Str.{IsUtf8};
 ghost use Rattle.fix_tags.specs.Price.{price_short};
-ghost use Rattle.sweep_text.specs.Written.{leg_text, name_of, sweep_line, terms_text};
+ghost use Rattle.sweep_text.specs.Written.{leg_text, name_of, ref_text, sweep_line, terms_text};
 
 use desk_words::VenueName;
 use fix_tags::{PriceText, price_short_text};
 use leg::{Routed, Terms, VenueId};
 use std::alloc::{AllocError, Global};
 use std::str;
+use sweep_refs::SweepRef;
 
 /// What a venue is called; `?` where it has no name.
 fn name_of(names: &[VenueName], venue: VenueId) -> &str
@@ -62,16 +64,29 @@ fn write_leg(
     write_terms(text, &leg.terms)
 }
 
-/// The line that asks for these legs: `sweep NYSE BRK.B buy 100 10.25 + ARCA IBM sell 50 100`. A venue that has no name
-/// is written `?`.
+/// The beginning of the line that asks for a sweep: `sweep`, or `sweep ref=P7-3`.
+fn sweep_head(alloc: Global, reference: Option<&SweepRef>) -> Result<String, AllocError>
+    ensures { IfOk result (λ text. string_bytes text
+        ≡ codes "sweep" ++ ref_text (option_map (λ r. r.now) reference.entry)) }
+{
+    match reference {
+        Some(reference) => format!(in alloc; "sweep ref={reference}"),
+        None => String::from_str(alloc, "sweep"),
+    }
+}
+
+/// The line that asks for these legs, under a reference if there is one: `sweep ref=P7-3 NYSE BRK.B buy 100 10.25 +
+/// ARCA IBM sell 50 100`. A venue that has no name is written `?`.
 pub fn write_sweep(
     alloc: Global,
     names: &[VenueName],
+    reference: Option<&SweepRef>,
     legs: &[Routed],
 ) -> Result<String, AllocError>
-    ensures { IfOk result (λ text. string_bytes text ≡ sweep_line names.now legs.now) }
+    ensures { IfOk result (λ text. string_bytes text
+        ≡ sweep_line names.now (option_map (λ r. r.now) reference.entry) legs.now) }
 {
-    let mut text = String::from_str(alloc, "sweep")?;
+    let mut text = sweep_head(alloc, reference)?;
     let mut mark = " ";
     for leg in legs {
         write_leg(&mut text, mark, names, leg)?;

@@ -46,13 +46,14 @@ impl Progress {
             Progress::Down(Loss::Ended(Ended::Malformed)) => 18,
             Progress::Down(Loss::Ended(Ended::LogoutDone)) => 19,
             Progress::Down(Loss::Ended(Ended::BadNextExpected)) => 20,
+            Progress::Down(Loss::Ended(Ended::PeerForgot)) => 21,
         }
     }
 
-    /// What a code stands for, if it stands for something: the codes go from 0 to 20.
+    /// What a code stands for, if it stands for something: the codes go from 0 to 21.
     pub(crate) fn of_code(code: u64) -> Option<Progress>
         ensures known { IfSome result (λ progress. slice_get progresses code ≡ Some progress) }
-        ensures unknown { result ≡ None → 20 < code }
+        ensures unknown { result ≡ None → 21 < code }
     {
         match code {
             0 => Some(Progress::Dialled),
@@ -76,6 +77,7 @@ impl Progress {
             18 => Some(Progress::Down(Loss::Ended(Ended::Malformed))),
             19 => Some(Progress::Down(Loss::Ended(Ended::LogoutDone))),
             20 => Some(Progress::Down(Loss::Ended(Ended::BadNextExpected))),
+            21 => Some(Progress::Down(Loss::Ended(Ended::PeerForgot))),
             _ => None,
         }
     }

@@ -24,7 +24,7 @@ use Rattle.session_core.specs.declared.session_call.SessionCall.TheVariants as c
 use Rattle.session_core.specs.declared.session_fault.SessionFault.TheVariants as fault
 use Rattle.session_core.specs.Session.{SessionParts, is_connected, is_still, is_logging_on, is_settling, is_logged_out, may_write}
 use Rattle.session_core.specs.Turn.{StepParts, Turn, quietly, writes, settles_at, counting, counts, ends, logs_out, with_pending, disconnected, puts_fence, puts}
-use Rattle.session_core.specs.Receiving.{counts_if, asks_if, settles_told, told_number, is_too_high, logon_row, filled_if, resend_while_settling, resend_later, resend_row, named_fence, passing, is_closing_fence, passed_in, passes_fence, answers_test, gap_fill_row, refused_leg, logout_row, in_turn, row, by_number, received, hearing, receive, is_reset}
+use Rattle.session_core.specs.Receiving.{counts_if, asks_if, settles_told, told_number, is_too_high, has_passed, is_forgotten, logon_row, filled_if, resend_while_settling, resend_later, resend_row, named_fence, passing, is_closing_fence, passed_in, passes_fence, answers_test, gap_fill_row, refused_leg, logout_row, in_turn, row, by_number, received, hearing, receive, is_reset}
 use Rattle.session_core.specs.Calling.{SessionAnswer, refuses, answers, answers_numbered, send_leg, send_in, quiet, silent, hushed, close, close_in, closing_up, broken}
 use Rattle.session_core.specs.Trial.{Addition, added, added_message, called}
 use Rattle.session_core.proofs.Adding.{chosen, adds-writes, adds-writes_fence, adds-asks_if, adds-filled_if, adds-counts_if, adds-ends_turn, adds-logs_out, adds-asks_missing}
@@ -46,9 +46,10 @@ module _ (s : SessionParts) where
       let asked = asks_if (not due) counted in
       chosen (On s) (not (is_logging_on s.phase)) (ends ended.LogonAgain s) _ (λ again. refl)
       (λ first. chosen (On s) (is_too_high s (told_number s next)) (ends ended.BadNextExpected s) _ (λ high. refl)
+      (λ low. chosen (On s) (is_forgotten s (told_number s next)) (ends ended.PeerForgot s) _ (λ forgot. refl)
       (λ fine. (adds-writes_fence asked).connection
       ∙ ((adds-asks_if (not due) counted).connection
-      ∙ ((adds-counts_if due told).connection ∙ told_on (told_number s next)))))
+      ∙ ((adds-counts_if due told).connection ∙ told_on (told_number s next))))))
 
   later_on : (fill : Option GapFillParts) → On s (resend_later fill s)
   later_on None = refl
@@ -60,11 +61,12 @@ module _ (s : SessionParts) where
       let later = fill_for begin last s.settled s.log in
       let turn : Turn = if is_settling s.phase then resend_while_settling s begin last else resend_later later s in
       chosen (On s) (not (is_range (last_number s.log) begin last)) (ends ended.BadResend s) _ (λ bad. refl)
+      (λ sent. chosen (On s) (is_settling s.phase && has_passed s begin) (ends ended.PeerForgot s) _ (λ forgot. refl)
       (λ good. (adds-counts_if due turn).connection
       ∙ chosen (On s) (is_settling s.phase) (resend_while_settling s begin last) (resend_later later s)
       (λ settling. (adds-writes_fence (filled_if fill (settles_at begin s))).connection
       ∙ (adds-filled_if fill (settles_at begin s)).connection)
-      (λ on. later_on later))
+      (λ on. later_on later)))
 
   passed_on : (now : Phase) (fence : ℕ) → On s (passed_in now fence (passing fence s))
   passed_on phase.Settling fence =

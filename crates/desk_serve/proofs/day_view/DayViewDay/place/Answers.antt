@@ -5,4 +5,4 @@ use Rattle.desk_serve.proofs.day_view.DayViewDay.place.Goals as goal
 pub returns : goal.returns
 returns g c = λ apart.
     let told = c.hand_in_shared.ensures (λ closing. apart (c.outcome_of.ensures ∙ ap outcome_of closing)) in
-    (told.0, told.1, told.2, told.3, told.4, told.5, c.outcome_of.ensures ∙ ap outcome_of told.6)
+    (c.hand_in_shared.result, told, c.outcome_of.ensures)

@@ -1,0 +1,150 @@
+//! The sweeps that were placed under references.
+
+ghost use Rattle.std.specs.Prelude.{◌≡◌, ◌≤◌, ◌+◌, ◌⊎◌, None, IfOk, OnOk, option_map};
+ghost use Rattle.sweep_refs.specs.Placed.{AreDistinct, placed_under};
+ghost use Rattle.desk_floor.specs.Release.{AnswersOnce, IsReleased, noted, placed_after, placed_shares};
+
+use crate::floor::Floor;
+use exec_collector::Accounts;
+use leg::{Legs, Routed, Sweep};
+use release_lock::{CallerSeat, Run};
+use std::alloc::{AllocError, Global};
+use std::io::Write;
+use std::sync::Wait;
+use std::time::Clock;
+use sweep_refs::{Found, Placement, RefBook, SweepRef};
+use sweep_text::{Answer, Refusal};
+
+/// The sweeps that were placed under references. Whoever hands one in under a reference holds them until it is
+/// answered.
+#[derive(Drop)]
+pub struct Refs {
+    alloc: Global,
+    book: RefBook,
+}
+
+/// The same leg once more. The only refusal is out of memory.
+fn same_leg(leg: &Routed) -> Result<Routed, AllocError>
+    ensures { IfOk result (λ copy. copy ≡ leg.now) }
+{
+    Ok(Routed {
+        venue: leg.venue,
+        terms: leg.terms.clone()?,
+    })
+}
+
+/// The same legs once more. The only refusal is out of memory.
+#[tactic(auto, using(crate::proofs::Copied::one_more))]
+fn copy_of(alloc: Global, legs: &[Routed]) -> Result<Legs, AllocError>
+    ensures { IfOk result (λ copy. copy ≡ legs.now) }
+{
+    let mut copy = Vec::new(alloc);
+    for leg in legs {
+        copy.push(same_leg(leg)?)?;
+    }
+    Ok(Legs::new(copy))
+}
+
+impl Refs {
+    /// None yet.
+    pub fn new(alloc: Global) -> Refs {
+        Refs {
+            alloc,
+            book: RefBook::new(alloc),
+        }
+    }
+
+    /// The number under which a sweep was placed under a reference, if one was.
+    pub(crate) fn number(&self, reference: &SweepRef) -> Option<u64>
+        ensures found { result
+            ≡ option_map (λ known. known.number) (placed_under self.now.book.placed reference.now) }
+        ensures distinct { AreDistinct self.now.book.placed }
+    {
+        let placement = self.book.placement(reference)?;
+        Some(placement.number)
+    }
+
+    /// The same legs once more, and room to note what is placed. The only refusal is out of memory.
+    fn prepare(&mut self, legs: &[Routed]) -> Result<Legs, AllocError>
+        ensures legs { IfOk result (λ copy. copy ≡ legs.now) }
+        ensures room { OnOk result (1 ≤ self.new.book.room) }
+        ensures placed { self.new.book.placed ≡ self.old.book.placed }
+    {
+        let copy = copy_of(self.alloc, legs)?;
+        self.book.reserve()?;
+        Ok(copy)
+    }
+
+    /// Notes a sweep of these legs under a reference that is free, where the answer says that it was placed.
+    fn note(&mut self, reference: SweepRef, legs: Legs, answer: &Answer)
+        requires room { 1 ≤ self.old.book.room }
+        requires free { placed_under self.old.book.placed reference ≡ None }
+        ensures { self.new.book.placed ≡ noted self.old.book.placed reference legs answer.now }
+    {
+        match answer {
+            Answer::Placed { sweep, shares } => {
+                let placement = Placement {
+                    number: *sweep,
+                    shares: *shares,
+                    legs,
+                };
+                self.book.note(reference, placement);
+            }
+            Answer::Again { .. } => {}
+            Answer::Refused(_) => {}
+            Answer::Closing => {}
+            Answer::BadLine { .. } => {}
+        }
+    }
+
+    /// Places a sweep under a reference that is free, and notes it. Room is there before anything is placed.
+    fn place_new<L: Run, M: Accounts, W: Write + Drop, R: Wait + Clock>(
+        &mut self,
+        rt: &R,
+        floor: &Floor<L, M, W>,
+        seat: &mut CallerSeat<L>,
+        reference: SweepRef,
+        sweep: Sweep,
+    ) -> Answer
+        requires { placed_under self.old.book.placed reference ≡ None }
+        ensures answer { IsReleased floor.now.names.items sweep.legs result
+            ⊎ (result ≡ Answer.Refused Refusal.OutOfMemory) }
+        ensures after { self.new.book.placed ≡ noted self.old.book.placed reference sweep.legs result }
+        ensures parts { seat.new.parts ≡ seat.old.parts }
+        ensures counted { seat.new.shares ≡ seat.old.shares + placed_shares result sweep.legs }
+        ensures placed { seat.new.placed ≡ placed_after seat.old.placed result sweep.legs }
+    {
+        let Ok(legs) = self.prepare(sweep.legs.as_slice()) else {
+            return Answer::Refused(Refusal::OutOfMemory);
+        };
+        let answer = floor.release(rt, seat, sweep);
+        self.note(reference, legs, &answer);
+        answer
+    }
+
+    /// Places a sweep under a reference, at most once: where these legs were placed under it before, it is answered
+    /// with their number and their shares, and others are refused.
+    pub(crate) fn place<L: Run, M: Accounts, W: Write + Drop, R: Wait + Clock>(
+        &mut self,
+        rt: &R,
+        floor: &Floor<L, M, W>,
+        seat: &mut CallerSeat<L>,
+        reference: SweepRef,
+        sweep: Sweep,
+    ) -> Answer
+        ensures once { AnswersOnce floor.now.names.items self.old.book.placed reference sweep.legs result
+            self.new.book.placed }
+        ensures parts { seat.new.parts ≡ seat.old.parts }
+        ensures counted { seat.new.shares ≡ seat.old.shares + placed_shares result sweep.legs }
+        ensures placed { seat.new.placed ≡ placed_after seat.old.placed result sweep.legs }
+    {
+        match self.book.look(&reference, sweep.legs.as_slice()) {
+            Found::Same { number, shares } => Answer::Again {
+                sweep: number,
+                shares,
+            },
+            Found::Others => Answer::Refused(Refusal::OtherLegs),
+            Found::Nothing => self.place_new(rt, floor, seat, reference, sweep),
+        }
+    }
+}

@@ -1,0 +1,3 @@
+mod SettledStays
+mod Asked
+mod Late

@@ -1,0 +1,3 @@
+pub mod Ref
+pub mod Placed
+pub mod Worked
