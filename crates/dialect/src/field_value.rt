@@ -9,7 +9,7 @@ use crate::fault::DialectFault;
 use fix_tags::AppFields;
 
 /// The value of a field that must be there.
-pub(crate) fn required<'a>(fields: &AppFields<'a>, tag: u32) -> Result<&'a [u8], DialectFault>
+pub fn required<'a>(fields: &AppFields<'a>, tag: u32) -> Result<&'a [u8], DialectFault>
     ensures value { result_map_both (λ value. value.now) (λ fault. fault) result ≡ required fields.now tag }
     ensures no_soh { IfOk result (λ value. holds_soh value.now ≡ false) }
 {

@@ -19,7 +19,8 @@ use crate::report_tag::{EXEC_ID, EXEC_REF_ID, EXEC_TYPE, LAST_PX, LAST_QTY};
 use crate::spelling::Spelling;
 use fix_tags::AppFields;
 
-fn exec_id_in(fields: &AppFields<'_>, tag: u32) -> Result<ExecId, DialectFault>
+/// The id of an execution in this field (17 or 19), as `ExecId::new` takes it.
+pub fn exec_id_in(fields: &AppFields<'_>, tag: u32) -> Result<ExecId, DialectFault>
     ensures { result ≡ required_as (free_text_of 64) fields.now tag }
 {
     let text = required(fields, tag)?;
@@ -85,8 +86,9 @@ fn kind_by(fields: &AppFields<'_>, byte: u8) -> Result<ReportKind, DialectFault>
     }
 }
 
+/// What happened, by 150, with the fields that it needs: 32 and 31 of a trade, 19 of a bust.
 #[inline(always)]
-fn kind_in(fields: &AppFields<'_>) -> Result<ReportKind, DialectFault>
+pub fn kind_in(fields: &AppFields<'_>) -> Result<ReportKind, DialectFault>
     ensures { result ≡ kind_in fields.now }
 {
     match required(fields, EXEC_TYPE)? {
