@@ -56,6 +56,11 @@ IsKnown known legs (Again sweep shares) = known ≡ placement sweep shares legs
 IsKnown known legs (Refused refusal.OtherLegs) = known.legs ≢ legs
 IsKnown known legs answer = ⊥
 
+-- the answer under a reference that is known; none where it is free
+abbrev pub AnswersKnown : Option Placement → List Routed → Option Answer → Type 0
+AnswersKnown (Some known) legs answer = IsSomeAnd answer (IsKnown known legs)
+AnswersKnown None legs answer = answer ≡ None
+
 -- what is answered under a reference: as it is known, or what becomes of the sweep. Out of memory, nothing does
 abbrev pub IsJudged : List (List ℕ) → Option Placement → List Routed → Answer → Type 0
 IsJudged names (Some known) legs answer = IsKnown known legs answer

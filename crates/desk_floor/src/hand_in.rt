@@ -1,6 +1,6 @@
 //! A sweep is handed in, and answered.
 
-ghost use Rattle.std.specs.Prelude.{◌≡◌, ◌≢◌, ◌+◌, None, slice_get, IfErr, IfOk};
+ghost use Rattle.std.specs.Prelude.{◌≡◌, ◌≢◌, ◌+◌, None, slice_get, IfErr, IfOk, IfSome};
 ghost use Rattle.desk_floor.specs.Release.{IsAnswered, IsAnsweredUnder, IsReleased, refusal_of, answer_of, placed_after, placed_shares, told};
 
 use crate::floor::Floor;
@@ -75,8 +75,8 @@ fn venues_of(legs: &[Routed]) -> [bool; VENUES] {
 impl<L: Run, M: Accounts, W: Write + Drop> Floor<L, M, W> {
     /// Hands a sweep in that this line asks for, for a caller who counts on this seat, and answers with what became of
     /// it; or shows that the day is closing. The seat gains the sweep under the number that is answered, and else
-    /// nothing. Under a reference a sweep is placed at most once: these legs again are answered as the first time, and
-    /// others are refused. The line and its answer stand behind one another in the log. It may wait for the locks; once
+    /// nothing. Under a reference a sweep is placed at most once: these legs again are answered as the first time, also
+    /// where the day is closing, and others are refused. The line and its answer stand behind one another in the log. It may wait for the locks; once
     /// those of the desk and the book are given up it wakes the workers of the sweep's venues.
     pub fn hand_in<'a, R: Wait + Clock, C: clock::Clock + Drop>(
         &self,
@@ -95,13 +95,28 @@ impl<L: Run, M: Accounts, W: Write + Drop> Floor<L, M, W> {
     {
         let _turn = self.turn.lock(rt);
         log.taken(line);
-        if let Some(shown) = self.signals.closing() {
-            self.note_answer(rt, log, &Answer::Closing);
-            return Err(shown);
+        let answered = match self.signals.closing() {
+            Some(shown) => self.repeated(rt, &submission).ok_or(shown),
+            None => Ok(self.place(rt, seat, submission)),
+        };
+        match &answered {
+            Ok(answer) => self.note_answer(rt, log, answer),
+            Err(_) => self.note_answer(rt, log, &Answer::Closing),
         }
-        let answer = self.place(rt, seat, submission);
-        self.note_answer(rt, log, &answer);
-        Ok(answer)
+        answered
+    }
+
+    /// The answer to a sweep that was placed before, under the reference that it has.
+    fn repeated(&self, rt: &impl Wait, submission: &Submission) -> Option<Answer>
+        ensures answer { IfSome result (IsAnswered self.now.names.items self.now.manner.wants_refs submission.now) }
+        ensures nothing { IfSome result (λ answer. placed_shares answer submission.now.sweep.legs ≡ 0) }
+        ensures none { IfSome result (λ answer. (placed : _)
+            → placed_after placed answer submission.now.sweep.legs ≡ placed) }
+    {
+        let reference = submission.reference.as_ref()?;
+        self.refs
+            .lock(rt)
+            .answer(reference, submission.sweep.legs.as_slice())
     }
 
     /// Places a sweep, under its reference if it has one, and answers with what became of it.

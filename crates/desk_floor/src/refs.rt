@@ -2,7 +2,7 @@
 
 ghost use Rattle.std.specs.Prelude.{◌≡◌, ◌≤◌, ◌+◌, ◌⊎◌, None, IfOk, OnOk, option_map};
 ghost use Rattle.sweep_refs.specs.Placed.{AreDistinct, placed_under};
-ghost use Rattle.desk_floor.specs.Release.{AnswersOnce, IsReleased, noted, placed_after, placed_shares};
+ghost use Rattle.desk_floor.specs.Release.{AnswersKnown, AnswersOnce, IsReleased, noted, placed_after, placed_shares};
 
 use crate::floor::Floor;
 use exec_collector::Accounts;
@@ -122,6 +122,22 @@ impl Refs {
         answer
     }
 
+    /// The answer to a sweep that was placed under its reference: the number and the shares that were placed, for these
+    /// legs; a refusal for others. None where the reference is free.
+    pub(crate) fn answer(&self, reference: &SweepRef, legs: &[Routed]) -> Option<Answer>
+        ensures known { AnswersKnown (placed_under self.now.book.placed reference.now) legs.now result }
+        ensures distinct { AreDistinct self.now.book.placed }
+    {
+        match self.book.look(reference, legs) {
+            Found::Same { number, shares } => Some(Answer::Again {
+                sweep: number,
+                shares,
+            }),
+            Found::Others => Some(Answer::Refused(Refusal::OtherLegs)),
+            Found::Nothing => None,
+        }
+    }
+
     /// Places a sweep under a reference, at most once: where these legs were placed under it before, it is answered
     /// with their number and their shares, and others are refused.
     pub(crate) fn place<L: Run, M: Accounts, W: Write + Drop, R: Wait + Clock>(
@@ -138,13 +154,9 @@ impl Refs {
         ensures counted { seat.new.shares ≡ seat.old.shares + placed_shares result sweep.legs }
         ensures placed { seat.new.placed ≡ placed_after seat.old.placed result sweep.legs }
     {
-        match self.book.look(&reference, sweep.legs.as_slice()) {
-            Found::Same { number, shares } => Answer::Again {
-                sweep: number,
-                shares,
-            },
-            Found::Others => Answer::Refused(Refusal::OtherLegs),
-            Found::Nothing => self.place_new(rt, floor, seat, reference, sweep),
+        match self.answer(&reference, sweep.legs.as_slice()) {
+            Some(answer) => answer,
+            None => self.place_new(rt, floor, seat, reference, sweep),
         }
     }
 }
