@@ -3,3 +3,4 @@ pub mod VenuesRead
 pub mod TextRead
 pub mod Apart
 pub mod FieldsRead
+pub mod HostsRead

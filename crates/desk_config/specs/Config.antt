@@ -13,6 +13,7 @@ use Rattle.desk_config.specs.declared.keys.Keys.TheVariants as keys
 use Rattle.desk_config.specs.declared.place.Place.TheVariants as place
 use Rattle.desk_config.specs.declared.venue.Venue.{Venue}
 use Rattle.desk_config.specs.Desk.{desk_in}
+use Rattle.desk_config.specs.Hosts.{hosts_of}
 use Rattle.desk_config.specs.Reading.{and_then, checked, in_place}
 use Rattle.desk_config.specs.Venues.{venues_of}
 
@@ -22,6 +23,7 @@ pub record ConfigParts : Type 0 where
   pub log : Option (List ℕ)
   pub page : Option Address
   pub token : Option (List ℕ)
+  pub hosts : List (List ℕ)
   pub venues : List Venue
 
 abbrev pub parts_of_config : DeskConfig → ConfigParts
@@ -31,21 +33,30 @@ parts_of_config config =
       log = config.log;
       page = config.page;
       token = config.token;
+      hosts = config.hosts.items;
       venues = config.venues.items;
     }
 
--- what `[desk]` and the venues say together
-abbrev pub config_of : DeskTable → List Venue → ConfigParts
-config_of desk venues =
-    record { callers = desk.callers; log = desk.log; page = desk.page; token = desk.token; venues = venues }
+-- what `[desk]`, the names of the page and the venues say together
+abbrev pub config_of : DeskTable → List (List ℕ) → List Venue → ConfigParts
+config_of desk hosts venues =
+    record {
+      callers = desk.callers;
+      log = desk.log;
+      page = desk.page;
+      token = desk.token;
+      hosts = hosts;
+      venues = venues;
+    }
 
 -- the configuration that a file's table has, or its first fault
 unfoldable pub config_in : Data → Result ConfigParts KeyFault
 config_in file =
     and_then (in_place place.File (checked keys.File file)) (λ _.
     and_then (desk_in file) (λ desk.
+    and_then (hosts_of desk.token file) (λ hosts.
     and_then (venues_of desk.sender file) (λ venues.
-    Ok (config_of desk venues))))
+    Ok (config_of desk hosts venues)))))
 
 -- the answer is what is said, or its fault; or memory ran out
 abbrev pub Answers : Result ConfigParts KeyFault → Result DeskConfig ConfigFault → Type 0

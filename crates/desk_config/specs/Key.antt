@@ -1,7 +1,7 @@
 -- The keys of the desk's file.
 use Rattle.std.specs.Prelude.{ℕ, List, ◌++◌, codes}
 use Rattle.desk_config.specs.declared.key.Key.{Key}
-use Rattle.desk_config.specs.declared.key.Key.TheVariants.{Venue, Sender, Callers, Log, Page, Token, Name, Address, Target, Dialect, Words, Id, Mark, Price, Symbol, Order, Heartbeat, NextExpected, MaxNumber, Fill}
+use Rattle.desk_config.specs.declared.key.Key.TheVariants.{Venue, Sender, Callers, Log, Page, Token, Hosts, Name, Address, Target, Dialect, Words, Id, Mark, Price, Symbol, Order, Heartbeat, NextExpected, MaxNumber, Fill}
 
 -- a key as the file spells it
 abbrev pub key_name : Key → List ℕ
@@ -11,6 +11,7 @@ key_name Callers = codes "callers"
 key_name Log = codes "log"
 key_name Page = codes "page"
 key_name Token = codes "token"
+key_name Hosts = codes "hosts"
 key_name Name = codes "name"
 key_name Address = codes "address"
 key_name Target = codes "target"
@@ -42,6 +43,7 @@ key_wants Callers = codes "1 to 64"
 key_wants Log = codes "the name of a folder, 1 to 200 printable characters"
 key_wants Page = codes "HOST:PORT"
 key_wants Token = codes "1 to 128 printable characters"
+key_wants Hosts = codes "an array of 1 to 8 names as desk.example.com"
 key_wants Name = codes "1 to 16 of A-Z a-z 0-9 _ -"
 key_wants Address = codes "HOST:PORT or simulated"
 key_wants Target = codes "1 to 16 printable characters without spaces"

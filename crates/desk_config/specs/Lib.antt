@@ -7,6 +7,7 @@ pub mod Endpoint
 pub mod Number
 pub mod Reading
 pub mod Desk
+pub mod Hosts
 pub mod Words
 pub mod Venue
 pub mod Venues

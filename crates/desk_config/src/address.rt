@@ -37,7 +37,7 @@ fn are_host_bytes(text: &[u8]) -> bool
 }
 
 /// A host of 1 to 100 letters, digits, dots and dashes.
-fn read_host(text: &[u8]) -> Option<Printable<MAX_HOST>>
+pub(crate) fn read_host(text: &[u8]) -> Option<Printable<MAX_HOST>>
     ensures { result ≡ host_of text.now }
 {
     if !are_host_bytes(text) {

@@ -2,7 +2,7 @@
 
 ghost use Rattle.std.specs.Prelude.{◌≡◌};
 
-use crate::address::Address;
+use crate::address::{Address, MAX_HOST};
 use crate::venue::Venue;
 use crate::within::Within;
 use desk_words::Printable;
@@ -19,6 +19,9 @@ pub type FolderText = Printable<MAX_FOLDER>;
 /// What is asked of whoever hands in sweeps or closes the day.
 pub type TokenText = Printable<MAX_TOKEN>;
 
+/// What the page may be called, as `desk.example.com`.
+pub type HostName = Printable<MAX_HOST>;
+
 /// How many sweeps may be handed in at once.
 pub type Callers = Within<1, 64>;
 
@@ -33,6 +36,8 @@ pub struct DeskConfig {
     pub page: Option<Address>,
     /// The token, which is there where the page isn't on 127.0.0.1.
     pub token: Option<TokenText>,
+    /// What the page may be called beside its address; where there is a name, there is a token.
+    pub hosts: Vec<HostName>,
     /// The venues, 1 to 16, in the order of the file.
     pub venues: Vec<Venue>,
 }

@@ -41,6 +41,13 @@ pub enum Fault {
     },
     /// The page's host isn't 127.0.0.1, and there is no token.
     NeedsToken,
+    /// The page has a name of its own, and there is no token.
+    HostsNeedToken,
+    /// A name of the page isn't one: which one, counted from 1.
+    Host {
+        number: usize,
+        found: Found,
+    },
     /// A venue that has an address says how a simulated one fills.
     OnlySimulated,
     /// An earlier venue, counted from 1, has the same name.
@@ -69,6 +76,11 @@ impl fmt::Display for Fault {
                 fault,
             } => write!(f, "order {number} is {found}: {fault}"),
             Fault::NeedsToken => write!(f, "page is not at 127.0.0.1, and there is no token"),
+            Fault::HostsNeedToken => write!(f, "hosts is there, and there is no token"),
+            Fault::Host { number, found } => write!(
+                f,
+                "hosts {number} is {found}, and has to be a name as desk.example.com"
+            ),
             Fault::OnlySimulated => write!(f, "fill is there, and the venue isn't simulated"),
             Fault::SameName(place) => write!(f, "name is that of venue {place}"),
             Fault::SameSession(place) => {

@@ -50,7 +50,10 @@ fn is_file_key(key: &str) -> bool
 fn is_desk_key(key: &str) -> bool
     ensures { result ≡ has_key Keys.Desk key.now }
 {
-    matches!(key, "sender" | "callers" | "log" | "page" | "token")
+    matches!(
+        key,
+        "sender" | "callers" | "log" | "page" | "token" | "hosts"
+    )
 }
 
 fn is_venue_key(key: &str) -> bool

@@ -17,6 +17,7 @@ mod endpoint;
 mod fault;
 mod found;
 mod from_value;
+mod hosts;
 mod key;
 mod keys;
 mod place;
@@ -30,7 +31,7 @@ mod within;
 mod word_keys;
 
 pub use address::{Address, MAX_HOST, Port};
-pub use config::{Callers, DeskConfig, FolderText, MAX_FOLDER, MAX_TOKEN, TokenText};
+pub use config::{Callers, DeskConfig, FolderText, HostName, MAX_FOLDER, MAX_TOKEN, TokenText};
 pub use endpoint::{Endpoint, FillShares};
 pub use fault::{ConfigFault, Fault, KeyFault};
 pub use found::{Found, FoundText, Kind};

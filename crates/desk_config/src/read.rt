@@ -8,6 +8,7 @@ ghost use Rattle.toml.specs.View.{view};
 use crate::config::DeskConfig;
 use crate::desk_keys::read_desk;
 use crate::fault::{ConfigFault, KeyFault};
+use crate::hosts::read_hosts;
 use crate::keys::Keys;
 use crate::place::Place;
 use crate::value_at::checked;
@@ -31,22 +32,23 @@ fn read_table(alloc: Global, file: &Value) -> Result<DeskConfig, ConfigFault>
         Ok(desk) => desk,
         Err(fault) => return Err(ConfigFault::Key(fault)),
     };
+    let hosts = read_hosts(alloc, &desk.token, file)?;
     let venues = read_venues(alloc, &desk.sender, file)?;
     Ok(DeskConfig {
         callers: desk.callers,
         log: desk.log,
         page: desk.page,
         token: desk.token,
+        hosts,
         venues,
     })
 }
 
 /// The configuration that a file's text spells, or its first fault: first the TOML, then the keys of the file, those
-/// of `[desk]`, and those of each `[[venue]]` in turn, by `sender`, `callers`, `log`, `page`, `token`, and by `name`,
-/// `address`, `fill`, `target`, `sender`, `dialect`, `words` with `id`, `mark`, `price` and `symbol`, the fields of
-/// `order`, `heartbeat`, `next_expected`, `max_number`. In each table a key
-/// that it may not have comes first, and behind a venue's own keys that it has the name or the session of an earlier
-/// one.
+/// of `[desk]`, and those of each `[[venue]]` in turn, by `sender`, `callers`, `log`, `page`, `token`, `hosts`, and by
+/// `name`, `address`, `fill`, `target`, `sender`, `dialect`, `words` with `id`, `mark`, `price` and `symbol`, the
+/// fields of `order`, `heartbeat`, `next_expected`, `max_number`. In each table a key that it may not have comes first,
+/// and behind a venue's own keys that it has the name or the session of an earlier one.
 #[tactic(auto, using(crate::proofs::TextRead::answers_text))]
 pub fn read_config(alloc: Global, text: &str) -> Result<DeskConfig, ConfigFault>
     ensures says { AnswersText text.now result }

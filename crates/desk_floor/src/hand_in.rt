@@ -76,8 +76,9 @@ impl<L: Run, M: Accounts, W: Write + Drop> Floor<L, M, W> {
     /// Hands a sweep in that this line asks for, for a caller who counts on this seat, and answers with what became of
     /// it; or shows that the day is closing. The seat gains the sweep under the number that is answered, and else
     /// nothing. Under a reference a sweep is placed at most once: these legs again are answered as the first time, also
-    /// where the day is closing, and others are refused. The line and its answer stand behind one another in the log. It may wait for the locks; once
-    /// those of the desk and the book are given up it wakes the workers of the sweep's venues.
+    /// where the day is closing, and others are refused. The line and its answer stand behind one another in the log.
+    /// It may wait for the locks; once those of the desk and the book are given up it wakes the workers of the sweep's
+    /// venues.
     pub fn hand_in<'a, R: Wait + Clock, C: clock::Clock + Drop>(
         &self,
         rt: &'a R,

@@ -2,7 +2,7 @@
 use Rattle.std.specs.Prelude.{ℕ, ⊤, Bool, true, false, not, ◌&&◌, ◌||◌, ◌==◌, List, drop, length, Option, Some, None, Result, Ok, Err, String, string_bytes, codes, nat_eq, if◌then◌else◌}
 use Rattle.std.specs.declared.alloc.Global.{Global}
 use Rattle.std.specs.Char.{is_ascii_digit}
-use Rattle.std.specs.List.{list_all, starts_with}
+use Rattle.std.specs.List.{list_all, list_any, starts_with}
 use Rattle.std.specs.Str.{bytes_eq}
 use Rattle.sweep_text.specs.Legs.{and_then}
 use Rattle.desk_http.specs.declared.call.Call.{Call}
@@ -28,19 +28,28 @@ is_of_numbers c = is_ascii_digit c || (c == 46) || (c == 58)
 abbrev pub is_in_numbers : List ℕ → Bool
 is_in_numbers host = not (length host == 0) && list_all is_of_numbers host
 
--- whether a host is the address that is served, or, where every address is, one in numbers
+-- whether a host is one of the names of what is served, whatever port stands behind it (58, a colon)
+abbrev pub is_listed : Door → List ℕ → Bool
+is_listed door host = list_any (λ other. bytes_eq (string_bytes other) (parts_at 58 host).0) door.names.items
+
+-- whether a host is the address that is served or one of its names, or, where every address is, one in numbers
 abbrev pub is_served : Door → List ℕ → Bool
 is_served door host =
     bytes_eq host (string_bytes door.host) || is_named door.other_name host || (door.is_open && is_in_numbers host)
+    || is_listed door host
 
--- whether a host of an origin is our own page's, where a request has this host: where every address is served, the same
+-- whether a host of an origin is our own page's, where a request has this host: where every address is served, the
+-- same, or one of our names
 abbrev pub is_our_host : Door → List ℕ → List ℕ → Bool
-is_our_host door host origin = if door.is_open then bytes_eq origin host else is_served door origin
+is_our_host door host origin =
+    if door.is_open then bytes_eq origin host || is_listed door origin else is_served door origin
 
--- whether an origin is our own page's, `http://` and its host, where a request has this host
+-- whether an origin is our own page's, where a request has this host: `http://` and its host, or `https://` and one of
+-- our names
 abbrev pub is_our_page : Door → List ℕ → List ℕ → Bool
 is_our_page door host origin =
-    starts_with nat_eq origin (codes "http://") && is_our_host door host (drop 7 origin)
+    (starts_with nat_eq origin (codes "http://") && is_our_host door host (drop 7 origin))
+    || (starts_with nat_eq origin (codes "https://") && is_listed door (drop 8 origin))
 
 -- whether a request comes of our own page or of no page at all
 abbrev pub is_ours : Door → Request → Bool

@@ -2,8 +2,8 @@
 
 ghost use Rattle.std.specs.Prelude.{◌≡◌};
 ghost use Rattle.std.specs.List.{list_all};
-ghost use Rattle.desk_http.specs.Door.{allowed, call_of, is_in_numbers, is_json, is_named, is_of_numbers, is_our_host};
-ghost use Rattle.desk_http.specs.Door.{is_our_page, is_ours, is_served, knows_token, may_change};
+ghost use Rattle.desk_http.specs.Door.{allowed, call_of, is_in_numbers, is_json, is_listed, is_named, is_of_numbers};
+ghost use Rattle.desk_http.specs.Door.{is_our_host, is_our_page, is_ours, is_served, knows_token, may_change};
 
 use crate::call::{Call, call_at, changes_the_day, place_of};
 use crate::parts::parts_at;
@@ -20,6 +20,8 @@ pub struct Door {
     pub other_name: Option<String>,
     /// Whether every address of the machine is served: a `Host` may then be any of them in numbers, as `10.0.0.7:8080`.
     pub is_open: bool,
+    /// The names that it has beside those, as `desk.example.com`: a `Host` may be any of them, with whatever port.
+    pub names: Vec<String>,
     /// What `Authorization` has to be where a call changes the day, as `Bearer WORD`; empty where no token is asked
     /// for.
     pub authorization: String,
@@ -56,6 +58,16 @@ fn is_in_numbers(host: &[u8]) -> bool
     !host.is_empty() && are_of_numbers(host)
 }
 
+/// Whether a host is one of the names of what is served, whatever port stands behind it.
+fn is_listed(door: &Door, host: &[u8]) -> bool
+    ensures { result ≡ is_listed door.now host.now }
+{
+    let (name, _) = parts_at(host, b':');
+    door.names
+        .iter()
+        .any(|other| other.as_str().as_bytes() == name)
+}
+
 /// Whether a host is the address that is served.
 fn is_served(door: &Door, host: &[u8]) -> bool
     ensures { result ≡ is_served door.now host.now }
@@ -63,24 +75,27 @@ fn is_served(door: &Door, host: &[u8]) -> bool
     host == door.host.as_str().as_bytes()
         || is_named(&door.other_name, host)
         || (door.is_open && is_in_numbers(host))
+        || is_listed(door, host)
 }
 
 /// Whether a host of an `Origin` is our own page's, where a request has this `Host`. Another address in numbers may be
-/// another site's, so where every address is served the two have to be the same.
+/// another site's, so where every address is served the two have to be the same, or it is one of our names.
 fn is_our_host(door: &Door, host: &[u8], origin: &[u8]) -> bool
     ensures { result ≡ is_our_host door.now host.now origin.now }
 {
     if door.is_open {
-        return origin == host;
+        return origin == host || is_listed(door, origin);
     }
     is_served(door, origin)
 }
 
-/// Whether an `Origin` is our own page's, as `http://127.0.0.1:8080`, where a request has this `Host`.
+/// Whether an `Origin` is our own page's, as `http://127.0.0.1:8080`, where a request has this `Host`; or, behind a
+/// proxy that speaks TLS, as `https://desk.example.com`.
 fn is_our_page(door: &Door, host: &[u8], origin: &[u8]) -> bool
     ensures { result ≡ is_our_page door.now host.now origin.now }
 {
-    origin.starts_with(b"http://") && is_our_host(door, host, &origin[7..])
+    (origin.starts_with(b"http://") && is_our_host(door, host, &origin[7..]))
+        || (origin.starts_with(b"https://") && is_listed(door, &origin[8..]))
 }
 
 /// Whether a request comes of our own page or of no page at all.

@@ -31,6 +31,7 @@ pub fn open_pages<R: Net<Listener = TcpListener, Stream = TcpStream> + Clock>(
         alloc,
         at,
         address,
+        config.hosts.as_slice(),
         config.token.as_ref(),
         config.callers.get(),
     ) {

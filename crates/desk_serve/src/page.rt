@@ -7,7 +7,7 @@ ghost use Rattle.desk_serve.specs.Executions.{IsExecutions, IsPageOf};
 use crate::entrance::Entrance;
 use crate::part_sums::PartSums;
 use day_executions::{Executions, LentNotes, named};
-use desk_config::{Address, TokenText};
+use desk_config::{Address, HostName, TokenText};
 use desk_http::{Door, Run};
 use desk_json::ExecutionsPage;
 use desk_words::VenueName;
@@ -59,6 +59,15 @@ fn other_name(alloc: Global, at: &SocketAddr) -> Result<Option<String>, AllocErr
     Ok(Some(host_of(alloc, &"localhost", at.port())?))
 }
 
+/// The names as text.
+fn texts_of(alloc: Global, hosts: &[HostName]) -> Result<Vec<String>, AllocError> {
+    let mut names = Vec::new(alloc);
+    for host in hosts {
+        names.push(String::from_str(alloc, host.as_str())?)?;
+    }
+    Ok(names)
+}
+
 /// The run that begins to serve now; where the clock can't be read, as if it were 1970.
 fn run_now(rt: &impl Clock, alloc: Global) -> Result<Run, AllocError> {
     let now = Timestamp::now(rt).unwrap_or(Timestamp::UNIX_EPOCH);
@@ -92,12 +101,14 @@ fn executions_page(
 }
 
 impl Page {
-    /// The page that is served from now on under this address of a file, which is this one, to those who come in there.
+    /// The page that is served from now on under this address of a file, which is this one, and under these names, to
+    /// those who come in there.
     pub fn new(
         rt: &impl Clock,
         alloc: Global,
         at: &SocketAddr,
         address: &Address,
+        hosts: &[HostName],
         token: Option<&TokenText>,
         entrance: Entrance,
     ) -> Result<Page, AllocError> {
@@ -106,6 +117,7 @@ impl Page {
                 host: host_of(alloc, &address.host, at.port())?,
                 other_name: other_name(alloc, at)?,
                 is_open: at.ip().is_unspecified(),
+                names: texts_of(alloc, hosts)?,
                 authorization: authorization(alloc, token)?,
             },
             run: run_now(rt, alloc)?,

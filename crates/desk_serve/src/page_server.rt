@@ -3,7 +3,7 @@
 use crate::day_view::DayView;
 use crate::entrance::Entrance;
 use crate::page::{MOST_FOLLOWERS, Page};
-use desk_config::{Address, TokenText};
+use desk_config::{Address, HostName, TokenText};
 use desk_floor::Floor;
 use desk_http::serve;
 use desk_page::PAGE;
@@ -28,21 +28,22 @@ pub struct PageServer {
     page: Arc<Page, Global>,
 }
 
-/// Opens the page at an address, which this one of the file stands for: a server for each of so many callers, and for
-/// each client that may follow the day. Where a token is there it is asked for. Refused where the address can't be had,
-/// or memory or descriptors are wanted.
+/// Opens the page at an address, which this one of the file stands for, and under these names: a server for each of so
+/// many callers, and for each client that may follow the day. Where a token is there it is asked for. Refused where the
+/// address can't be had, or memory or descriptors are wanted.
 pub fn open_page<R: Net<Listener = TcpListener, Stream = TcpStream> + Clock>(
     rt: &R,
     alloc: Global,
     at: SocketAddr,
     address: &Address,
+    hosts: &[HostName],
     token: Option<&TokenText>,
     callers: u64,
 ) -> io::Result<Vec<PageServer>> {
     let listener = TcpListener::bind(rt, at)?;
     listener.set_nonblocking(true)?;
     let entrance = Entrance::new(rt, alloc, listener)?;
-    let page = Page::new(rt, alloc, &at, address, token, entrance)?;
+    let page = Page::new(rt, alloc, &at, address, hosts, token, entrance)?;
     let page = Arc::new(alloc, page)?;
     let mut servers = Vec::new(alloc);
     for _ in 0..callers.saturating_add(MOST_FOLLOWERS) {

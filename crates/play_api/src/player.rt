@@ -30,6 +30,8 @@ pub struct ApiPlayer {
     known: String,
     /// Whether the desk serves every address of its machine.
     is_open: bool,
+    /// The desk's own name, as `desk.example.com`; empty where it has none.
+    name: String,
     /// The reference that stands in the head of the next POST; empty where none does.
     key: String,
     /// What the client said so far.
@@ -46,6 +48,7 @@ impl ApiPlayer {
             token: String::new(alloc),
             known: String::new(alloc),
             is_open: false,
+            name: String::new(alloc),
             key: String::new(alloc),
             said: Vec::new(alloc),
             beside: String::new(alloc),
@@ -73,8 +76,18 @@ impl ApiPlayer {
                 Some(String::from_str(self.alloc, "localhost:8080")?)
             },
             is_open: self.is_open,
+            names: self.names()?,
             authorization,
         })
+    }
+
+    /// The name of the desk, where it has one.
+    fn names(&self) -> Result<Vec<String>, PlayFault> {
+        let mut names = Vec::new(self.alloc);
+        if !self.name.is_empty() {
+            names.push(String::from_str(self.alloc, self.name.as_str())?)?;
+        }
+        Ok(names)
     }
 
     /// The client says a text.
@@ -257,6 +270,10 @@ impl ApiPlayer {
             }
             "token" => {
                 self.token = String::from_str(self.alloc, text)?;
+                Ok(())
+            }
+            "name" => {
+                self.name = String::from_str(self.alloc, text)?;
                 Ok(())
             }
             "know" => {

@@ -20,6 +20,9 @@ fn desk_text(alloc: Global, config: &DeskConfig) -> Result<String, AllocError> {
     if let Some(token) = &config.token {
         write!(text, " token {token}")?;
     }
+    for host in &config.hosts {
+        write!(text, " host {host}")?;
+    }
     Ok(text)
 }
 

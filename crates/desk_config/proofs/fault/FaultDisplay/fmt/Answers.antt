@@ -5,3 +5,8 @@ pub returns-in-Bad-clause-writes : goal.returns-in-Bad-clause-writes
 returns-in-Bad-clause-writes g c =
     λ plain written.
     rw c.in-Bad.is (rw (← c.wants-wants.ensures) (simp append_assoc (c.write-in-Bad.ensures.writes plain written)))
+
+pub returns-in-Host-clause-writes : goal.returns-in-Host-clause-writes
+returns-in-Host-clause-writes g c =
+    λ plain written.
+    rw c.in-Host.is (simp append_assoc (c.write-in-Host.ensures.writes plain written))
