@@ -2,3 +2,4 @@ mod Changed
 mod Places
 mod Rising
 mod Copied
+mod Known
