@@ -8,7 +8,7 @@ _dispatch_options() {
         replay) echo --steps --frames --summary --ladder --check --help ;;
         check) echo --from --desk --json --legs --executions --exact --help ;;
         live) echo --venues --callers --sweeps --cut --turns --cut-short --stop-on-input --help ;;
-        run) echo --check --executions --json --patience --quiet --help ;;
+        run) echo --check --executions --json --patience --quiet --refs --help ;;
         exchange) echo --port --sender --target --dialect --fill --cut --lose --help ;;
     esac
 }
@@ -35,6 +35,7 @@ _dispatch() {
         case $before in
             --dialect) mapfile -t COMPREPLY < <(compgen -W 'plain split coded' -- "$word") ;;
             --exact) mapfile -t COMPREPLY < <(compgen -W 'plain split coded auto' -- "$word") ;;
+            --refs) mapfile -t COMPREPLY < <(compgen -W 'required' -- "$word") ;;
             --side) mapfile -t COMPREPLY < <(compgen -W 'buy sell' -- "$word") ;;
             --from) [ "$command" != check ] || mapfile -t COMPREPLY < <(compgen -W 'quickfix' -- "$word") ;;
         esac
