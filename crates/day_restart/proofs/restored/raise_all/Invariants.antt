@@ -1,0 +1,5 @@
+use Rattle.std.proofs.Common.{◌≡◌}
+use Rattle.day_restart.proofs.restored.raise_all.Given as goal
+
+abbrev pub invariant-loop-start : goal.invariant-loop-start
+invariant-loop-start g l = l.desk.desk.sweeps ≡ l.initial.desk.desk.sweeps

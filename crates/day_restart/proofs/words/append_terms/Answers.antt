@@ -1,0 +1,9 @@
+use Rattle.std.proofs.Common.{append_assoc}
+use Rattle.std.proofs.lemmas.Result.{on_ok_weaker}
+use Rattle.day_restart.proofs.words.append_terms.Goals as goal
+
+pub returns : goal.returns
+returns c =
+    on_ok_weaker c.write.result
+    (λ said. rw said (rw (c.words_text-dialect.ensures, c.yes_or_no-next.ensures) (simp append_assoc)))
+    c.write.ensures.bytes

@@ -1,0 +1,9 @@
+pub mod DayJournal
+pub mod Earlier
+pub mod Ending
+pub mod Example
+pub mod Placing
+pub mod Redoing
+pub mod Restored
+pub mod Told
+pub mod Words

@@ -1,0 +1,3 @@
+pub mod Say
+pub mod Lines
+pub mod Ends

@@ -1,0 +1,27 @@
+-- The faults of `dispatch journal`.
+use Rattle.std.specs.Prelude.{ℕ}
+use Rattle.journal_command.specs.declared.fault.CommandFault.{CommandFault}
+use Rattle.journal_command.specs.declared.fault.CommandFault.TheVariants.{CommandLine, NoFolder, NoJournal, ReadFailed, WriteFailed, OutOfMemory}
+
+-- the status that tells a fault
+abbrev pub fault_status : CommandFault → ℕ
+fault_status (CommandLine error) = 2
+fault_status NoFolder = 2
+fault_status NoJournal = 3
+fault_status (ReadFailed path) = 4
+fault_status WriteFailed = 4
+fault_status OutOfMemory = 5
+
+-- a fault of the words, or out of memory
+abbrev pub IsOfWords : CommandFault → Type 0
+IsOfWords (CommandLine error) = Unit {0}
+IsOfWords NoFolder = Unit {0}
+IsOfWords OutOfMemory = Unit {0}
+IsOfWords other = ⊥
+
+-- a fault of the folder, or out of memory
+abbrev pub IsOfFolder : CommandFault → Type 0
+IsOfFolder NoJournal = Unit {0}
+IsOfFolder (ReadFailed path) = Unit {0}
+IsOfFolder OutOfMemory = Unit {0}
+IsOfFolder other = ⊥

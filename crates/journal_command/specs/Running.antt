@@ -1,0 +1,44 @@
+-- How `dispatch journal` ends.
+use Rattle.std.specs.Prelude.{◌≡◌, ℕ, Bool, true, false, List, Option, Result, Ok, Err}
+use Rattle.std.specs.Io.KnownBytes.{Appends, Keeps}
+use Rattle.clap.specs.declared.parser.matches.ArgMatches.{ArgMatches}
+use Rattle.journal_command.specs.Fault.{fault_status}
+use Rattle.journal_command.specs.Judged.{Says}
+use Rattle.journal_command.specs.Request.{IsRequest}
+use Rattle.journal_command.specs.declared.command.Request.{Request}
+use Rattle.journal_command.specs.declared.fault.CommandFault.{CommandFault}
+use Rattle.journal_command.specs.declared.fault.CommandFault.TheVariants.{WriteFailed}
+
+-- the status of a run: 8 where a journal is broken, 0 where none is, or that of its fault
+abbrev pub journal_status : Result Bool CommandFault → ℕ
+journal_status (Ok true) = 8
+journal_status (Ok false) = 0
+journal_status (Err fault) = fault_status fault
+
+-- journals were read, and what they say was printed
+pub record Judges (r : Request) (before after : Option (List ℕ)) (broken : Bool) : Type 0 where
+  pub text : List ℕ
+  pub says : Says r.tells_lines text broken
+  pub printed : Appends before after text
+
+-- what the words ask for was done
+pub record DidJudge (before after : Option (List ℕ)) (broken : Bool) : Type 0 where
+  pub matches : ArgMatches
+  pub request : Request
+  pub asked : IsRequest matches request
+  pub judges : Judges request before after broken
+
+-- before a fault nothing is printed, where the output didn't fail
+abbrev pub KeepsBefore : Option (List ℕ) → Option (List ℕ) → CommandFault → Type 0
+KeepsBefore before after WriteFailed = Unit {0}
+KeepsBefore before after fault = Keeps before after
+
+-- how a run ends: it did so, or there is a fault
+abbrev pub EndsJudging : Option (List ℕ) → Option (List ℕ) → Result Bool CommandFault → Type 0
+EndsJudging before after (Ok broken) = DidJudge before after broken
+EndsJudging before after (Err fault) = KeepsBefore before after fault
+
+-- a run that ends so has this exit status
+abbrev pub ExitsSo : Option (List ℕ) → Option (List ℕ) → ℕ → Type 0
+ExitsSo before after status =
+    (done : Result Bool CommandFault) × (status ≡ journal_status done) × EndsJudging before after done

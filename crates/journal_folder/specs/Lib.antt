@@ -1,0 +1,6 @@
+pub mod FileCalls
+pub mod Head
+pub mod Room
+pub mod Found
+pub mod Start
+pub mod Laws

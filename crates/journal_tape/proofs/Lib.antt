@@ -1,0 +1,5 @@
+pub mod Texts
+pub mod Moments
+pub mod Contents
+pub mod Lines
+pub mod Walks

@@ -1,0 +1,4 @@
+pub mod Tape
+pub mod Told
+pub mod Past
+pub mod MemoryTape

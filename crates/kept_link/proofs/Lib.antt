@@ -1,0 +1,3 @@
+pub mod KeptFirst
+pub mod Fields
+pub mod Lines

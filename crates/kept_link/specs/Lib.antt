@@ -1,0 +1,4 @@
+pub mod Door
+pub mod Keeping
+pub mod KeepingLaw
+pub mod Telling
