@@ -2,6 +2,7 @@
 
 ghost use Rattle.std.specs.Prelude.{◌≡◌, ◌≤◌, ◌++◌, ◌∷◌, [], IfOk, IsOkUnless, MatchResult, OnOk};
 ghost use Rattle.std.specs.Fn.{FnOnceReturnsAt, FnOnceReturnsAtMut};
+ghost use Rattle.kept_link.specs.Telling.{IsAllKept};
 ghost use Rattle.share_ledger.specs.Book.{BookParts, totals};
 ghost use Rattle.exec_collector.specs.Beside.{IsBeside};
 ghost use Rattle.exec_collector.specs.Calls.{CallGives, CallReads, CallReadsAll};
@@ -15,6 +16,7 @@ use crate::venue_bookings::VenueBookings;
 use crate::{Accounts, Beside, BlankBook, CountedBook, DayBook, Unbooked, WorkerSeat};
 use agreed_list::SeatSide;
 use dialect::Note;
+use kept_link::Telling;
 use leg::{LegId, Sweep, Totals};
 use report_words::ReportWords;
 use share_ledger::{Applied, Book, BookFault};
@@ -96,14 +98,17 @@ impl<M: Accounts> Collector<M> {
     }
 
     /// Withdraws a leg of the seat's venue; the seat gains its shares, and the leg as one that was asked for, whatever
-    /// the book answers. No other call asks for one. B03, also where the leg is none of the venue's. It takes no
-    /// memory.
-    pub fn withdraw(
+    /// the book answers. No other call asks for one. Whoever calls it shows that all that this journal was told is
+    /// kept: that a leg is withdrawn is never lost once the book has it so. B03, also where the leg is none of the
+    /// venue's. It takes no memory.
+    pub fn withdraw<J: Telling>(
         &self,
         rt: &impl Wait,
         id: LegId,
         seat: &mut WorkerSeat<M>,
+        _journal: &J,
     ) -> Result<(), BookFault>
+        requires kept { IsAllKept (J.told _journal.now) }
         ensures gains { MatchResult result (λ _. GainsLeg id seat.old.shares seat.new.shares)
             (λ fault. (fault ≡ BookFault.AlreadyMoved) × (seat.new.shares ≡ seat.old.shares)) }
         ensures parts { (seat.new.parts ≡ seat.old.parts) × (seat.new.venue ≡ seat.old.venue) }

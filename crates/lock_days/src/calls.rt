@@ -7,6 +7,7 @@ use crate::day::Played;
 use crate::turn::{Reported, Turn};
 use dialect::{ExecId, Fill, LastPx, Note, Report, ReportKind};
 use exec_collector::Accounts;
+use kept_link::Untold;
 use leg::{LegId, VenueId};
 use release_lock::Run;
 use report_words::ReportWords;
@@ -120,7 +121,9 @@ impl<L: Run, M: Accounts> Played<L, M> {
                 break;
             };
             if withdraws {
-                self.floor.collector.withdraw(rt, id, &mut post.seat)?;
+                self.floor
+                    .collector
+                    .withdraw(rt, id, &mut post.seat, &Untold)?;
             }
         }
         Ok(Answer::Popped(post.drain.popped().saturating_sub(before)))

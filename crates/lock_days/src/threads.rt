@@ -3,6 +3,7 @@
 ghost use Rattle.std.specs.Prelude.{◌≡◌, map};
 
 use exec_collector::{Accounts, Collector, Miscounted as MiscountedBook, WorkerSeat, check_count};
+use kept_link::Untold;
 use release_lock::{
     CallerSeat, Miscounted, ReleaseLock, Run, VenueDrain, VenueEnd, WrongQueue, check_placed,
     check_queues,
@@ -112,7 +113,7 @@ fn withdraws<L: Run, M: Accounts>(
     let Post { drain, mut seat } = post;
     let end = works(rt, alloc, lock, drain, LEGS)?;
     for placed in end.taken() {
-        let _withdrawn = collector.withdraw(rt, placed.leg.id, &mut seat);
+        let _withdrawn = collector.withdraw(rt, placed.leg.id, &mut seat, &Untold);
     }
     Some((end, seat))
 }

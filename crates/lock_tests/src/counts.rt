@@ -10,6 +10,7 @@ use dialect::{Note, ReportKind};
 use exec_collector::{
     Accounts, BlankBook, Collector, Miscounted, Unbooked, WorkerSeat, check_count,
 };
+use kept_link::Untold;
 use leg::{LegId, Sweep, Totals};
 use report_words::ReportWords;
 use share_ledger::{Applied, Book, BookFault};
@@ -118,7 +119,7 @@ fn two_workers<M: Accounts + Send + Sync, R: Threads + Wait + Sync>(
     let mut second = seats.pop().ok_or("a seat")?;
     let mut first = seats.pop().ok_or("a seat")?;
     let as_wanted = both_work(rt, alloc, &collector, &mut first, &mut second)?;
-    collector.withdraw(rt, LegId::new(1, 3), &mut second)?;
+    collector.withdraw(rt, LegId::new(1, 3), &mut second, &Untold)?;
     let counted = (first.shares(), second.shares());
     seats.push(first)?;
     seats.push(second)?;

@@ -164,6 +164,11 @@ only_pumped venue before after pumps =
     subst (ChangesOnly venue before.desk) (sym pumps.desk)
     (only_all venue pumps.moved (is_up (gate_of before.desk venue)) before.desk)
 
+-- the sweeps released are the same
+pub pumped_sweeps : (venue : ℕ) (before after : KeptDesk) → Pumps venue before after
+    → after.desk.sweeps ≡ before.desk.sweeps
+pumped_sweeps venue before after pumps = (only_pumped venue before after pumps).sweeps
+
 -- what is kept under the lock is kept by a pump
 pub pumped_locked : (queues : List TableId) (venue : ℕ) (before after : KeptDesk) (total : ℕ) (feeds : List Port)
     (old new : Port) → IsLocked queues before total feeds → Pumps venue before after → slice_get feeds venue ≡ Some old

@@ -9,4 +9,5 @@ pub mod Opening
 pub mod Past
 pub mod TakenLegs
 pub mod Raising
+pub mod NotedSweeps
 pub mod Shares

@@ -89,21 +89,28 @@ turned_locked queues before after total feeds locked turns =
           (λ venue. left_as before.desk after.desk venue sweeps (left venue)) locked.fed;
     }
 
+-- the sweeps released are the same
+pub turned_sweeps : (before after : KeptDesk) → OnlyTurns before after → after.desk.sweeps ≡ before.desk.sweeps
+turned_sweeps before after turns =
+    ap (λ d. d.sweeps) turns.desk ∙ (all_turned before.desk turns.calls turns.turns).sweeps
+
 -- and so is the list of the sweeps
 pub turned_side : {list name : ℕ} {items : List Sweep} (before after : KeptDesk) → OnlyTurns before after
     → IsDeskSide list before name items → IsDeskSide list after name items
 turned_side before after turns side =
-    let all = all_turned before.desk turns.calls turns.turns in
-    let sweeps : after.desk.sweeps ≡ before.desk.sweeps = ap (λ d. d.sweeps) turns.desk ∙ all.sweeps in
-    record { named = side.named; releases = side.releases ∙ ap sweeps_of (sym sweeps) }
+    record {
+      named = side.named;
+      releases = side.releases ∙ ap sweeps_of (sym (turned_sweeps before after turns));
+    }
 
 -- and the book of slips
 pub turned_book : {book name : ℕ} {given : List PlacedSweep} (before after : KeptDesk) → OnlyTurns before after
     → IsDeskBook book before name given → IsDeskBook book after name given
 turned_book before after turns slips =
-    let all = all_turned before.desk turns.calls turns.turns in
-    let sweeps : after.desk.sweeps ≡ before.desk.sweeps = ap (λ d. d.sweeps) turns.desk ∙ all.sweeps in
-    record { named = slips.named; gives = slips.gives ∙ ap (placings_from 1) (sym sweeps) }
+    record {
+      named = slips.named;
+      gives = slips.gives ∙ ap (placings_from 1) (sym (turned_sweeps before after turns));
+    }
 
 -- nothing was asked that changes the desk
 pub turns_none : (before after : KeptDesk) → without_room after ≡ without_room before → OnlyTurns before after

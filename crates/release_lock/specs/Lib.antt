@@ -1,3 +1,4 @@
 pub mod Seats
 pub mod Queues
 pub mod Locked
+pub mod Noted

@@ -5,6 +5,7 @@ ghost use mathlib.Core.List.{IsPrefix};
 ghost use Rattle.release_lock.specs.Queues.{released_to, placed_from, TookFirst, AllTookFirst, IsFirstWrong, IsFed, AreInOrder};
 
 use crate::{LockedDesk, Run, VenueDrain, VenueEnd};
+use kept_link::Telling;
 use leg::{Leg, PlacedLeg, VenueId};
 use std::collections::VecDeque;
 use sweep_release::Desk;
@@ -19,7 +20,10 @@ pub struct WrongQueue {
 
 /// Whether each worker took the first legs released to the venue at its place, from 0; to one that the run hasn't got
 /// none is released. Where each stands at the place of its venue it did, whatever the threads did.
-pub fn check_queues<L: Run>(locked: LockedDesk<L>, ends: Vec<VenueEnd<L>>) -> Result<(), WrongQueue>
+pub fn check_queues<L: Run, J: Telling>(
+    locked: LockedDesk<L, J>,
+    ends: Vec<VenueEnd<L>>,
+) -> Result<(), WrongQueue>
     ensures exact { MatchResult result (λ _. AllTookFirst locked.desk ends.items (length ends.items))
         (λ wrong. IsFirstWrong locked.desk ends.items wrong.place) }
     ensures whole { AreInOrder ends.items → IsOk result }
@@ -30,6 +34,7 @@ pub fn check_queues<L: Run>(locked: LockedDesk<L>, ends: Vec<VenueEnd<L>>) -> Re
         feeds,
         sweeps: _,
         book: _,
+        journal: _,
     } = locked;
     let mut feeds = VecDeque::from(feeds);
     let mut ends = VecDeque::from(ends);

@@ -6,6 +6,7 @@ ghost use Rattle.sweep_release.specs.Desk.{placed_shares};
 ghost use Rattle.release_lock.specs.Seats.{shares_placed, AreAllPlaced};
 
 use crate::{CallerSeat, LockedDesk, Run};
+use kept_link::Telling;
 
 /// The seats don't add up to the shares placed.
 #[derive(Clone, Copy, Debug, PartialEq, Eq)]
@@ -14,8 +15,8 @@ pub struct Miscounted;
 /// The shares of these seats, where they are those of all sweeps released. The seats of all callers always are. In
 /// either case they are those of the sweeps on the seats. Those of all callers are the sweeps released, each once.
 #[tactic(auto, using(crate::proofs::Shares::shares_append))]
-pub fn check_placed<L: Run>(
-    locked: &mut LockedDesk<L>,
+pub fn check_placed<L: Run, J: Telling>(
+    locked: &mut LockedDesk<L, J>,
     seats: Vec<CallerSeat<L>>,
 ) -> Result<u64, Miscounted>
     ensures exact { IsOk result ↔ (shares_of seats.items ≡ placed_shares locked.old.desk) }

@@ -5,6 +5,9 @@
 //! - What lies under the lock, `LockedDesk`, replays from its own history, its seats add up to the shares of all
 //!   sweeps released, and what was pushed to a venue's ring is the first of the legs released to it, just as many as
 //!   left the desk, each time the lock is got (its invariant).
+//! - The desk's journal is under the lock too. Each time the lock is got its lines are kept, and they say of each sweep
+//!   released, in order and once, that it was placed under its number (`IsNoted`, of a journal that says what it was
+//!   told). So a leg goes into a ring only once its sweep's line is kept. `Untold` is no journal.
 //! - `release` is `place` under both locks, with its answers. The seat gains exactly this sweep, under the number of
 //!   the receipt, and its shares, and by a refusal nothing. Then each venue of the sweep's legs is pumped, by a refusal
 //!   none.
@@ -25,12 +28,16 @@
 //! See `docs/locks.md`.
 #![tactic(auto)]
 
+mod asked;
 mod blank_desk;
 mod caller_seat;
 mod checking;
 mod comparing;
 mod counting;
+mod journaled;
 mod locked_desk;
+mod new_desk;
+mod noting;
 mod pumping;
 mod release_lock;
 mod run;
@@ -40,12 +47,14 @@ mod venue_end;
 mod venue_note;
 mod venue_rings;
 
+pub use asked::Asked;
 pub use blank_desk::BlankDesk;
 pub use caller_seat::CallerSeat;
 pub use checking::{WrongQueue, check_queues};
 pub use comparing::compare_sweeps;
 pub use counting::{Miscounted, check_placed};
 pub use locked_desk::LockedDesk;
+pub use new_desk::OpenedDesk;
 pub use release_lock::{Opened, ReleaseLock};
 pub use run::Run;
 pub use venue_drain::VenueDrain;

@@ -15,11 +15,14 @@ ghost use Rattle.release_lock.specs.Locked.{Replays, Places, Releases, OnlyTurns
 ghost use Rattle.release_lock.specs.Queues.{left_to, Pumps, raise};
 ghost use Rattle.release_lock.specs.Seats.{placing};
 
+use crate::asked::Asked;
+use crate::noting::note_placed;
 use crate::pumping::{pump, pump_each};
 use crate::sweep_venues::SweepVenues;
 use crate::{CallerSeat, Run, VenueDrain};
 use agreed_list::SeatSide;
 use exec_collector::{Accounts, Collector, PlacedSweep};
+use kept_link::{Telling, Untold};
 use leg::{Sweep, VenueId};
 use share_ledger::Book;
 use slips::SlipBook;
@@ -33,17 +36,19 @@ use venue_queue::Feed;
 /// all sweeps released, a slip was given for each of these, and what was pushed to a venue is the first of the legs
 /// released to it, just as many as have left the desk.
 #[derive(Drop)]
-pub struct LockedDesk<L: Run> {
+pub struct LockedDesk<L: Run, J: Telling = Untold> {
     pub(crate) desk: Desk,
     pub(crate) total: Total<L>,
     pub(crate) feeds: Vec<Feed>,
     pub(crate) sweeps: SeatSide<Sweep>,
     pub(crate) book: SlipBook<PlacedSweep>,
+    pub(crate) journal: J,
 }
 
-impl<L: Run> Model for LockedDesk<L> {
+impl<L: Run, J: Telling> Model for LockedDesk<L, J> {
     ghost use Rattle.sweep_release.specs.History.{KeptDesk};
     ghost use Rattle.release_lock.specs.Locked.{IsLocked, IsDeskSide, IsDeskBook};
+    ghost use Rattle.release_lock.specs.Noted.{IsNoted};
 
     ghost Value = { KeptDesk };
 
@@ -51,10 +56,11 @@ impl<L: Run> Model for LockedDesk<L> {
 
     ghost invariant = { λ locked. IsLocked L.queues locked.desk locked.total.total locked.feeds.items
         × IsDeskSide L.sweeps locked.desk locked.sweeps.name locked.sweeps.items
-        × IsDeskBook L.slips locked.desk locked.book.name locked.book.given };
+        × IsDeskBook L.slips locked.desk locked.book.name locked.book.given
+        × IsNoted locked.desk (J.told locked.journal) };
 }
 
-impl<L: Run> LockedDesk<L> {
+impl<L: Run, J: Telling> LockedDesk<L, J> {
     /// The desk.
     pub fn desk(&self) -> &Desk
         ensures value { result.now ≡ self.now }
@@ -65,15 +71,16 @@ impl<L: Run> LockedDesk<L> {
     }
 
     /// Releases a sweep at the desk and opens it in the collector's book, under one number, or does neither; the seat
-    /// gains the sweep under that number, and its shares. Then each venue of its legs is pumped, in the order of the
-    /// venues' numbers. R01 to R08 in the order of `place`; a refused sweep is dropped, no venue is pumped, and nothing
-    /// else changes.
+    /// gains the sweep under that number, and its shares, and the journal has kept what was asked for. Then each venue
+    /// of its legs is pumped, in the order of the venues' numbers. R01 to R08 in the order of `place`; a refused sweep
+    /// is dropped, no venue is pumped, and nothing else changes.
     pub fn release<M: Accounts>(
         &mut self,
         rt: &impl Wait,
         collector: &Collector<M>,
         sweep: Sweep,
         seat: &mut CallerSeat<L>,
+        asked: &Asked<'_>,
     ) -> Result<Receipt, ReleaseFault>
         requires tied { L.sweeps ≡ M.sweeps }
         ensures released { Releases sweep.legs self.old result self.new }
@@ -85,7 +92,7 @@ impl<L: Run> LockedDesk<L> {
         ensures parts { seat.new.parts ≡ seat.old.parts }
     {
         let venues = SweepVenues::of(sweep.legs.as_slice());
-        let receipt = self.place_sweep(rt, collector, sweep, seat)?;
+        let receipt = self.place_sweep(rt, collector, sweep, seat, asked)?;
         pump_each(rt, self, &venues);
         Ok(receipt)
     }
@@ -97,6 +104,7 @@ impl<L: Run> LockedDesk<L> {
         collector: &Collector<M>,
         sweep: Sweep,
         seat: &mut CallerSeat<L>,
+        asked: &Asked<'_>,
     ) -> Result<Receipt, ReleaseFault>
         ghost legs: { List Routed }
         requires tied { L.sweeps ≡ M.sweeps }
@@ -115,6 +123,7 @@ impl<L: Run> LockedDesk<L> {
             feeds: _,
             sweeps,
             book,
+            journal,
         } = self;
         let receipt = collector.lend_beside(
             rt,
@@ -122,6 +131,7 @@ impl<L: Run> LockedDesk<L> {
             sweeps,
             |desk: &mut Desk, book: &mut Book| { place_in(desk, book, sweep) },
         )?;
+        note_placed(rt, journal, receipt.number, asked);
         seat.count(total, book, receipt);
         Ok(receipt)
     }
@@ -142,6 +152,7 @@ impl<L: Run> LockedDesk<L> {
             feeds,
             sweeps: _,
             book: _,
+            journal: _,
         } = self;
         pump(rt, desk, venue, &mut feeds[usize::from(venue.number())])
     }

@@ -10,6 +10,7 @@ ghost use Rattle.release_lock.specs.Queues.{left_to, leaving, AreMarks, Pumps, P
 
 use crate::sweep_venues::SweepVenues;
 use crate::{LockedDesk, Run};
+use kept_link::Telling;
 use leg::VenueId;
 use std::sync::Wait;
 use sweep_release::{Desk, Gate};
@@ -51,7 +52,11 @@ fn let_leave(desk: &mut Desk, venue: VenueId)
 }
 
 /// Pumps each venue that a sweep has a leg for, in the order of their numbers.
-pub(crate) fn pump_each<L: Run>(rt: &impl Wait, locked: &mut LockedDesk<L>, venues: &SweepVenues)
+pub(crate) fn pump_each<L: Run, J: Telling>(
+    rt: &impl Wait,
+    locked: &mut LockedDesk<L, J>,
+    venues: &SweepVenues,
+)
     ensures desk { (named : ℕ → Bool) → AreMarks venues.now.marks named
         → PumpsEach named (length locked.old.desk.venues) locked.old locked.new }
     ensures replays { Replays locked.new }

@@ -14,23 +14,22 @@ ghost use Rattle.release_lock.specs.Queues.{IsFresh, new_drains, left_to, Pumps,
 ghost use Rattle.release_lock.specs.Seats.{first_seat, placing};
 
 use crate::venue_note::VenueNote;
-use crate::{BlankDesk, CallerSeat, LockedDesk, Run, VenueDrain};
+use crate::{Asked, BlankDesk, CallerSeat, LockedDesk, OpenedDesk, Run, VenueDrain};
 use agreed_list::SeatSide;
 use exec_collector::{Accounts, Collector};
+use kept_link::{Telling, Untold};
 use leg::{Sweep, VenueId};
-use slips::no_slips;
 use std::alloc::{AllocError, Global};
 use std::collections::VecDeque;
-use std::marker::PhantomData;
 use std::sync::{Mutex, Wait};
 use sweep_release::{Desk, GateFault, Receipt, ReleaseFault};
 use venue_queue::{Drain, Feed};
 
 /// The desk behind a lock, which all callers and workers share. Each call may wait for the lock.
 #[derive(Drop)]
-pub struct ReleaseLock<L: Run> {
-    locked: Mutex<LockedDesk<L>>,
-    notes: Vec<VenueNote>,
+pub struct ReleaseLock<L: Run, J: Telling = Untold> {
+    pub(crate) locked: Mutex<LockedDesk<L, J>>,
+    pub(crate) notes: Vec<VenueNote>,
 }
 
 /// A new lock, the seat of its first caller, and the drains of the venues, in the order of their numbers.
@@ -64,44 +63,10 @@ impl<L: Run> ReleaseLock<L> {
         ensures drains { IfOk result (λ opened. opened.drains.items ≡ new_drains venues) }
         ensures only { IsOkUnless result ReleaseFault.OutOfMemory }
     {
-        let notes = notes_of(alloc, venues)?;
-        let desk = Desk::new(alloc, venues)?;
-        let mut feeds = Vec::with_capacity(alloc, usize::from(venues))?;
-        let mut drains = Vec::with_capacity(alloc, usize::from(venues))?;
-        let mut rings = rings;
-        for number in 0..venues {
-            let Some((feed, drain)) = rings.pop_front() else {
-                unreachable!()
-            };
-            let Ok(venue) = VenueId::new(number) else {
-                unreachable!()
-            };
-            feeds.push_reserved(feed);
-            drains.push_reserved(VenueDrain {
-                venue,
-                drain,
-                of: PhantomData,
-            });
-        }
-        let BlankDesk { total, book } = blank;
-        let (total, share) = total.open::<L>();
-        let locked = LockedDesk {
-            desk,
-            total,
-            feeds,
-            sweeps,
-            book,
-        };
-        let lock = ReleaseLock {
-            locked: Mutex::new(locked),
-            notes,
-        };
-        let seat = CallerSeat {
-            parts: 1024,
-            shares: 0,
-            share,
-            slips: no_slips(),
-        };
+        let OpenedDesk { desk, seat, drains } = LockedDesk::opened(
+            alloc, venues, blank, rings, sweeps,
+        )?;
+        let lock = ReleaseLock::of_locked(alloc, desk)?;
         Ok(Opened { lock, seat, drains })
     }
 
@@ -125,8 +90,34 @@ impl<L: Run> ReleaseLock<L> {
             ≡ seat.old.placed ++ placing receipt.number sweep.legs ∷ []) }
         ensures parts { seat.new.parts ≡ seat.old.parts }
     {
+        self.release_asked(rt, collector, sweep, seat, &Asked::nothing())
+    }
+}
+
+impl<L: Run, J: Telling> ReleaseLock<L, J> {
+    /// Releases a sweep under both locks, the desk's first: at the desk and in the collector's book, under one number,
+    /// or in neither; the seat gains the sweep under that number, and its shares. The journal has then kept what was
+    /// asked for. Before it gives up the lock, each venue of the sweep's legs is pumped, so that a worker finds them
+    /// without it. R01 to R08 in the order of `place`, and no venue is pumped.
+    pub fn release_asked<M: Accounts>(
+        &self,
+        rt: &impl Wait,
+        collector: &Collector<M>,
+        sweep: Sweep,
+        seat: &mut CallerSeat<L>,
+        asked: &Asked<'_>,
+    ) -> Result<Receipt, ReleaseFault>
+        requires tied { L.sweeps ≡ M.sweeps }
+        ensures placed { (before : ADesk) × (after : ADesk) × Replays before × Replays after
+            × Releases sweep.legs before result after }
+        ensures seat { MatchResult result (λ receipt. (receipt.shares ≡ sweep_shares sweep.legs)
+            × (seat.new.shares ≡ seat.old.shares + receipt.shares)) (λ _. seat.new ≡ seat.old) }
+        ensures noted { IfOk result (λ receipt. seat.new.placed
+            ≡ seat.old.placed ++ placing receipt.number sweep.legs ∷ []) }
+        ensures parts { seat.new.parts ≡ seat.old.parts }
+    {
         let mut locked = self.locked.lock(rt);
-        let answer = locked.release(rt, collector, sweep, seat);
+        let answer = locked.release(rt, collector, sweep, seat, asked);
         self.take_notes(locked.desk());
         answer
     }
@@ -194,13 +185,13 @@ impl<L: Run> ReleaseLock<L> {
     }
 
     /// The desk and its count, once no thread shares the lock any more.
-    pub fn into_locked(self) -> LockedDesk<L> {
+    pub fn into_locked(self) -> LockedDesk<L, J> {
         self.locked.into_inner()
     }
 }
 
 /// A note of each venue, in the order of their numbers.
-fn notes_of(alloc: Global, venues: u8) -> Result<Vec<VenueNote>, AllocError> {
+pub(crate) fn notes_of(alloc: Global, venues: u8) -> Result<Vec<VenueNote>, AllocError> {
     let mut notes = Vec::with_capacity(alloc, usize::from(venues))?;
     for number in 0..venues {
         if let Ok(venue) = VenueId::new(number) {

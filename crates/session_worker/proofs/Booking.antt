@@ -22,14 +22,8 @@ use Rattle.session_core.specs.Trial.{Addition, added, called, after_calls}
 use Rattle.session_core.specs.Counting.{Counted, stays, counted, passed, gives}
 use Rattle.session_core.proofs.Adding.{chosen}
 use Rattle.session_core.proofs.Counted.{connected_counted}
-use Rattle.session_worker.specs.Booking.{waiting_in, booked_in, booked_by}
+use Rattle.session_worker.specs.Booking.{waiting_in, waiting_after, booked_in, booked_by}
 use Rattle.session_worker.specs.Linking.{IsPlain}
-
--- the note that waits after calls
-abbrev pub waiting_after : Decoding → SessionParts → Option Note → List SessionCall → Option Note
-waiting_after read s waiting [] = waiting
-waiting_after read s waiting (made ∷ calls) =
-    waiting_after read (called read s made).1 (waiting_in read s waiting made) calls
 
 pub booked-append : (read : Decoding) (s : SessionParts) (waiting : Option Note) (first more : List SessionCall)
     → booked_by read s waiting (first ++ more)

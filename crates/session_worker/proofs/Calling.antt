@@ -1,5 +1,5 @@
 -- What calls of a session leave, one after the other.
-use Rattle.std.proofs.Common.{◌≡◌, ℕ, Bool, true, false, List, [], ◌∷◌, ◌++◌, map, refl, sym, ap, subst, ◌∙◌, inl, inr, append_assoc, if◌then◌else◌}
+use Rattle.std.proofs.Common.{◌≡◌, ◌⊎◌, ℕ, Bool, true, false, List, [], ◌∷◌, ◌++◌, map, refl, sym, ap, subst, ◌∙◌, inl, inr, append_assoc, if◌then◌else◌}
 use Rattle.std.specs.List.{concat}
 use Rattle.std.specs.Prelude.{Option, Some, None, Result, Ok, Err}
 use Rattle.std.specs.Global.{Vec}
@@ -28,20 +28,22 @@ use Rattle.session_core.specs.declared.session_fault.SessionFault.TheVariants as
 use Rattle.session_core.specs.declared.step.Step.{Step}
 use Rattle.session_core.specs.Session.{SessionParts, is_connected, is_logged_out, may_write}
 use Rattle.session_core.specs.Turn.{StepParts, quietly, puts_fence, disconnected}
-use Rattle.session_core.specs.Calling.{SessionAnswer, refuses, answers, connect, connect_in, send_leg, close, close_in, closing_up, malformed, broken, abandon}
+use Rattle.session_core.specs.Calling.{SessionAnswer, refuses, answers, connect, connect_in, send_leg, quiet, silent, close, close_in, closing_up, malformed, broken, abandon}
 use Rattle.session_core.specs.Trial.{Addition, added, added_message, called, after_calls}
 use Rattle.session_core.specs.CallResult.{IsStep, Gives}
-use Rattle.session_core.specs.Onward.{OrUnchanged, IsConnection, SendsLeg}
+use Rattle.session_core.specs.Onward.{OrUnchanged, IsCall, IsConnection, SendsLeg}
 use Rattle.session_core.proofs.Adding.{chosen}
-use Rattle.session_core.proofs.Called.{connect_keeps, send_leg_keeps}
+use Rattle.session_core.proofs.Called.{close_keeps, connect_keeps, quiet_keeps, send_leg_keeps, silent_keeps}
 use Rattle.session_core.proofs.CallsMade.{after-append}
-use Rattle.session_worker.specs.Booking.{waiting_in, booked_by, named_in, unless_sent, withdrawn_at}
+use Rattle.session_worker.specs.Booking.{waiting_in, waiting_after, booked_by, named_in, unless_sent, withdrawn_at}
 use Rattle.session_worker.specs.Hearing.{Said, said_with, said_after, Hears, ReaderOn}
 use Rattle.session_worker.specs.Speaking.{Wire, Reads, TakesFirst, Puts, Begins, messages_in, Speak}
-use Rattle.session_worker.specs.Linking.{SessionIoParts, io_of, IsHearing, SpeaksOn, MayBreak, calling, Writes, Moves, Hands, IsPlain, Gave, Asks, Receives}
+use Rattle.session_worker.specs.Linking.{SessionIoParts, io_of, IsHearing, SpeaksOn, MayBreak, MayGiveUp, calling, Writes, Moves, Hands, IsPlain, Gave, Asks, Receives}
 use Rattle.session_worker.specs.Events.{leg_in, legs_in, withdrawn_by, IsIdle}
 use Rattle.session_worker.specs.Events.WorkerEvent.{Calls, Fails}
-use Rattle.session_worker.proofs.Booking.{waiting_after, booked-append, plain_books}
+use Rattle.session_worker.specs.Keeping.{Told, TellsEvents, heard_as, heard_call}
+use Rattle.session_worker.proofs.Told.{tells_none, tells_on, tells_calls, tells_same, tells_then, tells_last}
+use Rattle.session_worker.proofs.Booking.{booked-append, plain_books}
 use Rattle.session_worker.proofs.Spoken.{stays_last, stays_here}
 use Rattle.session_worker.proofs.Hearing.{on_first, on_waits, on_gave, on_stays, on_takes, on_dials}
 use Rattle.session_worker.proofs.Speech.{stays_first, stays_on, takes_first, speak_read, speak_on, speak_none, speak_made, speak_silent, begins_plain, concat_one, speak_broken}
@@ -64,18 +66,19 @@ speaks_same w x y same stays stream = λ (said : Said) (hearing : IsHearing said
 )
 
 pub moves_same : (w : Wording) (x y : SessionIoParts) → y.session ≡ x.session → Tells x.wire y.wire Stays
-    → y.stream ≡ x.stream → Moves w x y
-moves_same w x y same stays stream = record {
+    → y.stream ≡ x.stream → y.told ≡ x.told → Moves w x y
+moves_same w x y same stays stream told = record {
   calls = [];
   session = same;
   no_leg = refl;
   no_note = λ waiting. refl;
   no_withdrawal = refl;
   speaks = speaks_same w x y same stays stream;
+  tells = tells_none x.told y.told told;
 }
 
 pub moves_none : (w : Wording) (x : SessionIoParts) → Moves w x x
-moves_none w x = moves_same w x x refl (stays_here x.wire) refl
+moves_none w x = moves_same w x x refl (stays_here x.wire) refl refl
 
 said-append : (said : Said) (first more : List SessionCall) → said_after said (first ++ more) ≡ said_after (said_after said first) more
 said-append said [] more = refl
@@ -123,6 +126,7 @@ moves_on w x y z first next = record {
       ∙ (ap (λ l. l ++ withdrawn_by w.decoding (after_calls w.decoding x.session first.calls) (calling next.calls))
       first.no_withdrawal ∙ rest);
   speaks = speaks_then w x y z first.calls next.calls first.session first.speaks next.speaks;
+  tells = tells_calls x.told y.told z.told first.calls next.calls first.tells next.tells;
 }
 
 -- ---- one call
@@ -133,8 +137,9 @@ moves_call : (w : Wording) (x y : SessionIoParts) (made : SessionCall) → leg_i
     → withdrawn_at w.decoding x.session made ≡ []
     → messages_in (called w.decoding x.session made).0 ≡ [] → ((said : Said) → IsHearing said x → Hears said made x.wire)
     → Begins x.session made x.wire y.wire → y.session ≡ (called w.decoding x.session made).1
-    → ((said : Said) → IsHearing said x → IsHearing (said_with said made) y) → Moves w x y
-moves_call w x y made no_leg no_note stay none hears begins is next = record {
+    → ((said : Said) → IsHearing said x → IsHearing (said_with said made) y)
+    → TellsEvents x.told (Calls made ∷ []) y.told → Moves w x y
+moves_call w x y made no_leg no_note stay none hears begins is next tells = record {
   calls = made ∷ [];
   session = is;
   no_leg = ap (λ l. l ++ []) no_leg;
@@ -145,40 +150,43 @@ moves_call w x y made no_leg no_note stay none hears begins is next = record {
         (speak_none w (called w.decoding x.session made).1 (said_with said made) y.wire y.wire (stays_here y.wire)),
     next said hearing,
   );
+  tells = tells;
 }
 
 pub moves_broken : (w : Wording) (x y : SessionIoParts) → y.session ≡ broken x.session
-    → Tells x.wire y.wire Stays → Moves w x y
-moves_broken w x y is stays =
+    → Tells x.wire y.wire Stays → TellsEvents x.told (Calls call.Broken ∷ []) y.told → Moves w x y
+moves_broken w x y is stays tells =
     moves_call w x y call.Broken refl (λ waiting. refl) refl refl (λ said hearing. tt) (inl stays) is
-    (λ said hearing. hearing_gone said y (gone x.session y.session is))
+    (λ said hearing. hearing_gone said y (gone x.session y.session is)) tells
 
 pub moves_malformed : (w : Wording) (x y : SessionIoParts) → y.session ≡ (malformed x.session).1
-    → Tells x.wire y.wire Stays → ((said : Said) → IsHearing said x → Hears said call.Malformed x.wire) → Moves w x y
-moves_malformed w x y is stays hears =
+    → Tells x.wire y.wire Stays → ((said : Said) → IsHearing said x → Hears said call.Malformed x.wire)
+    → TellsEvents x.told (Calls call.Malformed ∷ []) y.told → Moves w x y
+moves_malformed w x y is stays hears tells =
     moves_call w x y call.Malformed refl (λ waiting. refl) refl refl hears stays is
-    (λ said hearing. hearing_gone said y (gone_malformed x.session y.session is))
+    (λ said hearing. hearing_gone said y (gone_malformed x.session y.session is)) tells
 
 pub moves_abandon : (w : Wording) (x y : SessionIoParts) → y.session ≡ abandon x.session
-    → Tells x.wire y.wire Stays → Moves w x y
-moves_abandon w x y is stays =
+    → Tells x.wire y.wire Stays → TellsEvents x.told (Calls call.Abandon ∷ []) y.told → Moves w x y
+moves_abandon w x y is stays tells =
     moves_call w x y call.Abandon refl (λ waiting. refl) refl refl (λ said hearing. tt) stays is
-    (λ said hearing. hearing_gone said y (gone_abandoned x.session y.session is))
+    (λ said hearing. hearing_gone said y (gone_abandoned x.session y.session is)) tells
 
 -- bytes were read, and then the connection may have been given up
-pub moves_read : (w : Wording) (x y : SessionIoParts) → MayBreak x.session y.session → Reads x.wire y.wire
+pub moves_read : (w : Wording) (x y : SessionIoParts) → MayGiveUp x y → Reads x.wire y.wire
     → ((said : Said) → IsHearing said x → IsHearing said y) → Moves w x y
 moves_read w x y (inl same) reads hears = record {
   calls = [];
-  session = same;
+  session = same.0;
   no_leg = refl;
   no_note = λ waiting. refl;
   no_withdrawal = refl;
   speaks = λ (said : Said) (hearing : IsHearing said x). (reads, hears said hearing);
+  tells = same.1;
 }
 moves_read w x y (inr is) reads hears = record {
   calls = call.Broken ∷ [];
-  session = is;
+  session = is.0;
   no_leg = refl;
   no_note = λ waiting. refl;
   no_withdrawal = refl;
@@ -187,6 +195,7 @@ moves_read w x y (inr is) reads hears = record {
         (speak_broken w x.session said y.wire y.wire (stays_here y.wire)),
     hears said hearing,
   );
+  tells = is.1;
 }
 
 -- ---- a call that gives a step
@@ -247,38 +256,47 @@ gave_step w s now made (Err refused, after) stamp step plain is gives = absurd (
 
 -- it did by itself, with no message received
 pub asks_step : (w : Wording) (s now : SessionParts) (made : SessionCall) (answer : SessionAnswer StepParts)
-    (stamp : StampParts) (step : Step) (a : Wire) (x : Stream) → IsPlain made → called w.decoding s made ≡ added answer
-    → ((said : Said) → Hears said made a) → ((said : Said) → said_with said made ≡ said)
+    (stamp : StampParts) (step : Step) (x y : SessionIoParts) → x.session ≡ s → y.session ≡ now → IsPlain made
+    → called w.decoding s made ≡ added answer
+    → ((said : Said) → Hears said made x.wire) → ((said : Said) → said_with said made ≡ said)
     → (is_connected answer.1.phase ≡ true → is_connected s.phase ≡ true) → Gives (IsStep w.encoding stamp) s answer (Ok step) now
-    → Asks w (io_of s a x) step (io_of now a x)
-asks_step w s now made answer stamp step a x plain is hears same back gives = record {
+    → Tells x.wire y.wire Stays → y.stream ≡ x.stream → TellsEvents x.told (Calls made ∷ []) y.told → Asks w x step y
+asks_step w s now made answer stamp step x y at after plain is hears same back gives stays stream tells = record {
   made = made;
-  gave = gave_step w s now made answer stamp step plain is gives;
-  wire = stays_here a;
-  hears = λ (said : Said) (hearing : IsHearing said (io_of s a x)). (
+  gave = subst (λ (t : SessionParts). Gave w made t step y.session) (sym at)
+      (subst (λ (t : SessionParts). Gave w made s step t) (sym after)
+      (gave_step w s now made answer stamp step plain is gives));
+  tells = tells;
+  wire = stays;
+  hears = λ (said : Said) (hearing : IsHearing said x). (
     hears said,
-    subst (λ (l : Said). IsHearing l (io_of now a x)) (sym (same said))
-        (hearing_same said (io_of s a x) (io_of now a x)
-        (λ on. back (subst (λ (t : SessionParts). is_connected t.phase ≡ true) (took_answer (IsStep w.encoding stamp) s now answer step gives) on))
-        (stays_here a) refl hearing),
+    subst (λ (l : Said). IsHearing l y) (sym (same said))
+        (hearing_same said x y
+        (λ on. subst (λ (t : SessionParts). is_connected t.phase ≡ true) (sym at) (back
+        (subst (λ (t : SessionParts). is_connected t.phase ≡ true)
+        (after ∙ took_answer (IsStep w.encoding stamp) s now answer step gives) on)))
+        stays stream hearing),
   );
 }
 
--- it was refused, or wanted memory
+-- it was refused, and that was told
 pub moves_refused : {Y : Type 0} (Is : StepParts → Y → Type 0) (w : Wording) (x y : SessionIoParts)
     (made : SessionCall) (answer : SessionAnswer StepParts) (why : SessionFault) → IsPlain made
+    → (why ≡ fault.OutOfMemory → ⊥)
     → called w.decoding x.session made ≡ added answer → ((said : Said) → Hears said made x.wire)
     → ((said : Said) → said_with said made ≡ said) → (is_connected answer.1.phase ≡ true → is_connected x.session.phase ≡ true)
-    → Gives Is x.session answer (Err why) y.session → Tells x.wire y.wire Stays → y.stream ≡ x.stream → Moves w x y
-moves_refused Is w x y made (Ok said, after) why plain is hears same back gives stays stream =
-    moves_same w x y gives.1 stays stream
-moves_refused Is w x y made (Err refused, after) why plain is hears same back gives stays stream =
+    → Gives Is x.session answer (Err why) y.session → Tells x.wire y.wire Stays → y.stream ≡ x.stream
+    → TellsEvents x.told (Calls made ∷ []) y.told → Moves w x y
+moves_refused Is w x y made (Ok said, after) why plain other is hears same back gives stays stream tells =
+    absurd (other gives.0)
+moves_refused Is w x y made (Err refused, after) why plain other is hears same back gives stays stream tells =
     moves_call w x y made (plain_no_leg made plain) (plain_no_note w.decoding x.session made plain)
     (plain_named w.decoding x.session made plain ∙ ap (λ (a : Addition). named_in a.0) is)
     (ap (λ (a : Addition). messages_in a.0) is) (λ said hearing. hears said)
     (begins_plain x.session made x.wire y.wire plain stays) (gives.1 ∙ sym (ap (λ (a : Addition). a.1) is))
     (λ said hearing. subst (λ (l : Said). IsHearing l y) (sym (same said))
     (hearing_same said x y (λ on. back (subst (λ (t : SessionParts). is_connected t.phase ≡ true) gives.1 on)) stays stream hearing))
+    tells
 
 -- its frames were written
 speak_gave : (w : Wording) (s now : SessionParts) (made : SessionCall) (step : Step)
@@ -299,6 +317,7 @@ pub record Books (w : Wording) (notes : List Note) (ids : List LegIdParts) (x y 
   pub booked : (waiting : Option Note) → booked_by w.decoding x.session waiting calls ≡ notes
   pub withdraws : withdrawn_by w.decoding x.session (calling calls) ≡ ids
   pub speaks : SpeaksOn w x calls y
+  pub tells : TellsEvents x.told (calling calls) y.told
 
 pub books_gave : (w : Wording) (x m y : SessionIoParts) (step : Step) (asks : Asks w x step m) (notes : List Note)
     (later : List SessionCall) (b : Wire) → y.session ≡ after_calls w.decoding m.session later → legs_in later ≡ []
@@ -306,8 +325,8 @@ pub books_gave : (w : Wording) (x m y : SessionIoParts) (step : Step) (asks : As
     → booked_by w.decoding m.session (waiting_in w.decoding x.session waiting asks.made) later ≡ notes)
     → withdrawn_by w.decoding m.session (calling later) ≡ [] → Puts (concat step.out) later x.wire b
     → ((said : Said) → IsHearing said m → Speak w m.session said later b y.wire × IsHearing (said_after said later) y)
-    → Books w notes step.withdrawn x y
-books_gave w x m y step asks notes later b is no_leg booked stay puts rest = record {
+    → TellsEvents m.told (calling later) y.told → Books w notes step.withdrawn x y
+books_gave w x m y step asks notes later b is no_leg booked stay puts rest tells = record {
   calls = asks.made ∷ later;
   session = is ∙ ap (λ (t : SessionParts). after_calls w.decoding t later) (sym (ap (λ (a : Addition). a.1) asks.gave.adds));
   no_leg = ap (λ l. l ++ legs_in later) (plain_no_leg asks.made asks.gave.plain) ∙ no_leg;
@@ -329,6 +348,7 @@ books_gave w x m y step asks notes later b is no_leg booked stay puts rest = rec
         speak_gave w x.session m.session asks.made step asks.gave said later x.wire b y.wire heard.0 puts done.0,
         done.1,
       );
+  tells = tells_on x.told m.told y.told (Calls asks.made ∷ []) (calling later) asks.tells tells;
 }
 
 moves_gave : (w : Wording) (x y : SessionIoParts) (ids : List LegIdParts) → Books w [] ids x y → ids ≡ [] → Moves w x y
@@ -339,6 +359,7 @@ moves_gave w x y ids books none = record {
   no_note = books.booked;
   no_withdrawal = books.withdraws ∙ none;
   speaks = books.speaks;
+  tells = books.tells;
 }
 
 pub moves_written : (w : Wording) (x m y : SessionIoParts) (step : Step) → Asks w x step m → step.withdrawn ≡ []
@@ -350,20 +371,20 @@ moves_written w x m y step asks none (inl all) stream =
       speak_none w m.session said y.wire y.wire (stays_here y.wire),
       hearing_takes said (concat step.out) m y (λ on. subst (λ (s : SessionParts). is_connected s.phase ≡ true) all.0 on) all.1
           stream hearing,
-    ))) none
+    )) all.2) none
 moves_written w x m y step asks none (inr part) stream =
     moves_gave w x y step.withdrawn (books_gave w x m y step asks [] (call.Broken ∷ []) y.wire part.0 refl (λ waiting. refl) refl
     (inr (tt, stays_first (TakesFirst (concat step.out)) x.wire m.wire y.wire asks.wire (takes_first (concat step.out) m.wire y.wire part.1)))
     (λ said hearing. (
       speak_broken w m.session said y.wire y.wire (stays_here y.wire),
       hearing_gone said y (gone m.session y.session part.0),
-    ))) none
+    )) part.2) none
 
 -- ---- what comes of the next message
 
 pub heard_nothing : (w : Wording) (x y : SessionIoParts) → y.session ≡ x.session → Tells x.wire y.wire Stays
-    → (next_read x.stream).frame ≡ None → y.stream ≡ (next_read x.stream).stream → Moves w x y
-heard_nothing w x y same stays found is = record {
+    → (next_read x.stream).frame ≡ None → y.stream ≡ (next_read x.stream).stream → y.told ≡ x.told → Moves w x y
+heard_nothing w x y same stays found is told = record {
   calls = [];
   session = same;
   no_leg = refl;
@@ -375,28 +396,40 @@ heard_nothing w x y same stays found is = record {
         (on_waits said x.wire x.stream y.stream (hearing (subst (λ (s : SessionParts). is_connected s.phase ≡ true) same on)) found is)
         stays),
   );
+  tells = tells_none x.told y.told told;
 }
 
-pub heard_step : (w : Wording) (s now : SessionParts) (a : Wire) (x y : Stream) (step : Step)
-    → is_connected s.phase ≡ true → Receives w s x step now → y ≡ (next_read x).stream
-    → Asks w (io_of s a x) step (io_of now a y)
-heard_step w s now a x y step on receives is = record {
+-- what was told of it, where its frame is this
+told_received : (w : Wording) (s now : SessionParts) (x : Stream) (step : Step) (receives : Receives w s x step now)
+    → heard_call (next_read x).frame ≡ call.Receive receives.envelope
+told_received w s now x step receives = ap heard_call receives.next ∙ ap heard_as receives.says
+
+pub heard_step : (w : Wording) (x y : SessionIoParts) (step : Step)
+    → is_connected x.session.phase ≡ true → Receives w x.session x.stream step y.session
+    → y.stream ≡ (next_read x.stream).stream → Tells x.wire y.wire Stays
+    → TellsEvents x.told (Calls (heard_call (next_read x.stream).frame) ∷ []) y.told → Asks w x step y
+heard_step w x y step on receives is stays tells = record {
   made = call.Receive receives.envelope;
   gave = receives.gave;
-  wire = stays_here a;
-  hears = λ (said : Said) (hearing : IsHearing said (io_of s a x)).
-      let at : ReaderOn (said ++ Ok receives.envelope ∷ []) a y =
-      subst (λ (r : Result Envelope TagFault). ReaderOn (said ++ r ∷ []) a y) receives.says
-      (on_gave said receives.fields a x y (hearing on) receives.next is) in
-      (on_first (said ++ Ok receives.envelope ∷ []) a y at, (λ still. at));
+  tells = subst (λ (made : SessionCall). TellsEvents x.told (Calls made ∷ []) y.told)
+      (told_received w x.session y.session x.stream step receives) tells;
+  wire = stays;
+  hears = λ (said : Said) (hearing : IsHearing said x).
+      let at : ReaderOn (said ++ Ok receives.envelope ∷ []) x.wire y.stream =
+      subst (λ (r : Result Envelope TagFault). ReaderOn (said ++ r ∷ []) x.wire y.stream) receives.says
+      (on_gave said receives.fields x.wire x.stream y.stream (hearing on) receives.next is) in (
+        on_first (said ++ Ok receives.envelope ∷ []) x.wire y.stream at,
+        (λ still. on_stays (said ++ Ok receives.envelope ∷ []) x.wire y.wire y.stream at stays),
+      );
 }
 
 -- what a step asks for stays so where the link was told something
 pub asks_still : (w : Wording) (x m y : SessionIoParts) (step : Step) → Asks w x step m → y.session ≡ m.session
-    → Tells m.wire y.wire Stays → y.stream ≡ m.stream → Asks w x step y
-asks_still w x m y step asks same stays stream = record {
+    → Tells m.wire y.wire Stays → y.stream ≡ m.stream → y.told ≡ m.told → Asks w x step y
+asks_still w x m y step asks same stays stream told = record {
   made = asks.made;
   gave = subst (λ (s : SessionParts). Gave w asks.made x.session step s) (sym same) asks.gave;
+  tells = tells_same x.told m.told y.told (Calls asks.made ∷ []) asks.tells told;
   wire = stays_on x.wire m.wire y.wire asks.wire stays;
   hears = λ (said : Said) (hearing : IsHearing said x).
       let heard = asks.hears said hearing in (
@@ -408,14 +441,17 @@ asks_still w x m y step asks same stays stream = record {
 
 pub heard_malformed : (w : Wording) (x y : SessionIoParts) (z : Stream) (fields : List Tagged) (fault : TagFault)
     → is_connected x.session.phase ≡ true → (next_read x.stream).frame ≡ Some fields → envelope_read fields ≡ Err fault
-    → z ≡ (next_read x.stream).stream → y.session ≡ (malformed x.session).1 → Tells x.wire y.wire Stays → Moves w x y
-heard_malformed w x y z fields fault on next says is gone stays =
+    → z ≡ (next_read x.stream).stream → y.session ≡ (malformed x.session).1 → Tells x.wire y.wire Stays
+    → TellsEvents x.told (Calls (heard_call (next_read x.stream).frame) ∷ []) y.told → Moves w x y
+heard_malformed w x y z fields fault on next says is gone stays tells =
     moves_malformed w x y gone stays
     (λ (said : Said) (hearing : IsHearing said x).
     let at : ReaderOn (said ++ Err fault ∷ []) x.wire z =
     subst (λ (r : Result Envelope TagFault). ReaderOn (said ++ r ∷ []) x.wire z) says
     (on_gave said fields x.wire x.stream z (hearing on) next is) in
     (fault, on_first (said ++ Err fault ∷ []) x.wire z at))
+    (subst (λ (made : SessionCall). TellsEvents x.told (Calls made ∷ []) y.told)
+    (ap heard_call next ∙ ap heard_as says) tells)
 
 -- ---- a call that gives a message
 
@@ -440,52 +476,55 @@ after_message (Err why, after) = refl
 
 -- a session that logged on over a link that was dialled for it
 pub moves_connected : (w : Wording) (s now : SessionParts) (stamp : StampParts) (frame : Vec ℕ) (a b : Wire)
-    (x z : Stream) (y : SessionIoParts) → Gives (λ (m : Message) (bytes : Vec ℕ). IsFramed w.encoding stamp (alone m) bytes.items) s (connect s) (Ok frame) now → Tells a b Dials
-    → Writes frame.items (io_of now b z) y → y.stream ≡ new_stream → Moves w (io_of s a x) y
-moves_connected w s now stamp frame a b x z y gives dials (inl all) fresh = record {
+    (x z : Stream) (t u : Told) (y : SessionIoParts) → Gives (λ (m : Message) (bytes : Vec ℕ). IsFramed w.encoding stamp (alone m) bytes.items) s (connect s) (Ok frame) now → Tells a b Dials
+    → TellsEvents t (Calls call.Connect ∷ []) u → Writes frame.items (io_of now b z u) y → y.stream ≡ new_stream
+    → Moves w (io_of s a x t) y
+moves_connected w s now stamp frame a b x z t u y gives dials tells (inl all) fresh = record {
   calls = call.Connect ∷ [];
   session = all.0 ∙ (took_answer (λ (m : Message) (bytes : Vec ℕ). IsFramed w.encoding stamp (alone m) bytes.items) s now (connect s) frame gives ∙ sym (after_message (connect s)));
   no_leg = refl;
   no_note = λ waiting. refl;
   no_withdrawal = ap (λ l. l ++ []) (message_named (connect s));
-  speaks = λ (said : Said) (hearing : IsHearing said (io_of s a x)). (
+  speaks = λ (said : Said) (hearing : IsHearing said (io_of s a x t)). (
     speak_message w s now said call.Connect (connect s) stamp frame [] a b y.wire y.wire refl gives tt dials (inl all.1)
         (speak_none w now [] y.wire y.wire (stays_here y.wire)),
-    (λ on. subst (λ (t : Stream). ReaderOn [] y.wire t) (sym fresh)
+    (λ on. subst (λ (l : Stream). ReaderOn [] y.wire l) (sym fresh)
         (on_takes [] frame.items b y.wire new_stream (on_dials a b dials) all.1)),
   );
+  tells = tells_last t u y.told (Calls call.Connect ∷ []) tells all.2;
 }
-moves_connected w s now stamp frame a b x z y gives dials (inr part) fresh = record {
+moves_connected w s now stamp frame a b x z t u y gives dials tells (inr part) fresh = record {
   calls = call.Connect ∷ call.Broken ∷ [];
   session = part.0 ∙ ap broken (took_answer (λ (m : Message) (bytes : Vec ℕ). IsFramed w.encoding stamp (alone m) bytes.items) s now (connect s) frame gives ∙ sym (after_message (connect s)));
   no_leg = refl;
   no_note = λ waiting. refl;
   no_withdrawal = ap (λ l. l ++ []) (message_named (connect s));
-  speaks = λ (said : Said) (hearing : IsHearing said (io_of s a x)). (
+  speaks = λ (said : Said) (hearing : IsHearing said (io_of s a x t)). (
     speak_message w s now said call.Connect (connect s) stamp frame (call.Broken ∷ []) a b y.wire y.wire refl gives tt dials
         (inr (tt, takes_first frame.items b y.wire part.1)) (speak_broken w now [] y.wire y.wire (stays_here y.wire)),
     hearing_gone [] y (gone now y.session part.0),
   );
+  tells = tells_on t u y.told (Calls call.Connect ∷ []) (Calls call.Broken ∷ []) tells part.2;
 }
 
 -- a connection that was dialled, where the session refused to log on
 pub moves_not_connected : {Y : Type 0} (Is : Message → Y → Type 0) (w : Wording) (s now : SessionParts)
-    (why : SessionFault) (a b : Wire) (x : Stream) (y : SessionIoParts) → (why ≡ fault.OutOfMemory → ⊥)
+    (why : SessionFault) (a b : Wire) (x : Stream) (t : Told) (y : SessionIoParts) → (why ≡ fault.OutOfMemory → ⊥)
     → Gives Is s (connect s) (Err why) now → Tells a b Dials → y.session ≡ now → Tells b y.wire Stays → y.stream ≡ new_stream
-    → Moves w (io_of s a x) y
-moves_not_connected Is w s now why a b x y other gives dials same stays fresh =
+    → TellsEvents t (Calls call.Connect ∷ []) y.told → Moves w (io_of s a x t) y
+moves_not_connected Is w s now why a b x t y other gives dials same stays fresh tells =
     not_connected (connect s) refl gives where
       to : Tells a y.wire Dials
       to = stays_last Dials a b y.wire dials stays
 
       not_connected : (answer : SessionAnswer Message) → connect s ≡ answer → Gives Is s answer (Err why) now
-          → Moves w (io_of s a x) y
+          → Moves w (io_of s a x t) y
       not_connected (Ok m, after) is gave = absurd (other gave.0)
       not_connected (Err refused, after) is gave =
-          moves_call w (io_of s a x) y call.Connect refl (λ waiting. refl) (message_named (connect s))
-          (ap (λ (t : SessionAnswer Message). messages_in (added_message t).0) is) (λ said hearing. tt) to
-          (same ∙ (gave.1 ∙ sym (ap (λ (t : SessionAnswer Message). (added_message t).1) is)))
-          (λ said hearing. λ on. subst (λ (t : Stream). ReaderOn [] y.wire t) (sym fresh) (on_dials a y.wire to))
+          moves_call w (io_of s a x t) y call.Connect refl (λ waiting. refl) (message_named (connect s))
+          (ap (λ (r : SessionAnswer Message). messages_in (added_message r).0) is) (λ said hearing. tt) to
+          (same ∙ (gave.1 ∙ sym (ap (λ (r : SessionAnswer Message). (added_message r).1) is)))
+          (λ said hearing. λ on. subst (λ (l : Stream). ReaderOn [] y.wire l) (sym fresh) (on_dials a y.wire to)) tells
 
 -- a session that can connect is down
 down_connects : (s : SessionParts) (phase : Phase) (m : Message) (after : SessionParts) → connect_in phase s ≡ (Ok m, after)
@@ -498,24 +537,58 @@ down_connects s Up m after is = absurd (let e = ap (λ p. p.0) is in cc)
 down_connects s Closing m after is = absurd (let e = ap (λ p. p.0) is in cc)
 down_connects s LoggedOut m after is = absurd (let e = ap (λ p. p.0) is in cc)
 
--- or where it was given up
+-- no session refuses to connect for want of memory
+never_spent : (b : Bool) (ok : SessionAnswer Message) (s after : SessionParts) → (ok.0 ≡ Err fault.OutOfMemory → ⊥)
+    → (if b then ok else refuses fault.NumbersSpent s) ≡ (Err fault.OutOfMemory, after) → ⊥
+never_spent true ok s after other is = other (ap (λ p. p.0) is)
+never_spent false ok s after other is = absurd (let e = ap (λ p. p.0) is in cc)
+
+never_refused : (s : SessionParts) (phase : Phase) (after : SessionParts)
+    → connect_in phase s ≡ (Err fault.OutOfMemory, after) → ⊥
+never_refused s Down after is = never_spent (may_write s) _ s after (λ e. absurd (cc)) is
+never_refused s Closed after is = absurd (let e = ap (λ p. p.0) is in cc)
+never_refused s LoggingOn after is = absurd (let e = ap (λ p. p.0) is in cc)
+never_refused s Settling after is = absurd (let e = ap (λ p. p.0) is in cc)
+never_refused s Up after is = absurd (let e = ap (λ p. p.0) is in cc)
+never_refused s Closing after is = absurd (let e = ap (λ p. p.0) is in cc)
+never_refused s LoggedOut after is = absurd (let e = ap (λ p. p.0) is in cc)
+
+-- what a refused call says
+the_fault : {Y : Type 0} → Result Y SessionFault → SessionFault
+the_fault (Ok y) = fault.OutOfMemory
+the_fault (Err why) = why
+
+refused_as : SessionParts → SessionFault → SessionAnswer Message
+refused_as after why = (Err why, after)
+
+-- or where it wanted memory, and was given up
 pub moves_gone : {Y : Type 0} (Is : Message → Y → Type 0) (w : Wording) (s now : SessionParts)
-    (why : SessionFault) (a b : Wire) (x : Stream) (y : SessionIoParts) → Gives Is s (connect s) (Err why) now → Tells a b Dials
-    → y.session ≡ broken now → Tells b y.wire Stays → Moves w (io_of s a x) y
-moves_gone Is w s now why a b x y gives dials over stays = gone_from (connect s) refl gives where
-  gone_from : (answer : SessionAnswer Message) → connect s ≡ answer → Gives Is s answer (Err why) now
-      → Moves w (io_of s a x) y
+    (a b : Wire) (x : Stream) (t : Told) (y : SessionIoParts) → Gives Is s (connect s) (Err fault.OutOfMemory) now
+    → Tells a b Dials → y.session ≡ broken now → Tells b y.wire Stays
+    → TellsEvents t (Calls call.Broken ∷ []) y.told → Moves w (io_of s a x t) y
+unfolding refused_as the_fault
+moves_gone Is w s now a b x t y gives dials over stays tells = gone_from (connect s) refl gives where
+  gone_from : (answer : SessionAnswer Message) → connect s ≡ answer → Gives Is s answer (Err fault.OutOfMemory) now
+      → Moves w (io_of s a x t) y
   gone_from (Ok m, after) is gave =
-      moves_call w (io_of s a x) y call.Broken refl (λ waiting. refl) refl refl (λ said hearing. tt)
+      moves_call w (io_of s a x t) y call.Broken refl (λ waiting. refl) refl refl (λ said hearing. tt)
       (inr (down_connects s s.phase m after is, stays_last Dials a b y.wire dials stays)) (over ∙ ap broken gave.1)
-      (λ said hearing. hearing_gone said y (gone now y.session over))
+      (λ said hearing. hearing_gone said y (gone now y.session over)) tells
   gone_from (Err refused, after) is gave =
-      let between : SessionIoParts = io_of now b new_stream in
-      moves_on w (io_of s a x) between y
-      (moves_call w (io_of s a x) between call.Connect refl (λ waiting. refl) (message_named (connect s))
-      (ap (λ (t : SessionAnswer Message). messages_in (added_message t).0) is) (λ said hearing. tt) dials
-      (gave.1 ∙ sym (ap (λ (t : SessionAnswer Message). (added_message t).1) is)) (λ said hearing. λ on. on_dials a b dials))
-      (moves_broken w between y over stays)
+      absurd (never_refused s s.phase after
+      (is ∙ ap (refused_as after) (ap the_fault (sym gave.0))))
+
+-- or where the session refused, and was given up
+pub moves_given_up : {Y : Type 0} (Is : Message → Y → Type 0) (w : Wording) (s now : SessionParts)
+    (why : SessionFault) (a b : Wire) (x : Stream) (t u : Told) (y : SessionIoParts) → (why ≡ fault.OutOfMemory → ⊥)
+    → Gives Is s (connect s) (Err why) now → Tells a b Dials → TellsEvents t (Calls call.Connect ∷ []) u
+    → y.session ≡ broken now → Tells b y.wire Stays → TellsEvents u (Calls call.Broken ∷ []) y.told
+    → Moves w (io_of s a x t) y
+moves_given_up Is w s now why a b x t u y other gives dials tells over stays later =
+    let between : SessionIoParts = io_of now b new_stream u in
+    moves_on w (io_of s a x t) between y
+    (moves_not_connected Is w s now why a b x t between other gives dials refl (stays_here b) refl tells)
+    (moves_broken w between y over stays later)
 
 -- a refused call leaves the session as it was
 refused : {X Y : Type 0} (Is : X → Y → Type 0) (Made : X → SessionParts → Type 0) (s now : SessionParts)
@@ -533,6 +606,19 @@ refused_send Is s now leg why gives =
     refused Is (SendsLeg s leg.ordinal leg.leg) s now (send_leg s leg.ordinal leg.leg) why
     (send_leg_keeps s leg.ordinal leg.leg) gives
 
+-- a call that wanted memory left the session as it was
+pub refused_close : {Y : Type 0} (Is : StepParts → Y → Type 0) (s now : SessionParts) (why : SessionFault)
+    → Gives Is s (close s) (Err why) now → now ≡ s
+refused_close Is s now why gives = refused Is (IsCall s) s now (close s) why (close_keeps s) gives
+
+pub refused_quiet : {Y : Type 0} (Is : StepParts → Y → Type 0) (s now : SessionParts) (why : SessionFault)
+    → Gives Is s (quiet s) (Err why) now → now ≡ s
+refused_quiet Is s now why gives = refused Is (IsCall s) s now (quiet s) why (quiet_keeps s) gives
+
+pub refused_silent : {Y : Type 0} (Is : StepParts → Y → Type 0) (s now : SessionParts) (why : SessionFault)
+    → Gives Is s (silent s) (Err why) now → now ≡ s
+refused_silent Is s now why gives = refused Is (IsCall s) s now (silent s) why (silent_keeps s) gives
+
 -- where it wasn't out of memory the state is that of the answer
 answered : {X Y : Type 0} (Is : X → Y → Type 0) (s now : SessionParts) (answer : SessionAnswer X) (why : SessionFault)
     → (why ≡ fault.OutOfMemory → ⊥) → Gives Is s answer (Err why) now → now ≡ answer.1
@@ -547,9 +633,10 @@ none_unsent Is s now id (Err refused, after) y gives = absurd (let e = gives.0 i
 
 -- a leg that was sent
 pub hands_sent : (w : Wording) (leg : PlacedLeg) (s now : SessionParts) (stamp : StampParts) (frame : Vec ℕ)
-    (a : Wire) (x : Stream) (y : SessionIoParts) → Gives (λ (m : Message) (bytes : Vec ℕ). IsFramed w.encoding stamp (alone m) bytes.items) s (send_leg s leg.ordinal leg.leg) (Ok frame) now
-    → Writes frame.items (io_of now a x) y → y.stream ≡ x → Hands w leg true (io_of s a x) y
-hands_sent w leg s now stamp frame a x y gives (inl all) stream =
+    (a b : Wire) (x : Stream) (t u : Told) (y : SessionIoParts) → Gives (λ (m : Message) (bytes : Vec ℕ). IsFramed w.encoding stamp (alone m) bytes.items) s (send_leg s leg.ordinal leg.leg) (Ok frame) now
+    → Tells a b Stays → TellsEvents t (Calls (call.SendLeg leg.ordinal leg.leg) ∷ []) u
+    → Writes frame.items (io_of now b x u) y → y.stream ≡ x → Hands w leg true (io_of s a x t) y
+hands_sent w leg s now stamp frame a b x t u y gives stays tells (inl all) stream =
     let is : y.session ≡ (send_leg s leg.ordinal leg.leg).1 = all.0 ∙ took_answer (λ (m : Message) (bytes : Vec ℕ). IsFramed w.encoding stamp (alone m) bytes.items) s now (send_leg s leg.ordinal leg.leg) frame gives in
     record {
       event = Calls (call.SendLeg leg.ordinal leg.leg);
@@ -560,14 +647,16 @@ hands_sent w leg s now stamp frame a x y gives (inl all) stream =
       no_note = λ waiting. refl;
       withdraws = ap (λ l. l ++ []) (none_unsent (λ (m : Message) (bytes : Vec ℕ). IsFramed w.encoding stamp (alone m) bytes.items)
           s now leg.leg.id (send_leg s leg.ordinal leg.leg) frame gives);
-      speaks = λ (said : Said) (hearing : IsHearing said (io_of s a x)). (
-        speak_message w s now said (call.SendLeg leg.ordinal leg.leg) (send_leg s leg.ordinal leg.leg) stamp frame [] a a y.wire y.wire
-            refl gives tt (stays_here a) (inl all.1) (speak_none w now said y.wire y.wire (stays_here y.wire)),
-        hearing_takes said frame.items (io_of s a x) y
-            (λ on. send_on s leg.ordinal leg.leg (subst (λ (t : SessionParts). is_connected t.phase ≡ true) is on)) all.1 stream hearing,
+      speaks = λ (said : Said) (hearing : IsHearing said (io_of s a x t)). (
+        speak_message w s now said (call.SendLeg leg.ordinal leg.leg) (send_leg s leg.ordinal leg.leg) stamp frame [] a b y.wire y.wire
+            refl gives tt stays (inl all.1) (speak_none w now said y.wire y.wire (stays_here y.wire)),
+        hearing_takes said frame.items (io_of s a x t) y
+            (λ on. send_on s leg.ordinal leg.leg (subst (λ (l : SessionParts). is_connected l.phase ≡ true) is on))
+            (stays_first (Takes frame.items) a b y.wire stays all.1) stream hearing,
       );
+      tells = tells_last t u y.told (Calls (call.SendLeg leg.ordinal leg.leg) ∷ []) tells all.2;
     }
-hands_sent w leg s now stamp frame a x y gives (inr part) stream = record {
+hands_sent w leg s now stamp frame a b x t u y gives stays tells (inr part) stream = record {
   event = Calls (call.SendLeg leg.ordinal leg.leg);
   of_leg = inl refl;
   calls = call.Broken ∷ [];
@@ -576,47 +665,53 @@ hands_sent w leg s now stamp frame a x y gives (inr part) stream = record {
   no_note = λ waiting. refl;
   withdraws = ap (λ l. l ++ []) (none_unsent (λ (m : Message) (bytes : Vec ℕ). IsFramed w.encoding stamp (alone m) bytes.items)
       s now leg.leg.id (send_leg s leg.ordinal leg.leg) frame gives);
-  speaks = λ (said : Said) (hearing : IsHearing said (io_of s a x)). (
-    speak_message w s now said (call.SendLeg leg.ordinal leg.leg) (send_leg s leg.ordinal leg.leg) stamp frame (call.Broken ∷ []) a a
-        y.wire y.wire refl gives tt (stays_here a) (inr (tt, takes_first frame.items a y.wire part.1))
+  speaks = λ (said : Said) (hearing : IsHearing said (io_of s a x t)). (
+    speak_message w s now said (call.SendLeg leg.ordinal leg.leg) (send_leg s leg.ordinal leg.leg) stamp frame (call.Broken ∷ []) a b
+        y.wire y.wire refl gives tt stays (inr (tt, takes_first frame.items b y.wire part.1))
         (speak_broken w now said y.wire y.wire (stays_here y.wire)),
     hearing_gone said y (gone now y.session part.0),
   );
+  tells = tells_on t u y.told (Calls (call.SendLeg leg.ordinal leg.leg) ∷ []) (Calls call.Broken ∷ []) tells part.2;
 }
 
 -- one that the session refused
 pub hands_refused : {Y : Type 0} (Is : Message → Y → Type 0) (w : Wording) (leg : PlacedLeg)
-    (s now : SessionParts) (why : SessionFault) (a : Wire) (x : Stream) → (why ≡ fault.OutOfMemory → ⊥)
-    → Gives Is s (send_leg s leg.ordinal leg.leg) (Err why) now → Hands w leg false (io_of s a x) (io_of now a x)
-hands_refused Is w leg s now why a x other gives = was_refused (send_leg s leg.ordinal leg.leg) refl gives where
-  was_refused : (answer : SessionAnswer Message) → send_leg s leg.ordinal leg.leg ≡ answer → Gives Is s answer (Err why) now
-      → Hands w leg false (io_of s a x) (io_of now a x)
-  was_refused (Ok m, after) is gave = absurd (other gave.0)
-  was_refused (Err refused, after) is gave =
-      let same : now ≡ (send_leg s leg.ordinal leg.leg).1 = gave.1 ∙ sym (ap (λ (t : SessionAnswer Message). t.1) is) in
-      record {
-        event = Calls (call.SendLeg leg.ordinal leg.leg);
-        of_leg = inl refl;
-        calls = [];
-        session = gave.1 ∙ sym (ap (λ (t : SessionAnswer Message). (added_message t).1) is);
-        no_leg = refl;
-        no_note = λ waiting. refl;
-        withdraws = ap (λ (t : SessionAnswer Message). unless_sent leg.leg.id (added_message t).0 ++ []) is;
-        speaks = λ (said : Said) (hearing : IsHearing said (io_of s a x)). (
-          speak_silent w s said (call.SendLeg leg.ordinal leg.leg) [] a a a tt (stays_here a)
-              (ap (λ (t : SessionAnswer Message). messages_in (added_message t).0) is)
-              (speak_none w (called w.decoding s (call.SendLeg leg.ordinal leg.leg)).1 said a a (stays_here a)),
-          hearing_same said (io_of s a x) (io_of now a x)
-              (λ on. send_on s leg.ordinal leg.leg (subst (λ (t : SessionParts). is_connected t.phase ≡ true) same on)) (stays_here a)
-              refl hearing,
-        );
-      }
+    (s now : SessionParts) (why : SessionFault) (a b : Wire) (x : Stream) (t u : Told) → (why ≡ fault.OutOfMemory → ⊥)
+    → Gives Is s (send_leg s leg.ordinal leg.leg) (Err why) now → Tells a b Stays
+    → TellsEvents t (Calls (call.SendLeg leg.ordinal leg.leg) ∷ []) u
+    → Hands w leg false (io_of s a x t) (io_of now b x u)
+hands_refused Is w leg s now why a b x t u other gives stays tells =
+    was_refused (send_leg s leg.ordinal leg.leg) refl gives where
+      was_refused : (answer : SessionAnswer Message) → send_leg s leg.ordinal leg.leg ≡ answer → Gives Is s answer (Err why) now
+          → Hands w leg false (io_of s a x t) (io_of now b x u)
+      was_refused (Ok m, after) is gave = absurd (other gave.0)
+      was_refused (Err refused, after) is gave =
+          let same : now ≡ (send_leg s leg.ordinal leg.leg).1 = gave.1 ∙ sym (ap (λ (r : SessionAnswer Message). r.1) is) in
+          record {
+            event = Calls (call.SendLeg leg.ordinal leg.leg);
+            of_leg = inl refl;
+            calls = [];
+            session = gave.1 ∙ sym (ap (λ (r : SessionAnswer Message). (added_message r).1) is);
+            no_leg = refl;
+            no_note = λ waiting. refl;
+            withdraws = ap (λ (r : SessionAnswer Message). unless_sent leg.leg.id (added_message r).0 ++ []) is;
+            speaks = λ (said : Said) (hearing : IsHearing said (io_of s a x t)). (
+              speak_silent w s said (call.SendLeg leg.ordinal leg.leg) [] a b b tt stays
+                  (ap (λ (r : SessionAnswer Message). messages_in (added_message r).0) is)
+                  (speak_none w (called w.decoding s (call.SendLeg leg.ordinal leg.leg)).1 said b b (stays_here b)),
+              hearing_same said (io_of s a x t) (io_of now b x u)
+                  (λ on. send_on s leg.ordinal leg.leg (subst (λ (l : SessionParts). is_connected l.phase ≡ true) same on)) stays
+                  refl hearing,
+            );
+            tells = tells;
+          }
 
 -- one for which it wanted memory
 pub hands_failed : {Y : Type 0} (Is : Message → Y → Type 0) (w : Wording) (leg : PlacedLeg)
-    (s now : SessionParts) (why : SessionFault) (a : Wire) (x : Stream) (y : SessionIoParts)
-    → Gives Is s (send_leg s leg.ordinal leg.leg) (Err why) now → y.session ≡ broken now → Tells a y.wire Stays → Hands w leg false (io_of s a x) y
-hands_failed Is w leg s now why a x y gives e stays = record {
+    (s now : SessionParts) (why : SessionFault) (a : Wire) (x : Stream) (t : Told) (y : SessionIoParts)
+    → Gives Is s (send_leg s leg.ordinal leg.leg) (Err why) now → y.session ≡ broken now → Tells a y.wire Stays
+    → TellsEvents t (Fails leg ∷ []) y.told → Hands w leg false (io_of s a x t) y
+hands_failed Is w leg s now why a x t y gives e stays tells = record {
   event = Fails leg;
   of_leg = inr refl;
   calls = [];
@@ -624,8 +719,9 @@ hands_failed Is w leg s now why a x y gives e stays = record {
   no_leg = refl;
   no_note = λ waiting. refl;
   withdraws = refl;
-  speaks = λ (said : Said) (hearing : IsHearing said (io_of s a x)).
+  speaks = λ (said : Said) (hearing : IsHearing said (io_of s a x t)).
       (speak_broken w s said a y.wire stays, hearing_gone said y (gone now y.session e));
+  tells = tells;
 }
 
 -- a session that is down or closed can't send a leg
@@ -635,6 +731,10 @@ not_up false e = cc
 
 pub idle_in : (s : SessionParts) (phase : Phase) → s.phase ≡ phase → (phase ≡ Up → ⊥) → IsIdle s
 idle_in s phase is other = λ up. absurd (other (sym is ∙ up))
+
+pub idle_closing : (s : SessionParts) → (s.phase ≡ Closing) ⊎ (s.phase ≡ LoggedOut) → IsIdle s
+idle_closing s (inl is) = idle_in s Closing is (λ e. cc)
+idle_closing s (inr is) = idle_in s LoggedOut is (λ e. cc)
 
 pub idle_broken : (s : SessionParts) → IsIdle (broken s)
 idle_broken s =

@@ -15,7 +15,7 @@ use Rattle.session_core.specs.Receiving.{confirm}
 use Rattle.session_core.specs.Calling.{SessionAnswer, refuses, quiet, silent, close, close_in, send_leg, send_in, malformed, broken, abandon}
 use Rattle.session_core.proofs.Adding.{chosen}
 use Rattle.session_worker.specs.Hearing.{Said, ReaderOn}
-use Rattle.session_worker.specs.Linking.{SessionIoParts, IsHearing, MayBreak, TakesIn}
+use Rattle.session_worker.specs.Linking.{SessionIoParts, IsHearing, MayGiveUp, TakesIn}
 use Rattle.session_worker.proofs.Hearing.{on_stays, on_fed, on_takes}
 
 -- a session whose connection is gone
@@ -107,8 +107,8 @@ pub hearing_gone : (said : Said) (y : SessionIoParts) → (is_connected y.sessio
 hearing_gone said y off = λ on. absurd (off on)
 
 -- bytes that were read were handed to the reader, or else the connection was given up
-pub fed_breaks : (bytes : List ℕ) (x y : SessionIoParts) → TakesIn bytes x y → MayBreak x.session y.session
-fed_breaks bytes x y (inl all) = inl all.0
+pub fed_breaks : (bytes : List ℕ) (x y : SessionIoParts) → TakesIn bytes x y → MayGiveUp x y
+fed_breaks bytes x y (inl all) = inl (all.0, all.2)
 fed_breaks bytes x y (inr over) = inr over
 
 pub hearing_fed : (said : Said) (bytes : List ℕ) (x m y : SessionIoParts) → m.session ≡ x.session → m.stream ≡ x.stream
@@ -118,4 +118,4 @@ hearing_fed said bytes x m y session stream gives (inl all) stays hearing =
     (subst (λ (z : Stream). ReaderOn said m.wire z) (sym (all.1 ∙ ap (λ (z : Stream). fed z bytes) stream))
     (on_fed said bytes x.wire m.wire x.stream
     (hearing (subst (λ (s : SessionParts). is_connected s.phase ≡ true) (all.0 ∙ session) on)) gives)) stays
-hearing_fed said bytes x m y session stream gives (inr over) stays hearing = hearing_gone said y (gone m.session y.session over)
+hearing_fed said bytes x m y session stream gives (inr over) stays hearing = hearing_gone said y (gone m.session y.session over.0)

@@ -22,13 +22,16 @@ use Rattle.release_lock.specs.Queues.{Took}
 use Rattle.exec_collector.specs.Seats.{Seat}
 use Rattle.session_worker.specs.Ends.{is_over, last_calls}
 use Rattle.session_worker.specs.Taking.{with_taken}
-use Rattle.session_worker.specs.Booking.{waiting_in, booked_in, booked_by}
+use Rattle.session_worker.specs.Booking.{waiting_in, waiting_after, booked_in, booked_by}
 use Rattle.session_worker.specs.Hearing.{Said, said_after}
 use Rattle.session_worker.specs.Speaking.{Wire, TakesFirst, Speak}
-use Rattle.session_worker.specs.Linking.{SessionIoParts, SpeaksOn, WorkerStateParts, worker_in, BesideShares, beside_shares, asked_too, unsent, calling, MayBook, Moves, Hands, Sends, Asks, CarriesOut, Does, Drains}
+use Rattle.session_worker.specs.Linking.{SessionIoParts, SpeaksOn, WorkerStateParts, worker_in, BesideShares, beside_shares, asked_too, unsent, calling, MayBook, StandsStill, Moves, Hands, Sends, Asks, CarriesOut, Does, Drains}
 use Rattle.session_worker.specs.Events.{WorkerEvent, calls_in, calls_of, leg_in, legs_in, taken_in, taken_of, withdrawn_in, withdrawn_by, IsIdle, IsAllowedCall, IsAllowed, AreAllowed, WorkerParts, lasting, Goes}
 use Rattle.session_worker.specs.Events.WorkerEvent.{Calls, Drops, Fails}
-use Rattle.session_worker.proofs.Booking.{waiting_after, booked-append, note_waits, waiting_booked}
+use Rattle.session_worker.specs.Keeping.{Told, TellsEvents}
+use Rattle.session_worker.proofs.Told.{tells_none, tells_on, tells_then, tells_last}
+use Rattle.session_worker.proofs.Steps.{still_on}
+use Rattle.session_worker.proofs.Booking.{booked-append, note_waits, waiting_booked}
 use Rattle.session_worker.proofs.Spoken.{stays_here}
 use Rattle.session_worker.proofs.Withdrawals.{asks_none, asked_both}
 use Rattle.session_worker.proofs.Speech.{stays_first, stays_same, speak_on, speak_none, speak_silent, speak_broken}
@@ -36,13 +39,13 @@ use Rattle.session_worker.proofs.Connected.{gone, confirm_on, hearing_takes, hea
 use Rattle.session_worker.proofs.Calling.{Books, books_gave, speaks_same, moves_same, speaks_then}
 
 -- events and then others
-calls-append : (first more : List WorkerEvent) → calls_of (first ++ more) ≡ calls_of first ++ calls_of more
+pub calls-append : (first more : List WorkerEvent) → calls_of (first ++ more) ≡ calls_of first ++ calls_of more
 calls-append [] more = refl
 calls-append (event ∷ first) more =
     ap (λ l. calls_in event ++ l) (calls-append first more)
     ∙ sym (append_assoc (calls_in event) (calls_of first) (calls_of more))
 
-taken-append : (first more : List WorkerEvent) → taken_of (first ++ more) ≡ taken_of first ++ taken_of more
+pub taken-append : (first more : List WorkerEvent) → taken_of (first ++ more) ≡ taken_of first ++ taken_of more
 taken-append [] more = refl
 taken-append (event ∷ first) more =
     ap (λ l. taken_in event ++ l) (taken-append first more)
@@ -57,7 +60,7 @@ allowed-append read s (event ∷ first) more all rest = (
       (subst (λ (t : SessionParts). AreAllowed read t more) (after-append read s (calls_in event) (calls_of first)) rest),
 )
 
-withdrawn-append : (read : Decoding) (s : SessionParts) (first more : List WorkerEvent)
+pub withdrawn-append : (read : Decoding) (s : SessionParts) (first more : List WorkerEvent)
     → withdrawn_by read s (first ++ more)
     ≡ withdrawn_by read s first ++ withdrawn_by read (after_calls read s (calls_of first)) more
 withdrawn-append read s [] more = refl
@@ -130,6 +133,7 @@ does_on w a b c first next = record {
       (sym (calls-append first.events next.events))
       (speaks_then w a.io b.io c.io (calls_of first.events) (calls_of next.events)
       first.goes.session first.speaks next.speaks);
+  tells = tells_on a.io.told b.io.told c.io.told first.events next.events first.tells next.tells;
 }
 
 -- a worker in the middle of a turn, of its parts
@@ -235,16 +239,17 @@ does_moves w a b moves took seat = record {
       moves.no_withdrawal took seat;
   speaks = subst (λ (calls : List SessionCall). SpeaksOn w a.io calls b.io)
       (sym (calling-calls moves.calls)) moves.speaks;
+  tells = moves.tells;
 }
 
 pub does_same : (w : Wording) (a b : WorkerStateParts) → b.io.session ≡ a.io.session → b.took ≡ a.took
     → beside_shares b.seat ≡ beside_shares a.seat → Tells a.io.wire b.io.wire Stays → b.io.stream ≡ a.io.stream
-    → Does w a b
-does_same w a b session took seat stays stream =
-    does_moves w a b (moves_same w a.io b.io session stays stream) took seat
+    → b.io.told ≡ a.io.told → Does w a b
+does_same w a b session took seat stays stream told =
+    does_moves w a b (moves_same w a.io b.io session stays stream told) took seat
 
 pub does_none : (w : Wording) (a : WorkerStateParts) → Does w a a
-does_none w a = does_same w a a refl refl refl (stays_here a.io.wire) refl
+does_none w a = does_same w a a refl refl refl (stays_here a.io.wire) refl refl
 
 pub does_stay : (w : Wording) (a b : WorkerStateParts) → b ≡ a → Does w a b
 does_stay w a b same = subst (λ (c : WorkerStateParts). Does w a c) (sym same) (does_none w a)
@@ -252,27 +257,28 @@ does_stay w a b same = subst (λ (c : WorkerStateParts). Does w a c) (sym same) 
 -- ---- what a step wanted
 
 -- a call that gave a step, and then its frames
-books_silent : (w : Wording) (x m y : SessionIoParts) (step : Step) (noted : SessionParts) → Asks w x step m
-    → noted ≡ m.session
-    → ((y.session ≡ noted) × Tells m.wire y.wire (Takes (concat step.out)))
-    ⊎ ((y.session ≡ broken noted) × Tells m.wire y.wire (TakesFirst (concat step.out))) → y.stream ≡ m.stream
+books_silent : (w : Wording) (x m y : SessionIoParts) (step : Step) (noted : SessionParts) (told : Told) → Asks w x step m
+    → noted ≡ m.session → TellsEvents m.told [] told
+    → ((y.session ≡ noted) × Tells m.wire y.wire (Takes (concat step.out)) × TellsEvents told [] y.told)
+    ⊎ ((y.session ≡ broken noted) × Tells m.wire y.wire (TakesFirst (concat step.out))
+    × TellsEvents told (Calls call.Broken ∷ []) y.told) → y.stream ≡ m.stream
     → Books w [] step.withdrawn x y
-books_silent w x m y step noted asks same (inl all) stream =
+books_silent w x m y step noted told asks same tells (inl all) stream =
     books_gave w x m y step asks [] [] y.wire (all.0 ∙ same) refl (λ waiting. refl) refl
     (inl (stays_first (Takes (concat step.out)) x.wire m.wire y.wire asks.wire all.1))
     (λ said hearing. (
       speak_none w m.session said y.wire y.wire (stays_here y.wire),
       hearing_takes said (concat step.out) m y (λ on. subst (λ (s : SessionParts). is_connected s.phase ≡ true) (all.0 ∙ same) on)
           all.1 stream hearing,
-    ))
-books_silent w x m y step noted asks same (inr part) stream =
+    )) (tells_then m.told told y.told [] tells all.2)
+books_silent w x m y step noted told asks same tells (inr part) stream =
     books_gave w x m y step asks [] (call.Broken ∷ []) y.wire (part.0 ∙ ap broken same) refl (λ waiting. refl)
     refl
     (inr (tt, stays_first (TakesFirst (concat step.out)) x.wire m.wire y.wire asks.wire part.1))
     (λ said hearing. (
       speak_broken w m.session said y.wire y.wire (stays_here y.wire),
       hearing_gone said y (gone noted y.session part.0),
-    ))
+    )) (tells_then m.told told y.told (Calls call.Broken ∷ []) tells part.2)
 
 -- its note is the one that a Confirm books then
 confirm_books : (w : Wording) (x m : SessionIoParts) (step : Step) (asks : Asks w x step m) (note : Note)
@@ -284,12 +290,14 @@ confirm_books w x m step asks note is waiting =
     (sym asks.gave.is_step.note ∙ is))
 
 -- a call that gave a step with a note, which was confirmed, and then its frames
-books_note : (w : Wording) (x m y : SessionIoParts) (step : Step) (noted : SessionParts) (note : Note)
+books_note : (w : Wording) (x m y : SessionIoParts) (step : Step) (noted : SessionParts) (told : Told) (note : Note)
     → Asks w x step m → step.note ≡ Some note → noted ≡ confirm m.session
-    → ((y.session ≡ noted) × Tells m.wire y.wire (Takes (concat step.out)))
-    ⊎ ((y.session ≡ broken noted) × Tells m.wire y.wire (TakesFirst (concat step.out))) → y.stream ≡ m.stream
+    → TellsEvents m.told (Calls call.Confirm ∷ []) told
+    → ((y.session ≡ noted) × Tells m.wire y.wire (Takes (concat step.out)) × TellsEvents told [] y.told)
+    ⊎ ((y.session ≡ broken noted) × Tells m.wire y.wire (TakesFirst (concat step.out))
+    × TellsEvents told (Calls call.Broken ∷ []) y.told) → y.stream ≡ m.stream
     → Books w (note ∷ []) step.withdrawn x y
-books_note w x m y step noted note asks is confirmed (inl all) stream =
+books_note w x m y step noted told note asks is confirmed tells (inl all) stream =
     books_gave w x m y step asks (note ∷ []) (call.Confirm ∷ []) y.wire (all.0 ∙ confirmed) refl
     (λ waiting. ap (λ l. l ++ []) (confirm_books w x m step asks note is waiting)) refl
     (inl (stays_first (Takes (concat step.out)) x.wire m.wire y.wire asks.wire all.1))
@@ -297,8 +305,8 @@ books_note w x m y step noted note asks is confirmed (inl all) stream =
       speak_silent w m.session said call.Confirm [] y.wire y.wire y.wire tt (stays_here y.wire) refl
           (speak_none w (confirm m.session) said y.wire y.wire (stays_here y.wire)),
       hearing_takes said (concat step.out) m y (confirm_on m.session y.session (all.0 ∙ confirmed)) all.1 stream hearing,
-    ))
-books_note w x m y step noted note asks is confirmed (inr part) stream =
+    )) (tells_last m.told told y.told (Calls call.Confirm ∷ []) tells all.2)
+books_note w x m y step noted told note asks is confirmed tells (inr part) stream =
     books_gave w x m y step asks (note ∷ []) (call.Confirm ∷ call.Broken ∷ []) y.wire (part.0 ∙ ap broken confirmed) refl
     (λ waiting. ap (λ l. l ++ []) (confirm_books w x m step asks note is waiting)) refl
     (inr (tt, stays_first (TakesFirst (concat step.out)) x.wire m.wire y.wire asks.wire part.1))
@@ -306,7 +314,7 @@ books_note w x m y step noted note asks is confirmed (inr part) stream =
       speak_silent w m.session said call.Confirm (call.Broken ∷ []) y.wire y.wire y.wire tt (stays_here y.wire) refl
           (speak_broken w (confirm m.session) said y.wire y.wire (stays_here y.wire)),
       hearing_gone said y (gone noted y.session part.0),
-    ))
+    )) (tells_on m.told told y.told (Calls call.Confirm ∷ []) (Calls call.Broken ∷ []) tells part.2)
 
 does_books : (w : Wording) (a b : WorkerStateParts) (notes : List Note) (ids : List LegIdParts)
     → Books w notes ids a.io b.io → b.took ≡ a.took → lasting b.seat ≡ lasting a.seat
@@ -317,21 +325,22 @@ does_books w a b notes ids books took parts booked asked = record {
       books.withdraws took parts booked asked;
   speaks = subst (λ (calls : List SessionCall). SpeaksOn w a.io calls b.io)
       (sym (calling-calls books.calls)) books.speaks;
+  tells = books.tells;
 }
 
 -- whether its note was booked or not
 does_carried : (w : Wording) (a b d : WorkerStateParts) (step : Step) (carries : CarriesOut step.withdrawn step.note (concat step.out) b d)
     → Asks w a.io step b.io → b.took ≡ a.took → beside_shares b.seat ≡ beside_shares a.seat
-    → MayBook step.note b.io.session b.seat.booked carries.noted d.seat.booked → Does w a d
+    → MayBook step.note b.io.session b.seat.booked b.io.told carries.noted d.seat.booked carries.told → Does w a d
 does_carried w a b d step carries asks took seat (inl none) =
     does_books w a d [] step.withdrawn
-    (books_silent w a.io b.io d.io step carries.noted asks none.0 carries.writes carries.stream)
+    (books_silent w a.io b.io d.io step carries.noted carries.told asks none.0 none.2 carries.writes carries.stream)
     (carries.took ∙ took) (carries.seat ∙ still_lasts a.seat b.seat seat)
     (none.1 ∙ same_booked a.seat b.seat [] seat refl)
     (carries.asked ∙ ap (λ (told : BesideShares). told.asked ++ step.withdrawn) seat)
 does_carried w a b d step carries asks took seat (inr one) =
     does_books w a d (one.0 ∷ []) step.withdrawn
-    (books_note w a.io b.io d.io step carries.noted one.0 asks one.1 one.2 carries.writes carries.stream)
+    (books_note w a.io b.io d.io step carries.noted carries.told one.0 asks one.1 one.2 one.4 carries.writes carries.stream)
     (carries.took ∙ took) (carries.seat ∙ still_lasts a.seat b.seat seat)
     (one.3 ∙ ap (λ (told : BesideShares). told.booked ++ one.0 ∷ []) seat)
     (carries.asked ∙ ap (λ (told : BesideShares). told.asked ++ step.withdrawn) seat)
@@ -369,8 +378,7 @@ allowed_drops read s (leg ∷ legs) idle = (idle, allowed_drops read s legs idle
 pub goes_drains : (read : Decoding) (a b : WorkerStateParts) (drains : Drains a b) → IsIdle a.io.session
     → Goes read (worker_in a) (dropping drains.legs) (worker_in b)
 goes_drains read a b drains idle = record {
-  session = ap (λ (x : SessionIoParts). x.session) drains.io
-      ∙ ap (after_calls read a.io.session) (sym (dropping-calls drains.legs));
+  session = drains.io.session ∙ ap (after_calls read a.io.session) (sym (dropping-calls drains.legs));
   taken = drains.taken ∙ ap (λ l. a.took.taken ++ l) (sym (dropping-taken drains.legs));
   allowed = allowed_drops read a.io.session drains.legs idle;
   venue = drains.venue;
@@ -389,12 +397,11 @@ does_drains w a b drains idle = record {
   goes = goes_drains w.decoding a b drains idle;
   speaks = subst (λ (calls : List SessionCall). SpeaksOn w a.io calls b.io)
       (sym (dropping-calls drains.legs))
-      (speaks_same w a.io b.io (ap (λ (x : SessionIoParts). x.session) drains.io)
-      (stays_same a.io.wire b.io.wire (ap (λ (x : SessionIoParts). x.wire) drains.io))
-      (ap (λ (x : SessionIoParts). x.stream) drains.io));
+      (speaks_same w a.io b.io drains.io.session drains.io.wire drains.io.stream);
+  tells = drains.io.told;
 }
 
-pub drains_none : (a b : WorkerStateParts) → b.io ≡ a.io → b.took ≡ a.took
+pub drains_none : (a b : WorkerStateParts) → StandsStill [] a.io b.io → b.took ≡ a.took
     → beside_shares b.seat ≡ beside_shares a.seat → Drains a b
 drains_none a b io took seat = record {
   legs = [];
@@ -405,7 +412,8 @@ drains_none a b io took seat = record {
 }
 
 -- one that was taken, and asked for
-pub drains_one : (a b : WorkerStateParts) (leg : PlacedLeg) → b.io ≡ a.io → b.took ≡ with_taken a.took leg
+pub drains_one : (a b : WorkerStateParts) (leg : PlacedLeg) → StandsStill (Drops leg ∷ []) a.io b.io
+    → b.took ≡ with_taken a.took leg
     → beside_shares b.seat ≡ asked_too (leg.leg.id ∷ []) (beside_shares a.seat) → Drains a b
 drains_one a b leg io took seat = record {
   legs = leg ∷ [];
@@ -418,7 +426,9 @@ drains_one a b leg io took seat = record {
 pub drains_on : (a b c : WorkerStateParts) → Drains a b → Drains b c → Drains a c
 drains_on a b c first next = record {
   legs = first.legs ++ next.legs;
-  io = next.io ∙ first.io;
+  io = subst (λ (events : List WorkerEvent). StandsStill events a.io c.io)
+      (sym (map-append (λ (leg : PlacedLeg). Drops leg) first.legs next.legs))
+      (still_on a.io b.io c.io (dropping first.legs) (dropping next.legs) first.io next.io);
   taken = next.taken ∙ (ap (λ l. l ++ next.legs) first.taken ∙ append_assoc a.took.taken first.legs next.legs);
   venue = next.venue ∙ first.venue;
   seat = next.seat
@@ -465,6 +475,7 @@ does_hands w a b leg sent hands up took seat =
         asked = ap (λ (told : BesideShares). told.asked) seat ∙ ap (λ l. a.seat.asked ++ l) (sym hands.withdraws);
       };
       speaks = subst (λ (calls : List SessionCall). SpeaksOn w a.io calls b.io) all hands.speaks;
+      tells = hands.tells;
     }
 
 -- a leg that was taken, if one was, and what the session did with it
@@ -476,6 +487,7 @@ does_sent w a b d None up took still io sent same =
     let all : d.io ≡ a.io = sent.0 ∙ io in
     does_same w a d (ap (λ (x : SessionIoParts). x.session) all) (same ∙ took) (sent.1 ∙ ap beside_shares still)
     (stays_same a.io.wire d.io.wire (ap (λ (x : SessionIoParts). x.wire) all)) (ap (λ (x : SessionIoParts). x.stream) all)
+    (ap (λ (x : SessionIoParts). x.told) all)
 does_sent w a b d (Some leg) up took still io sent same =
     does_hands w a d leg sent.sent (subst (λ (x : SessionIoParts). Hands w leg sent.sent x d.io) io sent.hands) up
     (same ∙ took) (sent.seat ∙ ap (λ (seat : Seat). asked_too (unsent leg sent.sent) (beside_shares seat)) still)
@@ -522,19 +534,28 @@ finish_abandoned read a b session took seat e =
     subst (λ (events : List WorkerEvent). Goes read a events b) (sym (one_call a.session.phase e))
     (goes_calls read a b (call.Abandon ∷ []) session refl (λ waiting. refl) refl took seat)
 
+pub tells_closed : (phase : Phase) (a b : Told) → is_over phase ≡ true → b ≡ a → TellsEvents a (last_calls phase) b
+tells_closed phase a b e same =
+    subst (λ (events : List WorkerEvent). TellsEvents a events b) (sym (no_call phase e)) (tells_none a b same)
+
+pub tells_abandoned : (phase : Phase) (a b : Told) → is_over phase ≡ false → TellsEvents a (Calls call.Abandon ∷ []) b
+    → TellsEvents a (last_calls phase) b
+tells_abandoned phase a b e tells =
+    subst (λ (events : List WorkerEvent). TellsEvents a events b) (sym (one_call phase e)) tells
+
 pub abandoned_closed : (s t : SessionParts) → t ≡ abandon s → t.phase ≡ Closed
 abandoned_closed s t e = ap (λ (u : SessionParts). u.phase) e
 
-speak_abandon : (w : Wording) (s : SessionParts) (said : Said) (a b : Wire) → b ≡ a
+speak_abandon : (w : Wording) (s : SessionParts) (said : Said) (a b : Wire) → Tells a b Stays
     → Speak w s said (call.Abandon ∷ []) a b
-speak_abandon w s said a b same =
-    speak_silent w s said call.Abandon [] a b b tt (stays_same a b same) refl
+speak_abandon w s said a b stays =
+    speak_silent w s said call.Abandon [] a b b tt stays refl
     (speak_none w (abandon s) said b b (stays_here b))
 
 -- what is done last goes over no link
-pub speak_last : (w : Wording) (s : SessionParts) (said : Said) (phase : Phase) (a b : Wire) → b ≡ a
+pub speak_last : (w : Wording) (s : SessionParts) (said : Said) (phase : Phase) (a b : Wire) → Tells a b Stays
     → Speak w s said (calls_of (last_calls phase)) a b
-speak_last w s said Closed a b same = speak_none w s said a b (stays_same a b same)
+speak_last w s said Closed a b same = speak_none w s said a b same
 speak_last w s said Down a b same = speak_abandon w s said a b same
 speak_last w s said LoggingOn a b same = speak_abandon w s said a b same
 speak_last w s said Settling a b same = speak_abandon w s said a b same

@@ -1,5 +1,5 @@
 -- Threads that were joined, and what their workers left.
-use Rattle.std.proofs.lemmas.List.{append-nil}
+use Rattle.std.proofs.lemmas.List.{append-nil, append_assoc, map-append}
 use Rattle.std.proofs.Common.{◌≡◌, ℕ, suc, ◌+◌, ◌<◌, ◌≤◌, false, List, [], ◌∷◌, ◌++◌, length, map, drop, refl, sym, ap, subst, ◌∙◌, arith}
 use Rattle.std.specs.Prelude.{Option, Some, None, option_to_list, slice_index_or, Result, Ok, Err, OnOk}
 use Rattle.std.specs.Result.{is_err}
@@ -46,6 +46,16 @@ pub all_started : {A B : Type 0} (f : A → B) (handles : List A) (rest first wo
 all_started f handles rest first workers so_far none from =
     sym (append-nil (map f handles))
     ∙ (ap (λ l. map f handles ++ l) (sym none) ∙ (so_far ∙ from))
+
+-- one more was started, and is waiting no more
+pub one_started : {A B : Type 0} (f : A → B) (handles more : List A) (h : A) (waiting rest first : List B) (w : B)
+    → more ≡ handles ++ h ∷ [] → waiting ≡ w ∷ rest → f h ≡ w → map f handles ++ waiting ≡ first
+    → map f more ++ rest ≡ first
+one_started f handles more h waiting rest first w so next is before =
+    ap (λ l. map f l ++ rest) so
+    ∙ (ap (λ l. l ++ rest) (map-append f handles (h ∷ []))
+    ∙ (append_assoc (map f handles) (f h ∷ []) rest
+    ∙ (ap (λ l. map f handles ++ l) (ap (λ x. x ∷ rest) is ∙ sym next) ∙ before)))
 
 nothing_first : {A : Type 0} (xs : List A) → xs ≡ drop 1 xs → xs ≡ []
 nothing_first [] e = refl

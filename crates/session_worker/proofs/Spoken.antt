@@ -4,13 +4,10 @@ use Rattle.std.specs.List.{concat}
 use Rattle.std.specs.Global.{Vec}
 use Rattle.std.proofs.lemmas.List.{append-nil, map-append, take_all, take_more, take-append-drop}
 use Rattle.std.proofs.Math.Seq.{drop-cons}
-use Rattle.fix_text.specs.Reading.{Stream}
 use Rattle.link.specs.Traffic.{Traffic, Tells, Takes, TakesPart, Stays}
 use Rattle.link.proofs.Taking.{tells_more}
-use Rattle.session_core.specs.Session.{SessionParts}
-use Rattle.session_core.specs.Calling.{broken}
 use Rattle.session_worker.specs.Speaking.{Wire}
-use Rattle.session_worker.specs.Linking.{SessionIoParts, io_of, MayBreak, Writes}
+use Rattle.session_worker.specs.Linking.{SessionIoParts, MayBreak, Writes}
 
 pub stays_last : (R : List Traffic → List Traffic → Type 0) (a b c : Wire) → Tells a b R → Tells b c Stays → Tells a c R
 stays_last R None None None p q = tt
@@ -48,10 +45,6 @@ part_more xs ys zs (Some u) (Some v) (Some w) p q =
     )
 
 -- bytes were written, or the first of them
-pub writes_part : (bytes : List ℕ) (s t : SessionParts) (a b c : Wire) → Tells a b (TakesPart bytes) → t ≡ broken s
-    → Tells b c Stays → (x y : Stream) → Writes bytes (io_of s a x) (io_of t c y)
-writes_part bytes s t a b c part gone stays x y = inr (gone, stays_last (TakesPart bytes) a b c part stays)
-
 pub writes_breaks : (bytes : List ℕ) (x y : SessionIoParts) → Writes bytes x y → MayBreak x.session y.session
 writes_breaks bytes x y (inl all) = inl all.0
 writes_breaks bytes x y (inr part) = inr part.0

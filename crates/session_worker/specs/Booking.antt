@@ -17,6 +17,12 @@ abbrev pub waiting_in : Decoding → SessionParts → Option Note → SessionCal
 waiting_in read s waiting (call.Receive envelope) = option_or (receive s (decoded read envelope)).step.note waiting
 waiting_in read s waiting _ = waiting
 
+-- the one that waits after calls one after the other
+abbrev pub waiting_after : Decoding → SessionParts → Option Note → List SessionCall → Option Note
+waiting_after read s waiting [] = waiting
+waiting_after read s waiting (made ∷ calls) =
+    waiting_after read (called read s made).1 (waiting_in read s waiting made) calls
+
 -- at a Confirm with a note pending, the one that waits
 abbrev pub booked_in : SessionParts → Option Note → SessionCall → List Note
 booked_in s waiting call.Confirm = if s.current.pending then option_to_list waiting else []

@@ -12,6 +12,7 @@ use Rattle.session_worker.specs.declared.end_reason.EndReason.{EndReason}
 use Rattle.session_worker.specs.declared.end_reason.EndReason.TheVariants as reason
 use Rattle.session_worker.specs.Events.{WorkerEvent, WorkerParts, calls_of, Goes}
 use Rattle.session_worker.specs.Events.WorkerEvent.{Calls, Drops}
+use Rattle.session_worker.specs.Keeping.{TellsEvents}
 use Rattle.session_worker.specs.Speaking.{Speak}
 
 -- a session that is over
@@ -57,6 +58,8 @@ pub record Runs (w : Wording) (before : WorkerParts) (left : WorkerLeft) : Type 
   pub dropped : List PlacedLeg
   pub last : Goes w.decoding at (last_calls at.session.phase ++ map (λ leg. Drops leg) dropped) left.parts
   pub over : left.parts.session.phase ≡ Closed
+  pub tells : TellsEvents before.told (turns ++ last_calls at.session.phase ++ map (λ leg. Drops leg) dropped)
+      left.parts.told
   pub bytes : is_connected before.session.phase ≡ false
       → Speak w before.session [] (calls_of (turns ++ last_calls at.session.phase)) before.wire left.parts.wire
 

@@ -1,5 +1,5 @@
 -- What a venue's worker does: the calls of its session, and what becomes of the legs that it takes from its ring.
-use Rattle.std.specs.Prelude.{◌≡◌, ℕ, false, List, [], ◌∷◌, ◌++◌, Option}
+use Rattle.std.specs.Prelude.{◌≡◌, ℕ, false, List, [], ◌∷◌, ◌++◌, Option, None}
 use Rattle.leg.specs.LegId.{LegIdParts}
 use Rattle.leg.specs.declared.placed_leg.PlacedLeg.{PlacedLeg}
 use Rattle.dialect.specs.declared.note.Note.{Note}
@@ -11,6 +11,7 @@ use Rattle.session_core.specs.Session.{SessionParts, may_write}
 use Rattle.session_core.specs.Trial.{after_calls}
 use Rattle.release_lock.specs.Queues.{Took}
 use Rattle.exec_collector.specs.Seats.{Seat}
+use Rattle.journal_tape.specs.Told.{LinesTold}
 use Rattle.session_worker.specs.Booking.{booked_by, withdrawn_at}
 use Rattle.session_worker.specs.Speaking.{Wire}
 
@@ -80,17 +81,22 @@ AreAllowed read s [] = Unit {0}
 AreAllowed read s (event ∷ events) =
     IsAllowed s event × AreAllowed read (after_calls read s (calls_in event)) events
 
--- a worker as its events change it: its session, the venue and the legs taken, its seat, and what its link tells
+-- a worker as its events change it: its session, the venue and the legs taken, its seat, what its link tells, and what
+-- its journal was told
 pub record WorkerParts : Type 0 where
   pub session : SessionParts
   pub took : Took
   pub seat : Seat
   pub wire : Wire
+  pub told : Option LinesTold
 
--- a worker that took nothing yet
+-- a worker that took nothing yet, without a journal; and one with a journal that was told this
 abbrev pub new_worker : SessionParts → ℕ → Seat → Wire → WorkerParts
 new_worker session venue seat wire =
-    record { session = session; took = record { venue = venue; taken = [] }; seat = seat; wire = wire }
+    record { session = session; took = record { venue = venue; taken = [] }; seat = seat; wire = wire; told = None }
+
+abbrev pub with_journal : Option LinesTold → WorkerParts → WorkerParts
+with_journal told worker = record worker { told = told }
 
 -- what of a seat lasts: its parts, and its venue
 pub record Lasting : Type 0 where

@@ -4,6 +4,8 @@ pub mod Hearing
 pub mod Booking
 pub mod Speaking
 pub mod Events
+pub mod Keeping
+pub mod Restoring
 pub mod Linking
 pub mod Saying
 pub mod Withdrawing

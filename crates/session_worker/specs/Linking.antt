@@ -28,16 +28,18 @@ use Rattle.session_worker.specs.Hearing.{Said, said_with, said_after, Hears, Rea
 use Rattle.session_worker.specs.Booking.{booked_by}
 use Rattle.session_worker.specs.Speaking.{Wire, Speak, TakesFirst}
 use Rattle.session_worker.specs.Events.{WorkerEvent, WorkerParts, Lasting, lasting, calls_in, calls_of, legs_in, withdrawn_by, Goes}
-use Rattle.session_worker.specs.Events.WorkerEvent.{Calls, Fails}
+use Rattle.session_worker.specs.Events.WorkerEvent.{Calls, Drops, Fails}
+use Rattle.session_worker.specs.Keeping.{Told, TellsEvents, heard_call}
 
--- a session, what its link tells, and what its reader has
+-- a session, what its link tells, what its reader has, and what its journal was told
 pub record SessionIoParts : Type 0 where
   pub session : SessionParts
   pub wire : Wire
   pub stream : Stream
+  pub told : Told
 
-abbrev pub io_of : SessionParts → Wire → Stream → SessionIoParts
-io_of session wire stream = record { session = session; wire = wire; stream = stream }
+abbrev pub io_of : SessionParts → Wire → Stream → Told → SessionIoParts
+io_of session wire stream told = record { session = session; wire = wire; stream = stream; told = told }
 
 -- while there is a connection the reader was fed all bytes read on it, and gave frames that say this
 abbrev pub IsHearing : Said → SessionIoParts → Type 0
@@ -51,6 +53,19 @@ SpeaksOn w before calls after = (said : Said) → IsHearing said before
 -- a session as it was, or with its connection given up
 abbrev pub MayBreak : SessionParts → SessionParts → Type 0
 MayBreak before after = (after ≡ before) ⊎ (after ≡ broken before)
+
+-- the session is as it was, nothing went over the link, and the lines of these events were told
+pub record StandsStill (events : List WorkerEvent) (before after : SessionIoParts) : Type 0 where
+  pub session : after.session ≡ before.session
+  pub wire : Tells before.wire after.wire Stays
+  pub stream : after.stream ≡ before.stream
+  pub told : TellsEvents before.told events after.told
+
+-- the session is as it was; or the connection was given up, and that was told
+abbrev pub MayGiveUp : SessionIoParts → SessionIoParts → Type 0
+MayGiveUp before after =
+    ((after.session ≡ before.session) × TellsEvents before.told [] after.told)
+    ⊎ ((after.session ≡ broken before.session) × TellsEvents before.told (Calls call.Broken ∷ []) after.told)
 
 -- a seat but for its shares: what lasts of it, the notes booked on it, and the legs asked for
 pub record BesideShares : Type 0 where
@@ -74,23 +89,27 @@ unsent leg false = leg.leg.id ∷ []
 abbrev pub calling : List SessionCall → List WorkerEvent
 calling calls = map (λ made. Calls made) calls
 
--- a session as it was, and no note was booked; or the note was booked, if there is one, and confirmed
-abbrev pub MayBook : Option Note → SessionParts → List Note → SessionParts → List Note → Type 0
-MayBook given before booked after booked_after =
-    ((after ≡ before) × (booked_after ≡ booked))
-    ⊎ ((note : Note) × (given ≡ Some note) × (after ≡ confirm before) × (booked_after ≡ booked ++ note ∷ []))
+-- a session as it was, and no note was booked; or the note was booked, if there is one, and confirmed, which was told
+abbrev pub MayBook : Option Note → SessionParts → List Note → Told → SessionParts → List Note → Told → Type 0
+MayBook given before booked told after booked_after told_after =
+    ((after ≡ before) × (booked_after ≡ booked) × TellsEvents told [] told_after)
+    ⊎ ((note : Note) × (given ≡ Some note) × (after ≡ confirm before) × (booked_after ≡ booked ++ note ∷ [])
+    × TellsEvents told (Calls call.Confirm ∷ []) told_after)
 
 -- these bytes were handed to the reader; or the connection was given up
 abbrev pub TakesIn : List ℕ → SessionIoParts → SessionIoParts → Type 0
 TakesIn bytes before after =
-    ((after.session ≡ before.session) × (after.stream ≡ fed before.stream bytes))
-    ⊎ (after.session ≡ broken before.session)
+    ((after.session ≡ before.session) × (after.stream ≡ fed before.stream bytes)
+    × TellsEvents before.told [] after.told)
+    ⊎ ((after.session ≡ broken before.session) × TellsEvents before.told (Calls call.Broken ∷ []) after.told)
 
--- these bytes were written; or the first of them, and the connection was given up
+-- these bytes were written; or the first of them, and the connection was given up, which was told
 abbrev pub Writes : List ℕ → SessionIoParts → SessionIoParts → Type 0
 Writes bytes before after =
-    ((after.session ≡ before.session) × Tells before.wire after.wire (Takes bytes))
-    ⊎ ((after.session ≡ broken before.session) × Tells before.wire after.wire (TakesPart bytes))
+    ((after.session ≡ before.session) × Tells before.wire after.wire (Takes bytes)
+    × TellsEvents before.told [] after.told)
+    ⊎ ((after.session ≡ broken before.session) × Tells before.wire after.wire (TakesPart bytes)
+    × TellsEvents before.told (Calls call.Broken ∷ []) after.told)
 
 -- some calls, none of which is to send a leg, books a note or withdraws a leg
 pub record Moves (w : Wording) (before after : SessionIoParts) : Type 0 where
@@ -100,6 +119,7 @@ pub record Moves (w : Wording) (before after : SessionIoParts) : Type 0 where
   pub no_note : (waiting : Option Note) → booked_by w.decoding before.session waiting calls ≡ []
   pub no_withdrawal : withdrawn_by w.decoding before.session (calling calls) ≡ []
   pub speaks : SpeaksOn w before calls after
+  pub tells : TellsEvents before.told (calling calls) after.told
 
 -- the session was to send a leg, and did or didn't: that call and others, or the leg failed
 pub record Hands (w : Wording) (leg : PlacedLeg) (sent : Bool) (before after : SessionIoParts) : Type 0 where
@@ -111,6 +131,7 @@ pub record Hands (w : Wording) (leg : PlacedLeg) (sent : Bool) (before after : S
   pub no_note : (waiting : Option Note) → booked_by w.decoding before.session waiting (calls_in event ++ calls) ≡ []
   pub withdraws : withdrawn_by w.decoding before.session (event ∷ calling calls) ≡ unsent leg sent
   pub speaks : SpeaksOn w before (calls_in event ++ calls) after
+  pub tells : TellsEvents before.told (event ∷ calling calls) after.told
 
 -- a call that neither dials nor sends a leg, and books no note
 abbrev pub IsPlain : SessionCall → Type 0
@@ -129,10 +150,11 @@ pub record Gave (w : Wording) (made : SessionCall) (before : SessionParts) (step
   pub stamp : StampParts
   pub is_step : IsStep w.encoding stamp said step
 
--- one did, and what the step wants isn't done yet
+-- one did, which was told, and what the step wants isn't done yet
 pub record Asks (w : Wording) (before : SessionIoParts) (step : Step) (after : SessionIoParts) : Type 0 where
   pub made : SessionCall
   pub gave : Gave w made before.session step after.session
+  pub tells : TellsEvents before.told (Calls made ∷ []) after.told
   pub wire : Tells before.wire after.wire Stays
   pub hears : (said : Said) → IsHearing said before
       → Hears said made before.wire × IsHearing (said_with said made) after
@@ -160,6 +182,15 @@ abbrev pub StandsBehind : Heard → Stream → Stream → Type 0
 StandsBehind heard.OutOfMemory before after = Unit {0}
 StandsBehind _ before after = after ≡ (next_read before).stream
 
+-- the journal was told that the next message came; nothing where none did, or memory was wanted
+abbrev pub HeardTold : Stream → Heard → Told → Told → Type 0
+HeardTold stream (heard.Step step words) before after =
+    TellsEvents before (Calls (heard_call (next_read stream).frame) ∷ []) after
+HeardTold stream heard.Malformed before after =
+    TellsEvents before (Calls (heard_call (next_read stream).frame) ∷ []) after
+HeardTold stream heard.Nothing before after = after ≡ before
+HeardTold stream heard.OutOfMemory before after = after ≡ before
+
 -- what came of a call that may give a step: it did, and what it wants isn't done yet; or calls that gave none
 abbrev pub AsksOrMoves : Wording → SessionIoParts → Option Step → SessionIoParts → Type 0
 AsksOrMoves w before None after = Moves w before after
@@ -173,13 +204,15 @@ pub record WorkerStateParts : Type 0 where
   pub withdrawn : ℕ
 
 abbrev pub worker_in : WorkerStateParts → WorkerParts
-worker_in p = record { session = p.io.session; took = p.took; seat = p.seat; wire = p.io.wire }
+worker_in p =
+    record { session = p.io.session; took = p.took; seat = p.seat; wire = p.io.wire; told = p.io.told }
 
--- a worker before and after some events, and what went over its link meanwhile
+-- a worker before and after some events, what went over its link meanwhile, and what its journal was told
 pub record Does (w : Wording) (before after : WorkerStateParts) : Type 0 where
   pub events : List WorkerEvent
   pub goes : Goes w.decoding (worker_in before) events (worker_in after)
   pub speaks : SpeaksOn w before.io (calls_of events) after.io
+  pub tells : TellsEvents before.io.told events after.io.told
 
 -- a leg was handed to the session; where that didn't send it, the book was asked to withdraw it
 pub record Sends (w : Wording) (leg : PlacedLeg) (before after : WorkerStateParts) : Type 0 where
@@ -187,10 +220,10 @@ pub record Sends (w : Wording) (leg : PlacedLeg) (before after : WorkerStatePart
   pub hands : Hands w leg sent before.io after.io
   pub seat : beside_shares after.seat ≡ asked_too (unsent leg sent) (beside_shares before.seat)
 
--- a worker before and after it dropped some legs, each of which the book was asked to withdraw
+-- a worker before and after it dropped some legs, each of which was told, and the book was asked to withdraw it
 pub record Drains (before after : WorkerStateParts) : Type 0 where
   pub legs : List PlacedLeg
-  pub io : after.io ≡ before.io
+  pub io : StandsStill (map (λ leg. Drops leg) legs) before.io after.io
   pub taken : after.took.taken ≡ before.took.taken ++ legs
   pub venue : after.took.venue ≡ before.took.venue
   pub seat : beside_shares after.seat ≡ asked_too (map (λ leg. leg.leg.id) legs) (beside_shares before.seat)
@@ -200,9 +233,12 @@ pub record Drains (before after : WorkerStateParts) : Type 0 where
 pub record CarriesOut (withdrawn : List LegIdParts) (note : Option Note) (bytes : List ℕ)
     (before after : WorkerStateParts) : Type 0 where
   pub noted : SessionParts
-  pub notes : MayBook note before.io.session before.seat.booked noted after.seat.booked
-  pub writes : ((after.io.session ≡ noted) × Tells before.io.wire after.io.wire (Takes bytes))
-      ⊎ ((after.io.session ≡ broken noted) × Tells before.io.wire after.io.wire (TakesFirst bytes))
+  pub told : Told
+  pub notes : MayBook note before.io.session before.seat.booked before.io.told noted after.seat.booked told
+  pub writes : ((after.io.session ≡ noted) × Tells before.io.wire after.io.wire (Takes bytes)
+      × TellsEvents told [] after.io.told)
+      ⊎ ((after.io.session ≡ broken noted) × Tells before.io.wire after.io.wire (TakesFirst bytes)
+      × TellsEvents told (Calls call.Broken ∷ []) after.io.told)
   pub took : after.took ≡ before.took
   pub seat : lasting after.seat ≡ lasting before.seat
   pub asked : after.seat.asked ≡ before.seat.asked ++ withdrawn

@@ -17,6 +17,7 @@ ghost use Rattle.session_worker.specs.Ends.{queues_of, seats_of};
 use crate::open_shares::open_shares;
 use crate::{AuditFault, DayReport, WorkerEnd};
 use exec_collector::{Accounts, Collector, CountedBook, WorkerSeat, check_count};
+use kept_link::Telling;
 use link::Link;
 use release_lock::{
     CallerSeat, LockedDesk, ReleaseLock, Run, VenueEnd, check_placed, check_queues, compare_sweeps,
@@ -28,12 +29,12 @@ use std::collections::VecDeque;
 /// and the callers' seats with the desk. A01, A02, A03 in this order; A04 where there is no memory to take the ends
 /// apart. With the seats of all callers, and one end for each venue, in order, it is none of the first three, whatever
 /// the threads did.
-pub fn audit<K: Link, L: Run, M: Accounts>(
+pub fn audit<K: Link, L: Run, M: Accounts, J: Telling, N: Telling>(
     alloc: Global,
-    lock: ReleaseLock<L>,
+    lock: ReleaseLock<L, N>,
     collector: Collector<M>,
     callers: Vec<CallerSeat<L>>,
-    ends: Vec<WorkerEnd<K, L, M>>,
+    ends: Vec<WorkerEnd<K, L, M, J>>,
 ) -> Result<DayReport, AuditFault>
     requires tied { L.sweeps ≡ M.sweeps }
     ensures audits { AuditsOf callers.items (queues_of ends.items) (seats_of ends.items) result }
@@ -46,12 +47,12 @@ pub fn audit<K: Link, L: Run, M: Accounts>(
 
 /// The same of a desk and a book that are out of their locks. The book and its list stay as they were, so that it can
 /// be told which were audited.
-pub fn audit_opened<K: Link, L: Run, M: Accounts>(
+pub fn audit_opened<K: Link, L: Run, M: Accounts, J: Telling, N: Telling>(
     alloc: Global,
-    locked: LockedDesk<L>,
+    locked: LockedDesk<L, N>,
     counted: &mut CountedBook<M>,
     callers: Vec<CallerSeat<L>>,
-    ends: Vec<WorkerEnd<K, L, M>>,
+    ends: Vec<WorkerEnd<K, L, M, J>>,
 ) -> Result<DayReport, AuditFault>
     requires tied { L.sweeps ≡ M.sweeps }
     ensures audits { AuditsOpened locked counted.old callers.items (queues_of ends.items) (seats_of ends.items)
@@ -67,8 +68,8 @@ pub fn audit_opened<K: Link, L: Run, M: Accounts>(
 }
 
 /// The same of the ends taken apart. It takes no memory.
-fn audit_of<L: Run, M: Accounts>(
-    locked: LockedDesk<L>,
+fn audit_of<L: Run, M: Accounts, N: Telling>(
+    locked: LockedDesk<L, N>,
     counted: &mut CountedBook<M>,
     callers: Vec<CallerSeat<L>>,
     queues: Vec<VenueEnd<L>>,
@@ -109,9 +110,9 @@ fn audit_of<L: Run, M: Accounts>(
 }
 
 /// What the workers took, and their seats, each in the order of the ends.
-fn parted<K: Link, L: Run, M: Accounts>(
+fn parted<K: Link, L: Run, M: Accounts, J: Telling>(
     alloc: Global,
-    ends: Vec<WorkerEnd<K, L, M>>,
+    ends: Vec<WorkerEnd<K, L, M, J>>,
 ) -> Result<(Vec<VenueEnd<L>>, Vec<WorkerSeat<M>>), AllocError>
     ensures { IfOk result (λ parts. (parts.0.items ≡ queues_of ends.items) × (parts.1.items ≡ seats_of ends.items)) }
 {
@@ -124,6 +125,7 @@ fn parted<K: Link, L: Run, M: Accounts>(
             took,
             seat,
             link: _,
+            journal: _,
             reason: _,
         } = end;
         queues.push(took)?;

@@ -13,6 +13,10 @@
 //!   Connect. The messages that the session receives on it are the first ones of the bytes read on it, in order, none
 //!   left out. The frames of the session's answer to each call are written, whole and once and in order, or the first
 //!   bytes of them, and then the connection is given up. Nothing else is written.
+//! - A worker's journal is told the line of each of these events, in order, and nothing else (`Runs`, field `tells`). A
+//!   call is told once the session has made it and before its frames are written; a leg is told before the book is
+//!   asked to withdraw it. No byte is written, and no leg withdrawn, while a line is left to keep: `Door::write` of
+//!   `kept_link` requires it. A journal that has no room makes its worker wait.
 //! - A leg that the book was asked to withdraw is counted just where it did, and the worker's seat then gains its
 //!   shares (`WorkerState::withdraw` and `withdraw_all`, private). What a worker tells on its board is claimed nowhere.
 //! - `WorkerEnd::in_doubt` gives exactly the ordinals of the legs taken that the session has in doubt.
@@ -40,11 +44,13 @@ mod patience;
 mod reading;
 mod redial;
 mod reporter;
+mod restoring;
 mod run_fault;
 mod running;
 mod session_io;
 mod stop;
 mod takings;
+mod telling;
 mod timer;
 mod worker;
 mod worker_end;
@@ -56,6 +62,7 @@ pub use day_report::DayReport;
 pub use end_reason::EndReason;
 pub use gates::shut_gate;
 pub use pace::Pace;
+pub use restoring::{RedoFault, Start};
 pub use run_fault::RunFault;
 pub use running::{run_all, run_all_until};
 pub use stop::Stop;

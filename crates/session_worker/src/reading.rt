@@ -2,14 +2,19 @@
 
 ghost use Rattle.std.specs.Prelude.{◌≡◌};
 ghost use Rattle.fix_text.specs.FrameFields.{fields_in};
-ghost use Rattle.session_worker.specs.Linking.{HeardGives, StandsBehind};
+ghost use Rattle.link.specs.Traffic.{Tells, Stays};
+ghost use Rattle.session_worker.specs.Linking.{HeardGives, HeardTold, StandsBehind};
 ghost use Rattle.session_worker.specs.Saying.{words_by, HeardSays};
 
+use crate::telling::tell_heard;
 use dialect::Dialect;
 use fix_tags::{Stamp, read_envelope};
 use fix_text::{Frame, FrameReader};
+use kept_link::{Door, Telling};
+use link::Link;
 use report_words::{ReportWords, read_words};
 use session_core::{Session, Step};
+use std::sync::Wait;
 
 /// What came of the next message.
 #[derive(Drop)]
@@ -25,7 +30,7 @@ pub(crate) enum Heard {
 }
 
 /// The words of a frame whose message gave a step, if that has a note.
-fn words_by(frame: &Frame<'_>, step: &Step) -> ReportWords
+pub(crate) fn words_by(frame: &Frame<'_>, step: &Step) -> ReportWords
     ensures { result ≡ words_by step.now.note (fields_in frame.now) }
 {
     match &step.note {
@@ -34,16 +39,21 @@ fn words_by(frame: &Frame<'_>, step: &Step) -> ReportWords
     }
 }
 
-/// Hands the next message that was read to a session.
-pub(crate) fn hear<D: Dialect>(
+/// Hands the next message that was read to a session, and tells the journal that it came.
+pub(crate) fn hear<D: Dialect, K: Link, J: Telling>(
+    rt: &impl Wait,
     dialect: &D,
     reader: &mut FrameReader,
     session: &mut Session,
     stamp: &Stamp,
+    door: &mut Door<K>,
+    journal: &mut J,
 ) -> Heard
     ensures heard { HeardGives (D.wording dialect.now) session.old reader.old result session.new }
     ensures said { HeardSays reader.old result }
     ensures reader { StandsBehind result reader.old reader.new }
+    ensures told { HeardTold reader.old result (J.told journal.old) (J.told journal.new) }
+    ensures wire { Tells door.old.wire door.new.wire Stays }
 {
     let frame = match reader.next() {
         Ok(Some(frame)) => frame,
@@ -53,6 +63,7 @@ pub(crate) fn hear<D: Dialect>(
     match read_envelope(&frame) {
         Ok(envelope) => match session.receive(dialect, &envelope, stamp) {
             Ok(step) => {
+                tell_heard(rt, door, journal, stamp, &frame);
                 let words = words_by(&frame, &step);
                 Heard::Step(step, words)
             }
@@ -60,6 +71,7 @@ pub(crate) fn hear<D: Dialect>(
         },
         Err(_) => {
             let _ = session.malformed();
+            tell_heard(rt, door, journal, stamp, &frame);
             Heard::Malformed
         }
     }

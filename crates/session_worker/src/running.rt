@@ -7,6 +7,7 @@ use crate::{RunFault, Stop, Worker, WorkerEnd};
 use clock::Clock;
 use dialect::Dialect;
 use exec_collector::{Accounts, Collector};
+use kept_link::Telling;
 use link::Link;
 use release_lock::{ReleaseLock, Run};
 use std::alloc::Global;
@@ -18,31 +19,34 @@ use std::thread::{Promise, PromisedHandle, Threads, join_promised};
 
 /// What the thread of a worker promises: an end of that worker.
 #[derive(Drop)]
-struct EndOf<D: Dialect + Drop, K: Link, C: Clock + Drop, L: Run, M: Accounts>(
-    Snapshot<Worker<D, K, C, L, M>>,
+struct EndOf<D: Dialect + Drop, K: Link, C: Clock + Drop, L: Run, M: Accounts, J: Telling>(
+    Snapshot<Worker<D, K, C, L, M, J>>,
 );
 
-impl<D: Dialect + Drop, K: Link, C: Clock + Drop, L: Run, M: Accounts> Promise<WorkerEnd<K, L, M>>
-    for EndOf<D, K, C, L, M> {
+impl<D: Dialect + Drop, K: Link, C: Clock + Drop, L: Run, M: Accounts, J: Telling> Promise<
+    WorkerEnd<K, L, M, J>,
+> for EndOf<D, K, C, L, M, J> {
     ghost kept_by = { λ p end. Runs (D.wording p.0.value.dialect) p.0.value.parts end };
 }
 
 /// Runs each worker in a thread of its own, and gives their ends in order. Where memory is wanted or no thread can be
 /// made, it tells those that were started to give up, and gives none once they have ended.
-pub fn run_all<D, K, C, L, M, R>(
+pub fn run_all<D, K, C, L, M, J, N, R>(
     rt: &R,
     alloc: Global,
-    lock: &ReleaseLock<L>,
+    lock: &ReleaseLock<L, N>,
     collector: &Collector<M>,
-    workers: Vec<Worker<D, K, C, L, M>>,
+    workers: Vec<Worker<D, K, C, L, M, J>>,
     turn_limit: u64,
-) -> Result<Vec<WorkerEnd<K, L, M>>, RunFault>
+) -> Result<Vec<WorkerEnd<K, L, M, J>>, RunFault>
 where
     D: Dialect + Drop + Send,
     K: Link + Send,
     C: Clock + Drop + Send,
     L: Run + Send + Sync,
     M: Accounts + Send + Sync,
+    J: Telling + Send,
+    N: Telling + Send,
     R: Threads + Wait + Sync,
     ensures { IfOk result (λ ends. AllRan D.wording workers.items ends.items) }
 {
@@ -58,28 +62,30 @@ where
 }
 
 /// The same, until they are told to stop.
-pub fn run_all_until<D, K, C, L, M, R>(
+pub fn run_all_until<D, K, C, L, M, J, N, R>(
     rt: &R,
     alloc: Global,
-    lock: &ReleaseLock<L>,
+    lock: &ReleaseLock<L, N>,
     collector: &Collector<M>,
     stop: &Stop,
-    workers: Vec<Worker<D, K, C, L, M>>,
+    workers: Vec<Worker<D, K, C, L, M, J>>,
     turn_limit: u64,
-) -> Result<Vec<WorkerEnd<K, L, M>>, RunFault>
+) -> Result<Vec<WorkerEnd<K, L, M, J>>, RunFault>
 where
     D: Dialect + Drop + Send,
     K: Link + Send,
     C: Clock + Drop + Send,
     L: Run + Send + Sync,
     M: Accounts + Send + Sync,
+    J: Telling + Send,
+    N: Telling + Send,
     R: Threads + Wait + Sync,
     ensures { IfOk result (λ ends. AllRan D.wording workers.items ends.items) }
 {
     thread::scope(
         thread::scope_env(),
         rt,
-        |scope| -> Result<Vec<WorkerEnd<K, L, M>>, RunFault>
+        |scope| -> Result<Vec<WorkerEnd<K, L, M, J>>, RunFault>
             ensures { IfOk result (λ ends. AllRan D.wording workers.items ends.items) }
         {
             let mut workers = VecDeque::from(workers);

@@ -1,6 +1,6 @@
 //! A session and the link over which it speaks.
 
-ghost use Rattle.std.specs.Prelude.{◌≡◌, ◌↔◌, false, IfSome, IsTrue};
+ghost use Rattle.std.specs.Prelude.{◌≡◌, ◌↔◌, ◌⊎◌, [], ◌∷◌, true, false, IfSome, IsTrue};
 ghost use Rattle.std.specs.Option.{option_map};
 ghost use Rattle.std.specs.List.{concat};
 ghost use Rattle.session_core.specs.declared.phase.Phase.TheVariants as phase;
@@ -11,8 +11,12 @@ ghost use Rattle.fix_text.specs.Reading.{Stream};
 ghost use Rattle.link.specs.Traffic.{Tells, Dials, Stays};
 ghost use Rattle.session_worker.specs.Speaking.{Wire, Reads};
 ghost use Rattle.session_worker.specs.Hearing.{Said};
-ghost use Rattle.session_worker.specs.Linking.{io_of, IsHearing, MayBreak, TakesIn, Writes, Moves, Hands, AsksOrMoves};
+ghost use Rattle.session_core.specs.declared.session_call.SessionCall.TheVariants as call;
+ghost use Rattle.kept_link.specs.Telling.{IsAllKept};
+ghost use Rattle.session_worker.specs.Linking.{io_of, IsHearing, MayGiveUp, StandsStill, TakesIn, Writes, Moves, Hands, AsksOrMoves};
 ghost use Rattle.session_worker.specs.Events.{IsIdle};
+ghost use Rattle.session_worker.specs.Events.WorkerEvent.{Calls, Drops, Fails};
+ghost use Rattle.session_worker.specs.Keeping.{TellsEvents, call_of, leg_event};
 ghost use Rattle.session_worker.specs.Saying.{Says};
 
 use crate::Pace;
@@ -20,18 +24,21 @@ use crate::fencing::Fencing;
 use crate::reading::{Heard, hear};
 use crate::redial::Redial;
 use crate::reporter::Reporter;
+use crate::telling::{keep, tell_act, tell_leg};
 use crate::timer::Timer;
 use clock::Clock;
 use dialect::Dialect;
-use fix_tags::Config;
+use fix_tags::{Config, Stamp};
 use fix_text::FrameReader;
+use journal_words::{Act, LegAct};
+use kept_link::{Door, Telling};
 use leg::{PlacedLeg, VenueId};
-use link::{Got, Link, write_whole};
+use link::{Got, Link};
 use report_words::ReportWords;
 use session_core::{Ended, Frames, Phase, Session, SessionFault, Step};
 use std::alloc::Global;
 use std::marker::Model;
-use std::sync::Arc;
+use std::sync::{Arc, Wait};
 use std::time::Duration;
 use venue_board::{Loss, Progress, VenueBoard};
 
@@ -45,11 +52,13 @@ const LONGEST_REST: u64 = 1_000;
 const LONGEST_REST_UP: u64 = 30_000;
 
 /// A session, the link over which it speaks, since when nothing was written and nothing heard, when it is dialled
-/// again, and whom it tells how far it is. Contracts see the session, what the link tells, and what the reader has.
+/// again, and whom it tells how far it is. Its journal is told each call of the session before what follows from it is
+/// written or done. Contracts see the session, what the link tells, what the reader has, and what the journal was told.
 #[derive(Drop)]
-pub(crate) struct SessionIo<K: Link, C: Clock + Drop> {
+pub(crate) struct SessionIo<K: Link, C: Clock + Drop, J: Telling> {
     alloc: Global,
-    link: K,
+    door: Door<K>,
+    journal: J,
     clock: C,
     session: Session,
     reader: FrameReader,
@@ -59,31 +68,39 @@ pub(crate) struct SessionIo<K: Link, C: Clock + Drop> {
     reporter: Reporter,
 }
 
-impl<K: Link, C: Clock + Drop> Model for SessionIo<K, C> {
+impl<K: Link, C: Clock + Drop, J: Telling> Model for SessionIo<K, C, J> {
     ghost use Rattle.session_worker.specs.Linking.{SessionIoParts};
 
     ghost Value = { SessionIoParts };
 
-    ghost view = { λ l. record { session = l.session; wire = K.wire l.link; stream = l.reader } };
+    ghost view = { λ l. record {
+      session = l.session;
+      wire = l.door.wire;
+      stream = l.reader;
+      told = J.told l.journal;
+    } };
 }
 
-impl<K: Link, C: Clock + Drop> SessionIo<K, C> {
+impl<K: Link, C: Clock + Drop, J: Telling> SessionIo<K, C, J> {
     /// The session of a venue, which is down, over a link that isn't dialled yet.
     pub(crate) fn new(
         alloc: Global,
         link: K,
+        journal: J,
         clock: C,
         config: Config,
         venue: VenueId,
         pace: Pace,
-    ) -> SessionIo<K, C>
+    ) -> SessionIo<K, C, J>
         ensures session { result.session ≡ new_session config }
         ensures wire { result.wire ≡ K.wire link }
+        ensures told { result.told ≡ J.told journal }
     {
         let timer = Timer::new(pace, config.heart());
         SessionIo {
             alloc,
-            link,
+            door: Door::new(link),
+            journal,
             clock,
             session: Session::new(alloc, config),
             reader: FrameReader::new(alloc),
@@ -94,14 +111,27 @@ impl<K: Link, C: Clock + Drop> SessionIo<K, C> {
         }
     }
 
-    /// The session and the link, at the end.
-    pub(crate) fn into_parts(self) -> (Session, K)
+    /// The same, with a session that goes on.
+    pub(crate) fn with_session(self, session: Session) -> SessionIo<K, C, J>
+        ensures session { result.session ≡ session }
+        ensures wire { result.wire ≡ self.wire }
+        ensures told { result.told ≡ self.told }
+    {
+        let mut io = self;
+        io.session = session;
+        io
+    }
+
+    /// The session, the link and the journal, at the end.
+    pub(crate) fn into_parts(self) -> (Session, K, J)
         ensures session { result.0 ≡ self.session }
         ensures wire { K.wire result.1 ≡ self.wire }
+        ensures told { J.told result.2 ≡ self.told }
     {
         let SessionIo {
             alloc: _,
-            link,
+            door,
+            journal,
             clock: _,
             session,
             reader: _,
@@ -110,7 +140,7 @@ impl<K: Link, C: Clock + Drop> SessionIo<K, C> {
             redial: _,
             reporter: _,
         } = self;
-        (session, link)
+        (session, door.into_link(), journal)
     }
 
     /// From now on it tells on this board how far it is.
@@ -144,29 +174,78 @@ impl<K: Link, C: Clock + Drop> SessionIo<K, C> {
         self.session.in_doubt()
     }
 
+    /// Tells the journal that the session was called.
+    fn tell(&mut self, rt: &impl Wait, stamp: &Stamp, act: Act)
+        ensures { StandsStill (Calls (call_of act) ∷ []) self.old self.new }
+    {
+        tell_act(rt, &mut self.door, &mut self.journal, stamp, act);
+    }
+
+    /// Tells it what became of a leg.
+    fn tell_of(&mut self, rt: &impl Wait, stamp: &Stamp, act: LegAct, placed: &PlacedLeg)
+        ensures { StandsStill (leg_event act placed.now ∷ []) self.old self.new }
+    {
+        tell_leg(rt, &mut self.door, &mut self.journal, stamp, act, placed);
+    }
+
+    /// Tells it that a leg was dropped.
+    pub(crate) fn tell_dropped(&mut self, rt: &impl Wait, placed: &PlacedLeg)
+        ensures { StandsStill (Drops placed.now ∷ []) self.old self.new }
+    {
+        let stamp = self.clock.now();
+        self.tell_of(rt, &stamp, LegAct::Dropped, placed);
+    }
+
+    /// Keeps all that was told.
+    pub(crate) fn keep(&mut self, rt: &impl Wait)
+        ensures still { StandsStill [] self.old self.new }
+        ensures kept { IsAllKept self.new.told }
+    {
+        keep(rt, &mut self.door, &mut self.journal);
+    }
+
+    /// The journal.
+    pub(crate) fn journal(&self) -> &J
+        ensures { J.told result.now ≡ self.now.told }
+    {
+        &self.journal
+    }
+
     /// The note that is pending was taken.
-    pub(crate) fn confirm(&mut self)
-        ensures { self.new ≡ record self.old { session = confirm self.old.session } }
+    pub(crate) fn confirm(&mut self, rt: &impl Wait)
+        ensures session { self.new.session ≡ confirm self.old.session }
+        ensures wire { Tells self.old.wire self.new.wire Stays }
+        ensures stream { self.new.stream ≡ self.old.stream }
+        ensures told { TellsEvents self.old.told (Calls call.Confirm ∷ []) self.new.told }
     {
         self.session.confirm();
+        let stamp = self.clock.now();
+        self.tell(rt, &stamp, Act::Confirmed);
     }
 
     /// The session is over.
-    pub(crate) fn abandon(&mut self)
-        ensures { self.new ≡ record self.old { session = abandon self.old.session } }
+    pub(crate) fn abandon(&mut self, rt: &impl Wait)
+        ensures session { self.new.session ≡ abandon self.old.session }
+        ensures wire { Tells self.old.wire self.new.wire Stays }
+        ensures stream { self.new.stream ≡ self.old.stream }
+        ensures told { TellsEvents self.old.told (Calls call.Abandon ∷ []) self.new.told }
     {
         self.session.abandon();
+        let stamp = self.clock.now();
+        self.tell(rt, &stamp, Act::Abandoned);
     }
 
     /// The connection is given up, for this reason.
-    pub(crate) fn break_off(&mut self, why: Loss)
+    pub(crate) fn break_off(&mut self, rt: &impl Wait, why: Loss)
         ensures session { self.new.session ≡ broken self.old.session }
         ensures wire { Tells self.old.wire self.new.wire Stays }
         ensures stream { self.new.stream ≡ self.old.stream }
+        ensures told { TellsEvents self.old.told (Calls call.Broken ∷ []) self.new.told }
     {
         self.session.broken();
-        self.reporter.tell(Progress::Down(why));
-        let _ = self.link.shut();
+        let stamp = self.clock.now();
+        self.tell(rt, &stamp, Act::Broke);
+        self.hang_up(why);
     }
 
     /// The connection has ended for the session, for this reason: the link ends it too.
@@ -174,45 +253,51 @@ impl<K: Link, C: Clock + Drop> SessionIo<K, C> {
         ensures session { self.new.session ≡ self.old.session }
         ensures wire { Tells self.old.wire self.new.wire Stays }
         ensures stream { self.new.stream ≡ self.old.stream }
+        ensures told { self.new.told ≡ self.old.told }
     {
         self.reporter.tell(Progress::Down(why));
-        let _ = self.link.shut();
+        let _ = self.door.shut();
     }
 
-    /// Writes a frame. Where that fails the connection is given up.
-    fn write(&mut self, frame: &[u8])
+    /// Writes a frame, once all that was told is kept. Where that fails the connection is given up.
+    fn write(&mut self, rt: &impl Wait, frame: &[u8])
         ensures wire { Writes frame.now self.old self.new }
         ensures stream { self.new.stream ≡ self.old.stream }
     {
-        match write_whole(&mut self.link, frame) {
+        self.keep(rt);
+        match self.door.write(&self.journal, frame) {
             Ok(()) => self.timer.wrote(),
-            Err(_) => self.break_off(Loss::WriteFailed),
+            Err(_) => self.break_off(rt, Loss::WriteFailed),
         }
     }
 
-    /// Writes frames, in order, until one fails.
-    pub(crate) fn write_all(&mut self, frames: Frames)
+    /// Writes frames, in order, until one fails, once all that was told is kept. Without a frame nothing is kept.
+    pub(crate) fn write_all(&mut self, rt: &impl Wait, frames: Frames)
         ensures wire { Writes (concat frames) self.old self.new }
         ensures stream { self.new.stream ≡ self.old.stream }
     {
         let frames = frames.into_vec();
+        if frames.is_empty() {
+            return;
+        }
+        self.keep(rt);
         for frame in &frames {
-            match write_whole(&mut self.link, frame.as_slice()) {
+            match self.door.write(&self.journal, frame.as_slice()) {
                 Ok(()) => self.timer.wrote(),
-                Err(_) => return self.break_off(Loss::WriteFailed),
+                Err(_) => return self.break_off(rt, Loss::WriteFailed),
             }
         }
     }
 
     /// Dials, and logs on where that succeeds; a failed dial is no fault of the session. It says whether the session
     /// may go on: it may not where no number is left for the Logon.
-    pub(crate) fn connect<D: Dialect>(&mut self, dialect: &D) -> bool
+    pub(crate) fn connect<D: Dialect>(&mut self, rt: &impl Wait, dialect: &D) -> bool
         ensures moves { Moves (D.wording dialect.now) self.old self.new }
         ensures spent { result ≡ false → self.new.session ≡ self.old.session }
     {
         self.redial.dialled();
-        match self.link.dial() {
-            Ok(()) => self.log_on(dialect),
+        match self.door.dial() {
+            Ok(()) => self.log_on(rt, dialect),
             Err(_) => {
                 self.reporter.refused();
                 true
@@ -221,9 +306,9 @@ impl<K: Link, C: Clock + Drop> SessionIo<K, C> {
     }
 
     /// Logs on over a link that was dialled, and says whether the session may go on.
-    fn log_on<D: Dialect>(&mut self, dialect: &D) -> bool
+    fn log_on<D: Dialect>(&mut self, rt: &impl Wait, dialect: &D) -> bool
         ensures moves { (before : Wire) (stream : Stream) → Tells before self.old.wire Dials
-            → Moves (D.wording dialect.now) (io_of self.old.session before stream) self.new }
+            → Moves (D.wording dialect.now) (io_of self.old.session before stream self.old.told) self.new }
         ensures spent { result ≡ false → self.new.session ≡ self.old.session }
     {
         self.reader = FrameReader::new(self.alloc);
@@ -231,15 +316,22 @@ impl<K: Link, C: Clock + Drop> SessionIo<K, C> {
         let stamp = self.clock.now();
         match self.session.connect(dialect, &stamp) {
             Ok(frame) => {
-                self.write(frame.as_slice());
+                self.tell(rt, &stamp, Act::Connected);
+                self.write(rt, frame.as_slice());
                 true
             }
             Err(SessionFault::NumbersSpent) => {
+                self.tell(rt, &stamp, Act::Connected);
                 self.hang_up(Loss::NumbersSpent);
                 false
             }
+            Err(SessionFault::OutOfMemory) => {
+                self.break_off(rt, Loss::OutOfMemory);
+                true
+            }
             Err(_) => {
-                self.break_off(Loss::OutOfMemory);
+                self.tell(rt, &stamp, Act::Connected);
+                self.break_off(rt, Loss::OutOfMemory);
                 true
             }
         }
@@ -247,7 +339,12 @@ impl<K: Link, C: Clock + Drop> SessionIo<K, C> {
 
     /// Sends a leg, and says whether the session took it. Where it wanted memory for that, or the order can't be
     /// written, the connection is given up.
-    pub(crate) fn send<D: Dialect>(&mut self, dialect: &D, placed: &PlacedLeg) -> bool
+    pub(crate) fn send<D: Dialect>(
+        &mut self,
+        rt: &impl Wait,
+        dialect: &D,
+        placed: &PlacedLeg,
+    ) -> bool
         ensures { Hands (D.wording dialect.now) placed.now result self.old self.new }
     {
         self.fencing.sending(&self.session, self.timer.now());
@@ -257,59 +354,93 @@ impl<K: Link, C: Clock + Drop> SessionIo<K, C> {
             .send_leg(dialect, placed.ordinal, &placed.leg, &stamp)
         {
             Ok(frame) => {
-                self.write(frame.as_slice());
+                self.tell_of(rt, &stamp, LegAct::Sent, placed);
+                self.write(rt, frame.as_slice());
                 true
             }
             Err(SessionFault::OutOfMemory) => {
-                self.break_off(Loss::OutOfMemory);
+                self.fail(rt, &stamp, placed);
                 false
             }
-            Err(_) => false,
+            Err(_) => {
+                self.tell_of(rt, &stamp, LegAct::Sent, placed);
+                false
+            }
         }
     }
 
-    /// The session is to close, and can send no leg from here on.
-    pub(crate) fn close<D: Dialect>(&mut self, dialect: &D)
+    /// There was no memory for a leg, and the connection is given up.
+    fn fail(&mut self, rt: &impl Wait, stamp: &Stamp, placed: &PlacedLeg)
+        ensures session { self.new.session ≡ broken self.old.session }
+        ensures wire { Tells self.old.wire self.new.wire Stays }
+        ensures stream { self.new.stream ≡ self.old.stream }
+        ensures told { TellsEvents self.old.told (Fails placed.now ∷ []) self.new.told }
+    {
+        self.session.broken();
+        self.tell_of(rt, stamp, LegAct::Failed, placed);
+        self.hang_up(Loss::OutOfMemory);
+    }
+
+    /// Whether the session is closing in order.
+    fn is_closing(&self) -> bool
+        ensures { result ≡ true
+            → (self.now.session.phase ≡ phase.Closing) ⊎ (self.now.session.phase ≡ phase.LoggedOut) }
+    {
+        matches!(self.session.phase(), Phase::Closing | Phase::LoggedOut)
+    }
+
+    /// The session is to close, and can send no leg from here on. One that is closing isn't asked again.
+    pub(crate) fn close<D: Dialect>(&mut self, rt: &impl Wait, dialect: &D)
         ensures moves { Moves (D.wording dialect.now) self.old self.new }
         ensures idle { IsIdle self.new.session }
     {
+        if self.is_closing() {
+            return;
+        }
         let stamp = self.clock.now();
         match self.session.close(dialect, &stamp) {
-            Ok(step) => self.write_all(step.out),
-            Err(SessionFault::OutOfMemory) => self.break_off(Loss::OutOfMemory),
-            Err(_) => {}
+            Ok(step) => {
+                self.tell(rt, &stamp, Act::Closed);
+                self.write_all(rt, step.out);
+            }
+            Err(SessionFault::OutOfMemory) => self.break_off(rt, Loss::OutOfMemory),
+            Err(_) => self.tell(rt, &stamp, Act::Closed),
         }
     }
 
     /// Hands bytes that were read to the reader.
-    fn take_in(&mut self, bytes: &[u8])
+    fn take_in(&mut self, rt: &impl Wait, bytes: &[u8])
         ensures fed { TakesIn bytes.now self.old self.new }
         ensures wire { Tells self.old.wire self.new.wire Stays }
     {
         self.timer.read();
         match self.reader.feed(bytes) {
             Ok(()) => {}
-            Err(_) => self.break_off(Loss::OutOfMemory),
+            Err(_) => self.break_off(rt, Loss::OutOfMemory),
         }
     }
 
     /// Reads once, as far as the buffer goes. Where that fails, or no byte comes any more, the connection is given up.
-    pub(crate) fn read(&mut self, buf: &mut [u8])
-        ensures session { MayBreak self.old.session self.new.session }
+    pub(crate) fn read(&mut self, rt: &impl Wait, buf: &mut [u8])
+        ensures session { MayGiveUp self.old self.new }
         ensures wire { Reads self.old.wire self.new.wire }
         ensures hears { (said : Said) → IsHearing said self.old → IsHearing said self.new }
     {
-        match self.link.read(buf) {
-            Ok(Got::Bytes(count)) => self.take_in(&buf[..count]),
+        match self.door.read(buf) {
+            Ok(Got::Bytes(count)) => self.take_in(rt, &buf[..count]),
             Ok(Got::Nothing) => {}
-            Ok(Got::End) => self.break_off(Loss::PeerClosed),
-            Err(_) => self.break_off(Loss::ReadFailed),
+            Ok(Got::End) => self.break_off(rt, Loss::PeerClosed),
+            Err(_) => self.break_off(rt, Loss::ReadFailed),
         }
     }
 
     /// The next message that was read is handed to the session, while there is a connection and a message. It gives
     /// what is to be done for it, and where it has a note the words of its frame.
-    pub(crate) fn hear<D: Dialect>(&mut self, dialect: &D) -> Option<(Step, ReportWords)>
+    pub(crate) fn hear<D: Dialect>(
+        &mut self,
+        rt: &impl Wait,
+        dialect: &D,
+    ) -> Option<(Step, ReportWords)>
         ensures asks { AsksOrMoves (D.wording dialect.now) self.old (option_map (λ heard. heard.0) result) self.new }
         ensures said { IfSome result (λ heard. Says self.old.stream heard.0.note heard.1) }
     {
@@ -317,21 +448,29 @@ impl<K: Link, C: Clock + Drop> SessionIo<K, C> {
             return None;
         }
         let stamp = self.clock.now();
-        match hear(dialect, &mut self.reader, &mut self.session, &stamp) {
+        match hear(
+            rt,
+            dialect,
+            &mut self.reader,
+            &mut self.session,
+            &stamp,
+            &mut self.door,
+            &mut self.journal,
+        ) {
             Heard::Nothing => None,
             Heard::Step(step, words) => {
                 self.timer.heard();
                 self.fencing.heard();
-                self.link.heard(self.reader.waiting());
+                self.door.heard(self.reader.waiting());
                 Some((step, words))
             }
             Heard::Malformed => {
-                self.link.heard(self.reader.waiting());
+                self.door.heard(self.reader.waiting());
                 self.hang_up(Loss::Ended(Ended::Malformed));
                 None
             }
             Heard::OutOfMemory => {
-                self.break_off(Loss::OutOfMemory);
+                self.break_off(rt, Loss::OutOfMemory);
                 None
             }
         }
@@ -379,7 +518,8 @@ impl<K: Link, C: Clock + Drop> SessionIo<K, C> {
     {
         let SessionIo {
             alloc: _,
-            link: _,
+            door: _,
+            journal: _,
             clock: _,
             session,
             reader: _,
@@ -443,14 +583,15 @@ impl<K: Link, C: Clock + Drop> SessionIo<K, C> {
         ensures session { self.new.session ≡ self.old.session }
         ensures wire { Tells self.old.wire self.new.wire Stays }
         ensures stream { self.new.stream ≡ self.old.stream }
+        ensures told { self.new.told ≡ self.old.told }
     {
         let millis = self.rest_millis();
-        self.link
+        self.door
             .rest(Duration::from_millis(millis.max(LEAST_REST)));
     }
 
     /// After so long without a write the session is told, and gives what is to be written.
-    pub(crate) fn on_quiet<D: Dialect>(&mut self, dialect: &D) -> Option<Step>
+    pub(crate) fn on_quiet<D: Dialect>(&mut self, rt: &impl Wait, dialect: &D) -> Option<Step>
         ensures { AsksOrMoves (D.wording dialect.now) self.old result self.new }
     {
         if !self.timer.is_quiet() {
@@ -459,12 +600,18 @@ impl<K: Link, C: Clock + Drop> SessionIo<K, C> {
         self.timer.restart_quiet();
         let stamp = self.clock.now();
         match self.session.quiet(dialect, &stamp) {
-            Ok(step) => Some(step),
+            Ok(step) => {
+                self.tell(rt, &stamp, Act::Quieted);
+                Some(step)
+            }
             Err(SessionFault::OutOfMemory) => {
-                self.break_off(Loss::OutOfMemory);
+                self.break_off(rt, Loss::OutOfMemory);
                 None
             }
-            Err(_) => None,
+            Err(_) => {
+                self.tell(rt, &stamp, Act::Quieted);
+                None
+            }
         }
     }
 
@@ -474,7 +621,7 @@ impl<K: Link, C: Clock + Drop> SessionIo<K, C> {
     }
 
     /// After so long without a message, or with a fence due, the session is told, and gives what is to be done.
-    pub(crate) fn on_silence<D: Dialect>(&mut self, dialect: &D) -> Option<Step>
+    pub(crate) fn on_silence<D: Dialect>(&mut self, rt: &impl Wait, dialect: &D) -> Option<Step>
         ensures { AsksOrMoves (D.wording dialect.now) self.old result self.new }
     {
         if !self.is_asking_due() {
@@ -485,12 +632,18 @@ impl<K: Link, C: Clock + Drop> SessionIo<K, C> {
             .fenced(self.session.next_out(), self.timer.now());
         let stamp = self.clock.now();
         match self.session.silent(dialect, &stamp) {
-            Ok(step) => Some(step),
+            Ok(step) => {
+                self.tell(rt, &stamp, Act::Silenced);
+                Some(step)
+            }
             Err(SessionFault::OutOfMemory) => {
-                self.break_off(Loss::OutOfMemory);
+                self.break_off(rt, Loss::OutOfMemory);
                 None
             }
-            Err(_) => None,
+            Err(_) => {
+                self.tell(rt, &stamp, Act::Silenced);
+                None
+            }
         }
     }
 }

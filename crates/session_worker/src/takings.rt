@@ -1,14 +1,15 @@
 //! What a worker took from its venue's ring.
 
-ghost use Rattle.std.specs.Prelude.{◌≡◌, ◌<◌, [], length, min, MatchResult};
+ghost use Rattle.std.specs.Prelude.{◌≡◌, ◌<◌, ◌↔◌, [], length, min, slice_get, true, IsTrue, MatchResult, Some};
 ghost use Rattle.leg.specs.Answering.{Answers};
 ghost use Rattle.sweep_release.specs.History.{KeptDesk as ADesk, without_room};
 ghost use Rattle.release_lock.specs.Locked.{Replays};
 ghost use Rattle.release_lock.specs.Queues.{raise};
-ghost use Rattle.session_worker.specs.Taking.{TakesNext};
+ghost use Rattle.session_worker.specs.Taking.{Raises, TakesNext};
 
+use kept_link::Telling;
 use leg::{PlacedLeg, VenueId};
-use release_lock::{ReleaseLock, Run, VenueDrain, VenueEnd};
+use release_lock::{LockedDesk, ReleaseLock, Run, VenueDrain, VenueEnd};
 use std::alloc::{AllocError, Global};
 use std::marker::Model;
 use std::sync::Wait;
@@ -59,13 +60,42 @@ impl<L: Run> Takings<L> {
         self.drain.popped()
     }
 
+    /// How many legs were taken.
+    pub(crate) fn len(&self) -> usize
+        ensures { result ≡ length self.now.taken }
+    {
+        self.legs.len()
+    }
+
+    /// Whether the leg taken at a place, from 0, is this one.
+    pub(crate) fn is_leg(&self, place: usize, placed: &PlacedLeg) -> bool
+        ensures is { IsTrue result ↔ (slice_get self.now.taken place ≡ Some placed.now) }
+        ensures below { result ≡ true → place < 18446744073709551615 }
+    {
+        match self.legs.get(place) {
+            Some(leg) => is_same(leg, placed),
+            None => false,
+        }
+    }
+
     /// Puts the venue's gate up, once every leg released to it was taken.
-    pub(crate) fn raise(&self, rt: &impl Wait, lock: &ReleaseLock<L>) -> Result<(), GateFault>
+    pub(crate) fn raise<N: Telling>(
+        &self,
+        rt: &impl Wait,
+        lock: &ReleaseLock<L, N>,
+    ) -> Result<(), GateFault>
         ensures { (before : ADesk) × (after : ADesk) × Replays before × Replays after
             × Answers GateFault.OutOfMemory (without_room before)
             (raise (without_room before) self.now.venue (length self.now.taken)) result (without_room after) }
     {
         lock.raise(rt, &self.drain)
+    }
+
+    /// Puts it up at a desk that is out of its lock, and says whether it is.
+    pub(crate) fn raise_in(&self, desk: &mut LockedDesk<L>) -> bool
+        ensures { Raises self.now desk.old result desk.new }
+    {
+        desk.raise(&self.drain).is_ok()
     }
 
     /// The next leg, if the ring has one; there is room for it before it is popped. The only refusal is out of memory.
@@ -107,6 +137,13 @@ impl<L: Run> Takings<L> {
         let Takings { drain, legs } = self;
         VenueEnd::new(drain, legs)
     }
+}
+
+/// Whether two legs are one.
+fn is_same(leg: &PlacedLeg, other: &PlacedLeg) -> bool
+    ensures { IsTrue result ↔ (leg.now ≡ other.now) }
+{
+    leg == other
 }
 
 /// A copy of a leg, which takes no memory.

@@ -2,7 +2,7 @@
 
 ghost use Rattle.std.specs.Prelude.{◌≡◌, [], Some};
 ghost use Rattle.session_core.specs.Session.{new_session};
-ghost use Rattle.session_worker.specs.Events.{new_worker};
+ghost use Rattle.session_worker.specs.Events.{new_worker, with_journal};
 ghost use Rattle.session_worker.specs.Ends.{Runs};
 
 use crate::gates::shut_gate;
@@ -14,6 +14,7 @@ use clock::Clock;
 use dialect::Dialect;
 use exec_collector::{Accounts, Collector, WorkerSeat};
 use fix_tags::Config;
+use kept_link::{Telling, Untold};
 use link::Link;
 use release_lock::{ReleaseLock, Run, VenueDrain};
 use std::alloc::Global;
@@ -24,13 +25,20 @@ use venue_board::VenueBoard;
 /// The worker of one venue: its dialect, and its session over its link, the end of the venue's ring, and its seat.
 /// Contracts see the dialect, and the worker's parts as its events change them.
 #[derive(Drop)]
-pub struct Worker<D: Dialect + Drop, K: Link, C: Clock + Drop, L: Run, M: Accounts> {
+pub struct Worker<
+    D: Dialect + Drop,
+    K: Link,
+    C: Clock + Drop,
+    L: Run,
+    M: Accounts,
+    J: Telling = Untold,
+> {
     pub(crate) dialect: D,
-    pub(crate) state: WorkerState<K, C, L, M>,
+    pub(crate) state: WorkerState<K, C, L, M, J>,
 }
 
-impl<D: Dialect + Drop, K: Link, C: Clock + Drop, L: Run, M: Accounts> Model
-    for Worker<D, K, C, L, M> {
+impl<D: Dialect + Drop, K: Link, C: Clock + Drop, L: Run, M: Accounts, J: Telling> Model
+    for Worker<D, K, C, L, M, J> {
     ghost use Rattle.session_worker.specs.Ends.{WorkerStart};
     ghost use Rattle.session_worker.specs.Linking.{worker_in};
 
@@ -57,10 +65,42 @@ impl<D: Dialect + Drop, K: Link, C: Clock + Drop, L: Run, M: Accounts> Worker<D,
         ensures dialect { result.dialect ≡ dialect }
         ensures parts { result.parts ≡ new_worker (new_session config) drain.venue seat (K.wire link) }
     {
+        Worker::with_journal(
+            alloc, dialect, link, Untold, clock, config, seat, drain, pace,
+        )
+    }
+}
+
+impl<D: Dialect + Drop, K: Link, C: Clock + Drop, L: Run, M: Accounts, J: Telling> Worker<
+    D,
+    K,
+    C,
+    L,
+    M,
+    J,
+> {
+    /// The same, which tells its journal the line of each event, before what follows from it is written or done.
+    pub fn with_journal(
+        alloc: Global,
+        dialect: D,
+        link: K,
+        journal: J,
+        clock: C,
+        config: Config,
+        seat: WorkerSeat<M>,
+        drain: VenueDrain<L>,
+        pace: Pace,
+    ) -> Worker<D, K, C, L, M, J>
+        requires drain { drain.popped ≡ [] }
+        requires seat { seat.venue ≡ Some drain.venue }
+        ensures dialect { result.dialect ≡ dialect }
+        ensures parts { result.parts
+            ≡ with_journal (J.told journal) (new_worker (new_session config) drain.venue seat (K.wire link)) }
+    {
         Worker {
             dialect,
             state: WorkerState {
-                io: SessionIo::new(alloc, link, clock, config, drain.venue(), pace),
+                io: SessionIo::new(alloc, link, journal, clock, config, drain.venue(), pace),
                 takings: Takings::new(alloc, drain),
                 seat,
                 withdrawn: 0,
@@ -70,7 +110,7 @@ impl<D: Dialect + Drop, K: Link, C: Clock + Drop, L: Run, M: Accounts> Worker<D,
     }
 
     /// The same worker, which tells on this board how far it is.
-    pub fn telling_on(self, board: Arc<VenueBoard, Global>) -> Worker<D, K, C, L, M>
+    pub fn telling_on(self, board: Arc<VenueBoard, Global>) -> Worker<D, K, C, L, M, J>
         ensures { result ≡ self }
     {
         let mut worker = self;
@@ -81,33 +121,33 @@ impl<D: Dialect + Drop, K: Link, C: Clock + Drop, L: Run, M: Accounts> Worker<D,
     /// Takes its turns, until one leaves the session closed or it has rested so often; then the session is over, the
     /// gate is shut, and what is placed at the venue is dropped. It may wait for the locks and for the link. Of a link
     /// that tells its traffic the contract says which bytes went over it.
-    pub fn run(
+    pub fn run<N: Telling>(
         self,
         rt: &impl Wait,
-        lock: &ReleaseLock<L>,
+        lock: &ReleaseLock<L, N>,
         collector: &Collector<M>,
         turn_limit: u64,
-    ) -> WorkerEnd<K, L, M>
+    ) -> WorkerEnd<K, L, M, J>
         ensures { Runs (D.wording self.dialect) self.parts result }
     {
         self.run_until(rt, lock, collector, &Stop::new(), turn_limit)
     }
 
     /// The same, until it is told to stop: then it closes its session in order, or gives it up.
-    pub fn run_until(
+    pub fn run_until<N: Telling>(
         self,
         rt: &impl Wait,
-        lock: &ReleaseLock<L>,
+        lock: &ReleaseLock<L, N>,
         collector: &Collector<M>,
         stop: &Stop,
         turn_limit: u64,
-    ) -> WorkerEnd<K, L, M>
+    ) -> WorkerEnd<K, L, M, J>
         ensures { Runs (D.wording self.dialect) self.parts result }
     {
         let Worker { dialect, state } = self;
         let mut state = state;
         let reason = state.turns(rt, &dialect, lock, collector, stop, turn_limit);
-        state.finish();
+        state.finish(rt);
         shut_gate(rt, lock, state.takings.venue());
         state.drain(rt, lock, collector);
         let WorkerState {
@@ -117,12 +157,13 @@ impl<D: Dialect + Drop, K: Link, C: Clock + Drop, L: Run, M: Accounts> Worker<D,
             withdrawn: _,
             raised: _,
         } = state;
-        let (session, link) = io.into_parts();
+        let (session, link, journal) = io.into_parts();
         WorkerEnd {
             session,
             took: takings.into_end(),
             seat,
             link,
+            journal,
             reason,
         }
     }

@@ -5,6 +5,7 @@ ghost use Rattle.session_worker.specs.Doubt.{if_doubt, in_doubt_of};
 
 use crate::EndReason;
 use exec_collector::{Accounts, WorkerSeat};
+use kept_link::{Telling, Untold};
 use leg::LegState;
 use link::Link;
 use release_lock::{Run, VenueEnd};
@@ -12,29 +13,36 @@ use session_core::Session;
 use std::alloc::{AllocError, Global};
 use std::marker::Model;
 
-/// What a worker gives back: its session, the drain of its venue with all legs taken from it, its seat, its link, and
-/// why it ended. Contracts see what the link tells in its place.
+/// What a worker gives back: its session, the drain of its venue with all legs taken from it, its seat, its link, its
+/// journal, and why it ended. Contracts see what the link tells and what the journal was told in their places.
 #[derive(Drop)]
-pub struct WorkerEnd<K: Link, L: Run, M: Accounts> {
+pub struct WorkerEnd<K: Link, L: Run, M: Accounts, J: Telling = Untold> {
     pub session: Session,
     pub took: VenueEnd<L>,
     pub seat: WorkerSeat<M>,
     pub link: K,
+    pub journal: J,
     pub reason: EndReason,
 }
 
-impl<K: Link, L: Run, M: Accounts> Model for WorkerEnd<K, L, M> {
+impl<K: Link, L: Run, M: Accounts, J: Telling> Model for WorkerEnd<K, L, M, J> {
     ghost use Rattle.session_worker.specs.Ends.{WorkerLeft};
 
     ghost Value = { WorkerLeft };
 
     ghost view = { λ e. record {
-      parts = record { session = e.session; took = e.took; seat = e.seat; wire = K.wire e.link };
+      parts = record {
+        session = e.session;
+        took = e.took;
+        seat = e.seat;
+        wire = K.wire e.link;
+        told = J.told e.journal;
+      };
       reason = e.reason;
     } };
 }
 
-impl<K: Link, L: Run, M: Accounts> WorkerEnd<K, L, M> {
+impl<K: Link, L: Run, M: Accounts, J: Telling> WorkerEnd<K, L, M, J> {
     /// The ordinals of the legs that it sent and that aren't settled, in order: the exchange may have them or not. The
     /// only refusal is out of memory.
     pub fn in_doubt(&self, alloc: Global) -> Result<Vec<u64>, AllocError>

@@ -7,8 +7,11 @@ ghost use Rattle.link.specs.Traffic.{Tells, Stays};
 ghost use Rattle.session_core.specs.declared.phase.Phase.TheVariants as phase;
 ghost use Rattle.session_core.specs.Receiving.{confirm};
 ghost use Rattle.session_core.specs.Calling.{broken};
+ghost use Rattle.session_core.specs.declared.session_call.SessionCall.TheVariants as call;
 ghost use Rattle.session_worker.specs.Events.{Goes, lasting};
-ghost use Rattle.session_worker.specs.Linking.{worker_in, beside_shares, asked_too, MayBook, Sends, Does, Drains, CarriesOut};
+ghost use Rattle.session_worker.specs.Events.WorkerEvent.{Calls, Drops};
+ghost use Rattle.session_worker.specs.Keeping.{TellsEvents};
+ghost use Rattle.session_worker.specs.Linking.{worker_in, beside_shares, asked_too, MayBook, Sends, Does, Drains, CarriesOut, StandsStill};
 ghost use Rattle.session_worker.specs.Withdrawing.{Withdraws, WithdrawsAll};
 ghost use Rattle.session_worker.specs.Ends.{is_over, IsReason, last_calls};
 ghost use Rattle.session_worker.specs.Taking.{TakesNext};
@@ -21,6 +24,7 @@ use crate::{EndReason, Stop};
 use clock::Clock;
 use dialect::{Dialect, Note};
 use exec_collector::{Accounts, Collector, WorkerSeat};
+use kept_link::Telling;
 use leg::{LegId, PlacedLeg};
 use link::Link;
 use release_lock::{ReleaseLock, Run};
@@ -57,15 +61,16 @@ pub(crate) enum Drained {
 /// What a worker works with: its session over its link, what it took from the ring, its seat, how many legs it withdrew
 /// in the book, and whether its gate may be up. Contracts see the first four.
 #[derive(Drop)]
-pub(crate) struct WorkerState<K: Link, C: Clock + Drop, L: Run, M: Accounts> {
-    pub(crate) io: SessionIo<K, C>,
+pub(crate) struct WorkerState<K: Link, C: Clock + Drop, L: Run, M: Accounts, J: Telling> {
+    pub(crate) io: SessionIo<K, C, J>,
     pub(crate) takings: Takings<L>,
     pub(crate) seat: WorkerSeat<M>,
     pub(crate) withdrawn: u64,
     pub(crate) raised: bool,
 }
 
-impl<K: Link, C: Clock + Drop, L: Run, M: Accounts> Model for WorkerState<K, C, L, M> {
+impl<K: Link, C: Clock + Drop, L: Run, M: Accounts, J: Telling> Model
+    for WorkerState<K, C, L, M, J> {
     ghost use Rattle.session_worker.specs.Linking.{WorkerStateParts};
 
     ghost Value = { WorkerStateParts };
@@ -73,14 +78,14 @@ impl<K: Link, C: Clock + Drop, L: Run, M: Accounts> Model for WorkerState<K, C, 
     ghost view = { λ p. record { io = p.io; took = p.takings; seat = p.seat; withdrawn = p.withdrawn } };
 }
 
-impl<K: Link, C: Clock + Drop, L: Run, M: Accounts> WorkerState<K, C, L, M> {
+impl<K: Link, C: Clock + Drop, L: Run, M: Accounts, J: Telling> WorkerState<K, C, L, M, J> {
     /// Takes its turns, until one leaves the session closed, it has rested so often, or it is told to stop and its
     /// patience is over. A turn in which it had something to do doesn't count.
-    pub(crate) fn turns<D: Dialect>(
+    pub(crate) fn turns<D: Dialect, N: Telling>(
         &mut self,
         rt: &impl Wait,
         dialect: &D,
-        lock: &ReleaseLock<L>,
+        lock: &ReleaseLock<L, N>,
         collector: &Collector<M>,
         stop: &Stop,
         turn_limit: u64,
@@ -114,7 +119,7 @@ impl<K: Link, C: Clock + Drop, L: Run, M: Accounts> WorkerState<K, C, L, M> {
     }
 
     /// Where the worker was told to stop its gate is shut.
-    fn heed(&self, rt: &impl Wait, lock: &ReleaseLock<L>, stop: &Stop) {
+    fn heed<N: Telling>(&self, rt: &impl Wait, lock: &ReleaseLock<L, N>, stop: &Stop) {
         let venue = self.takings.venue();
         if stop.is_told() && !lock.is_shut(venue) {
             shut_gate(rt, lock, venue);
@@ -122,24 +127,25 @@ impl<K: Link, C: Clock + Drop, L: Run, M: Accounts> WorkerState<K, C, L, M> {
     }
 
     /// The session is over, also where no turn has left it so.
-    pub(crate) fn finish(&mut self)
+    pub(crate) fn finish(&mut self, rt: &impl Wait)
         ensures goes { (read : Decoding) → Goes read (worker_in self.old) (last_calls self.old.io.session.phase)
             (worker_in self.new) }
-        ensures wire { self.new.io.wire ≡ self.old.io.wire }
+        ensures wire { Tells self.old.io.wire self.new.io.wire Stays }
+        ensures told { TellsEvents self.old.io.told (last_calls self.old.io.session.phase) self.new.io.told }
         ensures over { self.new.io.session.phase ≡ phase.Closed }
     {
         if has_ended(self.io.phase()) {
             return;
         }
-        self.io.abandon();
+        self.io.abandon(rt);
     }
 
     /// One turn, which reads into this buffer, and whether the worker rested at its end, since it had nothing to do.
-    pub(crate) fn turn<D: Dialect>(
+    pub(crate) fn turn<D: Dialect, N: Telling>(
         &mut self,
         rt: &impl Wait,
         dialect: &D,
-        lock: &ReleaseLock<L>,
+        lock: &ReleaseLock<L, N>,
         collector: &Collector<M>,
         buf: &mut [u8],
     ) -> bool
@@ -161,6 +167,7 @@ impl<K: Link, C: Clock + Drop, L: Run, M: Accounts> WorkerState<K, C, L, M> {
         ensures session { self.new.io.session ≡ self.old.io.session }
         ensures wire { Tells self.old.io.wire self.new.io.wire Stays }
         ensures stream { self.new.io.stream ≡ self.old.io.stream }
+        ensures told { self.new.io.told ≡ self.old.io.told }
         ensures took { self.new.took ≡ self.old.took }
         ensures seat { beside_shares self.new.seat ≡ beside_shares self.old.seat }
     {
@@ -175,11 +182,11 @@ impl<K: Link, C: Clock + Drop, L: Run, M: Accounts> WorkerState<K, C, L, M> {
     }
 
     /// What a turn begins with, by how far the session has come.
-    fn begin<D: Dialect>(
+    fn begin<D: Dialect, N: Telling>(
         &mut self,
         rt: &impl Wait,
         dialect: &D,
-        lock: &ReleaseLock<L>,
+        lock: &ReleaseLock<L, N>,
         collector: &Collector<M>,
     )
         ensures { Does (D.wording dialect.now) self.old self.new }
@@ -196,11 +203,11 @@ impl<K: Link, C: Clock + Drop, L: Run, M: Accounts> WorkerState<K, C, L, M> {
     }
 
     /// In `Down`: the gate goes down, and what is placed is dropped. Once nothing is left the session may connect.
-    fn start<D: Dialect>(
+    fn start<D: Dialect, N: Telling>(
         &mut self,
         rt: &impl Wait,
         dialect: &D,
-        lock: &ReleaseLock<L>,
+        lock: &ReleaseLock<L, N>,
         collector: &Collector<M>,
     )
         requires { self.old.io.session.phase ≡ phase.Down }
@@ -215,7 +222,7 @@ impl<K: Link, C: Clock + Drop, L: Run, M: Accounts> WorkerState<K, C, L, M> {
     }
 
     /// The gate goes down, if it may be up.
-    fn put_down(&mut self, rt: &impl Wait, lock: &ReleaseLock<L>)
+    fn put_down<N: Telling>(&mut self, rt: &impl Wait, lock: &ReleaseLock<L, N>)
         ensures { self.new ≡ self.old }
     {
         if self.raised {
@@ -226,11 +233,11 @@ impl<K: Link, C: Clock + Drop, L: Run, M: Accounts> WorkerState<K, C, L, M> {
 
     /// The session connects, once the pause after the last dial is over. It is over where the gate was shut and no leg
     /// is in doubt, or where no number is left for a Logon.
-    fn connect<D: Dialect>(
+    fn connect<D: Dialect, N: Telling>(
         &mut self,
         rt: &impl Wait,
         dialect: &D,
-        lock: &ReleaseLock<L>,
+        lock: &ReleaseLock<L, N>,
         collector: &Collector<M>,
     )
         requires { self.old.io.session.phase ≡ phase.Down }
@@ -238,25 +245,25 @@ impl<K: Link, C: Clock + Drop, L: Run, M: Accounts> WorkerState<K, C, L, M> {
     {
         let venue = self.takings.venue();
         if lock.is_shut(venue) && !self.io.in_doubt() {
-            return self.io.abandon();
+            return self.io.abandon(rt);
         }
         if !self.io.may_dial() {
             return;
         }
-        if self.io.connect(dialect) {
+        if self.io.connect(rt, dialect) {
             return;
         }
         shut_gate(rt, lock, venue);
         self.drain(rt, lock, collector);
-        self.io.abandon();
+        self.io.abandon(rt);
     }
 
     /// In `Up`: the gate is put up, and the legs that wait are sent, so many at most.
-    fn send_waiting<D: Dialect>(
+    fn send_waiting<D: Dialect, N: Telling>(
         &mut self,
         rt: &impl Wait,
         dialect: &D,
-        lock: &ReleaseLock<L>,
+        lock: &ReleaseLock<L, N>,
         collector: &Collector<M>,
     )
         ensures { Does (D.wording dialect.now) self.old self.new }
@@ -276,7 +283,7 @@ impl<K: Link, C: Clock + Drop, L: Run, M: Accounts> WorkerState<K, C, L, M> {
 
     /// The gate goes up, unless the worker has put it up since the session came up, and it says whether it is. Where
     /// that is refused the next turn tries again.
-    fn put_up(&mut self, rt: &impl Wait, lock: &ReleaseLock<L>) -> bool
+    fn put_up<N: Telling>(&mut self, rt: &impl Wait, lock: &ReleaseLock<L, N>) -> bool
         ensures { self.new ≡ self.old }
     {
         if self.raised {
@@ -291,11 +298,11 @@ impl<K: Link, C: Clock + Drop, L: Run, M: Accounts> WorkerState<K, C, L, M> {
     }
 
     /// The next leg is sent, and it says whether there was one.
-    fn send_next<D: Dialect>(
+    fn send_next<D: Dialect, N: Telling>(
         &mut self,
         rt: &impl Wait,
         dialect: &D,
-        lock: &ReleaseLock<L>,
+        lock: &ReleaseLock<L, N>,
         collector: &Collector<M>,
     ) -> bool
         requires { self.old.io.session.phase ≡ phase.Up }
@@ -304,7 +311,7 @@ impl<K: Link, C: Clock + Drop, L: Run, M: Accounts> WorkerState<K, C, L, M> {
         match next_leg(rt, lock, &mut self.takings) {
             Ok(next) => self.send(rt, dialect, collector, next),
             Err(_) => {
-                self.io.break_off(Loss::OutOfMemory);
+                self.io.break_off(rt, Loss::OutOfMemory);
                 false
             }
         }
@@ -327,7 +334,7 @@ impl<K: Link, C: Clock + Drop, L: Run, M: Accounts> WorkerState<K, C, L, M> {
         let Some(leg) = next else {
             return false;
         };
-        if self.io.send(dialect, &leg) {
+        if self.io.send(rt, dialect, &leg) {
             return true;
         }
         self.withdraw(rt, collector, leg.leg.id);
@@ -336,11 +343,11 @@ impl<K: Link, C: Clock + Drop, L: Run, M: Accounts> WorkerState<K, C, L, M> {
 
     /// With the gate shut the session is to close while it is connected, and what is placed is dropped. Where there is
     /// no room for a leg the connection is given up.
-    fn close_if_shut<D: Dialect>(
+    fn close_if_shut<D: Dialect, N: Telling>(
         &mut self,
         rt: &impl Wait,
         dialect: &D,
-        lock: &ReleaseLock<L>,
+        lock: &ReleaseLock<L, N>,
         collector: &Collector<M>,
     )
         ensures { Does (D.wording dialect.now) self.old self.new }
@@ -348,11 +355,11 @@ impl<K: Link, C: Clock + Drop, L: Run, M: Accounts> WorkerState<K, C, L, M> {
         if !self.io.is_connected() || !lock.is_shut(self.takings.venue()) {
             return;
         }
-        self.io.close(dialect);
+        self.io.close(rt, dialect);
         match self.drain(rt, lock, collector) {
             Drained::Everything => {}
             Drained::SomeLeft => {}
-            Drained::NoRoom => self.io.break_off(Loss::OutOfMemory),
+            Drained::NoRoom => self.io.break_off(rt, Loss::OutOfMemory),
         }
     }
 
@@ -369,9 +376,9 @@ impl<K: Link, C: Clock + Drop, L: Run, M: Accounts> WorkerState<K, C, L, M> {
         if !self.io.is_connected() {
             return;
         }
-        self.io.read(buf);
+        self.io.read(rt, buf);
         for _ in 0..MESSAGES_A_TURN {
-            match self.io.hear(dialect) {
+            match self.io.hear(rt, dialect) {
                 Some((step, words)) => self.carry_out(rt, collector, step, &words),
                 None => return,
             }
@@ -382,7 +389,7 @@ impl<K: Link, C: Clock + Drop, L: Run, M: Accounts> WorkerState<K, C, L, M> {
     fn write_if_quiet<D: Dialect>(&mut self, rt: &impl Wait, dialect: &D, collector: &Collector<M>)
         ensures { Does (D.wording dialect.now) self.old self.new }
     {
-        match self.io.on_quiet(dialect) {
+        match self.io.on_quiet(rt, dialect) {
             Some(step) => self.carry_out(rt, collector, step, &ReportWords::none()),
             None => {}
         }
@@ -392,7 +399,7 @@ impl<K: Link, C: Clock + Drop, L: Run, M: Accounts> WorkerState<K, C, L, M> {
     fn ask_if_silent<D: Dialect>(&mut self, rt: &impl Wait, dialect: &D, collector: &Collector<M>)
         ensures { Does (D.wording dialect.now) self.old self.new }
     {
-        match self.io.on_silence(dialect) {
+        match self.io.on_silence(rt, dialect) {
             Some(step) => self.carry_out(rt, collector, step, &ReportWords::none()),
             None => {}
         }
@@ -420,7 +427,7 @@ impl<K: Link, C: Clock + Drop, L: Run, M: Accounts> WorkerState<K, C, L, M> {
         if !self.take_note(rt, collector, note, words) {
             return;
         }
-        self.io.write_all(out);
+        self.io.write_all(rt, out);
         if let Some(why) = ended {
             self.io.hang_up(Loss::Ended(why));
         }
@@ -434,10 +441,11 @@ impl<K: Link, C: Clock + Drop, L: Run, M: Accounts> WorkerState<K, C, L, M> {
         note: Option<Note>,
         words: &ReportWords,
     ) -> bool
-        ensures booked { result ≡ true → MayBook note self.old.io.session self.old.seat.booked self.new.io.session
-            self.new.seat.booked }
+        ensures booked { result ≡ true → MayBook note self.old.io.session self.old.seat.booked self.old.io.told
+            self.new.io.session self.new.seat.booked self.new.io.told }
         ensures broken { result ≡ false → (self.new.io.session ≡ broken self.old.io.session)
-            × (self.new.seat.booked ≡ self.old.seat.booked) }
+            × (self.new.seat.booked ≡ self.old.seat.booked)
+            × TellsEvents self.old.io.told (Calls call.Broken ∷ []) self.new.io.told }
         ensures wire { Tells self.old.io.wire self.new.io.wire Stays }
         ensures stream { self.new.io.stream ≡ self.old.io.stream }
         ensures took { self.new.took ≡ self.old.took }
@@ -460,9 +468,11 @@ impl<K: Link, C: Clock + Drop, L: Run, M: Accounts> WorkerState<K, C, L, M> {
         words: &ReportWords,
     ) -> bool
         ensures booked { result ≡ true → (self.new.io.session ≡ confirm self.old.io.session)
-            × (self.new.seat.booked ≡ self.old.seat.booked ++ note.now ∷ []) }
+            × (self.new.seat.booked ≡ self.old.seat.booked ++ note.now ∷ [])
+            × TellsEvents self.old.io.told (Calls call.Confirm ∷ []) self.new.io.told }
         ensures broken { result ≡ false → (self.new.io.session ≡ broken self.old.io.session)
-            × (self.new.seat.booked ≡ self.old.seat.booked) }
+            × (self.new.seat.booked ≡ self.old.seat.booked)
+            × TellsEvents self.old.io.told (Calls call.Broken ∷ []) self.new.io.told }
         ensures wire { Tells self.old.io.wire self.new.io.wire Stays }
         ensures stream { self.new.io.stream ≡ self.old.io.stream }
         ensures took { self.new.took ≡ self.old.took }
@@ -471,21 +481,21 @@ impl<K: Link, C: Clock + Drop, L: Run, M: Accounts> WorkerState<K, C, L, M> {
     {
         match collector.apply(rt, note, words, &mut self.seat) {
             Ok(_) => {
-                self.io.confirm();
+                self.io.confirm(rt);
                 true
             }
             Err(_) => {
-                self.io.break_off(Loss::OutOfMemory);
+                self.io.break_off(rt, Loss::OutOfMemory);
                 false
             }
         }
     }
 
     /// Drops what is placed at the venue, in at most eight rounds, and says how far it came.
-    pub(crate) fn drain(
+    pub(crate) fn drain<N: Telling>(
         &mut self,
         rt: &impl Wait,
-        lock: &ReleaseLock<L>,
+        lock: &ReleaseLock<L, N>,
         collector: &Collector<M>,
     ) -> Drained
         ensures { Drains self.old self.new }
@@ -508,7 +518,7 @@ impl<K: Link, C: Clock + Drop, L: Run, M: Accounts> WorkerState<K, C, L, M> {
     {
         for _ in self.takings.count()..count {
             match self.takings.next_to(rt, count) {
-                Ok(Some(leg)) => self.withdraw(rt, collector, leg.leg.id),
+                Ok(Some(leg)) => self.drop_leg(rt, collector, &leg),
                 Ok(None) => return true,
                 Err(_) => return false,
             }
@@ -516,10 +526,20 @@ impl<K: Link, C: Clock + Drop, L: Run, M: Accounts> WorkerState<K, C, L, M> {
         true
     }
 
+    /// Drops a leg that was taken.
+    fn drop_leg(&mut self, rt: &impl Wait, collector: &Collector<M>, leg: &PlacedLeg)
+        ensures io { StandsStill (Drops leg.now ∷ []) self.old.io self.new.io }
+        ensures took { self.new.took ≡ self.old.took }
+        ensures seat { beside_shares self.new.seat ≡ asked_too (leg.now.leg.id ∷ []) (beside_shares self.old.seat) }
+    {
+        self.io.tell_dropped(rt, leg);
+        self.withdraw(rt, collector, leg.leg.id);
+    }
+
     /// Asks the book to withdraw legs, and counts those that it does.
     fn withdraw_all(&mut self, rt: &impl Wait, collector: &Collector<M>, ids: LegIds)
         ensures counted { WithdrawsAll ids self.old self.new }
-        ensures io { self.new.io ≡ self.old.io }
+        ensures io { StandsStill [] self.old.io self.new.io }
         ensures took { self.new.took ≡ self.old.took }
         ensures seat { beside_shares self.new.seat ≡ asked_too ids (beside_shares self.old.seat) }
     {
@@ -529,14 +549,15 @@ impl<K: Link, C: Clock + Drop, L: Run, M: Accounts> WorkerState<K, C, L, M> {
         }
     }
 
-    /// Asks the book to withdraw a leg, and counts it if it does.
+    /// Asks the book to withdraw a leg, once what says so is kept, and counts it if it does.
     fn withdraw(&mut self, rt: &impl Wait, collector: &Collector<M>, id: LegId)
         ensures counted { Withdraws id self.old self.new }
-        ensures io { self.new.io ≡ self.old.io }
+        ensures io { StandsStill [] self.old.io self.new.io }
         ensures took { self.new.took ≡ self.old.took }
         ensures seat { beside_shares self.new.seat ≡ asked_too (id ∷ []) (beside_shares self.old.seat) }
     {
-        match collector.withdraw(rt, id, &mut self.seat) {
+        self.io.keep(rt);
+        match collector.withdraw(rt, id, &mut self.seat, self.io.journal()) {
             Ok(()) => self.withdrawn = self.withdrawn.saturating_add(1),
             Err(_) => {}
         }
@@ -560,9 +581,9 @@ fn has_ended(phase: Phase) -> bool
 
 /// The next leg of a ring. Where it is empty, and legs are placed for which it had no room, they are moved into it
 /// first.
-fn next_leg<L: Run>(
+fn next_leg<L: Run, N: Telling>(
     rt: &impl Wait,
-    lock: &ReleaseLock<L>,
+    lock: &ReleaseLock<L, N>,
     takings: &mut Takings<L>,
 ) -> Result<Option<PlacedLeg>, AllocError>
     ensures { MatchResult result (TakesNext takings.old takings.new) (λ _. takings.new ≡ takings.old) }

@@ -24,7 +24,7 @@ pub struct Played {
 }
 
 /// A caller that has placed the early sweep of a course, if it has orders: the gate is up for that.
-fn early_caller<'a, R: Wait, L: Run, M: Accounts>(
+pub(crate) fn early_caller<'a, R: Wait, L: Run, M: Accounts>(
     rt: &'a R,
     alloc: Global,
     lock: &'a ReleaseLock<L>,
@@ -54,6 +54,7 @@ fn parted<R: Wait, K: Link, L: Run, M: Accounts>(
         took,
         seat,
         link,
+        journal,
         reason,
     } = end;
     let (link, caller, calls) = link.into_parts();
@@ -62,6 +63,7 @@ fn parted<R: Wait, K: Link, L: Run, M: Accounts>(
         took,
         seat,
         link,
+        journal,
         reason,
     };
     (end, caller.into_end(), calls)

@@ -12,6 +12,7 @@ mod called_link;
 mod course;
 mod day;
 mod hostile;
+mod kept;
 mod rows;
 mod scripted;
 mod worked;
@@ -19,6 +20,7 @@ mod worked;
 use crate::audits::tell_audits;
 use crate::day::play;
 use crate::hostile::tell_hostile;
+use crate::kept::tell_kept;
 use crate::rows::{ROWS, tell_failed_calls};
 use crate::scripted::tell_scripted;
 use crate::worked::{COURSE, LOSES};
@@ -68,6 +70,7 @@ fn others_told<R: Net<Listener = TcpListener, Stream = TcpStream> + Threads + Wa
     }
     tell_failed_calls(rt, alloc, &mut text)?;
     tell_scripted(rt, alloc, &mut text)?;
+    tell_kept(rt, alloc, &mut text)?;
     tell_audits(rt, alloc, &mut text)?;
     tell_hostile(rt, alloc, &mut text)?;
     Ok(text)

@@ -49,7 +49,7 @@ const PACED: Course<'static> = Course {
 
 /// A leg is released beside the third read, sent in the fourth turn, and booked in it. Beside the fifth read another
 /// one is released and the gate shut: that leg is dropped.
-const SENDS: Course<'static> = Course {
+pub(crate) const SENDS: Course<'static> = Course {
     sweeps: &[&[TEN], &[TWENTY]],
     pause: 1,
     shuts: Shuts::WithLastSweep,
@@ -58,7 +58,15 @@ const SENDS: Course<'static> = Course {
 
 const QUIET_READS: &[&[Said]] = &[&[LOGON], &[FENCE]];
 
-const SENDS_READS: &[&[Said]] = &[&[LOGON], &[FENCE], &[], REPORTS, &[], CLOSING, LOGOUT];
+pub(crate) const SENDS_READS: &[&[Said]] = &[
+    &[LOGON],
+    &[FENCE],
+    &[],
+    REPORTS,
+    &[],
+    CLOSING,
+    LOGOUT,
+];
 
 /// Writes what became of a day.
 fn write_played(played: &Played, text: &mut String) -> Result<(), DayFault> {

@@ -1,5 +1,5 @@
 -- What comes over the link was written to it: so a history that goes by bytes may happen.
-use Rattle.std.proofs.Common.{◌≡◌, ◌≤◌, ◌⊎◌, ℕ, false, List, [], ◌∷◌, ◌++◌, map, Some, None, Ok, Err, refl, sym, ap, subst, ◌∙◌, inl, inr}
+use Rattle.std.proofs.Common.{◌≡◌, ◌<◌, ◌⊎◌, ℕ, false, List, [], ◌∷◌, ◌++◌, map, Some, None, Ok, Err, refl, sym, ap, subst, ◌∙◌, inl, inr}
 use Rattle.std.specs.Prelude.{IfOk, Option, Result}
 use Rattle.std.specs.List.{AllByRecursion, Contains}
 use Rattle.std.proofs.lemmas.List.{append-nil}
@@ -34,7 +34,7 @@ use Rattle.session_core.proofs.Sound.{all-map, all-append, sound-new}
 use Rattle.exchange_core.specs.Acceptance.{Carried, RuleState, rule_opening, May}
 use Rattle.exchange_core.specs.Keeping.{carried}
 use Rattle.venue_line.specs.Line.{Line, in_connection_of}
-use Rattle.session_worker.specs.Ends.{last_calls}
+use Rattle.session_worker.specs.Ends.{WorkerLeft, last_calls, Runs}
 use Rattle.session_worker.specs.Events.{WorkerEvent, WorkerParts, calls_of, leg_in, taken_of}
 use Rattle.session_worker.specs.Events.WorkerEvent.{Calls, Drops, Fails}
 use Rattle.session_worker.specs.Hearing.{Said, said_with, AreHeard}
@@ -43,7 +43,7 @@ use Rattle.worker_line.specs.Happening.{VenueEvent, works_of, after_event, MayHe
 use Rattle.worker_line.specs.Happening.VenueEvent.{Works, Exchanges, Releases}
 use Rattle.worker_line.specs.Wire.{SaysFirst, messages_of, HasWritten, written_with}
 use Rattle.worker_line.specs.Coming.{Brings, AreFrom, HearsFrom, AllCome, ExchangeKeeps, LegsAreInRange, TheWireTheorem}
-use Rattle.worker_line.specs.WorkerTheorem.{released_line, Ran}
+use Rattle.worker_line.specs.WorkerTheorem.{released_line, works_in, Ran}
 use Rattle.worker_line.proofs.Frames.{the_frames_theorem}
 use Rattle.worker_line.proofs.SameConnection.{IsWithin, called_on}
 use Rattle.worker_line.proofs.Wire.{OnWire, has_written, on_step}
@@ -200,7 +200,7 @@ after_failure read a leg =
 
 -- ---- along a history
 
-module _ (w : Wording) (laws : IsWording w) where
+module _ (w : Wording) (laws : IsWording w) (before : ℕ) where
   -- a line whose session wrote this in its present connection, which is on the wire; and what came was written
   record Stands (came : Carried → Type 0) (a : Line) (s : SessionParts) (from : List Carried) (x : RuleState)
       (written : List Message) (later : List SessionCall) (wire : Wire) : Type 0 where
@@ -208,15 +208,15 @@ module _ (w : Wording) (laws : IsWording w) where
     from_is : a.from_exchange ≡ from
     exchange : a.exchange ≡ x
     sound : IsSound s
-    on : OnWire w.encoding 0 s written later wire
+    on : OnWire w.encoding before s written later wire
     writable : AreWritable written
     there : AllByRecursion (λ m. Contains a.to_exchange (carried s.connection m)) written
     known : (m : Carried) → came m → Contains a.to_exchange m
 
   -- what a reader reads of the wire was written to the exchange
   brought : (to : List Carried) (s : SessionParts) (written : List Message) (wire : Wire) (m : Carried)
-      → (1 ≤ s.connection → HasWritten w.encoding written wire) → AreWritable written
-      → AllByRecursion (λ m. Contains to (carried s.connection m)) written → Brings w.decoding s wire m → Contains to m
+      → (before < s.connection → HasWritten w.encoding written wire) → AreWritable written
+      → AllByRecursion (λ m. Contains to (carried s.connection m)) written → Brings w.decoding before s wire m → Contains to m
   brought to s written None m has can there brings = absurd brings
   brought to s written (Some []) m has can there brings = absurd brings
   brought to s written (Some (last ∷ others)) m has can there brings =
@@ -295,9 +295,9 @@ module _ (w : Wording) (laws : IsWording w) where
   writable_with s written =
       by_call (λ made. AreWritable written → AreWritable (messages_in (called w.decoding s made).0)
       → AreWritable (written_with w.decoding s written made))
-      (λ before now. now)
-      (λ made within before now. subst AreWritable (sym (written_within w.decoding s written made within))
-      (all-append (λ m. IsWritable (alone m)) written (messages_in (called w.decoding s made).0) before now))
+      (λ old now. now)
+      (λ made within old now. subst AreWritable (sym (written_within w.decoding s written made within))
+      (all-append (λ m. IsWritable (alone m)) written (messages_in (called w.decoding s made).0) old now))
 
   now_there : (to : List Carried) (t : SessionParts) (ms : List Message)
       → AllByRecursion (λ m. Contains (to ++ in_connection_of t ms) (carried t.connection m)) ms
@@ -317,8 +317,8 @@ module _ (w : Wording) (laws : IsWording w) where
       → AllByRecursion
       (λ m. Contains (to ++ in_connection_of (called w.decoding s made).1 (messages_in (called w.decoding s made).0))
       (carried (called w.decoding s made).1.connection m)) (written_with w.decoding s written made))
-      (λ before. now_there to (called w.decoding s call.Connect).1 (messages_in (called w.decoding s call.Connect).0))
-      (λ made within before.
+      (λ old. now_there to (called w.decoding s call.Connect).1 (messages_in (called w.decoding s call.Connect).0))
+      (λ made within old.
       let t : SessionParts = (called w.decoding s made).1 in
       let ms : List Message = messages_in (called w.decoding s made).0 in
       let P : Message → Type 0 = λ m. Contains (to ++ in_connection_of t ms) (carried t.connection m) in
@@ -326,20 +326,20 @@ module _ (w : Wording) (laws : IsWording w) where
       (all-append P written ms
       (all-map (λ m. Contains to (carried s.connection m)) P
       (λ m there. Contains-append_left to (in_connection_of t ms) (carried t.connection m)
-      (subst (λ (c : ℕ). Contains to (carried c m)) (sym (called_on w.decoding s made within)) there)) written before)
+      (subst (λ (c : ℕ). Contains to (carried c m)) (sym (called_on w.decoding s made within)) there)) written old)
       (now_there to t ms)))
 
   stands_step : (came : Carried → Type 0) (a b : Line) (s : SessionParts) (from : List Carried) (x : RuleState)
       (said : Said) (written : List Message) (made : SessionCall) (later : List SessionCall) (wire after : Wire)
       → Stands came a s from x written (made ∷ later) wire → Speaks w s said made later wire after
       → AfterCall w.decoding a s made b → IsReadCall w.decoding made → LegsAreInRange (leg_in made)
-      → Stands (λ m. came m ⊎ Brings w.decoding (called w.decoding s made).1 after m) b (called w.decoding s made).1
+      → Stands (λ m. came m ⊎ Brings w.decoding before (called w.decoding s made).1 after m) b (called w.decoding s made).1
       from x (written_with w.decoding s written made) later after
   stands_step came a b s from x said written made later wire after stands one next range legs =
       let t : SessionParts = (called w.decoding s made).1 in
       let ms : List Message = messages_in (called w.decoding s made).0 in
       let all : List Message = written_with w.decoding s written made in
-      let on : OnWire w.encoding 0 t all later after = on_step w 0 s said written made later wire after stands.on one in
+      let on : OnWire w.encoding before t all later after = on_step w before s said written made later wire after stands.on one in
       let can : AreWritable all =
       writable_with s written made stands.writable (called_writable w.decoding s made stands.sound range legs) in
       let there : AllByRecursion (λ m. Contains b.to_exchange (carried t.connection m)) all =
@@ -354,10 +354,10 @@ module _ (w : Wording) (laws : IsWording w) where
         writable = can;
         there = there;
         known = λ m came_so. elim came_so [
-          | inl before ↦ subst (λ (l : List Carried). Contains l m) (sym next.to)
-              (Contains-append_left a.to_exchange (in_connection_of t ms) m (stands.known m before))
+          | inl old ↦ subst (λ (l : List Carried). Contains l m) (sym next.to)
+              (Contains-append_left a.to_exchange (in_connection_of t ms) m (stands.known m old))
           | inr brings ↦ brought b.to_exchange t all after m
-              (λ begun. has_written w.encoding 0 t all later after begun on) can there brings
+              (λ begun. has_written w.encoding before t all later after begun on) can there brings
         ];
       }
 
@@ -370,7 +370,7 @@ module _ (w : Wording) (laws : IsWording w) where
       (said : Said) (written : List Message) (events : List VenueEvent) (wire after : Wire)
       (speak : Speak w s said (calls_of (works_of events)) wire after)
       → Stands came a s from x written (calls_of (works_of events)) wire → LegsAreInRange (taken_of (works_of events))
-      → AllCome w came s said from events wire after speak → ExchangeKeeps x events → MayAllHappen w.decoding a events
+      → AllCome w before came s said from events wire after speak → ExchangeKeeps x events → MayAllHappen w.decoding a events
   may_happen came a s from x said written [] wire after speak stands legs come keeps = tt
   may_happen came a s from x said written (Works (Calls made) ∷ events) wire after speak stands legs come keeps =
       let b = after_event w.decoding a (Works (Calls made)) in
@@ -379,7 +379,7 @@ module _ (w : Wording) (laws : IsWording w) where
       let next : AfterCall w.decoding a s made b =
       subst (λ (t : SessionParts). AfterCall w.decoding a t made b) stands.session (after_call w.decoding a made) in (
         may_hear a s from said made later wire speak.0 speak.1 stands.session stands.from_is come.0,
-        may_happen (λ m. came m ⊎ Brings w.decoding (called w.decoding s made).1 speak.0 m) b
+        may_happen (λ m. came m ⊎ Brings w.decoding before (called w.decoding s made).1 speak.0 m) b
             (called w.decoding s made).1 from x (said_with said made) (written_with w.decoding s written made) events
             speak.0 after speak.2
             (stands_step came a b s from x said written made later wire speak.0 stands speak.1 next
@@ -418,7 +418,7 @@ module _ (w : Wording) (laws : IsWording w) where
               on = done.on;
               writable = done.writable;
               there = done.there;
-              known = λ m before. done.known m (inl before);
+              known = λ m old. done.known m (inl old);
             }) legs.1 come keeps,
       )
   may_happen came a s from x said written (Exchanges coming t more ∷ events) wire after speak stands legs come keeps = (
@@ -456,18 +456,45 @@ module _ (w : Wording) (laws : IsWording w) where
 
   -- ---- from the start
 
-  start_stands : (config : ConfigParts) (legs : List Leg) (later : List SessionCall) (wire : Wire) → IsConfig config
-      → Stands (λ m. ⊥) (released_line config legs) (new_session config) [] rule_opening [] later wire
-  start_stands config legs later wire good = record {
-    session = refl;
+  -- a line whose session has no connection, and has begun so many
+  stands_from : (a : Line) (s : SessionParts) (later : List SessionCall) (wire : Wire) → a.session ≡ s → IsSound s
+      → is_connected s.phase ≡ false → s.connection ≡ before
+      → Stands (Contains a.to_exchange) a s a.from_exchange a.exchange [] later wire
+  stands_from a s later wire session sound off same = record {
+    session = session;
     from_is = refl;
     exchange = refl;
-    sound = sound-new config good;
-    on = inr (inr (inl refl, refl));
+    sound = sound;
+    on = inr (inr (inl off, same));
     writable = tt;
     there = tt;
-    known = λ m none. absurd none;
+    known = λ m there. there;
   }
+
+start_stands : (w : Wording) (laws : IsWording w) (config : ConfigParts) (legs : List Leg) (later : List SessionCall)
+    (wire : Wire) → IsConfig config
+    → Stands w laws 0 (λ m. ⊥) (released_line config legs) (new_session config) [] rule_opening [] later wire
+start_stands w laws config legs later wire good = record {
+  session = refl;
+  from_is = refl;
+  exchange = refl;
+  sound = sound-new config good;
+  on = inr (inr (inl refl, refl));
+  writable = tt;
+  there = tt;
+  known = λ m none. absurd none;
+}
+
+-- so of every line whose session has no connection: where what comes by the bytes came, and the exchange keeps the
+-- rules, all of it may happen
+pub happens_from : (w : Wording) → IsWording w → (a : Line) (s : SessionParts) (events : List VenueEvent)
+    (wire after : Wire) (speak : Speak w s [] (calls_of (works_of events)) wire after) → a.session ≡ s → IsSound s
+    → is_connected s.phase ≡ false → LegsAreInRange (taken_of (works_of events))
+    → AllCome w s.connection (Contains a.to_exchange) s [] a.from_exchange events wire after speak
+    → ExchangeKeeps a.exchange events → MayAllHappen w.decoding a events
+happens_from w laws a s events wire after speak session sound off range come keeps =
+    may_happen w laws s.connection (Contains a.to_exchange) a s a.from_exchange a.exchange [] [] events wire after speak
+    (stands_from w laws s.connection a s (calls_of (works_of events)) wire session sound off refl) range come keeps
 
 calls_append : (first more : List WorkerEvent) → calls_of (first ++ more) ≡ calls_of first ++ calls_of more
 calls_append [] more = refl
@@ -489,19 +516,23 @@ calls_run turns last dropped =
     ∙ sym (calls_append turns last))
 
 -- a run speaks over its link
+pub run_speaks : (w : Wording) (before : WorkerParts) (left : WorkerLeft) (runs : Runs w before left)
+    (events : List VenueEvent) → works_of events ≡ works_in runs → is_connected before.session.phase ≡ false
+    → Speak w before.session [] (calls_of (works_of events)) before.wire left.parts.wire
+run_speaks w before left runs events works off =
+    let last = last_calls runs.at.session.phase in
+    let same : calls_of (runs.turns ++ last) ≡ calls_of (works_of events) =
+    sym (ap calls_of works ∙ calls_run runs.turns last runs.dropped) in
+    subst (λ (l : List SessionCall). Speak w before.session [] l before.wire left.parts.wire) same (runs.bytes off)
+
 ran_speaks : (w : Wording) (config : ConfigParts) (events : List VenueEvent) (after : WorkerParts)
     (ran : Ran w config events after)
     → Speak w (new_session config) [] (calls_of (works_of events)) ran.before.wire after.wire
 ran_speaks w config events after ran =
-    let runs = ran.runs in
-    let last = last_calls runs.at.session.phase in
-    let same : calls_of (runs.turns ++ last) ≡ calls_of (works_of events) =
-    sym (ap calls_of ran.works ∙ calls_run runs.turns last runs.dropped) in
     let off : is_connected ran.before.session.phase ≡ false =
     ap (λ (s : SessionParts). is_connected s.phase) ran.new in
-    subst (λ (l : List SessionCall). Speak w (new_session config) [] l ran.before.wire after.wire) same
-    (subst (λ (s : SessionParts). Speak w s [] (calls_of (runs.turns ++ last)) ran.before.wire after.wire) ran.new
-    (runs.bytes off))
+    subst (λ (s : SessionParts). Speak w s [] (calls_of (works_of events)) ran.before.wire after.wire) ran.new
+    (run_speaks w ran.before (record { parts = after; reason = ran.why }) ran.runs events ran.works off)
 
 pub the_wire_theorem : (w : Wording) → IsWording w → TheWireTheorem w
 the_wire_theorem w laws config legs events after good ran range =
@@ -510,6 +541,6 @@ the_wire_theorem w laws config legs events after good ran range =
     record {
       speak = speak;
       happens = λ come keeps.
-          may_happen w laws (λ m. ⊥) (released_line config legs) (new_session config) [] rule_opening [] [] events wire
+          may_happen w laws 0 (λ m. ⊥) (released_line config legs) (new_session config) [] rule_opening [] [] events wire
           after.wire speak (start_stands w laws config legs (calls_of (works_of events)) wire good) range come keeps;
     }

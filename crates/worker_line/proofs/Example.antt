@@ -1,5 +1,5 @@
 -- The worked history may happen, and comes to what it should.
-use Rattle.std.proofs.Common.{◌≡◌, [], ◌∷◌, ◌++◌, Some, None, refl, arith}
+use Rattle.std.proofs.Common.{[], ◌∷◌, ◌++◌, Some, None, refl, arith}
 use Rattle.std.specs.Fmt.{digits}
 use Rattle.dialect.specs.Wording.{Decoding}
 use Rattle.session_core.specs.Session.{new_session}

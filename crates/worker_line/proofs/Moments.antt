@@ -114,7 +114,7 @@ the_taken_theorem read config legs events after small worked may first =
     (subst (λ l. IsPrefix l (placed_from 1 legs)) (took_is read config events after worked) first))
 
 -- a run is what the worker did in its turns and when it ended
-run_goes : (w : Wording) (before : WorkerParts) (left : WorkerLeft) (runs : Runs w before left)
+pub run_goes : (w : Wording) (before : WorkerParts) (left : WorkerLeft) (runs : Runs w before left)
     → Goes w.decoding before (works_in runs) left.parts
 run_goes w before left runs =
     goes_on w.decoding before runs.at left.parts runs.turns

@@ -47,7 +47,7 @@ called_released read a call.Malformed = refl
 called_released read a call.Broken = refl
 called_released read a call.Abandon = refl
 
-doing_released : (read : Decoding) (a : Line) (event : WorkerEvent) → (after_doing read a event).released ≡ a.released
+pub doing_released : (read : Decoding) (a : Line) (event : WorkerEvent) → (after_doing read a event).released ≡ a.released
 doing_released read a (Calls made) = called_released read a made
 doing_released read a (Drops leg) = refl
 doing_released read a (Fails leg) = refl

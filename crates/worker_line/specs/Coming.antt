@@ -1,5 +1,5 @@
 -- How messages come over a worker's link, along what happens at its venue: by bytes that the link tells.
-use Rattle.std.specs.Prelude.{◌≡◌, ◌≤◌, ◌⊎◌, ℕ, List, [], ◌∷◌, ◌++◌, Some, None, Ok, IfSome}
+use Rattle.std.specs.Prelude.{◌≡◌, ◌<◌, ◌⊎◌, ℕ, List, [], ◌∷◌, ◌++◌, Some, None, Ok, IfSome}
 use Rattle.std.specs.List.{AllByRecursion, Contains}
 use Rattle.fix_tags.specs.Config.{ConfigParts, IsConfig}
 use Rattle.fix_tags.specs.declared.envelope.Envelope.{Envelope}
@@ -36,12 +36,13 @@ pub record IsReadOf (read : Decoding) (bytes : List ℕ) (m : Message) : Type 0 
   pub is : decoded read envelope ≡ m
 
 -- it reads it of the bytes that were written on the connection that was dialled last, which is the session's present
--- one once it has begun one
-abbrev pub Brings : Decoding → SessionParts → Wire → Carried → Type 0
-Brings read s None m = ⊥
-Brings read s (Some []) m = ⊥
-Brings read s (Some (last ∷ others)) m =
-    (1 ≤ s.connection) × (message : Message) × IsReadOf read last.written message × (m ≡ carried s.connection message)
+-- one once it has begun one, where it had begun so many before
+abbrev pub Brings : Decoding → ℕ → SessionParts → Wire → Carried → Type 0
+Brings read before s None m = ⊥
+Brings read before s (Some []) m = ⊥
+Brings read before s (Some (last ∷ others)) m =
+    (before < s.connection) × (message : Message) × IsReadOf read last.written message
+    × (m ≡ carried s.connection message)
 
 -- the bytes are the first ones of the frames of messages that the exchange wrote in this connection, and that can be
 -- written
@@ -61,24 +62,25 @@ abbrev pub HearsFrom : Encoding → SessionParts → List Carried → SessionCal
 HearsFrom w s from (call.Receive envelope) heard = AreFrom w s from heard
 HearsFrom w s from made heard = Unit {0}
 
--- at each event what comes to either end came over the link, where these messages came to the exchange's end before: a
--- message comes to the exchange once a reader reads it of the bytes that the link told as written after some call, and
--- what the session receives is of the exchange
-abbrev pub AllCome : (w : Wording) (came : Carried → Type 0) (s : SessionParts) (said : Said) (from : List Carried)
-    (events : List VenueEvent) (wire after : Wire) → Speak w s said (calls_of (works_of events)) wire after → Type 0
-AllCome w came s said from [] wire after speak = Unit {0}
-AllCome w came s said from (Works (Calls made) ∷ events) wire after speak =
+-- at each event what comes to either end came over the link, where so many connections were begun before, and these
+-- messages came to the exchange's end: a message comes to the exchange once a reader reads it of the bytes that the
+-- link told as written after some call, and what the session receives is of the exchange
+abbrev pub AllCome : (w : Wording) (before : ℕ) (came : Carried → Type 0) (s : SessionParts) (said : Said)
+    (from : List Carried) (events : List VenueEvent) (wire after : Wire)
+    → Speak w s said (calls_of (works_of events)) wire after → Type 0
+AllCome w before came s said from [] wire after speak = Unit {0}
+AllCome w before came s said from (Works (Calls made) ∷ events) wire after speak =
     HearsFrom w.encoding s from made speak.1.heard
-    × AllCome w (λ m. came m ⊎ Brings w.decoding (called w.decoding s made).1 speak.0 m) (called w.decoding s made).1
-    (said_with said made) from events speak.0 after speak.2
-AllCome w came s said from (Works (Drops leg) ∷ events) wire after speak =
-    AllCome w came s said from events wire after speak
-AllCome w came s said from (Works (Fails leg) ∷ events) wire after speak =
-    AllCome w came (broken s) said from events speak.0 after speak.2
-AllCome w came s said from (Exchanges coming t written ∷ events) wire after speak =
-    IfSome coming came × AllCome w came s said (from ++ written) events wire after speak
-AllCome w came s said from (Releases legs ∷ events) wire after speak =
-    AllCome w came s said from events wire after speak
+    × AllCome w before (λ m. came m ⊎ Brings w.decoding before (called w.decoding s made).1 speak.0 m)
+    (called w.decoding s made).1 (said_with said made) from events speak.0 after speak.2
+AllCome w before came s said from (Works (Drops leg) ∷ events) wire after speak =
+    AllCome w before came s said from events wire after speak
+AllCome w before came s said from (Works (Fails leg) ∷ events) wire after speak =
+    AllCome w before came (broken s) said from events speak.0 after speak.2
+AllCome w before came s said from (Exchanges coming t written ∷ events) wire after speak =
+    IfSome coming came × AllCome w before came s said (from ++ written) events wire after speak
+AllCome w before came s said from (Releases legs ∷ events) wire after speak =
+    AllCome w before came s said from events wire after speak
 
 -- the exchange keeps the rules at each of its steps
 abbrev pub ExchangeKeeps : RuleState → List VenueEvent → Type 0
@@ -96,7 +98,7 @@ LegsAreInRange taken = AllByRecursion (λ placed. IsLeg placed.leg) taken
 pub record GoesByBytes (w : Wording) (config : ConfigParts) (legs : List Leg) (events : List VenueEvent)
     (wire after : Wire) : Type 0 where
   pub speak : Speak w (new_session config) [] (calls_of (works_of events)) wire after
-  pub happens : AllCome w (λ m. ⊥) (new_session config) [] [] events wire after speak
+  pub happens : AllCome w 0 (λ m. ⊥) (new_session config) [] [] events wire after speak
       → ExchangeKeeps rule_opening events → MayAllHappen w.decoding (released_line config legs) events
 
 abbrev pub TheWireTheorem : Wording → Type 0

@@ -22,7 +22,7 @@ use Rattle.worker_line.specs.WorkerTheorem.{released_line, Ran, IsSafeVenue}
 pub record IsSafeByBytes (w : Wording) (config : ConfigParts) (legs : List Leg) (events : List VenueEvent)
     (counted : CountedParts) (venue : ℕ) (before after : WorkerParts) : Type 0 where
   pub speak : Speak w (new_session config) [] (calls_of (works_of events)) before.wire after.wire
-  pub safe : AllCome w (λ m. ⊥) (new_session config) [] [] events before.wire after.wire speak
+  pub safe : AllCome w 0 (λ m. ⊥) (new_session config) [] [] events before.wire after.wire speak
       → ExchangeKeeps rule_opening events
       → IsSafeVenue w.decoding (released_line config legs) events counted venue before after
 

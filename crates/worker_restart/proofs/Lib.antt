@@ -3,3 +3,5 @@ pub mod WorkerStays
 pub mod WorkerStands
 pub mod TookFirst
 pub mod DayOverLives
+pub mod MadeAgain
+pub mod ByBytes

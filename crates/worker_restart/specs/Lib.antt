@@ -1,2 +1,3 @@
 pub mod WorkerLives
 pub mod WorkerRestartTheorem
+pub mod LivesByBytes

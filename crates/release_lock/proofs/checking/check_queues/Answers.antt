@@ -1,11 +1,20 @@
-use Rattle.std.proofs.Common.{ℕ, true≢false, sym, refl, ◌∙◌, subst, arith}
+use Rattle.std.proofs.Common.{◌≡◌, ℕ, true≢false, sym, refl, ◌∙◌, rules, subst, arith}
 use Rattle.exec_collector.proofs.Counts.{venue_is}
 use Rattle.sweep_release.specs.History.{KeptDesk}
 use Rattle.release_lock.specs.Queues.{TookFirst, IsFed}
 use Rattle.release_lock.proofs.Past.{released_past}
-use Rattle.release_lock.proofs.TakenLegs.{venue_ok, no_more, end_here, is_wrong, goes_past, past_all, feed_here, venue_within, goes_on, none_first}
+use Rattle.release_lock.proofs.TakenLegs.{Checking, checking_begins, venue_ok, no_more, end_here, is_wrong, goes_past, past_all, feed_here, venue_within, goes_on, none_first}
 use Rattle.release_lock.proofs.checking.check_queues.Goals as goal
 use Rattle.release_lock.proofs.checking.check_queues.Goals.{in-Some-pop_front+in-Ok+else-not-took_first, in-None+else-not-took_none}
+
+pub loop-end-init : goal.loop-end-init
+loop-end-init g c =
+    let ends : c.from-ends.result.items ≡ c.args.ends.items = search rules in
+    let feeds : c.from-feeds.result.items ≡ c.locked.inside.feeds.items = search rules in
+    subst (λ (d : KeptDesk). Checking g.L.Run.queues d.desk c.args.ends.items 0 c.from-ends.result.items c.from-feeds.result.items)
+    c.locked.view_is
+    (rw (ends, feeds) (checking_begins g.L.Run.queues c.locked.inside.desk.desk c.args.ends.items c.locked.inside.feeds.items
+    c.locked.invariant.0.many c.locked.invariant.0.fed))
 
 pub overflow_cast-place : goal.overflow_cast-place
 overflow_cast-place g c =

@@ -7,6 +7,7 @@ use Rattle.session_core.specs.declared.session_call.SessionCall.TheVariants as c
 use Rattle.session_core.specs.Calling.{answers}
 use Rattle.session_core.specs.Receiving.{receive}
 use Rattle.session_worker.proofs.Calling.{gave_step}
+use Rattle.session_worker.proofs.HeardTold.{heard_told}
 use Rattle.session_worker.proofs.reading.hear.Goals as goal
 
 pub returns-in-Ok-receive-clause-heard : goal.returns-in-Ok-receive-clause-heard
@@ -40,3 +41,14 @@ returns-in-Err-read_envelope-clause-heard g c = (
   c.in-Err-read_envelope.ensures.read,
   ap (λ p. p.1) c.malformed.ensures,
 )
+
+pub returns-in-Ok-receive-clause-told : goal.returns-in-Ok-receive-clause-told
+returns-in-Ok-receive-clause-told g c =
+    heard_told c.args.reader.now (fields_in c.in-Ok-Some.frame) c.args.stamp.now _ _
+    (sym c.in-Ok-Some.ensures.fields ∙ ap (option_map fields_in) c.in-Ok-Some.field-0-is) c.tell_heard.ensures.told
+
+pub returns-in-Err-read_envelope-clause-told : goal.returns-in-Err-read_envelope-clause-told
+returns-in-Err-read_envelope-clause-told g c =
+    heard_told c.args.reader.now (fields_in c.in-Ok-Some.frame) c.args.stamp.now _ _
+    (sym c.in-Ok-Some.ensures.fields ∙ ap (option_map fields_in) c.in-Ok-Some.field-0-is)
+    c.tell_heard-in-Err-read_envelope.ensures.told

@@ -2,6 +2,7 @@ use Rattle.std.proofs.Common.{rules, sym, subst}
 use Rattle.sweep_release.specs.History.{KeptDesk}
 use Rattle.release_lock.specs.Locked.{Replays, OnlyTurns}
 use Rattle.release_lock.proofs.Turning.{turned_locked, turned_side, turned_book}
+use Rattle.release_lock.proofs.NotedSweeps.{turned_noted}
 use Rattle.release_lock.proofs.locked_desk.LockedDesk.lend.Goals as goal
 
 pub invariant_of-self : goal.invariant_of-self
@@ -12,6 +13,7 @@ invariant_of-self g c =
           c.self.invariant.0 only,
       turned_side c.self.inside.desk c.f.new.arg2 only c.self.invariant.1,
       turned_book c.self.inside.desk c.f.new.arg2 only c.self.invariant.2,
+      turned_noted c.self.inside.desk c.f.new.arg2 (g.J.Telling.told c.self.inside.journal) only c.self.invariant.3,
     )
 
 pub returns-clause-replays : goal.returns-clause-replays

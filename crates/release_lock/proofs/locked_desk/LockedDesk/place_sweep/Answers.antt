@@ -8,6 +8,7 @@ use Rattle.release_lock.specs.Locked.{Replays, Places}
 use Rattle.release_lock.specs.Seats.{placing}
 use Rattle.release_lock.proofs.Siding.{placed_side}
 use Rattle.release_lock.proofs.Placing.{outcome, released_locked, released_book, same_locked, same_book}
+use Rattle.release_lock.proofs.NotedSweeps.{same_noted, placed_noted}
 use Rattle.release_lock.proofs.locked_desk.LockedDesk.place_sweep.Goals as goal
 
 pub invariant_of-self : goal.invariant_of-self
@@ -19,10 +20,13 @@ invariant_of-self g c =
           c.self.inside.feeds.items c.self.invariant.0
           (outcome c.args.sweep.legs c.self.inside.desk c.lend_beside.new.beside (Err c.in_err-receipt.field-0.0) places),
       placed_side c.self.inside.desk c.lend_beside.new.beside gave.0 gave.1 c.args.sweep.legs
-          (Err c.in_err-receipt.field-0.0) places.placed c.requires.1.1.1.0 gave.3 gave.4 c.self.invariant.1,
+          (Err c.in_err-receipt.field-0.0) places.placed c.requires.1.1.1.1.0 gave.3 gave.4 c.self.invariant.1,
       same_book c.self.inside.desk c.lend_beside.new.beside
           (outcome c.args.sweep.legs c.self.inside.desk c.lend_beside.new.beside (Err c.in_err-receipt.field-0.0) places)
           c.self.invariant.2,
+      same_noted c.self.inside.desk c.lend_beside.new.beside (g.J.Telling.told c.self.inside.journal)
+          (outcome c.args.sweep.legs c.self.inside.desk c.lend_beside.new.beside (Err c.in_err-receipt.field-0.0) places)
+          c.self.invariant.3,
     )
 
 pub returns-in_err-receipt-clause-placed : goal.returns-in_err-receipt-clause-placed
@@ -53,13 +57,13 @@ count-requires g c κs within =
     record { book = gave.0; book_after = gave.1; placed = search rules } in
     let it = outcome c.args.sweep.legs c.self.inside.desk c.lend_beside.new.beside (Ok c.in_ok-receipt.receipt) places in (
       search rules,
-      (c.self.invariant.2.named, ap (λ r. r.shares) it.receipt_is ∙ ap sweep_shares (sym c.requires.1.1.1.1)),
+      (c.self.invariant.2.named, ap (λ r. r.shares) it.receipt_is ∙ ap sweep_shares (sym c.requires.1.1.1.1.1)),
     )
 
 pub returns-clause-noted : goal.returns-clause-noted
 returns-clause-noted g c =
     c.count.ensures.placed
-    ∙ ap (λ legs. c.args.seat.now.placed ++ placing c.in_ok-receipt.receipt.number legs ∷ []) c.requires.1.1.1.1
+    ∙ ap (λ legs. c.args.seat.now.placed ++ placing c.in_ok-receipt.receipt.number legs ∷ []) c.requires.1.1.1.1.1
 
 pub invariant_of-self-2 : goal.invariant_of-self-2
 invariant_of-self-2 g c =
@@ -71,12 +75,16 @@ invariant_of-self-2 g c =
           c.lend_beside.new.beside c.self.inside.total.total c.count.new.total.total c.self.inside.feeds.items
           c.self.invariant.0 it c.count.ensures.total,
       placed_side c.self.inside.desk c.lend_beside.new.beside gave.0 gave.1 c.args.sweep.legs
-          (Ok c.in_ok-receipt.receipt) places.placed c.requires.1.1.1.0 gave.3 gave.4 c.self.invariant.1,
+          (Ok c.in_ok-receipt.receipt) places.placed c.requires.1.1.1.1.0 gave.3 gave.4 c.self.invariant.1,
       released_book c.args.sweep.legs c.self.inside.desk c.in_ok-receipt.receipt c.lend_beside.new.beside it
           c.count.ensures.book.0
           (c.count.ensures.book.1
-          ∙ ap (λ legs. c.self.inside.book.given ++ placing c.in_ok-receipt.receipt.number legs ∷ []) c.requires.1.1.1.1)
+          ∙ ap (λ legs. c.self.inside.book.given ++ placing c.in_ok-receipt.receipt.number legs ∷ []) c.requires.1.1.1.1.1)
           c.self.invariant.2,
+      placed_noted c.args.sweep.legs c.self.inside.desk c.in_ok-receipt.receipt c.lend_beside.new.beside
+          c.args.asked.now.stamp c.args.asked.now.line.now (g.J.Telling.told c.self.inside.journal)
+          (g.J.Telling.told c.note_placed.new.journal) c.note_placed.ensures.within it c.note_placed.ensures.told
+          c.note_placed.ensures.kept c.self.invariant.3,
     )
 
 pub returns-clause-placed : goal.returns-clause-placed

@@ -6,6 +6,7 @@ use Rattle.venue_queue.specs.Rule.{EndsWith}
 use Rattle.sweep_release.specs.Desk.{placed}
 use Rattle.release_lock.specs.Locked.{Replays}
 use Rattle.release_lock.proofs.Leaving.{pumped_locked, pumped_side, pumped_book}
+use Rattle.release_lock.proofs.NotedSweeps.{pumped_noted}
 use Rattle.release_lock.proofs.locked_desk.LockedDesk.pump.Goals as goal
 
 pub invariant_of-self : goal.invariant_of-self
@@ -22,6 +23,8 @@ invariant_of-self g c =
           feeds old c.pump.new.feed c.self.invariant.0 c.pump.ensures.desk at c.pump.ensures.ring c.pump.ensures.fed),
       pumped_side c.args.venue c.self.inside.desk c.pump.new.desk c.pump.ensures.desk c.self.invariant.1,
       pumped_book c.args.venue c.self.inside.desk c.pump.new.desk c.pump.ensures.desk c.self.invariant.2,
+      pumped_noted c.args.venue c.self.inside.desk c.pump.new.desk (g.J.Telling.told c.self.inside.journal)
+          c.pump.ensures.desk c.self.invariant.3,
     )
 
 pub returns-clause-done : goal.returns-clause-done

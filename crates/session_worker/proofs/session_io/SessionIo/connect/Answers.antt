@@ -13,10 +13,11 @@ returns-in-Ok-clause-moves g c =
 pub returns-in-Err-clause-moves : goal.returns-in-Err-clause-moves
 returns-in-Err-clause-moves g c =
     let w : Wording = g.D.Dialect.wording c.args.dialect.now in
-    let old : SessionIoParts = io_of c.self.inside.session (g.K.Link.wire c.self.inside.link) c.self.inside.reader in
-    let now : SessionIoParts = io_of old.session (g.K.Link.wire c.dial.new.self) old.stream in
+    let old : SessionIoParts = io_of c.self.inside.session c.self.inside.door.wire c.self.inside.reader
+    (g.J.Telling.told c.self.inside.journal) in
+    let now : SessionIoParts = io_of old.session c.dial.new.self.wire old.stream old.told in
     subst (λ (x : SessionIoParts). Moves w x now) c.self.view_is
-    (moves_same w old now refl c.in-Err.ensures.wire refl)
+    (moves_same w old now refl c.in-Err.ensures.wire refl refl)
 
 pub returns-in-Err-clause-spent : goal.returns-in-Err-clause-spent
 returns-in-Err-clause-spent g c = λ e. absurd (true≢false e)

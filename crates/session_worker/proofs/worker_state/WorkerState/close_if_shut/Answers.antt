@@ -40,4 +40,5 @@ returns-in-NoRoom g c =
     (does_on w a d e (does_on w a b d (does_moves w a b c.close.ensures.moves refl refl)
     (does_drains w b d c.drain.ensures c.close.ensures.idle))
     (subst (λ (x : WorkerStateParts). Does w x e) c.self-2.view_is
-    (does_moves w m e (moves_broken w m.io e.io c.break_off.ensures.session c.break_off.ensures.wire) refl refl)))
+    (does_moves w m e (moves_broken w m.io e.io c.break_off.ensures.session c.break_off.ensures.wire
+    c.break_off.ensures.told) refl refl)))

@@ -1,9 +1,8 @@
 use Rattle.std.proofs.Common.{refl, sym, ap, subst, ◌∙◌}
 use Rattle.dialect.specs.Wording.{Wording}
 use Rattle.session_worker.specs.Events.{IsIdle}
-use Rattle.session_worker.specs.Linking.{SessionIoParts, WorkerStateParts, Does}
+use Rattle.session_worker.specs.Linking.{WorkerStateParts, Does}
 use Rattle.session_core.specs.declared.phase.Phase.TheVariants.{Down}
-use Rattle.session_worker.proofs.Speech.{stays_same}
 use Rattle.session_worker.proofs.Calling.{moves_abandon, idle_in}
 use Rattle.session_worker.proofs.Doing.{state_of, does_none, does_on, does_moves, does_drains}
 use Rattle.session_worker.proofs.worker_state.WorkerState.connect.Goals as goal
@@ -15,8 +14,7 @@ returns-then-not-in_doubt g c =
     let b : WorkerStateParts = state_of c.abandon.new.self c.self.inside.takings c.self.inside.seat c.self.inside.withdrawn in
     subst (λ (x : WorkerStateParts). Does w x b) c.self.view_is
     (does_moves w a b
-    (moves_abandon w a.io b.io (ap (λ (x : SessionIoParts). x.session) c.abandon.ensures)
-    (stays_same a.io.wire b.io.wire (ap (λ (x : SessionIoParts). x.wire) c.abandon.ensures))) refl refl)
+    (moves_abandon w a.io b.io c.abandon.ensures.session c.abandon.ensures.wire c.abandon.ensures.told) refl refl)
 
 pub returns-then-not-may_dial : goal.returns-then-not-may_dial
 returns-then-not-may_dial g c = does_none _ _
@@ -45,5 +43,4 @@ returns g c =
     (does_drains w d e c.drain.ensures still))
     (subst (λ (x : WorkerStateParts). Does w x f) c.self-2.view_is
     (does_moves w m f
-    (moves_abandon w m.io f.io (ap (λ (x : SessionIoParts). x.session) c.abandon-2.ensures)
-    (stays_same m.io.wire f.io.wire (ap (λ (x : SessionIoParts). x.wire) c.abandon-2.ensures))) refl refl)))
+    (moves_abandon w m.io f.io c.abandon-2.ensures.session c.abandon-2.ensures.wire c.abandon-2.ensures.told) refl refl)))

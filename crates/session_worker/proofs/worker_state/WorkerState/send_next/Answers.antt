@@ -21,4 +21,5 @@ returns-in-Err g c =
     let a : WorkerStateParts = state_of c.self.inside.io c.self.inside.takings c.self.inside.seat c.self.inside.withdrawn in
     let b : WorkerStateParts = state_of c.break_off.new.self c.next_leg.new.takings c.self.inside.seat c.self.inside.withdrawn in
     subst (λ (x : WorkerStateParts). Does w x b) c.self.view_is
-    (does_moves w a b (moves_broken w a.io b.io c.break_off.ensures.session c.break_off.ensures.wire) c.in-Err.ensures refl)
+    (does_moves w a b (moves_broken w a.io b.io c.break_off.ensures.session c.break_off.ensures.wire
+    c.break_off.ensures.told) c.in-Err.ensures refl)

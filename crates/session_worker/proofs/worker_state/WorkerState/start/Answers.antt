@@ -1,15 +1,16 @@
 use Rattle.std.proofs.Common.{◌∙◌, ap}
 use Rattle.dialect.specs.Wording.{Wording}
 use Rattle.session_core.specs.declared.phase.Phase.TheVariants.{Down}
+use Rattle.session_core.specs.Session.{SessionParts}
 use Rattle.session_worker.specs.Events.{IsIdle}
-use Rattle.session_worker.specs.Linking.{SessionIoParts, WorkerStateParts}
+use Rattle.session_worker.specs.Linking.{WorkerStateParts}
 use Rattle.session_worker.proofs.Calling.{idle_in}
 use Rattle.session_worker.proofs.Doing.{does_on, does_stay, does_drains}
 use Rattle.session_worker.proofs.worker_state.WorkerState.start.Goals as goal
 
 pub connect-requires : goal.connect-requires
 connect-requires g c =
-    ap (λ (x : SessionIoParts). x.session.phase) c.drain.ensures.io
+    ap (λ (s : SessionParts). s.phase) c.drain.ensures.io.session
     ∙ (ap (λ (x : WorkerStateParts). x.io.session.phase) c.put_down.ensures ∙ c.requires)
 
 pub returns-in-Everything : goal.returns-in-Everything

@@ -17,4 +17,4 @@ returns g c =
     (does_on w a b _ begun c.begin.ensures) c.close_if_shut.ensures) c.listen.ensures) c.write_if_quiet.ensures)
     c.ask_if_silent.ensures)
     (does_same w at_ask at_rest c.rest_if_idle.ensures.session c.rest_if_idle.ensures.took c.rest_if_idle.ensures.seat
-    c.rest_if_idle.ensures.wire c.rest_if_idle.ensures.stream))
+    c.rest_if_idle.ensures.wire c.rest_if_idle.ensures.stream c.rest_if_idle.ensures.told))

@@ -1,6 +1,6 @@
-use Rattle.std.proofs.Common.{◌≡◌, rules, List, length, sym, subst, ◌∙◌, arith}
+use Rattle.std.proofs.Common.{◌≡◌, rules, List, length, [], ◌∷◌, ◌++◌, ap, sym, subst, ◌∙◌, arith}
 use Rattle.session_worker.specs.Ends.{WorkerLeft, AllRan}
-use Rattle.session_worker.proofs.Ran.{all_ran, all_started, nothing_left, has_room}
+use Rattle.session_worker.proofs.Ran.{all_ran, all_started, one_started, nothing_left, has_room}
 use Rattle.session_worker.proofs.running.fn.run_all_until.scope.Goals as goal
 
 pub returns-in-Ok-join_promised : goal.returns-in-Ok-join_promised
@@ -20,3 +20,9 @@ returns-in-Ok-join_promised g c =
 pub push_reserved-requires : goal.push_reserved-requires
 push_reserved-requires g c =
     has_room c.reserve.result _ _ c.reserve.ensures.ok (sym c.is_err.ensures.value ∙ c.if-is_err.false)
+
+pub loop-worker-preserved : goal.loop-worker-preserved
+loop-worker-preserved g c =
+    one_started (λ h. h.promise.0.value) c.loop-worker.handles.items _ c.in-Ok.handle c.loop-worker.workers.items _ _
+    c.in-Some.worker (c.push_reserved.ensures.items ∙ ap (λ hs. hs ++ c.in-Ok.handle ∷ []) c.reserve.ensures.items)
+    c.in-Some.ensures.items (ap (λ p. p.0.value) c.in-Ok.ensures.ok ∙ c.of.ensures) c.loop-worker.invariant

@@ -3,7 +3,7 @@ use Rattle.exec_collector.specs.Opened.{sweeps_of}
 use Rattle.exec_collector.proofs.Counts.{venue_is}
 use Rattle.release_lock.specs.Seats.{placings_from}
 use Rattle.release_lock.proofs.Opening.{drain_named, opens_on, new_locked}
-use Rattle.release_lock.proofs.release_lock.ReleaseLock.new.Goals as goal
+use Rattle.release_lock.proofs.new_desk.LockedDesk+L.opened.Goals as goal
 
 pub invariant_of-push_reserved : goal.invariant_of-push_reserved
 invariant_of-push_reserved g c =
@@ -29,8 +29,8 @@ loop-number-preserved g c =
       omega (arith, room, same),
     )
 
-pub invariant_of-locked : goal.invariant_of-locked
-invariant_of-locked g c =
+pub invariant_of-desk : goal.invariant_of-desk
+invariant_of-desk g c =
     let made = c.loop-number.invariant.0 in
     let done : c.loop-number.number ≡ c.args.venues = omega arith in (
       new_locked _ _ _ c.args.rings.items _ _ _ _ _ c.requires.high c.requires.rings.0 c.requires.queues made done
@@ -43,4 +43,5 @@ invariant_of-locked g c =
         named = ap (λ b. b.slips) c.blank.view_is ∙ c.requires.slips;
         gives = c.blank.invariant ∙ ap (λ d. placings_from 1 d.desk.sweeps) (sym c.in_ok-desk.ensures.ok);
       },
+      tt,
     )

@@ -1,6 +1,6 @@
 use Rattle.std.proofs.Common.{◌≤◌, vec_capacity}
 use Rattle.release_lock.proofs.Opening.{Opening}
-use Rattle.release_lock.proofs.release_lock.ReleaseLock.new.Given as goal
+use Rattle.release_lock.proofs.new_desk.LockedDesk+L.opened.Given as goal
 
 abbrev pub invariant-loop-number : goal.invariant-loop-number
 invariant-loop-number g l =

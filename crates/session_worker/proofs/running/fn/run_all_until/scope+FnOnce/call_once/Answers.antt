@@ -1,0 +1,32 @@
+use denote.Exit.{yes}
+use denote.Param.Send.{param_send, param_sync, arg_send, arg_sync}
+use Rattle.session_worker.proofs.running.fn.run_all_until.scope+FnOnce.call_once.Goals as goal
+
+-- what may cross to a thread here may do so where the workers are started
+pub scope-requires : goal.scope-requires
+scope-requires g c =
+    let r = c.requires.1.1.1.1.1.1.1.1 in (
+      param_send _ _ (arg_send _ yes _ r.0),
+      (
+        param_send _ _ (arg_send _ yes _ r.1),
+        (
+          param_send _ _ (arg_send _ yes _ r.2),
+          (
+            param_send _ _ (arg_send _ yes _ r.3),
+            (
+              param_send _ _ (arg_send _ yes _ r.4),
+              (
+                param_send _ _ (arg_send _ yes _ r.5),
+                (
+                  param_send _ _ (arg_send _ yes _ r.6),
+                  (
+                    param_sync _ _ (arg_sync _ yes _ r.7),
+                    (param_sync _ _ (arg_sync _ yes _ r.8), param_sync _ _ (arg_sync _ yes _ r.9)),
+                  ),
+                ),
+              ),
+            ),
+          ),
+        ),
+      ),
+    )
