@@ -5,6 +5,8 @@ use Rattle.std.specs.Str.{bytes_eq}
 use Rattle.desk_config.specs.declared.venue.Venue.{Venue}
 use Rattle.day_log.specs.declared.fault.LogFault.{LogFault}
 use Rattle.day_log.specs.declared.fault.LogFault.TheVariants.{Exists, CantLook, OutOfMemory}
+use Rattle.day_log.specs.declared.going_on.LogEnd.{LogEnd}
+use Rattle.day_log.specs.declared.going_on.LogEnd.TheVariants as end
 use Rattle.day_log.specs.declared.log_file.LogFile.{LogFile}
 use Rattle.day_log.specs.declared.log_file.LogFile.TheVariants as file
 use Rattle.day_log.specs.Header.{file_text}
@@ -24,3 +26,9 @@ path_text folder it = folder ++ codes "/" ++ file_text it
 -- the look at a file fails for what it says of it, or for memory
 abbrev pub MayFail : LogFault → LogFile → Type 0
 MayFail fault it = (fault ≡ Exists it) ⊎ (fault ≡ CantLook it) ⊎ (fault ≡ OutOfMemory)
+
+-- what is written to a log that was left so before its next line, where a new one has these first lines
+abbrev pub lacks : LogEnd → List ℕ → List ℕ
+lacks end.New header = header
+lacks end.WithinLine header = 10 ∷ []
+lacks end.Whole header = []

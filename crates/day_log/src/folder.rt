@@ -29,7 +29,7 @@ pub struct DayLogs<F: Write + Drop> {
 }
 
 /// Whether a venue has the name of the log of the lines.
-fn is_name_taken(venues: &[Venue]) -> bool
+pub(crate) fn is_name_taken(venues: &[Venue]) -> bool
     ensures { result ≡ is_name_taken venues.now }
 {
     venues
@@ -50,7 +50,7 @@ fn files_of(alloc: Global, venues: &[Venue]) -> Result<Vec<LogFile>, AllocError>
 }
 
 /// Where a file is.
-fn path_of(alloc: Global, folder: &str, file: &LogFile) -> Result<String, AllocError>
+pub(crate) fn path_of(alloc: Global, folder: &str, file: &LogFile) -> Result<String, AllocError>
     ensures { IfOk result (λ path. string_bytes path ≡ path_text folder.now file.now) }
 {
     let mut path = String::new(alloc);
@@ -94,7 +94,11 @@ fn new_file<R: Files>(rt: &R, path: &str) -> io::Result<R::File> {
 }
 
 /// Writes the first line of a log.
-fn begin_file<W: Write + Drop>(out: W, file: LogFile, header: &[u8]) -> Result<W, LogFault>
+pub(crate) fn begin_file<W: Write + Drop>(
+    out: W,
+    file: LogFile,
+    header: &[u8],
+) -> Result<W, LogFault>
     ensures line { IfOk result (λ begun. Appends (W.contents out) (W.contents begun) header.now) }
     ensures fault { IfErr result (λ fault. fault ≡ LogFault.CantWrite file) }
 {
@@ -150,7 +154,7 @@ fn new_log(
 
 impl<F: Write + Drop> DayLogs<F> {
     /// The lines of the desk are written to this file.
-    fn new(alloc: Global, sweeps: F) -> Result<DayLogs<F>, LogFault>
+    pub(crate) fn new(alloc: Global, sweeps: F) -> Result<DayLogs<F>, LogFault>
         ensures some { IfOk result (λ logs. (logs.venues.items ≡ []) × (length logs.writers.items ≡ 1)) }
         ensures only { IfErr result (λ fault. fault ≡ LogFault.OutOfMemory) }
     {
@@ -165,7 +169,7 @@ impl<F: Write + Drop> DayLogs<F> {
     }
 
     /// The lines of the next venue are written to this file.
-    fn add(&mut self, alloc: Global, file: F) -> Result<(), LogFault>
+    pub(crate) fn add(&mut self, alloc: Global, file: F) -> Result<(), LogFault>
         ensures more { OnOk result ((length self.new.venues.items ≡ length self.old.venues.items + 1)
             × (length self.new.writers.items ≡ length self.old.writers.items + 1)) }
         ensures only { IfErr result (λ fault. fault ≡ LogFault.OutOfMemory) }

@@ -12,8 +12,9 @@
 //! - The lines at the head of a venue's log, the names of the files and the text of each fault are the stated ones
 //!   (`header_text`, `file_text`, `fault_text`).
 //! - `open_logs` gives a log for each venue and one for the lines, and answers `NameTaken` exactly where a venue is
-//!   called `sweeps`. What is put under a log's lock, that a file is there or isn't, and that the writer's thread
-//!   comes to write are said nowhere: what it writes of a batch is `LogWriter`'s promise.
+//!   called `sweeps`; so does `go_on_with_logs`, for a day that is gone on with. What that writes behind a log is
+//!   `lacks` of how it was left. What is put under a log's lock, that a file is there or isn't, how it was left, and
+//!   that the writer's thread comes to write are said nowhere: what it writes of a batch is `LogWriter`'s promise.
 //! - What `Traffic` counts, how long orders wait to be written (`OrderTimes`), what a venue said as it logged out
 //!   (`LogoutText`), and that others are told when a worker did something, is only tested.
 #![tactic(auto)]
@@ -24,6 +25,7 @@ mod field;
 mod file_writer;
 mod folder;
 mod frame_head;
+mod going_on;
 mod header;
 pub mod laws;
 mod line_log;
@@ -43,6 +45,7 @@ pub use counts::LogCounts;
 pub use fault::LogFault;
 pub use file_writer::{FileWriter, write_until};
 pub use folder::{DayLogs, open_logs};
+pub use going_on::go_on_with_logs;
 pub use header::{SWEEPS_HEADER, head_of_words, header_lines, words_text};
 pub use line_log::LineLog;
 pub use log_file::LogFile;

@@ -4,3 +4,4 @@ pub mod TextRead
 pub mod Apart
 pub mod FieldsRead
 pub mod HostsRead
+pub mod DayParts

@@ -9,11 +9,13 @@ use Rattle.desk_config.specs.declared.desk_keys.DeskTable.{DeskTable}
 use Rattle.desk_config.specs.declared.fault.ConfigFault.{ConfigFault}
 use Rattle.desk_config.specs.declared.fault.ConfigFault.TheVariants as fault
 use Rattle.desk_config.specs.declared.fault.KeyFault.{KeyFault}
+use Rattle.desk_config.specs.declared.journal.JournalTerms.{JournalTerms}
 use Rattle.desk_config.specs.declared.keys.Keys.TheVariants as keys
 use Rattle.desk_config.specs.declared.place.Place.TheVariants as place
 use Rattle.desk_config.specs.declared.venue.Venue.{Venue}
 use Rattle.desk_config.specs.Desk.{desk_in}
 use Rattle.desk_config.specs.Hosts.{hosts_of}
+use Rattle.desk_config.specs.JournalName.{apart_from_desk}
 use Rattle.desk_config.specs.Reading.{and_then, checked, in_place}
 use Rattle.desk_config.specs.Venues.{venues_of}
 
@@ -21,6 +23,7 @@ use Rattle.desk_config.specs.Venues.{venues_of}
 pub record ConfigParts : Type 0 where
   pub callers : ℕ
   pub log : Option (List ℕ)
+  pub journal : Option JournalTerms
   pub page : Option Address
   pub token : Option (List ℕ)
   pub hosts : List (List ℕ)
@@ -31,6 +34,7 @@ parts_of_config config =
     record {
       callers = config.callers;
       log = config.log;
+      journal = config.journal;
       page = config.page;
       token = config.token;
       hosts = config.hosts.items;
@@ -43,6 +47,7 @@ config_of desk hosts venues =
     record {
       callers = desk.callers;
       log = desk.log;
+      journal = desk.journal;
       page = desk.page;
       token = desk.token;
       hosts = hosts;
@@ -56,7 +61,8 @@ config_in file =
     and_then (desk_in file) (λ desk.
     and_then (hosts_of desk.token file) (λ hosts.
     and_then (venues_of desk.sender file) (λ venues.
-    Ok (config_of desk hosts venues)))))
+    and_then (in_place place.Desk (apart_from_desk desk.journal venues)) (λ _.
+    Ok (config_of desk hosts venues))))))
 
 -- the answer is what is said, or its fault; or memory ran out
 abbrev pub Answers : Result ConfigParts KeyFault → Result DeskConfig ConfigFault → Type 0

@@ -7,12 +7,16 @@ use Rattle.desk_words.specs.Printable.{printable_of}
 use Rattle.desk_config.specs.declared.address.Address.{Address as AddressParts}
 use Rattle.desk_config.specs.declared.desk_keys.DeskTable.{DeskTable}
 use Rattle.desk_config.specs.declared.fault.Fault.{Fault}
-use Rattle.desk_config.specs.declared.fault.Fault.TheVariants.{NeedsToken}
+use Rattle.desk_config.specs.declared.fault.Fault.TheVariants.{NeedsToken, NoJournal}
 use Rattle.desk_config.specs.declared.fault.KeyFault.{KeyFault}
-use Rattle.desk_config.specs.declared.key.Key.TheVariants.{Sender, Callers, Log, Page, Token}
+use Rattle.desk_config.specs.declared.journal.Durable.{Durable as DurableKind}
+use Rattle.desk_config.specs.declared.journal.Durable.TheVariants.{Process}
+use Rattle.desk_config.specs.declared.journal.JournalTerms.{JournalTerms}
+use Rattle.desk_config.specs.declared.key.Key.TheVariants.{Sender, Callers, Log, Journal, Durable, Page, Token}
 use Rattle.desk_config.specs.declared.keys.Keys.TheVariants as keys
 use Rattle.desk_config.specs.declared.place.Place.TheVariants as place
 use Rattle.desk_config.specs.Address.{address_of, is_loopback}
+use Rattle.desk_config.specs.Journal.{durable_named, pattern_of}
 use Rattle.desk_config.specs.Number.{number_within}
 use Rattle.desk_config.specs.Reading.{and_then, checked, in_place, value_at}
 
@@ -25,6 +29,25 @@ address_in given = option_and_then address_of (as_str given)
 
 abbrev pub printable_in : ℕ → Data → Option (List ℕ)
 printable_in most given = option_and_then (printable_of most) (as_str given)
+
+-- the pattern of a folder, and what a journal outlives, as the file spells them
+abbrev pub pattern_in : Data → Option (List ℕ)
+pattern_in given = option_and_then pattern_of (as_str given)
+
+abbrev pub durable_in : Data → Option DurableKind
+durable_in given = option_and_then durable_named (as_str given)
+
+-- what a journal outlives is said only where there is one; the process, if it isn't said
+abbrev pub terms_of : Option (List ℕ) → Option DurableKind → Result (Option JournalTerms) Fault
+terms_of (Some folder) durable = Ok (Some (record { folder = folder; durable = unwrap_or durable Process }))
+terms_of None (Some durable) = Err NoJournal
+terms_of None None = Ok None
+
+-- where the journal is kept
+unfoldable pub journal_in : Data → Result (Option JournalTerms) Fault
+journal_in desk =
+    and_then (value_at pattern_in Journal desk) (λ folder.
+    and_then (value_at durable_in Durable desk) (λ durable. terms_of folder durable))
 
 -- a page that others can reach has a token beside it
 abbrev pub with_token : Option AddressParts → Option (List ℕ) → Result (Option AddressParts × Option (List ℕ)) Fault
@@ -44,12 +67,20 @@ desk_table desk =
     and_then (value_at comp_id_in Sender desk) (λ sender.
     and_then (value_at (number_within 1 64) Callers desk) (λ callers.
     and_then (value_at (printable_in 200) Log desk) (λ log.
+    and_then (journal_in desk) (λ journal.
     and_then (page_and_token desk) (λ served.
-    Ok (record { sender = sender; callers = unwrap_or callers 8; log = log; page = served.0; token = served.1 }))))))
+    Ok (record {
+      sender = sender;
+      callers = unwrap_or callers 8;
+      log = log;
+      journal = journal;
+      page = served.0;
+      token = served.1;
+    })))))))
 
 -- a file without `[desk]`
 abbrev pub no_desk : DeskTable
-no_desk = record { sender = None; callers = 8; log = None; page = None; token = None }
+no_desk = record { sender = None; callers = 8; log = None; journal = None; page = None; token = None }
 
 abbrev pub desk_found : Option Data → Result DeskTable KeyFault
 desk_found None = Ok no_desk

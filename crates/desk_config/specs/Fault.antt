@@ -1,7 +1,7 @@
 -- The texts of faults.
 use Rattle.std.specs.Prelude.{ℕ, List, [], ◌++◌, codes, decimal, Option, Some, None}
 use Rattle.desk_config.specs.declared.fault.Fault.{Fault}
-use Rattle.desk_config.specs.declared.fault.Fault.TheVariants.{NoTable, Unknown, UnknownWord, Missing, Bad, Mark, Order, NeedsToken, HostsNeedToken, Host, OnlySimulated, SameName, SameSession}
+use Rattle.desk_config.specs.declared.fault.Fault.TheVariants.{NoTable, Unknown, UnknownWord, Missing, Bad, Mark, Order, NoJournal, NeedsToken, HostsNeedToken, Host, OnlySimulated, SameName, SameSession, DeskName}
 use Rattle.desk_config.specs.declared.fault.KeyFault.{KeyFault}
 use Rattle.desk_config.specs.declared.fault.ConfigFault.{ConfigFault}
 use Rattle.desk_config.specs.declared.fault.ConfigFault.TheVariants.{Toml, Key, OutOfMemory}
@@ -22,6 +22,7 @@ fault_text (Bad key found) =
 fault_text (Mark found fault) = codes "words.mark is " ++ found_text found ++ codes ": " ++ field_fault_text fault
 fault_text (Order number found fault) =
     codes "order " ++ decimal number ++ codes " is " ++ found_text found ++ codes ": " ++ field_fault_text fault
+fault_text NoJournal = codes "durable is there, and there is no journal"
 fault_text NeedsToken = codes "page is not at 127.0.0.1, and there is no token"
 fault_text HostsNeedToken = codes "hosts is there, and there is no token"
 fault_text (Host number found) =
@@ -30,6 +31,8 @@ fault_text (Host number found) =
 fault_text OnlySimulated = codes "fill is there, and the venue isn't simulated"
 fault_text (SameName place) = codes "name is that of venue " ++ decimal place
 fault_text (SameSession place) = codes "address and comp ids are those of venue " ++ decimal place
+fault_text (DeskName place) =
+    codes "journal is there, and venue " ++ decimal place ++ codes " is called desk, as the desk's journal is"
 
 -- the name of a venue in brackets, where it has one
 abbrev pub name_text : Option (List ℕ) → List ℕ

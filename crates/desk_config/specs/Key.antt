@@ -1,7 +1,7 @@
 -- The keys of the desk's file.
 use Rattle.std.specs.Prelude.{ℕ, List, ◌++◌, codes}
 use Rattle.desk_config.specs.declared.key.Key.{Key}
-use Rattle.desk_config.specs.declared.key.Key.TheVariants.{Venue, Sender, Callers, Log, Page, Token, Hosts, Name, Address, Target, Dialect, Words, Id, Mark, Price, Symbol, Order, Heartbeat, NextExpected, MaxNumber, Fill}
+use Rattle.desk_config.specs.declared.key.Key.TheVariants.{Venue, Sender, Callers, Log, Journal, Durable, Page, Token, Hosts, Name, Address, Target, Dialect, Words, Id, Mark, Price, Symbol, Order, Heartbeat, NextExpected, MaxNumber, Fill}
 
 -- a key as the file spells it
 abbrev pub key_name : Key → List ℕ
@@ -9,6 +9,8 @@ key_name Venue = codes "venue"
 key_name Sender = codes "sender"
 key_name Callers = codes "callers"
 key_name Log = codes "log"
+key_name Journal = codes "journal"
+key_name Durable = codes "durable"
 key_name Page = codes "page"
 key_name Token = codes "token"
 key_name Hosts = codes "hosts"
@@ -41,6 +43,8 @@ key_wants Venue = codes "1 to 16 tables"
 key_wants Sender = codes "1 to 16 printable characters without spaces"
 key_wants Callers = codes "1 to 64"
 key_wants Log = codes "the name of a folder, 1 to 200 printable characters"
+key_wants Journal = codes "the name of a folder, 1 to 200 printable characters, with % only in %Y-%m-%d, once"
+key_wants Durable = codes "process or power"
 key_wants Page = codes "HOST:PORT"
 key_wants Token = codes "1 to 128 printable characters"
 key_wants Hosts = codes "an array of 1 to 8 names as desk.example.com"

@@ -10,7 +10,8 @@ abbrev pub has_key : Keys → List ℕ → Bool
 has_key File key = bytes_eq key (codes "desk") || bytes_eq key (codes "venue")
 has_key Desk key =
     bytes_eq key (codes "sender") || bytes_eq key (codes "callers") || bytes_eq key (codes "log")
-    || bytes_eq key (codes "page") || bytes_eq key (codes "token") || bytes_eq key (codes "hosts")
+    || bytes_eq key (codes "journal") || bytes_eq key (codes "durable") || bytes_eq key (codes "page")
+    || bytes_eq key (codes "token") || bytes_eq key (codes "hosts")
 has_key Venue key =
     bytes_eq key (codes "name") || bytes_eq key (codes "address") || bytes_eq key (codes "target")
     || bytes_eq key (codes "sender") || bytes_eq key (codes "dialect") || bytes_eq key (codes "words")

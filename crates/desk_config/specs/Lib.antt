@@ -5,6 +5,9 @@ pub mod Fault
 pub mod Address
 pub mod Endpoint
 pub mod Number
+pub mod Day
+pub mod Journal
+pub mod JournalName
 pub mod Reading
 pub mod Desk
 pub mod Hosts

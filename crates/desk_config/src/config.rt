@@ -3,6 +3,7 @@
 ghost use Rattle.std.specs.Prelude.{◌≡◌};
 
 use crate::address::{Address, MAX_HOST};
+use crate::journal::JournalTerms;
 use crate::venue::Venue;
 use crate::within::Within;
 use desk_words::Printable;
@@ -32,6 +33,8 @@ pub struct DeskConfig {
     pub callers: Callers,
     /// The folder of the message logs, as the file names it; none are kept without it.
     pub log: Option<FolderText>,
+    /// Where the day's journal is kept; none is without it.
+    pub journal: Option<JournalTerms>,
     /// Where the page and its API are served; nowhere without it.
     pub page: Option<Address>,
     /// The token, which is there where the page isn't on 127.0.0.1.

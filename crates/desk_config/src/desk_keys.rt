@@ -1,13 +1,14 @@
 //! The keys of `[desk]`.
 
 ghost use Rattle.std.specs.Prelude.{◌≡◌};
-ghost use Rattle.desk_config.specs.Desk.{desk_in, desk_table, page_and_token};
+ghost use Rattle.desk_config.specs.Desk.{desk_in, desk_table, journal_in, page_and_token};
 ghost use Rattle.desk_config.specs.Reading.{in_place};
 ghost use Rattle.toml.specs.View.{view};
 
 use crate::address::Address;
 use crate::config::{Callers, FolderText, TokenText};
 use crate::fault::{Fault, KeyFault};
+use crate::journal::{DayPattern, Durable, JournalTerms};
 use crate::key::Key;
 use crate::keys::Keys;
 use crate::place::Place;
@@ -24,8 +25,26 @@ pub(crate) struct DeskTable {
     pub sender: Option<CompId>,
     pub callers: Callers,
     pub log: Option<FolderText>,
+    pub journal: Option<JournalTerms>,
     pub page: Option<Address>,
     pub token: Option<TokenText>,
+}
+
+/// Where the journal is kept, which outlives the process where the file doesn't say more.
+#[tactic(auto, unfolding(crate::specs::Desk::journal_in))]
+fn journal_in(desk: &Value) -> Result<Option<JournalTerms>, Fault>
+    ensures { result ≡ journal_in (view desk.now) }
+{
+    let folder: Option<DayPattern> = value_at(desk, Key::Journal)?;
+    let durable: Option<Durable> = value_at(desk, Key::Durable)?;
+    match (folder, durable) {
+        (Some(folder), durable) => {
+            let durable = durable.unwrap_or(Durable::Process);
+            Ok(Some(JournalTerms { folder, durable }))
+        }
+        (None, Some(_)) => Err(Fault::NoJournal),
+        (None, None) => Ok(None),
+    }
 }
 
 /// Where the page is served, and the token, which has to be there unless that is 127.0.0.1.
@@ -49,17 +68,19 @@ fn desk_table(desk: &Value) -> Result<DeskTable, Fault>
     let sender = value_at(desk, Key::Sender)?;
     let callers = value_at(desk, Key::Callers)?.unwrap_or(Callers::of(CALLERS));
     let log = value_at(desk, Key::Log)?;
+    let journal = journal_in(desk)?;
     let (page, token) = page_and_token(desk)?;
     Ok(DeskTable {
         sender,
         callers,
         log,
+        journal,
         page,
         token,
     })
 }
 
-/// What a file's `[desk]` says; a file without one has neither comp id, nor log, page or token, and 8 callers.
+/// What a file's `[desk]` says; a file without one has neither comp id, nor log, journal, page or token, and 8 callers.
 #[tactic(auto, unfolding(crate::specs::Desk::desk_in))]
 pub(crate) fn read_desk(file: &Value) -> Result<DeskTable, KeyFault>
     ensures { result ≡ desk_in (view file.now) }
@@ -69,6 +90,7 @@ pub(crate) fn read_desk(file: &Value) -> Result<DeskTable, KeyFault>
             sender: None,
             callers: Callers::of(CALLERS),
             log: None,
+            journal: None,
             page: None,
             token: None,
         });

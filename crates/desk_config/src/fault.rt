@@ -39,6 +39,8 @@ pub enum Fault {
         found: Found,
         fault: FieldFault,
     },
+    /// What the journal outlives is said, and there is none.
+    NoJournal,
     /// The page's host isn't 127.0.0.1, and there is no token.
     NeedsToken,
     /// The page has a name of its own, and there is no token.
@@ -54,6 +56,8 @@ pub enum Fault {
     SameName(usize),
     /// An earlier venue, counted from 1, has the same address and the same comp ids.
     SameSession(usize),
+    /// There is a journal, and this venue, counted from 1, is called as that of the desk.
+    DeskName(usize),
 }
 
 impl fmt::Display for Fault {
@@ -75,6 +79,7 @@ impl fmt::Display for Fault {
                 found,
                 fault,
             } => write!(f, "order {number} is {found}: {fault}"),
+            Fault::NoJournal => write!(f, "durable is there, and there is no journal"),
             Fault::NeedsToken => write!(f, "page is not at 127.0.0.1, and there is no token"),
             Fault::HostsNeedToken => write!(f, "hosts is there, and there is no token"),
             Fault::Host { number, found } => write!(
@@ -86,6 +91,10 @@ impl fmt::Display for Fault {
             Fault::SameSession(place) => {
                 write!(f, "address and comp ids are those of venue {place}")
             }
+            Fault::DeskName(place) => write!(
+                f,
+                "journal is there, and venue {place} is called desk, as the desk's journal is"
+            ),
         }
     }
 }

@@ -9,10 +9,12 @@ ghost use Rattle.dialect.specs.DialectName.{dialect_named};
 ghost use Rattle.fix_tags.specs.CompId.{comp_id_of};
 ghost use Rattle.desk_config.specs.Address.{address_of};
 ghost use Rattle.desk_config.specs.Endpoint.{where_of};
+ghost use Rattle.desk_config.specs.Journal.{durable_named, pattern_of};
 ghost use Rattle.desk_config.specs.Number.{number_within};
 
 use crate::address::Address;
 use crate::endpoint::Where;
+use crate::journal::{DayPattern, Durable};
 use crate::within::Within;
 use desk_words::{Printable, VenueName};
 use dialect::AnyDialect;
@@ -73,6 +75,22 @@ impl<const N: usize> FromValue for Printable<N> {
 
     fn from_value(value: &Value) -> Option<Printable<N>> {
         Printable::new(value.as_str()?.as_bytes())
+    }
+}
+
+impl FromValue for DayPattern {
+    ghost reads = { λ given. option_and_then pattern_of (as_str given) };
+
+    fn from_value(value: &Value) -> Option<DayPattern> {
+        DayPattern::new(value.as_str()?)
+    }
+}
+
+impl FromValue for Durable {
+    ghost reads = { λ given. option_and_then durable_named (as_str given) };
+
+    fn from_value(value: &Value) -> Option<Durable> {
+        Durable::named(value.as_str()?)
     }
 }
 

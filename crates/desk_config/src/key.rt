@@ -12,6 +12,8 @@ pub enum Key {
     Sender,
     Callers,
     Log,
+    Journal,
+    Durable,
     Page,
     Token,
     Hosts,
@@ -41,6 +43,8 @@ impl Key {
             Key::Sender => "sender",
             Key::Callers => "callers",
             Key::Log => "log",
+            Key::Journal => "journal",
+            Key::Durable => "durable",
             Key::Page => "page",
             Key::Token => "token",
             Key::Hosts => "hosts",
@@ -70,6 +74,10 @@ impl Key {
             Key::Sender | Key::Target => "1 to 16 printable characters without spaces",
             Key::Callers => "1 to 64",
             Key::Log => "the name of a folder, 1 to 200 printable characters",
+            Key::Journal => {
+                "the name of a folder, 1 to 200 printable characters, with % only in %Y-%m-%d, once"
+            }
+            Key::Durable => "process or power",
             Key::Page => "HOST:PORT",
             Key::Token => "1 to 128 printable characters",
             Key::Hosts => "an array of 1 to 8 names as desk.example.com",

@@ -52,7 +52,7 @@ fn is_desk_key(key: &str) -> bool
 {
     matches!(
         key,
-        "sender" | "callers" | "log" | "page" | "token" | "hosts"
+        "sender" | "callers" | "log" | "journal" | "durable" | "page" | "token" | "hosts"
     )
 }
 

@@ -12,12 +12,15 @@
 
 mod address;
 mod config;
+mod day;
 mod desk_keys;
 mod endpoint;
 mod fault;
 mod found;
 mod from_value;
 mod hosts;
+mod journal;
+mod journal_name;
 mod key;
 mod keys;
 mod place;
@@ -32,9 +35,11 @@ mod word_keys;
 
 pub use address::{Address, MAX_HOST, Port};
 pub use config::{Callers, DeskConfig, FolderText, HostName, MAX_FOLDER, MAX_TOKEN, TokenText};
+pub use day::Day;
 pub use endpoint::{Endpoint, FillShares};
 pub use fault::{ConfigFault, Fault, KeyFault};
 pub use found::{Found, FoundText, Kind};
+pub use journal::{DayPattern, Durable, JournalTerms};
 pub use key::Key;
 pub use place::Place;
 pub use read::read_config;

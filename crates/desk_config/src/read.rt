@@ -9,6 +9,7 @@ use crate::config::DeskConfig;
 use crate::desk_keys::read_desk;
 use crate::fault::{ConfigFault, KeyFault};
 use crate::hosts::read_hosts;
+use crate::journal_name::apart_from_desk;
 use crate::keys::Keys;
 use crate::place::Place;
 use crate::value_at::checked;
@@ -34,9 +35,16 @@ fn read_table(alloc: Global, file: &Value) -> Result<DeskConfig, ConfigFault>
     };
     let hosts = read_hosts(alloc, &desk.token, file)?;
     let venues = read_venues(alloc, &desk.sender, file)?;
+    if let Err(fault) = apart_from_desk(&desk.journal, venues.as_slice()) {
+        return Err(ConfigFault::Key(KeyFault {
+            place: Place::Desk,
+            fault,
+        }));
+    }
     Ok(DeskConfig {
         callers: desk.callers,
         log: desk.log,
+        journal: desk.journal,
         page: desk.page,
         token: desk.token,
         hosts,
@@ -44,11 +52,12 @@ fn read_table(alloc: Global, file: &Value) -> Result<DeskConfig, ConfigFault>
     })
 }
 
-/// The configuration that a file's text spells, or its first fault: first the TOML, then the keys of the file, those
-/// of `[desk]`, and those of each `[[venue]]` in turn, by `sender`, `callers`, `log`, `page`, `token`, `hosts`, and by
-/// `name`, `address`, `fill`, `target`, `sender`, `dialect`, `words` with `id`, `mark`, `price` and `symbol`, the
-/// fields of `order`, `heartbeat`, `next_expected`, `max_number`. In each table a key that it may not have comes first,
-/// and behind a venue's own keys that it has the name or the session of an earlier one.
+/// The configuration that a file's text spells, or its first fault: first the TOML, then the keys of the file, those of
+/// `[desk]`, and those of each `[[venue]]` in turn, by `sender`, `callers`, `log`, `journal`, `durable`, `page`,
+/// `token`, `hosts`, and by `name`, `address`, `fill`, `target`, `sender`, `dialect`, `words` with `id`, `mark`,
+/// `price` and `symbol`, the fields of `order`, `heartbeat`, `next_expected`, `max_number`. In each table a key that it
+/// may not have comes first, and behind a venue's own keys that it has the name or the session of an earlier one. Last
+/// comes that a venue is called as the desk's journal is.
 #[tactic(auto, using(crate::proofs::TextRead::answers_text))]
 pub fn read_config(alloc: Global, text: &str) -> Result<DeskConfig, ConfigFault>
     ensures says { AnswersText text.now result }

@@ -1,3 +1,4 @@
+pub mod JournalNews
 pub mod Release
 pub mod Standing
 pub mod Changes

@@ -1,5 +1,5 @@
 -- What a sweep is answered.
-use Rattle.std.specs.Prelude.{◌≡◌, ◌≢◌, ◌⊎◌, ℕ, Bool, true, false, List, [], ◌∷◌, ◌++◌, Option, Some, None, slice_get, option_map, Result, Ok, Err, IsSomeAnd}
+use Rattle.std.specs.Prelude.{◌≡◌, ◌≢◌, ◌⊎◌, ⊤, ℕ, Bool, true, false, List, [], ◌∷◌, ◌++◌, Option, Some, None, slice_get, option_map, Result, Ok, Err, IsSomeAnd}
 use Rattle.leg.specs.declared.sweep.Routed.{Routed}
 use Rattle.share_ledger.specs.Entries.{sweep_shares}
 use Rattle.exec_collector.specs.declared.placed_sweep.PlacedSweep.{PlacedSweep}
@@ -89,6 +89,16 @@ abbrev pub IsAnswered : List (List ℕ) → Bool → Submission → Answer → T
 IsAnswered names wants submission answer =
     IsAnsweredUnder names wants submission.reference submission.sweep.legs answer
 
+-- nothing is placed under a reference, if there is one
+abbrev pub IsFree : Option (List ℕ) → Type 0
+IsFree None = ⊤
+IsFree (Some reference) =
+    (entries : List Entry) × AreDistinct entries × (placed_under entries reference ≡ None)
+
+-- where there is no memory for its line, a sweep is refused that isn't placed under its reference
+abbrev pub IsUnwritten : Submission → Answer → Type 0
+IsUnwritten submission answer = IsFree submission.reference × (answer ≡ Refused refusal.OutOfMemory)
+
 -- the number under which a sweep was placed under a reference, of entries of which no two have one reference
 abbrev pub IsNumber : List ℕ → Option ℕ → Type 0
 IsNumber reference number =
@@ -114,3 +124,13 @@ placed_after placed answer legs = placed
 -- the seat of the page's clients, with its one part
 abbrev pub IsOnePart : Option Seat → Type 0
 IsOnePart seat = IsSomeAnd seat (λ s. s.parts ≡ 1)
+
+-- entries with one more, where nothing was placed under its reference
+abbrev pub noted_if_free : Option Placement → List Entry → List Entry → List Entry
+noted_if_free None more entries = more
+noted_if_free (Some known) more entries = entries
+
+-- what is placed under references, once a life before is gone on with: one entry more, where the reference is free
+abbrev pub noted_again : List Entry → List ℕ → Placement → List Entry
+noted_again entries reference placement =
+    noted_if_free (placed_under entries reference) (entries ++ (reference, placement) ∷ []) entries

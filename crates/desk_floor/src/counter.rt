@@ -7,6 +7,7 @@ use crate::floor::Floor;
 use crate::signals::Closing;
 use day_log::LineLog;
 use exec_collector::Accounts;
+use kept_link::Telling;
 use release_lock::{CallerSeat, Run};
 use std::io::Write;
 use std::sync::Wait;
@@ -30,10 +31,10 @@ impl<L: Run> Counter<L> {
     }
 
     /// Hands a sweep in on this seat, as `Floor::hand_in` does: the seat gains it where it is placed.
-    pub(crate) fn hand_in<'f, 'a, M, W, R, C>(
+    pub(crate) fn hand_in<'f, 'a, M, W, J, R, C>(
         &mut self,
         rt: &'a R,
-        floor: &'f Floor<L, M, W>,
+        floor: &'f Floor<L, M, W, J>,
         log: &mut LineLog<'a, R, C>,
         line: &[u8],
         submission: Submission,
@@ -41,6 +42,7 @@ impl<L: Run> Counter<L> {
     where
         M: Accounts,
         W: Write + Drop,
+        J: Telling,
         R: Wait + Clock,
         C: clock::Clock + Drop,
         ensures answer { IfOk result (IsAnswered floor.now.names.items floor.now.manner.wants_refs submission) }

@@ -10,6 +10,7 @@ ghost use Rattle.desk_floor.specs.Status.{IsSeen};
 
 use crate::bells::Bells;
 use crate::counter::Counter;
+use crate::journal_watch::JournalWatch;
 use crate::refs::Refs;
 use crate::refusals::Refusals;
 use crate::signals::{Closing, Manner, Signals};
@@ -22,6 +23,7 @@ use desk_news::DayTotals;
 use desk_words::VenueName;
 use exec_collector::{Accounts, Collector};
 use json_lines::Line;
+use kept_link::{Telling, Untold};
 use leg::VenueId;
 use release_lock::{CallerSeat, ReleaseLock, Run};
 use session_worker::Stop;
@@ -41,13 +43,13 @@ const LOOKS: u64 = 400;
 
 /// What the threads of a day share.
 #[derive(Drop)]
-pub struct Floor<L: Run, M: Accounts, W: Write + Drop> {
+pub struct Floor<L: Run, M: Accounts, W: Write + Drop, J: Telling = Untold> {
     /// The names of the venues, each at the place that is its number.
     pub names: Vec<VenueName>,
     /// What is seen of them, in the same order.
     pub views: Vec<VenueView>,
     pub manner: Manner,
-    pub lock: ReleaseLock<L>,
+    pub lock: ReleaseLock<L, J>,
     pub collector: Collector<M>,
     /// On which the clients of the page count; none where no page is served.
     pub shared: Option<Mutex<Counter<L>>>,
@@ -55,6 +57,8 @@ pub struct Floor<L: Run, M: Accounts, W: Write + Drop> {
     pub turn: Mutex<()>,
     /// The sweeps that were placed under references. Is held while a sweep under one is handed in.
     pub refs: Mutex<Refs>,
+    /// The journals of the day, if it keeps any.
+    pub journals: Vec<JournalWatch>,
     /// The sweeps that were refused.
     pub refusals: Refusals,
     pub voice: Voice<W>,
@@ -71,16 +75,16 @@ pub struct Floor<L: Run, M: Accounts, W: Write + Drop> {
 
 /// What its threads leave.
 #[derive(Drop)]
-pub struct Left<L: Run, M: Accounts> {
+pub struct Left<L: Run, M: Accounts, J: Telling = Untold> {
     pub names: Vec<VenueName>,
-    pub lock: ReleaseLock<L>,
+    pub lock: ReleaseLock<L, J>,
     pub collector: Collector<M>,
     /// The seat of the page's clients, if there is one.
     pub shared: Option<CallerSeat<L>>,
     ghost tied: { L.sweeps ≡ M.sweeps },
 }
 
-impl<L: Run, M: Accounts, W: Write + Drop> Floor<L, M, W> {
+impl<L: Run, M: Accounts, W: Write + Drop, J: Telling> Floor<L, M, W, J> {
     /// What is seen of the venue at a place, if there is one. It waits for no lock.
     pub fn seen(&self, place: usize) -> Option<Seen>
         ensures { MatchOption result ((16 ≤ place) ⊎ (length self.now.views.items ≤ place))
@@ -224,7 +228,7 @@ impl<L: Run, M: Accounts, W: Write + Drop> Floor<L, M, W> {
     }
 
     /// What is left once no thread shares it any more.
-    pub fn into_left(self) -> Left<L, M>
+    pub fn into_left(self) -> Left<L, M, J>
         ensures names { result.names ≡ self.names }
         ensures shared { MatchOption self.shared (result.shared ≡ None) (λ _. IsOnePart result.shared) }
     {
@@ -237,6 +241,7 @@ impl<L: Run, M: Accounts, W: Write + Drop> Floor<L, M, W> {
             shared,
             turn: _,
             refs: _,
+            journals: _,
             refusals: _,
             voice: _,
             line_log: _,

@@ -1,15 +1,18 @@
 //! A sweep is handed in, and answered.
 
-ghost use Rattle.std.specs.Prelude.{◌≡◌, ◌≢◌, ◌+◌, None, slice_get, IfErr, IfOk, IfSome};
-ghost use Rattle.desk_floor.specs.Release.{IsAnswered, IsAnsweredUnder, IsReleased, refusal_of, answer_of, placed_after, placed_shares, told};
+ghost use Rattle.std.specs.Prelude.{◌≡◌, ◌≢◌, ◌+◌, ◌⊎◌, None, slice_get, IfErr, IfNone, IfOk, IfSome};
+ghost use Rattle.desk_floor.specs.Release.{IsAnswered, IsAnsweredUnder, IsFree, IsReleased, IsUnwritten, refusal_of};
+ghost use Rattle.desk_floor.specs.Release.{answer_of, placed_after, placed_shares, told};
 
+use crate::asking::asked_now;
 use crate::floor::Floor;
 use crate::signals::Closing;
 use day_log::{LineLog, moment};
 use desk_words::VenueName;
 use exec_collector::Accounts;
+use kept_link::Telling;
 use leg::{Routed, Sweep, VenueId};
-use release_lock::{CallerSeat, Run};
+use release_lock::{Asked, CallerSeat, Run};
 use std::io::Write;
 use std::sync::Wait;
 use std::time::Clock;
@@ -72,7 +75,7 @@ fn venues_of(legs: &[Routed]) -> [bool; VENUES] {
     marks
 }
 
-impl<L: Run, M: Accounts, W: Write + Drop> Floor<L, M, W> {
+impl<L: Run, M: Accounts, W: Write + Drop, J: Telling> Floor<L, M, W, J> {
     /// Hands a sweep in that this line asks for, for a caller who counts on this seat, and answers with what became of
     /// it; or shows that the day is closing. The seat gains the sweep under the number that is answered, and else
     /// nothing. Under a reference a sweep is placed at most once: these legs again are answered as the first time, also
@@ -98,7 +101,7 @@ impl<L: Run, M: Accounts, W: Write + Drop> Floor<L, M, W> {
         log.taken(line);
         let answered = match self.signals.closing() {
             Some(shown) => self.repeated(rt, &submission).ok_or(shown),
-            None => Ok(self.place(rt, seat, submission)),
+            None => Ok(self.place(rt, seat, &asked_now(rt, line), submission)),
         };
         match &answered {
             Ok(answer) => self.note_answer(rt, log, answer),
@@ -113,6 +116,7 @@ impl<L: Run, M: Accounts, W: Write + Drop> Floor<L, M, W> {
         ensures nothing { IfSome result (λ answer. placed_shares answer submission.now.sweep.legs ≡ 0) }
         ensures none { IfSome result (λ answer. (placed : _)
             → placed_after placed answer submission.now.sweep.legs ≡ placed) }
+        ensures free { IfNone result (IsFree submission.now.reference) }
     {
         let reference = submission.reference.as_ref()?;
         self.refs
@@ -125,6 +129,7 @@ impl<L: Run, M: Accounts, W: Write + Drop> Floor<L, M, W> {
         &self,
         rt: &R,
         seat: &mut CallerSeat<L>,
+        asked: &Asked<'_>,
         submission: Submission,
     ) -> Answer
         ensures answer { IsAnswered self.now.names.items self.now.manner.wants_refs submission result }
@@ -134,13 +139,22 @@ impl<L: Run, M: Accounts, W: Write + Drop> Floor<L, M, W> {
     {
         let Submission { reference, sweep } = submission;
         match reference {
-            Some(reference) => self.refs.lock(rt).place(rt, self, seat, reference, sweep),
-            None => self.place_bare(rt, seat, sweep),
+            Some(reference) => self
+                .refs
+                .lock(rt)
+                .place(rt, self, seat, asked, reference, sweep),
+            None => self.place_bare(rt, seat, asked, sweep),
         }
     }
 
     /// Places a sweep that has no reference, where the desk takes such ones.
-    fn place_bare<R: Wait + Clock>(&self, rt: &R, seat: &mut CallerSeat<L>, sweep: Sweep) -> Answer
+    fn place_bare<R: Wait + Clock>(
+        &self,
+        rt: &R,
+        seat: &mut CallerSeat<L>,
+        asked: &Asked<'_>,
+        sweep: Sweep,
+    ) -> Answer
         ensures answer { IsAnsweredUnder self.now.names.items self.now.manner.wants_refs None sweep.legs result }
         ensures parts { seat.new.parts ≡ seat.old.parts }
         ensures counted { seat.new.shares ≡ seat.old.shares + placed_shares result sweep.legs }
@@ -149,7 +163,7 @@ impl<L: Run, M: Accounts, W: Write + Drop> Floor<L, M, W> {
         if self.manner.wants_refs {
             return Answer::Refused(Refusal::NoReference);
         }
-        self.release(rt, seat, sweep)
+        self.release(rt, seat, asked, sweep)
     }
 
     /// Notes an answer to a sweep in the log, and a refusal among the refusals, and tells that there is news.
@@ -185,11 +199,33 @@ impl<L: Run, M: Accounts, W: Write + Drop> Floor<L, M, W> {
         }
     }
 
+    /// Answers a sweep for whose line there is no memory, so that no journal could have it: as it was placed before,
+    /// under its reference, and else it is refused. In the log its line is empty.
+    pub fn answer_unwritten<'a, R: Wait, C: clock::Clock + Drop>(
+        &self,
+        rt: &'a R,
+        log: &mut LineLog<'a, R, C>,
+        submission: &Submission,
+    ) -> Answer
+        ensures { IsAnswered self.now.names.items self.now.manner.wants_refs submission.now result
+            ⊎ IsUnwritten submission.now result }
+    {
+        let _turn = self.turn.lock(rt);
+        log.taken(b"");
+        let answer = match self.repeated(rt, submission) {
+            Some(answer) => answer,
+            None => Answer::Refused(Refusal::OutOfMemory),
+        };
+        self.note_answer(rt, log, &answer);
+        answer
+    }
+
     /// Releases a sweep for a caller who counts on this seat, and answers with what became of that.
     pub(crate) fn release<R: Wait + Clock>(
         &self,
         rt: &R,
         seat: &mut CallerSeat<L>,
+        asked: &Asked<'_>,
         sweep: Sweep,
     ) -> Answer
         ensures answer { IsReleased self.now.names.items sweep.legs result }
@@ -200,7 +236,9 @@ impl<L: Run, M: Accounts, W: Write + Drop> Floor<L, M, W> {
         let now = moment(rt);
         let venues = venues_of(sweep.legs.as_slice());
         self.begin_waits(&venues, now);
-        let done = self.lock.release(rt, &self.collector, sweep, seat);
+        let done = self
+            .lock
+            .release_asked(rt, &self.collector, sweep, seat, asked);
         match &done {
             Ok(receipt) => {
                 self.signals.count_placed(receipt.shares);

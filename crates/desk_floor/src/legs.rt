@@ -13,6 +13,7 @@ use crate::venue_view::VenueView;
 use day_sweeps::leg_paid;
 use desk_news::Paid;
 use exec_collector::{Accounts, Beside, Collector, Unbooked};
+use kept_link::Telling;
 use leg::{Leg, LegId, LegState, MAX_PLACE, MAX_SWEEP, PlacedLeg, Split, Terms, VenueId};
 use release_lock::{ReleaseLock, Run};
 use share_ledger::{Book, BookedLeg};
@@ -118,9 +119,9 @@ fn released_leg(desk: &mut Desk, venue: VenueId, id: LegId) -> Result<Option<Pla
 
 /// The leg of a number as a desk has released it to a venue that replays from its own history, if it has. It may wait
 /// for the lock.
-fn released_now<L: Run>(
+fn released_now<L: Run, J: Telling>(
     rt: &impl Wait,
-    lock: &ReleaseLock<L>,
+    lock: &ReleaseLock<L, J>,
     venue: VenueId,
     id: LegId,
 ) -> Result<Option<PlacedLeg>, AllocError>
@@ -131,9 +132,9 @@ fn released_now<L: Run>(
 }
 
 /// How a leg stands that the book has, if the desk has it too.
-fn standing_of<L: Run, M: Accounts, W: Write + Drop>(
+fn standing_of<L: Run, M: Accounts, W: Write + Drop, J: Telling>(
     rt: &impl Wait,
-    floor: &Floor<L, M, W>,
+    floor: &Floor<L, M, W, J>,
     id: LegId,
     booked: &BookedLeg,
     paid: Paid,
@@ -159,10 +160,10 @@ fn standing_of<L: Run, M: Accounts, W: Write + Drop>(
 
 /// The legs of the sweep of this number, by their places; none where no sweep has it. It may wait for the locks, one
 /// after the other, so that its legs need not be of one moment. The only refusal is out of memory.
-pub fn sweep_legs<L: Run, M: Accounts, W: Write + Drop>(
+pub fn sweep_legs<L: Run, M: Accounts, W: Write + Drop, J: Telling>(
     rt: &impl Wait,
     alloc: Global,
-    floor: &Floor<L, M, W>,
+    floor: &Floor<L, M, W, J>,
     number: u64,
 ) -> Result<Vec<LegStanding>, AllocError>
     ensures { IfOk result (λ legs. AreLegs (length floor.now.views.items) number legs.items) }

@@ -13,6 +13,10 @@
 //!   legs, and then nothing is placed. Other legs are refused, and out of memory nothing is placed. Where a sweep is
 //!   placed, it is one entry more; else they stay (`AnswersOnce`, of `Refs::place`). Which moment's entries a call
 //!   outside of their lock finds isn't said.
+//! - Where the day has a journal, the desk's lies under its lock, and has kept of each sweep that it was placed before
+//!   the sweep is answered (`release_lock`). It is given the line of the caller; that this asks for the very sweep is
+//!   only tested. What a life before placed under a reference is noted once (`Refs::note_again`). A journal is told by
+//!   its name, where it stands otherwise than it was told to (`JournalWatch::news`).
 //! - How a venue stands follows from what its worker told last, its gate and the dial that failed last, by the stated
 //!   definition, and so does what is told of it (`standing_of`, `Standing::state`). How a leg stands follows from the
 //!   book and from how far its venue's worker is (`state_of`). What a look finds there isn't said, as other threads
@@ -32,11 +36,13 @@
 //! See `docs/run.md`.
 #![tactic(auto)]
 
+mod asking;
 mod bells;
 mod changes;
 mod counter;
 mod floor;
 mod hand_in;
+mod journal_watch;
 mod legs;
 mod refs;
 mod refusals;
@@ -51,6 +57,7 @@ pub use bells::Bells;
 pub use changes::Changes;
 pub use counter::Counter;
 pub use floor::{Floor, Left};
+pub use journal_watch::{JournalNews, JournalWatch};
 pub use legs::{LegStanding, sweep_legs};
 pub use refs::Refs;
 pub use refusals::{Refusals, RefusedCounts, RefusedSince};

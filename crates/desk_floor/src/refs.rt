@@ -1,13 +1,15 @@
 //! The sweeps that were placed under references.
 
-ghost use Rattle.std.specs.Prelude.{◌≡◌, ◌≤◌, ◌+◌, ◌⊎◌, None, IfOk, OnOk, option_map};
+ghost use Rattle.std.specs.Prelude.{◌≡◌, ◌≤◌, ◌+◌, ◌⊎◌, None, IfOk, MatchResult, OnOk, option_map};
 ghost use Rattle.sweep_refs.specs.Placed.{AreDistinct, placed_under};
-ghost use Rattle.desk_floor.specs.Release.{AnswersKnown, AnswersOnce, IsReleased, noted, placed_after, placed_shares};
+ghost use Rattle.desk_floor.specs.Release.{AnswersKnown, AnswersOnce, IsReleased, noted, noted_again};
+ghost use Rattle.desk_floor.specs.Release.{placed_after, placed_shares};
 
 use crate::floor::Floor;
 use exec_collector::Accounts;
+use kept_link::Telling;
 use leg::{Legs, Routed, Sweep};
-use release_lock::{CallerSeat, Run};
+use release_lock::{Asked, CallerSeat, Run};
 use std::alloc::{AllocError, Global};
 use std::io::Write;
 use std::sync::Wait;
@@ -54,6 +56,25 @@ impl Refs {
         }
     }
 
+    /// Notes a sweep that was placed under this reference in a life before. Where one was noted under it already,
+    /// nothing changes. The only refusal is out of memory, and nothing changes.
+    pub fn note_again(
+        &mut self,
+        reference: SweepRef,
+        placement: Placement,
+    ) -> Result<(), AllocError>
+        ensures { MatchResult result
+            (λ _. self.new.book.placed ≡ noted_again self.old.book.placed reference placement)
+            (λ _. self.new.book.placed ≡ self.old.book.placed) }
+    {
+        if self.book.placement(&reference).is_some() {
+            return Ok(());
+        }
+        self.book.reserve()?;
+        self.book.note(reference, placement);
+        Ok(())
+    }
+
     /// The number under which a sweep was placed under a reference, if one was.
     pub(crate) fn number(&self, reference: &SweepRef) -> Option<u64>
         ensures found { result
@@ -98,11 +119,12 @@ impl Refs {
     }
 
     /// Places a sweep under a reference that is free, and notes it. Room is there before anything is placed.
-    fn place_new<L: Run, M: Accounts, W: Write + Drop, R: Wait + Clock>(
+    fn place_new<L: Run, M: Accounts, W: Write + Drop, J: Telling, R: Wait + Clock>(
         &mut self,
         rt: &R,
-        floor: &Floor<L, M, W>,
+        floor: &Floor<L, M, W, J>,
         seat: &mut CallerSeat<L>,
+        asked: &Asked<'_>,
         reference: SweepRef,
         sweep: Sweep,
     ) -> Answer
@@ -117,7 +139,7 @@ impl Refs {
         let Ok(legs) = self.prepare(sweep.legs.as_slice()) else {
             return Answer::Refused(Refusal::OutOfMemory);
         };
-        let answer = floor.release(rt, seat, sweep);
+        let answer = floor.release(rt, seat, asked, sweep);
         self.note(reference, legs, &answer);
         answer
     }
@@ -140,11 +162,12 @@ impl Refs {
 
     /// Places a sweep under a reference, at most once: where these legs were placed under it before, it is answered
     /// with their number and their shares, and others are refused.
-    pub(crate) fn place<L: Run, M: Accounts, W: Write + Drop, R: Wait + Clock>(
+    pub(crate) fn place<L: Run, M: Accounts, W: Write + Drop, J: Telling, R: Wait + Clock>(
         &mut self,
         rt: &R,
-        floor: &Floor<L, M, W>,
+        floor: &Floor<L, M, W, J>,
         seat: &mut CallerSeat<L>,
+        asked: &Asked<'_>,
         reference: SweepRef,
         sweep: Sweep,
     ) -> Answer
@@ -156,7 +179,7 @@ impl Refs {
     {
         match self.answer(&reference, sweep.legs.as_slice()) {
             Some(answer) => answer,
-            None => self.place_new(rt, floor, seat, reference, sweep),
+            None => self.place_new(rt, floor, seat, asked, reference, sweep),
         }
     }
 }

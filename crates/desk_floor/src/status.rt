@@ -9,6 +9,7 @@ ghost use Rattle.desk_floor.specs.Status.{IsTold};
 use crate::floor::Floor;
 use desk_news::VenueStatus;
 use exec_collector::Accounts;
+use kept_link::Telling;
 use leg::VenueId;
 use release_lock::{ReleaseLock, Run};
 use std::io::Write;
@@ -24,16 +25,16 @@ fn released_to(desk: &mut Desk, venue: VenueId) -> u64
 }
 
 /// How many legs a desk has released to a venue that replays from its own history. It may wait for the lock.
-fn released_now<L: Run>(rt: &impl Wait, lock: &ReleaseLock<L>, venue: VenueId) -> u64
+fn released_now<L: Run, J: Telling>(rt: &impl Wait, lock: &ReleaseLock<L, J>, venue: VenueId) -> u64
     ensures { (desk : KeptDesk) × Replays desk × (result ≡ length (released venue desk.desk.sweeps)) }
 {
     lock.with(rt, |desk: &mut Desk| released_to(desk, venue))
 }
 
 /// How the venue at a place stands, if there is one. It may wait for the locks of the desk and of the venue's log.
-pub fn venue_status<L: Run, M: Accounts, W: Write + Drop>(
+pub fn venue_status<L: Run, M: Accounts, W: Write + Drop, J: Telling>(
     rt: &impl Wait,
-    floor: &Floor<L, M, W>,
+    floor: &Floor<L, M, W, J>,
     place: usize,
 ) -> Option<VenueStatus>
     ensures { IsTold floor.now.names.items (length floor.now.views.items) place result }

@@ -1,3 +1,4 @@
+pub mod Opening
 pub mod Audited
 pub mod Doubts
 pub mod Seats

@@ -4,14 +4,16 @@ use Rattle.std.specs.List.{list_any}
 use Rattle.day_sweeps.specs.Paid.{paid_in, parts_of}
 use Rattle.day_sweeps.specs.Sweeps.{sweeps_in}
 use Rattle.desk_config.specs.declared.venue.Venue.{Venue}
+use Rattle.desk_venues.specs.Starts.{any_wording}
 use Rattle.exec_collector.specs.Day.{note_count}
 use Rattle.exec_collector.specs.Unbooked.{CountedParts}
 use Rattle.session_worker.specs.Audit.{counted_of}
-use Rattle.session_worker.specs.Ends.{WorkerLeft}
+use Rattle.session_worker.specs.Ends.{WorkerLeft, WorkerStart, AllRan}
 use Rattle.desk_run.specs.declared.day.DeskDay.{DeskDay}
-use Rattle.desk_run.specs.Audited.{IsAudited, IsDeskDay}
+use Rattle.desk_run.specs.Audited.{IsAudited, IsDayOver, IsDeskDay}
 use Rattle.desk_run.specs.Doubts.{doubts_in, venue_legs, was_given_up}
 use Rattle.report_words.specs.declared.report_words.ReportWords.{ReportWords}
+use Rattle.venue_words.specs.declared.venue_dialect.VenueDialect.{VenueDialect}
 use Rattle.desk_run.specs.Unbooked.{unbooked_in}
 
 -- what was paid for each sweep of this book, all that it didn't take, all legs that these workers leave in doubt, and
@@ -32,7 +34,18 @@ pub record IsTold (names : List (List ℕ)) (ends : List WorkerLeft) (day : Desk
   pub audited : IsAudited ends (parts_of day.sweeps.items) day.report
   pub rest : TellsRest names ends (counted_of audited.day) day
 
+-- a day that is told so, and whose workers ran from these starts
+pub record IsToldFrom (names : List (List ℕ)) (starts : List (WorkerStart VenueDialect)) (day : DeskDay) : Type 0 where
+  pub ends : List WorkerLeft
+  pub ran : AllRan any_wording starts ends
+  pub told : IsTold names ends day
+
 -- so is the day of these venues, whose workers ran from their starts
 pub record IsToldDay (venues : List Venue) (day : DeskDay) : Type 0 where
   pub desk_day : IsDeskDay venues (parts_of day.sweeps.items) day.report
+  pub rest : TellsRest (map (λ v. v.name) venues) desk_day.ends (counted_of desk_day.audited.day) day
+
+-- and so is a day that may have had lives before
+pub record IsToldOver (venues : List Venue) (day : DeskDay) : Type 0 where
+  pub desk_day : IsDayOver venues (parts_of day.sweeps.items) day.report
   pub rest : TellsRest (map (λ v. v.name) venues) desk_day.ends (counted_of desk_day.audited.day) day

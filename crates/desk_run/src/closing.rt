@@ -15,6 +15,7 @@ ghost use Rattle.desk_run.specs.Unbooked.{unbooked_in};
 
 use crate::DeskDay;
 use crate::doubts::{doubts_of, is_given_up};
+use crate::ending::keep_end;
 use crate::followers::tell_followers;
 use day_executions::{all_untaken, named};
 use day_sweeps::paid_sweeps;
@@ -24,18 +25,22 @@ use desk_threads::Ended;
 use desk_venues::DayFault;
 use desk_words::VenueName;
 use exec_collector::{Accounts, CountedBook, DayBook};
+use kept_link::Telling;
 use link::Link;
-use release_lock::{CallerSeat, ReleaseLock, Run};
+use release_lock::{CallerSeat, LockedDesk, Run};
 use session_worker::{AuditFault, DayReport, WorkerEnd, audit_opened};
 use std::alloc::{AllocError, Global};
 use std::io::Write;
+use std::sync::Wait;
+use std::time::Clock;
 
 /// What became of a day whose threads have ended, and whose callers left these seats; lines were broken off for this
 /// reason, if they were. It is audited, and those who followed it are told.
-pub fn close_day<K: Link, L: Run, M: Accounts, W: Write + Drop>(
+pub fn close_day<K: Link, L: Run, M: Accounts, W: Write + Drop, J: Telling, R: Wait + Clock>(
+    rt: &R,
     alloc: Global,
-    floor: Floor<L, M, W>,
-    ended: Ended<K, L, M>,
+    floor: Floor<L, M, W, J>,
+    ended: Ended<K, L, M, J>,
     seats: Vec<CallerSeat<L>>,
     broken_off: Option<TalkFault>,
 ) -> Result<DeskDay, DayFault>
@@ -61,7 +66,11 @@ pub fn close_day<K: Link, L: Run, M: Accounts, W: Write + Drop>(
     let mut counted = booked.into_counted();
     let doubts = doubts_of(alloc, names.as_slice(), workers.as_slice())?;
     let is_given_up = is_given_up(workers.as_slice());
-    let report = audited(alloc, lock, &mut counted, seats, workers);
+    let (desk, journal) = lock.into_locked().part();
+    let report = audited(alloc, desk, &mut counted, seats, workers);
+    if report.is_ok() {
+        keep_end(rt, journal);
+    }
     tell_followers(alloc, followers, &report);
     Ok(DeskDay {
         sweeps,
@@ -105,12 +114,12 @@ fn with_shared<L: Run>(
 }
 
 /// The audit of a day, with this book.
-fn audited<K: Link, L: Run, M: Accounts>(
+fn audited<K: Link, L: Run, M: Accounts, J: Telling>(
     alloc: Global,
-    lock: ReleaseLock<L>,
+    desk: LockedDesk<L>,
     counted: &mut CountedBook<M>,
     seats: Vec<CallerSeat<L>>,
-    workers: Vec<WorkerEnd<K, L, M>>,
+    workers: Vec<WorkerEnd<K, L, M, J>>,
 ) -> Result<DayReport, DayFault>
     requires tied { L.sweeps ≡ M.sweeps }
     requires order { AreInOrder (queues_of workers.items) }
@@ -122,7 +131,7 @@ fn audited<K: Link, L: Run, M: Accounts>(
     ensures placed { IfOk result (λ report. report.placed ≡ shares_of seats.items) }
     ensures only { IfErr result (λ fault. fault ≡ DayFault.OutOfMemory) }
 {
-    match audit_opened(alloc, lock.into_locked(), counted, seats, workers) {
+    match audit_opened(alloc, desk, counted, seats, workers) {
         Ok(report) => Ok(report),
         Err(AuditFault::MismatchQueue(_)) => Err(DayFault::MismatchQueue),
         Err(AuditFault::MismatchShares) => Err(DayFault::MismatchShares),

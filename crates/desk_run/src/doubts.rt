@@ -7,6 +7,7 @@ ghost use Rattle.desk_run.specs.Doubts.{doubts_in, if_any, if_doubt, left_in_dou
 use crate::day::VenueDoubt;
 use desk_words::VenueName;
 use exec_collector::Accounts;
+use kept_link::Telling;
 use leg::{LegId, LegState};
 use link::Link;
 use release_lock::Run;
@@ -15,10 +16,10 @@ use std::alloc::{AllocError, Global};
 
 /// The venues whose workers leave legs in doubt, each with these. Each worker is that of the venue at its place. The
 /// only refusal is out of memory.
-pub fn doubts_of<K: Link, L: Run, M: Accounts>(
+pub fn doubts_of<K: Link, L: Run, M: Accounts, J: Telling>(
     alloc: Global,
     names: &[VenueName],
-    ends: &[WorkerEnd<K, L, M>],
+    ends: &[WorkerEnd<K, L, M, J>],
 ) -> Result<Vec<VenueDoubt>, AllocError>
     ensures { IfOk result (λ doubts. map venue_legs doubts.items ≡ doubts_in names.now ends.now) }
 {
@@ -48,9 +49,9 @@ fn push_if_any(
 }
 
 /// The legs that a worker sent and that aren't settled, in order. The only refusal is out of memory.
-fn legs_in_doubt<K: Link, L: Run, M: Accounts>(
+fn legs_in_doubt<K: Link, L: Run, M: Accounts, J: Telling>(
     alloc: Global,
-    end: &WorkerEnd<K, L, M>,
+    end: &WorkerEnd<K, L, M, J>,
 ) -> Result<Vec<LegId>, AllocError>
     ensures { IfOk result (λ legs. legs.items ≡ left_in_doubt end.now) }
 {
@@ -82,7 +83,7 @@ fn push_if_doubt(
 }
 
 /// Whether a worker gave its session up.
-pub fn is_given_up<K: Link, L: Run, M: Accounts>(ends: &[WorkerEnd<K, L, M>]) -> bool
+pub fn is_given_up<K: Link, L: Run, M: Accounts, J: Telling>(ends: &[WorkerEnd<K, L, M, J>]) -> bool
     ensures { result ≡ list_any (λ left. was_given_up left.reason) ends.now }
 {
     ends.iter().any(|end| was_given_up(end.reason))

@@ -2,24 +2,30 @@
 
 ghost use Rattle.std.specs.Prelude.{◌≡◌, ◌+◌, ◌<◌, ◌≤◌, ◌⊎◌, [], length, map, None, IsTrue, IfOk, IfErr};
 ghost use Rattle.std.specs.List.{All};
-ghost use Rattle.release_lock.specs.Queues.{IsFresh};
-ghost use Rattle.session_worker.specs.Places.{place, new_places};
+ghost use Rattle.exec_collector.specs.Seats.{worker_seats};
+ghost use Rattle.release_lock.specs.Noted.{IsNoted};
+ghost use Rattle.release_lock.specs.Queues.{IsFresh, new_drains};
+ghost use Rattle.release_lock.specs.Seats.{first_seat};
 ghost use Rattle.desk_venues.specs.Faults.{IsNoMismatch};
-ghost use Rattle.desk_venues.specs.Starts.{starts_of};
+ghost use Rattle.desk_venues.specs.Starts.{workers_from};
 ghost use Rattle.desk_venues.specs.Venues.{plans};
+ghost use Rattle.desk_run.specs.Opening.{new_starts};
 ghost use Rattle.desk_run.specs.Seats.{shared_parts};
 
 use clock::UtcClock;
 use desk_config::Venue;
-use desk_floor::{Bells, Counter, Floor, Manner, Refs, Refusals, Signals, Voice};
+use desk_floor::{Bells, Counter, Floor, JournalWatch, Manner, Refs, Refusals, Signals, Voice};
 use desk_serve::PageServer;
 use desk_threads::Cast;
-use desk_venues::{DayFault, DeskLink, Exchange, OpenVenues, Sight, open_venues};
-use exec_collector::{Accounts, BlankBook, Collector};
+use desk_venues::{
+    DayFault, DeskLink, Exchange, LogFolder, OpenVenues, Sight, desk_end, open_venues,
+};
+use exec_collector::{Accounts, BlankBook, Collector, WorkerSeat};
+use kept_link::{Telling, Untold};
 use readiness::Wakeup;
-use release_lock::{BlankDesk, CallerSeat, Opened, ReleaseLock, Run};
-use session_worker::Stop;
-use std::alloc::Global;
+use release_lock::{BlankDesk, CallerSeat, LockedDesk, OpenedDesk, ReleaseLock, Run, VenueDrain};
+use session_worker::{Start, Stop};
+use std::alloc::{AllocError, Global};
 use std::collections::VecDeque;
 use std::fs::{File, Files};
 use std::io::{self, Write};
@@ -33,7 +39,7 @@ use venue_queue::{Drain, Feed};
 pub struct Means<'a, W: Write + Drop> {
     pub manner: Manner,
     /// The folder of its logs, if it keeps any.
-    pub folder: Option<&'a str>,
+    pub folder: Option<LogFolder<'a>>,
     pub voice: Voice<W>,
     /// What serves its page; none where it has none.
     pub servers: Vec<PageServer>,
@@ -43,33 +49,65 @@ pub struct Means<'a, W: Write + Drop> {
 }
 
 /// Who takes part in the day of a desk.
-pub type DeskCast<'a, R, L, M> = Cast<Exchange<'a, R>, DeskLink<'a, R>, UtcClock<'a, R>, L, M>;
+pub type DeskCast<'a, R, L, M, J> = Cast<
+    Exchange<'a, R>,
+    DeskLink<'a, R>,
+    UtcClock<'a, R>,
+    L,
+    M,
+    J,
+>;
 
-/// A day before its threads run.
+/// A desk, a book behind its lock, the seat of the callers, and what each venue's worker begins with, in order.
 #[derive(Drop)]
-pub struct OpenDay<'a, L: Run, M: Accounts, R: Net + Wait + Clock, W: Write + Drop> {
-    pub floor: Floor<L, M, W>,
-    pub cast: DeskCast<'a, R, L, M>,
-    /// The seat of its callers.
+pub struct BegunDay<L: Run, M: Accounts> {
+    pub desk: LockedDesk<L>,
+    pub collector: Collector<M>,
     pub seat: CallerSeat<L>,
+    pub starts: Vec<Start<L, M>>,
+    ghost tied: { L.sweeps ≡ M.sweeps },
 }
 
-/// Opens the day of these venues, whose names were picked: the desk and the book behind their locks, each venue with
-/// its worker, and the seat of its callers. No thread runs, and none has dialled.
-pub fn open_day<'a, L, M, R, W>(
-    rt: &'a R,
+/// What a day goes on with beside its desk and its book: the sweeps under references, and the shares that were placed;
+/// and the journals that it tells, of the desk and of each venue.
+#[derive(Drop)]
+pub struct Past<J: Telling> {
+    pub refs: Refs,
+    pub shares: u64,
+    pub desk: J,
+    pub venues: Vec<J>,
+    /// Whether each of them is written.
+    pub watched: Vec<JournalWatch>,
+}
+
+impl Past<Untold> {
+    /// None, of a day of so many venues that keeps no journal.
+    pub fn none(alloc: Global, venues: usize) -> Result<Past<Untold>, AllocError>
+        ensures { IfOk result (λ past. length past.venues.items ≡ venues) }
+    {
+        let mut journals = Vec::new(alloc);
+        for _ in 0..venues {
+            journals.push(Untold)?;
+        }
+        Ok(Past {
+            refs: Refs::new(alloc),
+            shares: 0,
+            desk: Untold,
+            venues: journals,
+            watched: Vec::new(alloc),
+        })
+    }
+}
+
+/// Begins the day of these venues, whose names were picked: the desk, the book behind its lock, the seat of its
+/// callers, and what each worker begins with, which has done nothing.
+pub fn begin_day<L: Run, M: Accounts>(
     alloc: Global,
     venues: &[Venue],
-    means: Means<'_, W>,
     callers: BlankDesk,
     workers: BlankBook,
     rings: VecDeque<(Feed, Drain)>,
-) -> Result<OpenDay<'a, L, M, R, W>, DayFault>
-where
-    L: Run,
-    M: Accounts,
-    R: Net + Files<File = File> + Wait + Clock,
-    W: Write + Drop,
+) -> Result<BegunDay<L, M>, DayFault>
     requires venues { (1 ≤ length venues.now) × (length venues.now ≤ 16) }
     requires callers { (callers.name ≡ L.name) × (callers.parts ≡ L.parts) × (L.parts ≡ 1024)
         × (callers.slips ≡ L.slips) }
@@ -78,15 +116,9 @@ where
     requires tied { L.sweeps ≡ M.sweeps }
     requires rings { (length rings.items ≡ length venues.now) × All IsFresh rings.items }
     requires queues { L.queues ≡ map (λ ends. ends.0.table) rings.items }
-    ensures plans { IfOk result (λ day. map (λ e. e.acceptor.plan) day.cast.exchanges.items
-        ≡ plans means.entry.cut venues.now) }
-    ensures starts { IfOk result (λ day. day.cast.workers.items ≡ starts_of venues.now) }
-    ensures names { IfOk result (λ day. day.floor.names.items ≡ map (λ v. v.name) venues.now) }
-    ensures workers { IfOk result (λ day. map (λ w. place w.parts) day.cast.workers.items
-        ≡ new_places (length venues.now)) }
-    ensures seat { IfOk result (λ day. (day.seat.shares ≡ 0)
-        × (day.seat.parts + shared_parts day.floor.shared ≡ 1024)) }
-    ensures page { IfOk result (λ day. means.entry.servers.items ≡ [] → day.floor.shared ≡ None) }
+    ensures starts { IfOk result (λ day. day.starts.items ≡ new_starts venues.now) }
+    ensures desk { IfOk result (λ day. day.desk.desk.sweeps ≡ []) }
+    ensures seat { IfOk result (λ day. day.seat ≡ first_seat) }
     ensures only { IfErr result IsNoMismatch }
 {
     let count = venues.len() as u8;
@@ -94,10 +126,85 @@ where
     let Ok((collector, seats, sweeps)) = made else {
         return Err(DayFault::OutOfMemory);
     };
-    let opened = ReleaseLock::<L>::new(alloc, count, callers, rings, sweeps);
-    let Ok(Opened { lock, seat, drains }) = opened else {
+    let opened = LockedDesk::<L>::opened(alloc, count, callers, rings, sweeps);
+    let Ok(OpenedDesk { desk, seat, drains }) = opened else {
         return Err(DayFault::OutOfMemory);
     };
+    let starts = new_starts(alloc, venues, drains, seats)?;
+    Ok(BegunDay {
+        desk,
+        collector,
+        seat,
+        starts,
+    })
+}
+
+/// What the workers of these venues begin with, each with the drain and the seat at its place.
+fn new_starts<L: Run, M: Accounts>(
+    alloc: Global,
+    venues: &[Venue],
+    drains: Vec<VenueDrain<L>>,
+    seats: Vec<WorkerSeat<M>>,
+) -> Result<Vec<Start<L, M>>, AllocError>
+    requires drains { drains.items ≡ new_drains (length venues.now) }
+    requires seats { seats.items ≡ worker_seats (length venues.now) }
+    ensures { IfOk result (λ starts. starts.items ≡ new_starts venues.now) }
+{
+    let mut starts = Vec::new(alloc);
+    let mut drains = VecDeque::from(drains);
+    let mut seats = VecDeque::from(seats);
+    for venue in venues {
+        let Some(drain) = drains.pop_front() else {
+            unreachable!()
+        };
+        let Some(seat) = seats.pop_front() else {
+            unreachable!()
+        };
+        starts.push(Start::new(alloc, desk_end(venue), drain, seat))?;
+    }
+    Ok(starts)
+}
+
+/// A day before its threads run.
+#[derive(Drop)]
+pub struct OpenDay<'a, L: Run, M: Accounts, R: Net + Wait + Clock, W: Write + Drop, J: Telling> {
+    pub floor: Floor<L, M, W, J>,
+    pub cast: DeskCast<'a, R, L, M, J>,
+    /// The seat of its callers.
+    pub seat: CallerSeat<L>,
+}
+
+/// Opens the day of these venues, that was begun: each venue with its worker, which begins as is said at its place; and
+/// the seat of its callers. The desk and each worker tell their journals. No thread runs, and none has dialled.
+pub fn open_day<'a, L, M, R, W, J>(
+    rt: &'a R,
+    alloc: Global,
+    venues: &[Venue],
+    means: Means<'_, W>,
+    begun: BegunDay<L, M>,
+    past: Past<J>,
+) -> Result<OpenDay<'a, L, M, R, W, J>, DayFault>
+where
+    L: Run,
+    M: Accounts,
+    R: Net + Files<File = File> + Wait + Clock,
+    W: Write + Drop,
+    J: Telling,
+    requires venues { length venues.now ≤ 16 }
+    requires starts { length begun.starts.items ≡ length venues.now }
+    requires journals { length past.venues.items ≡ length venues.now }
+    requires noted { IsNoted begun.desk (J.told past.desk) }
+    requires seat { begun.seat.parts ≡ 1024 }
+    ensures plans { IfOk result (λ day. map (λ e. e.acceptor.plan) day.cast.exchanges.items
+        ≡ plans means.entry.cut venues.now) }
+    ensures starts { IfOk result (λ day. day.cast.workers.items
+        ≡ workers_from venues.now begun.starts.items (map J.told past.venues.items)) }
+    ensures names { IfOk result (λ day. day.floor.names.items ≡ map (λ v. v.name) venues.now) }
+    ensures seat { IfOk result (λ day. (day.seat.shares ≡ begun.seat.shares)
+        × (day.seat.parts + shared_parts day.floor.shared ≡ 1024)) }
+    ensures page { IfOk result (λ day. means.entry.servers.items ≡ [] → day.floor.shared ≡ None) }
+    ensures only { IfErr result IsNoMismatch }
+{
     let Means {
         manner,
         folder,
@@ -105,12 +212,25 @@ where
         servers,
         cut,
     } = means;
+    let BegunDay {
+        desk,
+        collector,
+        seat,
+        starts,
+    } = begun;
+    let Past {
+        refs,
+        shares,
+        desk: journal,
+        venues: journals,
+        watched,
+    } = past;
     let OpenVenues {
         sight,
         exchanges,
         workers,
         mut bells,
-    } = open_venues(rt, alloc, venues, cut, folder, drains, seats)?;
+    } = open_venues(rt, alloc, venues, cut, folder, starts, journals)?;
     let Sight {
         names,
         views,
@@ -122,19 +242,22 @@ where
     }
     let mut seat = seat;
     let shared = shared_seat(&mut seat, !servers.is_empty());
+    let signals = Signals::new();
+    signals.count_placed(shares);
     let floor = Floor {
         names,
         views,
         manner,
-        lock,
+        lock: ReleaseLock::of_locked(alloc, desk.noting_in(journal))?,
         collector,
         shared,
         turn: Mutex::new(()),
-        refs: Mutex::new(Refs::new(alloc)),
+        refs: Mutex::new(refs),
+        journals: watched,
         refusals: Refusals::new(alloc),
         voice,
         line_log,
-        signals: Signals::new(),
+        signals,
         bells,
         stop: Stop::new(),
     };

@@ -1,27 +1,33 @@
 //! A day whose sweeps come by lines, from its rings to its audit.
 
-ghost use Rattle.std.specs.Prelude.{◌≡◌, ◌≤◌, length, map, IfOk, IfErr};
+ghost use Rattle.std.specs.Prelude.{◌≡◌, ◌+◌, ◌<◌, ◌≤◌, length, map, None, IfOk, IfErr};
 ghost use Rattle.std.specs.List.{All};
+ghost use Rattle.release_lock.specs.Noted.{IsNoted};
 ghost use Rattle.release_lock.specs.Queues.{IsFresh};
 ghost use Rattle.desk_config.specs.Apart.{AreVenues};
 ghost use Rattle.desk_venues.specs.Faults.{IsNoMismatch};
-ghost use Rattle.desk_venues.specs.Starts.{any_wording};
+ghost use Rattle.desk_venues.specs.Starts.{any_wording, starts_of, workers_from};
 ghost use Rattle.session_worker.specs.Ends.{AllRan};
-ghost use Rattle.session_worker.specs.Places.{place};
-ghost use Rattle.desk_run.specs.Told.{IsToldDay};
+ghost use Rattle.session_worker.specs.Places.{place, new_places};
+ghost use Rattle.desk_run.specs.Audited.{AreBegun};
+ghost use Rattle.desk_run.specs.Seats.{shared_parts};
+ghost use Rattle.desk_run.specs.Told.{IsToldDay, IsToldFrom, IsToldOver};
 
 use crate::DeskDay;
 use crate::closing::close_day;
-use crate::opening::{Means, OpenDay, add_taker, open_day};
+use crate::going_on::{open_files, past_of, restored};
+use crate::opening::{BegunDay, Means, OpenDay, Past, add_taker, begin_day, open_day};
 use crate::pages::open_pages;
 use clock::Clock;
-use desk_config::{DeskConfig, Venue};
+use day_restart::{JournalNames, Restored};
+use desk_config::{Day, DeskConfig, Durable};
 use desk_floor::{Floor, Manner, Voice};
 use desk_talk::{DeskInput, InputLines, LinesEnd, take_lines};
 use desk_threads::{Cast, Ended, in_threads};
-use desk_venues::{DayFault, Serve};
+use desk_venues::{DayFault, LogFolder, Serve};
 use exec_collector::{Accounts, BlankBook};
 use json_lines::Form;
+use kept_link::Telling;
 use link::Link;
 use release_lock::{BlankDesk, CallerSeat, Run, rings};
 use std::alloc::Global;
@@ -35,6 +41,15 @@ use std::thread::{Threads, join};
 use std::time;
 use venue_queue::{Drain, Feed};
 
+/// Where a day's journals are, and what they outlive.
+#[derive(Clone, Copy, Debug)]
+pub struct JournalAt<'a> {
+    pub folder: &'a str,
+    pub durable: Durable,
+    /// The day that they are of.
+    pub day: Day,
+}
+
 /// How a day is asked for.
 #[derive(Clone, Copy, Debug)]
 pub struct DayOptions<'a> {
@@ -43,6 +58,8 @@ pub struct DayOptions<'a> {
     pub form: Form,
     /// The folder of its logs, if it keeps any.
     pub folder: Option<&'a str>,
+    /// Its journals, if it keeps any.
+    pub journal: Option<JournalAt<'a>>,
 }
 
 /// Runs the day of a configuration, and audits it. The lines of the input are taken by one caller, in order, and
@@ -51,7 +68,8 @@ pub struct DayOptions<'a> {
 /// open, as long as the patience goes, the gates are shut, what is placed and unsent is withdrawn, and the sessions log
 /// out. A session that isn't over ten seconds later, or at a second `close`, is given up. Where a folder is named the
 /// messages of each venue and the lines are logged there, in files that aren't there yet; they are begun once each
-/// exchange's address is known.
+/// exchange's address is known. Where journals are kept the day goes on with them, if there are lines in them, and
+/// with its logs, and says so; at its end it is written there that it ended.
 pub fn run_day<R, I, W>(
     rt: &R,
     alloc: Global,
@@ -67,10 +85,12 @@ where
         + Wait
         + time::Clock
         + Sync,
+    R::Dir: Send,
     I: Read + Drop,
     W: Write + Drop + Send,
     requires { AreVenues config.now.venues.items }
-    ensures day { IfOk result (IsToldDay config.now.venues.items) }
+    ensures day { IfOk result (IsToldOver config.now.venues.items) }
+    ensures new { options.entry.journal ≡ None → IfOk result (IsToldDay config.now.venues.items) }
     ensures only { IfErr result IsNoMismatch }
 {
     let venues = config.venues.as_slice();
@@ -79,31 +99,22 @@ where
     let Ok(lines) = InputLines::new(rt, alloc, input) else {
         return Err(DayFault::NoSocket);
     };
-    let DayOptions {
-        manner,
-        form,
-        folder,
-    } = options;
-    let means = Means {
-        manner,
-        folder,
-        voice: Voice::new(alloc, form, out),
-        servers: open_pages(rt, alloc, config)?,
-        cut: 0,
-    };
     let callers = BlankDesk::new(1024);
     let Ok(workers) = BlankBook::new(alloc, count) else {
         return Err(DayFault::OutOfMemory);
     };
-    named_day::<Brand, Brand, R, I, W>(rt, alloc, venues, means, lines, callers, workers, rings)
+    named_day::<Brand, Brand, R, I, W>(
+        rt, alloc, config, options, out, lines, callers, workers, rings,
+    )
 }
 
-/// A day whose names were picked.
+/// A day whose names were picked: with its journals, or without any.
 fn named_day<L, M, R, I, W>(
     rt: &R,
     alloc: Global,
-    venues: &[Venue],
-    means: Means<'_, W>,
+    config: &DeskConfig,
+    options: DayOptions<'_>,
+    out: W,
     lines: InputLines<I>,
     callers: BlankDesk,
     workers: BlankBook,
@@ -118,42 +129,121 @@ where
         + Wait
         + time::Clock
         + Sync,
+    R::Dir: Send,
     I: Read + Drop,
     W: Write + Drop + Send,
-    requires venues { (1 ≤ length venues.now) × (length venues.now ≤ 16) }
+    requires venues { (1 ≤ length config.now.venues.items) × (length config.now.venues.items ≤ 16) }
     requires callers { (callers.name ≡ L.name) × (callers.parts ≡ L.parts) × (L.parts ≡ 1024)
         × (callers.slips ≡ L.slips) }
-    requires workers { (workers.name ≡ M.name) × (workers.parts ≡ M.parts) × (M.parts ≡ length venues.now) }
+    requires workers { (workers.name ≡ M.name) × (workers.parts ≡ M.parts)
+        × (M.parts ≡ length config.now.venues.items) }
     requires lists { (workers.lists ≡ M.lists) × (workers.sweeps ≡ M.sweeps) }
     requires tied { L.sweeps ≡ M.sweeps }
-    requires rings { (length rings.items ≡ length venues.now) × All IsFresh rings.items }
+    requires rings { (length rings.items ≡ length config.now.venues.items) × All IsFresh rings.items }
     requires queues { L.queues ≡ map (λ ends. ends.0.table) rings.items }
-    ensures day { IfOk result (IsToldDay venues.now) }
+    ensures day { IfOk result (IsToldOver config.now.venues.items) }
+    ensures new { options.entry.journal ≡ None → IfOk result (IsToldDay config.now.venues.items) }
     ensures only { IfErr result IsNoMismatch }
 {
-    let day = open_day::<L, M, R, W>(rt, alloc, venues, means, callers, workers, rings)?;
-    let OpenDay {
-        mut floor,
-        cast,
-        seat,
-    } = day;
-    add_taker(&mut floor.bells, lines.wakeup())?;
-    let (ended, called) = with_lines(rt, alloc, &floor, cast, seat, lines)?;
-    let LinesEnd { seat, broken_off } = called;
-    let mut seats = Vec::new(alloc);
-    seats.push(seat)?;
-    close_day(alloc, floor, ended, seats, broken_off)
+    let venues = config.venues.as_slice();
+    let begun = begin_day::<L, M>(alloc, venues, callers, workers, rings)?;
+    match options.journal {
+        None => {
+            let past = Past::none(alloc, venues.len())?;
+            held_day(
+                rt, alloc, config, options, false, None, out, lines, begun, past,
+            )
+        }
+        Some(at) => {
+            let names = JournalNames::new(alloc, at.day, venues)?;
+            let files = open_files(rt, alloc, at, &names, venues)?;
+            let is_new = files.is_new();
+            let (begun, again) = restored(rt, alloc, at, venues, &files, begun)?;
+            let past = past_of(
+                rt,
+                alloc,
+                at,
+                &names,
+                venues,
+                &files,
+                again.refs,
+                again.shares,
+            )?;
+            let told = if is_new { None } else { Some(again.told) };
+            held_day(
+                rt, alloc, config, options, !is_new, told, out, lines, begun, past,
+            )
+        }
+    }
 }
 
-/// Runs the threads of a day beside the caller who takes the lines of this input, in this thread.
-fn with_lines<X, K, C, L, M, W, I, R>(
+/// A day is held that was begun, from its opening to its audit. One that goes on says with what.
+fn held_day<L, M, R, I, W, J>(
     rt: &R,
     alloc: Global,
-    floor: &Floor<L, M, W>,
-    cast: Cast<X, K, C, L, M>,
-    seat: CallerSeat<L>,
+    config: &DeskConfig,
+    options: DayOptions<'_>,
+    goes_on: bool,
+    told: Option<Restored>,
+    out: W,
     lines: InputLines<I>,
-) -> Result<(Ended<K, L, M>, LinesEnd<L>), DayFault>
+    begun: BegunDay<L, M>,
+    past: Past<J>,
+) -> Result<DeskDay, DayFault>
+where
+    L: Run + Send + Sync,
+    M: Accounts + Send + Sync,
+    R: Net<Listener = TcpListener, Stream = TcpStream>
+        + Files<File = File>
+        + Threads
+        + Wait
+        + time::Clock
+        + Sync,
+    I: Read + Drop,
+    W: Write + Drop + Send,
+    J: Telling + Send,
+    requires venues { (1 ≤ length config.now.venues.items) × (length config.now.venues.items ≤ 16) }
+    requires workers { M.parts ≡ length config.now.venues.items }
+    requires starts { length begun.starts.items ≡ length config.now.venues.items }
+    requires journals { length past.venues.items ≡ length config.now.venues.items }
+    requires noted { IsNoted begun.desk (J.told past.desk) }
+    requires seat { begun.seat.parts ≡ 1024 }
+    requires begun { AreBegun 0 config.now.venues.items
+        (workers_from config.now.venues.items begun.starts.items (map J.told past.venues.items)) }
+    ensures day { IfOk result (IsToldOver config.now.venues.items) }
+    ensures new { workers_from config.now.venues.items begun.starts.items (map J.told past.venues.items)
+        ≡ starts_of config.now.venues.items → IfOk result (IsToldDay config.now.venues.items) }
+    ensures only { IfErr result IsNoMismatch }
+{
+    let DayOptions {
+        manner,
+        form,
+        folder,
+        journal: _,
+    } = options;
+    let means = Means {
+        manner,
+        folder: folder.map(|path| LogFolder { path, goes_on }),
+        voice: Voice::new(alloc, form, out),
+        servers: open_pages(rt, alloc, config)?,
+        cut: 0,
+    };
+    let venues = config.venues.as_slice();
+    let day = open_day::<L, M, R, W, J>(rt, alloc, venues, means, begun, past)?;
+    let OpenDay { floor, cast, seat } = day;
+    run_open(rt, alloc, floor, cast, seat, told, lines)
+}
+
+/// Runs a day that is open, from the lines of this input to its audit. One that goes on says with what.
+fn run_open<X, K, C, L, M, W, J, I, R>(
+    rt: &R,
+    alloc: Global,
+    floor: Floor<L, M, W, J>,
+    cast: Cast<X, K, C, L, M, J>,
+    seat: CallerSeat<L>,
+    told: Option<Restored>,
+    lines: InputLines<I>,
+) -> Result<DeskDay, DayFault>
 where
     X: Serve + Drop + Send,
     K: Link + Send,
@@ -161,6 +251,49 @@ where
     L: Run + Send + Sync,
     M: Accounts + Send + Sync,
     W: Write + Drop + Send,
+    J: Telling + Send,
+    I: Read + Drop,
+    R: Threads + Wait + time::Clock + Sync,
+    requires workers { map (λ w. place w.parts) cast.workers.items ≡ new_places M.parts }
+    requires some { 0 < M.parts }
+    requires seat { seat.parts + shared_parts floor.shared ≡ 1024 }
+    ensures told { IfOk result (IsToldFrom floor.names.items cast.workers.items) }
+    ensures only { IfErr result IsNoMismatch }
+{
+    let mut floor = floor;
+    add_taker(&mut floor.bells, lines.wakeup())?;
+    say_restored(rt, &floor.voice, told);
+    let (ended, called) = with_lines(rt, alloc, &floor, cast, seat, lines)?;
+    let LinesEnd { seat, broken_off } = called;
+    let mut seats = Vec::new(alloc);
+    seats.push(seat)?;
+    close_day(rt, alloc, floor, ended, seats, broken_off)
+}
+
+/// Says with what a day goes on, if it does. It goes on too where that can't be written.
+fn say_restored<W: Write + Drop>(rt: &impl Wait, voice: &Voice<W>, told: Option<Restored>) {
+    if let Some(told) = told {
+        let _ = voice.say(rt, &told);
+    }
+}
+
+/// Runs the threads of a day beside the caller who takes the lines of this input, in this thread.
+fn with_lines<X, K, C, L, M, W, J, I, R>(
+    rt: &R,
+    alloc: Global,
+    floor: &Floor<L, M, W, J>,
+    cast: Cast<X, K, C, L, M, J>,
+    seat: CallerSeat<L>,
+    lines: InputLines<I>,
+) -> Result<(Ended<K, L, M, J>, LinesEnd<L>), DayFault>
+where
+    X: Serve + Drop + Send,
+    K: Link + Send,
+    C: Clock + Drop + Send,
+    L: Run + Send + Sync,
+    M: Accounts + Send + Sync,
+    W: Write + Drop + Send,
+    J: Telling + Send,
     I: Read + Drop,
     R: Threads + Wait + time::Clock + Sync,
     ensures ran { IfOk result (λ day. AllRan any_wording cast.workers.items day.0.workers.items) }
@@ -171,7 +304,7 @@ where
 {
     let (ended, called) = join(
         rt,
-        || -> Result<Ended<K, L, M>, DayFault>
+        || -> Result<Ended<K, L, M, J>, DayFault>
             ensures ran { IfOk result (λ ended. AllRan any_wording cast.workers.items ended.workers.items) }
             ensures workers { IfOk result (λ ended. map (λ e. place e.parts) ended.workers.items
                 ≡ map (λ w. place w.parts) cast.workers.items) }

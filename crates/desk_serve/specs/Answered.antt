@@ -1,5 +1,5 @@
 -- What a sweep is answered that comes over HTTP.
-use Rattle.std.specs.Prelude.{◌≡◌, ◌≢◌, ℕ, Bool, List}
+use Rattle.std.specs.Prelude.{◌≡◌, ◌≢◌, ◌⊎◌, ℕ, Bool, List, None}
 use Rattle.sweep_refs.specs.declared.submission.Submission.{Submission}
 use Rattle.sweep_text.specs.declared.answer.Answer.{Answer}
 use Rattle.sweep_text.specs.declared.answer.Answer.TheVariants as answer
@@ -16,9 +16,17 @@ outcome_of (answer.Refused why) = outcome.Refused why
 outcome_of answer.Closing = outcome.Closing
 outcome_of (answer.BadLine number fault) = outcome.Refused OutOfMemory
 
--- unless the day is closing, a sweep is answered as the day's floor answers it: with what became of it at a desk that
--- replays from its own history, or as it was placed before under its reference
+-- a sweep is answered as the day's floor answers it: with what became of it at a desk that replays from its own
+-- history, or as it was placed before under its reference
+abbrev pub IsFloors : List (List ℕ) → Bool → Submission → Outcome → Type 0
+IsFloors names wants submission told =
+    (answer : Answer) × floor.IsAnswered names wants submission answer × (told ≡ outcome_of answer)
+
+-- where there is no memory for the line of a sweep that has no reference, it is refused
+abbrev pub IsUnwritten : Submission → Outcome → Type 0
+IsUnwritten submission told = (submission.reference ≡ None) × (told ≡ outcome.Refused OutOfMemory)
+
+-- unless the day is closing, a sweep is answered so
 abbrev pub IsAnswered : List (List ℕ) → Bool → Submission → Outcome → Type 0
 IsAnswered names wants submission told =
-    told ≢ outcome.Closing
-    → (answer : Answer) × floor.IsAnswered names wants submission answer × (told ≡ outcome_of answer)
+    told ≢ outcome.Closing → IsFloors names wants submission told ⊎ IsUnwritten submission told

@@ -17,6 +17,7 @@ use desk_http::{Changes, Day, DaySums, RefusalCounts};
 use desk_json::{Event, ExecutionsPage, LegRow, Outcome, SweepLegs, SweepsPage, VenueRow};
 use desk_words::VenueName;
 use exec_collector::Accounts;
+use kept_link::Telling;
 use release_lock::Run;
 use std::alloc::{AllocError, Global};
 use std::io::Write;
@@ -36,10 +37,10 @@ const LOOK_SECONDS: u64 = 1;
 
 /// A desk's day, as one connection asks it.
 #[derive(Drop)]
-pub(crate) struct DayView<'a, L: Run, M: Accounts, W: Write + Drop, R: Wait + Clock> {
+pub(crate) struct DayView<'a, L: Run, M: Accounts, W: Write + Drop, J: Telling, R: Wait + Clock> {
     rt: &'a R,
     alloc: Global,
-    floor: &'a Floor<L, M, W>,
+    floor: &'a Floor<L, M, W, J>,
     page: &'a Page,
     clock: UtcClock<'a, R>,
     log: LineLog<'a, R, UtcClock<'a, R>>,
@@ -83,14 +84,21 @@ fn shown(number: u64, legs: Vec<LegRow>) -> Option<SweepLegs>
     })
 }
 
-impl<'a, L: Run, M: Accounts, W: Write + Drop, R: Wait + Clock> DayView<'a, L, M, W, R> {
+impl<'a, L: Run, M: Accounts, W: Write + Drop, J: Telling, R: Wait + Clock> DayView<
+    'a,
+    L,
+    M,
+    W,
+    J,
+    R,
+> {
     /// The day as a new connection asks it. The only refusal is out of memory.
     pub fn new(
         rt: &'a R,
         alloc: Global,
-        floor: &'a Floor<L, M, W>,
+        floor: &'a Floor<L, M, W, J>,
         page: &'a Page,
-    ) -> Result<DayView<'a, L, M, W, R>, AllocError> {
+    ) -> Result<DayView<'a, L, M, W, J, R>, AllocError> {
         Ok(DayView {
             rt,
             alloc,
@@ -166,7 +174,8 @@ impl<'a, L: Run, M: Accounts, W: Write + Drop, R: Wait + Clock> DayView<'a, L, M
     }
 }
 
-impl<'a, L: Run, M: Accounts, W: Write + Drop, R: Wait + Clock> Day for DayView<'a, L, M, W, R> {
+impl<'a, L: Run, M: Accounts, W: Write + Drop, J: Telling, R: Wait + Clock> Day
+    for DayView<'a, L, M, W, J, R> {
     ghost venue_names = { λ day. day.floor.now.names.items };
 
     ghost places = { λ day submission outcome _.
@@ -196,15 +205,15 @@ impl<'a, L: Run, M: Accounts, W: Write + Drop, R: Wait + Clock> Day for DayView<
     fn place(&mut self, submission: Submission) -> Outcome {
         let names = self.floor.names.as_slice();
         let legs = submission.sweep.legs.as_slice();
-        let written = write_sweep(self.alloc, names, submission.reference.as_ref(), legs);
-        let line = match &written {
-            Ok(line) => line.as_bytes(),
-            Err(_) => b"",
+        let answer = match write_sweep(self.alloc, names, submission.reference.as_ref(), legs) {
+            Ok(line) => self
+                .floor
+                .hand_in_shared(self.rt, &mut self.log, line.as_bytes(), submission),
+            Err(_) => self
+                .floor
+                .answer_unwritten(self.rt, &mut self.log, &submission),
         };
-        outcome_of(
-            self.floor
-                .hand_in_shared(self.rt, &mut self.log, line, submission),
-        )
+        outcome_of(answer)
     }
 
     fn find(&self, reference: &SweepRef) -> Option<u64> {

@@ -7,6 +7,7 @@ use desk_floor::{Changes, Floor, Standing};
 use desk_json::{Audit, Event, event_text};
 use desk_news::DayTotals;
 use exec_collector::Accounts;
+use kept_link::Telling;
 use release_lock::Run;
 use std::alloc::{AllocError, Global};
 use std::io::Write;
@@ -28,10 +29,10 @@ pub(crate) struct Follower {
 
 impl Follower {
     /// One that is told what changes from now on. It may wait for locks.
-    pub fn new<L: Run, M: Accounts, W: Write + Drop>(
+    pub fn new<L: Run, M: Accounts, W: Write + Drop, J: Telling>(
         rt: &impl Wait,
         alloc: Global,
-        floor: &Floor<L, M, W>,
+        floor: &Floor<L, M, W, J>,
     ) -> Result<Follower, AllocError> {
         let mut venues = Vec::new(alloc);
         for place in 0..floor.names.len() {
@@ -48,12 +49,12 @@ impl Follower {
     }
 
     /// What changed since it was asked last. It may wait for locks.
-    pub fn news<L: Run, M: Accounts, W: Write + Drop>(
+    pub fn news<L: Run, M: Accounts, W: Write + Drop, J: Telling>(
         &mut self,
         rt: &impl Wait,
         clock: &impl Clock,
         alloc: Global,
-        floor: &Floor<L, M, W>,
+        floor: &Floor<L, M, W, J>,
     ) -> Result<Vec<Event>, AllocError> {
         let mut events = Vec::new(alloc);
         self.add_venues(rt, clock, alloc, floor, &mut events)?;
@@ -64,12 +65,12 @@ impl Follower {
     }
 
     /// Adds the venues that stand otherwise than before.
-    fn add_venues<L: Run, M: Accounts, W: Write + Drop>(
+    fn add_venues<L: Run, M: Accounts, W: Write + Drop, J: Telling>(
         &mut self,
         rt: &impl Wait,
         clock: &impl Clock,
         alloc: Global,
-        floor: &Floor<L, M, W>,
+        floor: &Floor<L, M, W, J>,
         events: &mut Vec<Event>,
     ) -> Result<(), AllocError> {
         for (place, told) in self.venues.iter_mut().enumerate() {
@@ -85,10 +86,10 @@ impl Follower {
     }
 
     /// Adds the sweeps that changed.
-    fn add_sweeps<L: Run, M: Accounts, W: Write + Drop>(
+    fn add_sweeps<L: Run, M: Accounts, W: Write + Drop, J: Telling>(
         &mut self,
         rt: &impl Wait,
-        floor: &Floor<L, M, W>,
+        floor: &Floor<L, M, W, J>,
         events: &mut Vec<Event>,
     ) -> Result<(), AllocError> {
         self.changes.look(rt, &floor.collector)?;
@@ -105,10 +106,10 @@ impl Follower {
     }
 
     /// Adds the sweeps that were refused.
-    fn add_refusals<L: Run, M: Accounts, W: Write + Drop>(
+    fn add_refusals<L: Run, M: Accounts, W: Write + Drop, J: Telling>(
         &mut self,
         rt: &impl Wait,
-        floor: &Floor<L, M, W>,
+        floor: &Floor<L, M, W, J>,
         events: &mut Vec<Event>,
     ) -> Result<(), AllocError> {
         let new = floor.refusals.since(rt, self.refused)?;
@@ -123,10 +124,10 @@ impl Follower {
     }
 
     /// Adds the shares of the day, if they changed.
-    fn add_totals<L: Run, M: Accounts, W: Write + Drop>(
+    fn add_totals<L: Run, M: Accounts, W: Write + Drop, J: Telling>(
         &mut self,
         rt: &impl Wait,
-        floor: &Floor<L, M, W>,
+        floor: &Floor<L, M, W, J>,
         events: &mut Vec<Event>,
     ) -> Result<(), AllocError> {
         let totals = floor.totals(rt);

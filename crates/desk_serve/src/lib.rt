@@ -2,9 +2,9 @@
 //!
 //! Promises:
 //! - Unless the day is closing, a sweep that comes over HTTP is answered as the day's floor answers it: with what
-//!   became of it at a desk that replays from its own history, or as it was placed before under its reference
-//!   (`IsAnswered`, which stands for `places` of `desk_http`). Under a reference the sweep is found that was placed
-//!   under it (`IsNumber`, for `finds`).
+//!   became of it at a desk that replays from its own history, or as it was placed before under its reference. Where
+//!   there is no memory for its line, one that has no reference is refused (`IsAnswered`, which stands for `places` of
+//!   `desk_http`). Under a reference the sweep is found that was placed under it (`IsNumber`, for `finds`).
 //! - The sweeps of a page are those behind the number that was asked for, in order, each as a book has it that its own
 //!   history leads to, with what was paid for it, up to so many or to the first that such a book hasn't got (`IsPage`,
 //!   for `pages`).

@@ -8,6 +8,7 @@ use desk_floor::Floor;
 use desk_http::serve;
 use desk_page::PAGE;
 use exec_collector::Accounts;
+use kept_link::Telling;
 use readiness::Wakeup;
 use release_lock::Run;
 use std::alloc::Global;
@@ -62,11 +63,11 @@ impl PageServer {
 
     /// Serves the page until the day is over, and gives the clients that followed it to its end. A client for which
     /// there is no memory is let go.
-    pub fn serve<L: Run, M: Accounts, W: Write + Drop, R: Wait + Clock>(
+    pub fn serve<L: Run, M: Accounts, W: Write + Drop, J: Telling, R: Wait + Clock>(
         self,
         rt: &R,
         alloc: Global,
-        floor: &Floor<L, M, W>,
+        floor: &Floor<L, M, W, J>,
     ) -> Vec<TcpStream> {
         let mut followers = Vec::new(alloc);
         for _ in rt.forever() {
@@ -87,11 +88,11 @@ impl PageServer {
     }
 
     /// Serves a client's request, and gives the client if it followed the day to its end.
-    fn serve_client<L: Run, M: Accounts, W: Write + Drop, R: Wait + Clock>(
+    fn serve_client<L: Run, M: Accounts, W: Write + Drop, J: Telling, R: Wait + Clock>(
         &self,
         rt: &R,
         alloc: Global,
-        floor: &Floor<L, M, W>,
+        floor: &Floor<L, M, W, J>,
         client: TcpStream,
     ) -> io::Result<Option<TcpStream>> {
         let mut client = client;

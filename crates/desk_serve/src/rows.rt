@@ -10,6 +10,7 @@ use desk_floor::{Floor, LegStanding, venue_status};
 use desk_json::{LegRow, OrderWaits, VenueRow, WaitCount};
 use desk_words::VenueName;
 use exec_collector::Accounts;
+use kept_link::Telling;
 use leg::{Split, Totals};
 use release_lock::Run;
 use std::alloc::{AllocError, Global};
@@ -32,11 +33,11 @@ fn waits_of(alloc: Global, times: &OrderTimes) -> Result<OrderWaits, AllocError>
 }
 
 /// How the venue at a place stands, if there is one. It may wait for locks. The only refusal is out of memory.
-pub(crate) fn venue_row<L: Run, M: Accounts, W: Write + Drop>(
+pub(crate) fn venue_row<L: Run, M: Accounts, W: Write + Drop, J: Telling>(
     rt: &impl Wait,
     clock: &impl Clock,
     alloc: Global,
-    floor: &Floor<L, M, W>,
+    floor: &Floor<L, M, W, J>,
     place: usize,
 ) -> Result<Option<VenueRow>, AllocError>
     ensures { IfOk result (λ told. MatchOption told

@@ -11,6 +11,7 @@ use desk_json::{LegRow, VenueRow};
 use desk_news::PaidSweep;
 use desk_words::VenueName;
 use exec_collector::{Accounts, Collector};
+use kept_link::Telling;
 use release_lock::Run;
 use std::alloc::{AllocError, Global};
 use std::io::Write;
@@ -55,11 +56,11 @@ pub(crate) fn leg_rows(
 }
 
 /// How the venues stand, by their places. It may wait for locks. The only refusal is out of memory.
-pub(crate) fn venue_rows<L: Run, M: Accounts, W: Write + Drop>(
+pub(crate) fn venue_rows<L: Run, M: Accounts, W: Write + Drop, J: Telling>(
     rt: &impl Wait,
     clock: &impl Clock,
     alloc: Global,
-    floor: &Floor<L, M, W>,
+    floor: &Floor<L, M, W, J>,
 ) -> Result<Vec<VenueRow>, AllocError>
     ensures { IfOk result (λ rows. AreAll floor.now.names.items (length floor.now.views.items) rows.items) }
 {

@@ -9,6 +9,7 @@ use clock::UtcClock;
 use day_log::LineLog;
 use desk_floor::{Floor, TalkFault};
 use exec_collector::Accounts;
+use kept_link::Telling;
 use release_lock::{CallerSeat, Run};
 use std::alloc::Global;
 use std::io::{Read, Write};
@@ -36,10 +37,17 @@ pub struct LinesEnd<L: Run> {
 /// run, and waits until each venue is up, but no longer than two seconds. With the end of the input, with `close`, or
 /// where input or output fails, the day is to close. Where no worker runs within ten seconds the day is given up, and
 /// it leaves nothing.
-pub fn take_lines<L: Run, M: Accounts, W: Write + Drop, I: Read + Drop, R: Wait + Clock>(
+pub fn take_lines<
+    L: Run,
+    M: Accounts,
+    W: Write + Drop,
+    J: Telling,
+    I: Read + Drop,
+    R: Wait + Clock,
+>(
     rt: &R,
     alloc: Global,
-    floor: &Floor<L, M, W>,
+    floor: &Floor<L, M, W, J>,
     seat: CallerSeat<L>,
     lines: InputLines<I>,
 ) -> Option<LinesEnd<L>>
@@ -61,10 +69,10 @@ pub fn take_lines<L: Run, M: Accounts, W: Write + Drop, I: Read + Drop, R: Wait 
 }
 
 /// Takes and answers lines to the end of the input, and logs them, if a log is kept.
-fn log_lines<L: Run, M: Accounts, W: Write + Drop, I: Read + Drop, R: Wait + Clock>(
+fn log_lines<L: Run, M: Accounts, W: Write + Drop, J: Telling, I: Read + Drop, R: Wait + Clock>(
     rt: &R,
     alloc: Global,
-    floor: &Floor<L, M, W>,
+    floor: &Floor<L, M, W, J>,
     seat: &mut CallerSeat<L>,
     lines: &mut InputLines<I>,
 ) -> Result<(), TalkFault>
@@ -76,10 +84,10 @@ fn log_lines<L: Run, M: Accounts, W: Write + Drop, I: Read + Drop, R: Wait + Clo
 
 /// Takes and answers lines to the end of the input. Once the workers have ended only those are answered still that were
 /// read with the ones before.
-fn answer_lines<'a, L, M, W, I, R, C>(
+fn answer_lines<'a, L, M, W, J, I, R, C>(
     rt: &'a R,
     alloc: Global,
-    floor: &Floor<L, M, W>,
+    floor: &Floor<L, M, W, J>,
     seat: &mut CallerSeat<L>,
     lines: &mut InputLines<I>,
     log: &mut LineLog<'a, R, C>,
@@ -88,6 +96,7 @@ where
     L: Run,
     M: Accounts,
     W: Write + Drop,
+    J: Telling,
     I: Read + Drop,
     R: Wait + Clock,
     C: clock::Clock + Drop,
@@ -115,10 +124,10 @@ where
 }
 
 /// Answers the line that was read last.
-fn answer_line<'a, L, M, W, I, R, C>(
+fn answer_line<'a, L, M, W, J, I, R, C>(
     rt: &'a R,
     alloc: Global,
-    floor: &Floor<L, M, W>,
+    floor: &Floor<L, M, W, J>,
     seat: &mut CallerSeat<L>,
     lines: &InputLines<I>,
     open: &mut OpenSweeps,
@@ -128,6 +137,7 @@ where
     L: Run,
     M: Accounts,
     W: Write + Drop,
+    J: Telling,
     I: Read + Drop,
     R: Wait + Clock,
     C: clock::Clock + Drop,

@@ -3,6 +3,7 @@
 use day_executions::{Executions, LentNotes, named};
 use desk_floor::{Floor, TalkFault};
 use exec_collector::Accounts;
+use kept_link::Telling;
 use release_lock::Run;
 use std::alloc::Global;
 use std::io::Write;
@@ -34,10 +35,10 @@ impl ToldExecutions {
     }
 
     /// Tells these, by the names of their venues.
-    fn tell_lent<L: Run, M: Accounts, W: Write + Drop>(
+    fn tell_lent<L: Run, M: Accounts, W: Write + Drop, J: Telling>(
         &mut self,
         rt: &impl Wait,
-        floor: &Floor<L, M, W>,
+        floor: &Floor<L, M, W, J>,
         lent: LentNotes,
     ) -> Result<(), TalkFault> {
         for execution in named(self.alloc, floor.names.as_slice(), lent.notes)? {
@@ -49,10 +50,10 @@ impl ToldExecutions {
 
     /// Tells some of those that weren't told yet, in their order, and says whether there may be more. What wasn't told
     /// for lack of memory is told the next time.
-    fn tell_some<L: Run, M: Accounts, W: Write + Drop>(
+    fn tell_some<L: Run, M: Accounts, W: Write + Drop, J: Telling>(
         &mut self,
         rt: &impl Wait,
-        floor: &Floor<L, M, W>,
+        floor: &Floor<L, M, W, J>,
     ) -> Result<bool, TalkFault> {
         let collector = &floor.collector;
         let lent = self
@@ -66,10 +67,10 @@ impl ToldExecutions {
     }
 
     /// Tells those that weren't told yet and that the book didn't take, in their order.
-    fn tell_untaken<L: Run, M: Accounts, W: Write + Drop>(
+    fn tell_untaken<L: Run, M: Accounts, W: Write + Drop, J: Telling>(
         &mut self,
         rt: &impl Wait,
-        floor: &Floor<L, M, W>,
+        floor: &Floor<L, M, W, J>,
     ) -> Result<(), TalkFault> {
         let collector = &floor.collector;
         let lent = self
@@ -82,10 +83,10 @@ impl ToldExecutions {
     }
 
     /// Tells those that weren't told yet and are to be, in their order.
-    pub fn tell<L: Run, M: Accounts, W: Write + Drop>(
+    pub fn tell<L: Run, M: Accounts, W: Write + Drop, J: Telling>(
         &mut self,
         rt: &impl Wait,
-        floor: &Floor<L, M, W>,
+        floor: &Floor<L, M, W, J>,
     ) -> Result<(), TalkFault> {
         if !self.are_all {
             return self.tell_untaken(rt, floor);

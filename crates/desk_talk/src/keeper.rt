@@ -4,6 +4,7 @@ use crate::news::Told;
 use change_count::ChangeCount;
 use desk_floor::{Floor, Manner, TalkFault};
 use exec_collector::Accounts;
+use kept_link::Telling;
 use release_lock::Run;
 use std::alloc::Global;
 use std::io::Write;
@@ -33,10 +34,10 @@ enum Until {
 /// Tells what changes until the workers have ended, and executions to the last one. Once the day is closing it waits
 /// until no share is open, as long as the patience goes; then it tells once more what changed, and the workers are told
 /// to stop.
-pub fn keep<L: Run, M: Accounts, W: Write + Drop, R: Wait + Clock>(
+pub fn keep<L: Run, M: Accounts, W: Write + Drop, J: Telling, R: Wait + Clock>(
     rt: &R,
     alloc: Global,
-    floor: &Floor<L, M, W>,
+    floor: &Floor<L, M, W, J>,
 ) {
     let mut told = Some(Told::new(alloc, floor.manner));
     watch(rt, floor, &mut told, Until::Closing, None);
@@ -52,9 +53,9 @@ pub fn keep<L: Run, M: Accounts, W: Write + Drop, R: Wait + Clock>(
 }
 
 /// Whether what is waited for has come.
-fn is_reached<L: Run, M: Accounts, W: Write + Drop>(
+fn is_reached<L: Run, M: Accounts, W: Write + Drop, J: Telling>(
     rt: &impl Wait,
-    floor: &Floor<L, M, W>,
+    floor: &Floor<L, M, W, J>,
     until: Until,
 ) -> bool {
     if floor.signals.is_ending() {
@@ -83,9 +84,9 @@ fn is_over(clock: &impl Clock, begun: Option<Instant>, seconds: Option<u64>) -> 
 
 /// Tells what changes until that has come, for so many seconds at most, if a number is given. It sleeps while nothing
 /// changes.
-fn watch<L: Run, M: Accounts, W: Write + Drop, R: Wait + Clock>(
+fn watch<L: Run, M: Accounts, W: Write + Drop, J: Telling, R: Wait + Clock>(
     rt: &R,
-    floor: &Floor<L, M, W>,
+    floor: &Floor<L, M, W, J>,
     told: &mut Option<Told>,
     until: Until,
     seconds: Option<u64>,
@@ -106,8 +107,8 @@ fn watch<L: Run, M: Accounts, W: Write + Drop, R: Wait + Clock>(
 }
 
 /// The changes that are waited for: each where they are told, or may resolve the last share; else those of the day.
-fn awaited<L: Run, M: Accounts, W: Write + Drop>(
-    floor: &Floor<L, M, W>,
+fn awaited<L: Run, M: Accounts, W: Write + Drop, J: Telling>(
+    floor: &Floor<L, M, W, J>,
     tells: bool,
     until: Until,
 ) -> &ChangeCount {
@@ -124,9 +125,9 @@ fn awaited<L: Run, M: Accounts, W: Write + Drop>(
 }
 
 /// Rests between two tellings, and says whether what is waited for has come.
-fn has_come_meanwhile<L: Run, M: Accounts, W: Write + Drop, R: Wait + Clock>(
+fn has_come_meanwhile<L: Run, M: Accounts, W: Write + Drop, J: Telling, R: Wait + Clock>(
     rt: &R,
-    floor: &Floor<L, M, W>,
+    floor: &Floor<L, M, W, J>,
     until: Until,
 ) -> bool {
     let seen = floor.bells.turns().count();
@@ -155,9 +156,9 @@ fn rest_of(manner: Manner, until: Until) -> u64 {
 
 /// Tells what changed; where the output can't be written, nothing is told any more. What memory is wanted for is told
 /// at a later look.
-fn tell<L: Run, M: Accounts, W: Write + Drop>(
+fn tell<L: Run, M: Accounts, W: Write + Drop, J: Telling>(
     rt: &impl Wait,
-    floor: &Floor<L, M, W>,
+    floor: &Floor<L, M, W, J>,
     told: &mut Option<Told>,
 ) {
     let Some(news) = told else {

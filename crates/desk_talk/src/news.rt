@@ -10,6 +10,7 @@ use desk_floor::{Changes, Floor, Manner, Standing, TalkFault};
 use desk_news::{News, PaidSweep};
 use desk_words::VenueName;
 use exec_collector::Accounts;
+use kept_link::Telling;
 use release_lock::Run;
 use std::alloc::Global;
 use std::io::Write;
@@ -28,6 +29,8 @@ pub struct Told {
     executions: ToldExecutions,
     // Whether changes of venues and sweeps are to be told.
     tells_news: bool,
+    // Whether each journal was told to be failing.
+    journals: Vec<bool>,
 }
 
 /// The news of how a venue stands, where the pause before its next dial lasts so many seconds, and the venue said this
@@ -58,9 +61,9 @@ fn notes(told: &mut Vec<PaidSweep>, place: usize, sweep: PaidSweep) -> Result<bo
 
 /// Tells the sweep of this number with what was paid for it and what is disputed of it, if that differs from what was
 /// told of it, and notes it.
-fn tell_sweep<L: Run, M: Accounts, W: Write + Drop>(
+fn tell_sweep<L: Run, M: Accounts, W: Write + Drop, J: Telling>(
     rt: &impl Wait,
-    floor: &Floor<L, M, W>,
+    floor: &Floor<L, M, W, J>,
     told: &mut Vec<PaidSweep>,
     number: u64,
 ) -> Result<(), TalkFault> {
@@ -85,6 +88,7 @@ impl Told {
             changes: Changes::new(alloc),
             executions: ToldExecutions::new(alloc, manner.tells_executions),
             tells_news: manner.tells_news,
+            journals: Vec::new(alloc),
         }
     }
 
@@ -102,10 +106,10 @@ impl Told {
     }
 
     /// Tells that venues stand otherwise.
-    fn tell_venues<L: Run, M: Accounts, W: Write + Drop>(
+    fn tell_venues<L: Run, M: Accounts, W: Write + Drop, J: Telling>(
         &mut self,
         rt: &impl Wait,
-        floor: &Floor<L, M, W>,
+        floor: &Floor<L, M, W, J>,
     ) -> Result<(), TalkFault> {
         for (place, name) in floor.names.iter().enumerate() {
             let Some(seen) = floor.seen(place) else {
@@ -124,11 +128,29 @@ impl Told {
         Ok(())
     }
 
-    /// Tells each sweep that stands otherwise.
-    fn tell_sweeps<L: Run, M: Accounts, W: Write + Drop>(
+    /// Tells that journals can't be written, or can again. What wasn't told for lack of memory is told the next time.
+    fn tell_journals<L: Run, M: Accounts, W: Write + Drop, J: Telling>(
         &mut self,
         rt: &impl Wait,
-        floor: &Floor<L, M, W>,
+        floor: &Floor<L, M, W, J>,
+    ) -> Result<(), TalkFault> {
+        for _ in self.journals.len()..floor.journals.len() {
+            self.journals.push(false)?;
+        }
+        for (journal, was_failing) in floor.journals.iter().zip(self.journals.iter_mut()) {
+            if let Some(news) = journal.news(*was_failing) {
+                floor.voice.say(rt, &news)?;
+                *was_failing = news.is_failing;
+            }
+        }
+        Ok(())
+    }
+
+    /// Tells each sweep that stands otherwise.
+    fn tell_sweeps<L: Run, M: Accounts, W: Write + Drop, J: Telling>(
+        &mut self,
+        rt: &impl Wait,
+        floor: &Floor<L, M, W, J>,
     ) -> Result<(), TalkFault> {
         let Told {
             venues: _,
@@ -136,6 +158,7 @@ impl Told {
             changes,
             executions: _,
             tells_news: _,
+            journals: _,
         } = self;
         changes.look(rt, &floor.collector)?;
         for number in changes.sweeps() {
@@ -146,21 +169,22 @@ impl Told {
     }
 
     /// Tells the executions that weren't told yet and are to be: all, or those that the book didn't take.
-    pub fn tell_executions<L: Run, M: Accounts, W: Write + Drop>(
+    pub fn tell_executions<L: Run, M: Accounts, W: Write + Drop, J: Telling>(
         &mut self,
         rt: &impl Wait,
-        floor: &Floor<L, M, W>,
+        floor: &Floor<L, M, W, J>,
     ) -> Result<(), TalkFault> {
         self.executions.tell(rt, floor)
     }
 
     /// Tells what changed: of venues until the workers are told to stop. What wasn't told for lack of memory is told
     /// the next time, if it differs then from what was told before.
-    pub fn tell<L: Run, M: Accounts, W: Write + Drop>(
+    pub fn tell<L: Run, M: Accounts, W: Write + Drop, J: Telling>(
         &mut self,
         rt: &impl Wait,
-        floor: &Floor<L, M, W>,
+        floor: &Floor<L, M, W, J>,
     ) -> Result<(), TalkFault> {
+        self.tell_journals(rt, floor)?;
         if self.tells_news && !floor.signals.are_stopped() {
             self.tell_venues(rt, floor)?;
         }

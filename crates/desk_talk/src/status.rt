@@ -9,6 +9,7 @@ use desk_executions::{UnbookedCounts, UnbookedStatus};
 use desk_floor::{Floor, TalkFault, venue_status};
 use desk_news::Status;
 use exec_collector::Accounts;
+use kept_link::Telling;
 use release_lock::Run;
 use std::io::Write;
 use std::sync::Wait;
@@ -22,9 +23,9 @@ const NOTHING: UnbookedCounts = UnbookedCounts {
 };
 
 /// What the book didn't take of the venue at a place, if there is any.
-fn unbooked_at<L: Run, M: Accounts, W: Write + Drop>(
+fn unbooked_at<L: Run, M: Accounts, W: Write + Drop, J: Telling>(
     rt: &impl Wait,
-    floor: &Floor<L, M, W>,
+    floor: &Floor<L, M, W, J>,
     place: usize,
 ) -> Option<UnbookedStatus> {
     let name = floor.names.get(place)?;
@@ -40,9 +41,9 @@ fn unbooked_at<L: Run, M: Accounts, W: Write + Drop>(
 
 /// Answers `status`: a line for each venue, one for each of which the book didn't take something, and one for each
 /// sweep that isn't whole. It looks at what changed since the last one.
-pub fn tell_status<'a, L: Run, M: Accounts, W: Write + Drop, R: Wait, C: Clock + Drop>(
+pub fn tell_status<'a, L: Run, M: Accounts, W: Write + Drop, J: Telling, R: Wait, C: Clock + Drop>(
     rt: &'a R,
-    floor: &Floor<L, M, W>,
+    floor: &Floor<L, M, W, J>,
     open: &mut OpenSweeps,
     log: &mut LineLog<'a, R, C>,
 ) -> Result<(), TalkFault> {

@@ -62,7 +62,7 @@ start_there (first ∷ venues) (next ∷ drains) zero venue drain here its =
 start_there (first ∷ venues) (next ∷ drains) (suc at) venue drain here its =
     start_there venues drains at venue drain here its
 
-ran_there : {D : Type 0} (wording : D → Wording) (workers : List (WorkerStart D)) (ends : List WorkerLeft) (at : ℕ)
+pub ran_there : {D : Type 0} (wording : D → Wording) (workers : List (WorkerStart D)) (ends : List WorkerLeft) (at : ℕ)
     (worker : WorkerStart D) → slice_get workers at ≡ Some worker → AllRan wording workers ends
     → (left : WorkerLeft) × (slice_get ends at ≡ Some left) × Runs (wording worker.dialect) worker.parts left
 ran_there wording [] ends at worker here ran = absurd cc
@@ -73,13 +73,13 @@ ran_there {D} wording (first ∷ workers) (left ∷ ends) zero worker here ran =
 ran_there wording (first ∷ workers) (left ∷ ends) (suc at) worker here ran =
     ran_there wording workers ends at worker here ran.1
 
-at_map : {A B : Type 0} (f : A → B) (xs : List A) (at : ℕ) (x : A) → slice_get xs at ≡ Some x
+pub at_map : {A B : Type 0} (f : A → B) (xs : List A) (at : ℕ) (x : A) → slice_get xs at ≡ Some x
     → slice_get (map f xs) at ≡ Some (f x)
 at_map f [] at x here = absurd cc
 at_map f (first ∷ xs) zero x here = (let same : first ≡ x = cc in ap (λ y. Some (f y)) same)
 at_map f (first ∷ xs) (suc at) x here = at_map f xs at x here
 
-words : (dialect : VenueDialect) → IsWording (any_wording dialect)
+pub words : (dialect : VenueDialect) → IsWording (any_wording dialect)
 words dialect = is_spelled (venue_spelling dialect) (venue_is_spelling dialect)
 
 pub the_desk_theorem : TheDeskTheorem

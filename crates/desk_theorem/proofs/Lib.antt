@@ -1,1 +1,2 @@
 pub mod DeskDay
+pub mod DayOver

@@ -1,1 +1,2 @@
 pub mod DeskTheorem
+pub mod DeskOverLives

@@ -13,6 +13,7 @@ use desk_serve::PageServer;
 use desk_talk::keep;
 use desk_venues::{DayFault, Serve, run_workers};
 use exec_collector::Accounts;
+use kept_link::{Telling, Untold};
 use link::Link;
 use release_lock::Run;
 use session_worker::{Worker, WorkerEnd};
@@ -28,9 +29,9 @@ use venue_words::VenueDialect;
 
 /// Who takes part in a day.
 #[derive(Drop)]
-pub struct Cast<X, K: Link, C: Clock + Drop, L: Run, M: Accounts> {
+pub struct Cast<X, K: Link, C: Clock + Drop, L: Run, M: Accounts, J: Telling = Untold> {
     pub exchanges: Vec<X>,
-    pub workers: Vec<Worker<VenueDialect, K, C, L, M>>,
+    pub workers: Vec<Worker<VenueDialect, K, C, L, M, J>>,
     /// What serves the page; none where it isn't served.
     pub servers: Vec<PageServer>,
     /// What writes the logs; none where none is kept.
@@ -39,8 +40,8 @@ pub struct Cast<X, K: Link, C: Clock + Drop, L: Run, M: Accounts> {
 
 /// What its threads leave.
 #[derive(Drop)]
-pub struct Ended<K: Link, L: Run, M: Accounts> {
-    pub workers: Vec<WorkerEnd<K, L, M>>,
+pub struct Ended<K: Link, L: Run, M: Accounts, J: Telling = Untold> {
+    pub workers: Vec<WorkerEnd<K, L, M, J>>,
     /// The clients that followed the day to its end.
     pub followers: Vec<TcpStream>,
 }
@@ -49,13 +50,13 @@ pub struct Ended<K: Link, L: Run, M: Accounts> {
 /// each in a thread of its own, and its keeper in this one. A worker takes so many turns at most in which there is
 /// nothing to do. Once the workers have ended the others are stopped; the writer writes what waits before it ends.
 /// Where a thread is refused, those that run are told so.
-pub fn in_threads<X, K, C, L, M, W, R>(
+pub fn in_threads<X, K, C, L, M, W, J, R>(
     rt: &R,
     alloc: Global,
-    floor: &Floor<L, M, W>,
-    cast: Cast<X, K, C, L, M>,
+    floor: &Floor<L, M, W, J>,
+    cast: Cast<X, K, C, L, M, J>,
     turn_limit: u64,
-) -> Result<Ended<K, L, M>, DayFault>
+) -> Result<Ended<K, L, M, J>, DayFault>
 where
     X: Serve + Drop + Send,
     K: Link + Send,
@@ -63,6 +64,7 @@ where
     L: Run + Send + Sync,
     M: Accounts + Send + Sync,
     W: Write + Drop + Send,
+    J: Telling + Send,
     R: Threads + Wait + time::Clock + Sync,
     ensures ran { IfOk result (λ ended. AllRan any_wording cast.workers.items ended.workers.items) }
     ensures workers { IfOk result (λ ended. map (λ e. place e.parts) ended.workers.items
@@ -78,7 +80,7 @@ where
     let (served, ended) = join(
         rt,
         || run_servers(rt, alloc, floor, exchanges, servers, writers),
-        || -> Result<Vec<WorkerEnd<K, L, M>>, DayFault>
+        || -> Result<Vec<WorkerEnd<K, L, M, J>>, DayFault>
             ensures ran { IfOk result (λ ends. AllRan any_wording workers.items ends.items) }
             ensures workers { IfOk result (λ ends. map (λ e. place e.parts) ends.items
                 ≡ map (λ w. place w.parts) workers.items) }
@@ -92,10 +94,10 @@ where
 
 /// Runs the exchanges, the servers of the page and the writer of the logs until they are stopped, and gives the clients
 /// that followed the day to its end. The only refusals are out of memory and of threads.
-fn run_servers<X, L, M, W, R>(
+fn run_servers<X, L, M, W, J, R>(
     rt: &R,
     alloc: Global,
-    floor: &Floor<L, M, W>,
+    floor: &Floor<L, M, W, J>,
     exchanges: Vec<X>,
     servers: Vec<PageServer>,
     writers: Vec<FileWriter<File>>,
@@ -105,6 +107,7 @@ where
     L: Run + Send + Sync,
     M: Accounts + Send + Sync,
     W: Write + Drop + Send,
+    J: Telling + Send,
     R: Threads + Wait + time::Clock + Sync,
     ensures { IfErr result IsNoMismatch }
 {
@@ -159,8 +162,8 @@ where
 }
 
 /// Serves an exchange's clients until it is stopped. Where it wants memory the day closes.
-fn serve_exchange<X: Serve, L: Run, M: Accounts, W: Write + Drop>(
-    floor: &Floor<L, M, W>,
+fn serve_exchange<X: Serve, L: Run, M: Accounts, W: Write + Drop, J: Telling>(
+    floor: &Floor<L, M, W, J>,
     exchange: X,
 ) -> Result<(), AllocError> {
     let served = exchange.serve(&floor.signals.is_over);
@@ -173,19 +176,20 @@ fn serve_exchange<X: Serve, L: Run, M: Accounts, W: Write + Drop>(
 
 /// Runs the dispatcher once the exchanges are served: its workers and its keeper. Once both have ended the exchanges
 /// are stopped. Where the exchanges aren't served the day is given up.
-fn run_dispatcher<K, C, L, M, W, R>(
+fn run_dispatcher<K, C, L, M, W, J, R>(
     rt: &R,
     alloc: Global,
-    floor: &Floor<L, M, W>,
-    workers: Vec<Worker<VenueDialect, K, C, L, M>>,
+    floor: &Floor<L, M, W, J>,
+    workers: Vec<Worker<VenueDialect, K, C, L, M, J>>,
     turn_limit: u64,
-) -> Result<Vec<WorkerEnd<K, L, M>>, DayFault>
+) -> Result<Vec<WorkerEnd<K, L, M, J>>, DayFault>
 where
     K: Link + Send,
     C: Clock + Drop + Send,
     L: Run + Send + Sync,
     M: Accounts + Send + Sync,
     W: Write + Drop + Send,
+    J: Telling + Send,
     R: Threads + Wait + time::Clock + Sync,
     ensures ran { IfOk result (λ ends. AllRan any_wording workers.items ends.items) }
     ensures workers { IfOk result (λ ends. map (λ e. place e.parts) ends.items
@@ -209,11 +213,16 @@ where
 }
 
 /// Runs the keeper once the workers are started. It ends when they have ended.
-fn run_keeper<L, M, W, R>(rt: &R, alloc: Global, floor: &Floor<L, M, W>) -> Result<(), DayFault>
+fn run_keeper<L, M, W, J, R>(
+    rt: &R,
+    alloc: Global,
+    floor: &Floor<L, M, W, J>,
+) -> Result<(), DayFault>
 where
     L: Run,
     M: Accounts,
     W: Write + Drop,
+    J: Telling,
     R: Wait + time::Clock,
     ensures { IfErr result IsNoMismatch }
 {

@@ -2,7 +2,7 @@
 use Rattle.session_worker.specs.declared.run_fault.RunFault.{RunFault}
 use Rattle.session_worker.specs.declared.run_fault.RunFault.TheVariants as run
 use Rattle.desk_venues.specs.declared.day_fault.DayFault.{DayFault}
-use Rattle.desk_venues.specs.declared.day_fault.DayFault.TheVariants.{NoAddress, NoLogs, NoPage, NoSocket, NoThread, OutOfMemory}
+use Rattle.desk_venues.specs.declared.day_fault.DayFault.TheVariants.{NoAddress, NoJournal, NoLogs, NoPage, NoSocket, NoThread, OutOfMemory}
 
 -- why the workers can't be run
 abbrev pub run_fault : RunFault → DayFault
@@ -13,6 +13,7 @@ run_fault run.NoThread = NoThread
 abbrev pub IsNoMismatch : DayFault → Type 0
 IsNoMismatch (NoAddress place) = Unit {0}
 IsNoMismatch (NoLogs fault) = Unit {0}
+IsNoMismatch (NoJournal refused) = Unit {0}
 IsNoMismatch NoPage = Unit {0}
 IsNoMismatch NoSocket = Unit {0}
 IsNoMismatch NoThread = Unit {0}

@@ -5,6 +5,7 @@ ghost use Rattle.desk_venues.specs.declared.day_fault.DayFault.TheVariants.{OutO
 ghost use Rattle.desk_venues.specs.Faults.{run_fault};
 
 use day_log::LogFault;
+use day_restart::JournalRefused;
 use session_worker::RunFault;
 use std::alloc::{AllocError, AllocFailed};
 use thiserror::Error;
@@ -18,6 +19,9 @@ pub enum DayFault {
     /// The logs of the day can't be begun.
     #[error("{0}")]
     NoLogs(LogFault),
+    /// The day can't go on from its journals, or begin them.
+    #[error("{0}")]
+    NoJournal(JournalRefused),
     /// The page can't be served at its address.
     #[error("no page")]
     NoPage,

@@ -29,6 +29,8 @@ mod workers;
 pub use address::first_address;
 pub use day_fault::DayFault;
 pub use exchange::{Exchange, Serve};
+pub use logs::LogFolder;
 pub use opened::{OpenVenues, open_venues};
+pub use session::desk_end;
 pub use views::Sight;
 pub use workers::{DeskLink, DeskWorker, run_workers};

@@ -4,10 +4,10 @@ ghost use Rattle.std.specs.Prelude.{IfErr};
 ghost use Rattle.desk_venues.specs.Faults.{IsNoMismatch};
 
 use crate::day_fault::DayFault;
-use day_log::{FileWriter, LogFault, VenueLog, open_logs};
+use day_log::{FileWriter, LogFault, VenueLog, go_on_with_logs, open_logs};
 use desk_config::Venue;
 use std::alloc::Global;
-use std::fs::Files;
+use std::fs::{File, Files};
 use std::io::Write;
 use std::sync::Arc;
 
@@ -22,13 +22,21 @@ pub struct Logs<F: Write + Drop> {
     pub writers: Vec<FileWriter<F>>,
 }
 
-/// Begins the logs of a day in a folder, if it has one.
-pub fn begin_logs<R: Files>(
+/// Where a day's logs are.
+#[derive(Clone, Copy, Debug)]
+pub struct LogFolder<'a> {
+    pub path: &'a str,
+    /// Whether the day goes on, so that its logs may be there.
+    pub goes_on: bool,
+}
+
+/// Begins the logs of a day in a folder, if it has one. Those of a day that goes on may be there, and go on too.
+pub fn begin_logs<R: Files<File = File>>(
     rt: &R,
     alloc: Global,
-    folder: Option<&str>,
+    folder: Option<LogFolder<'_>>,
     venues: &[Venue],
-) -> Result<Logs<R::File>, DayFault>
+) -> Result<Logs<File>, DayFault>
     ensures { IfErr result IsNoMismatch }
 {
     let Some(folder) = folder else {
@@ -38,7 +46,12 @@ pub fn begin_logs<R: Files>(
             writers: Vec::new(alloc),
         });
     };
-    match open_logs(rt, alloc, folder, venues) {
+    let begun = if folder.goes_on {
+        go_on_with_logs(rt, alloc, folder.path, venues)
+    } else {
+        open_logs(rt, alloc, folder.path, venues)
+    };
+    match begun {
         Ok(logs) => Ok(Logs {
             venues: logs.venues,
             lines: Some(logs.sweeps),

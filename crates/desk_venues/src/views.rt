@@ -4,7 +4,7 @@ ghost use Rattle.std.specs.Prelude.{◌≡◌, length, map, IfOk, IfErr};
 ghost use Rattle.desk_venues.specs.Faults.{IsNoMismatch};
 
 use crate::day_fault::DayFault;
-use crate::logs::{Logs, begin_logs};
+use crate::logs::{LogFolder, Logs, begin_logs};
 use day_log::{FileWriter, VenueLog};
 use desk_config::Venue;
 use desk_floor::VenueView;
@@ -31,7 +31,7 @@ pub struct Sight {
 pub fn first_sight<R: Files<File = File>>(
     rt: &R,
     alloc: Global,
-    folder: Option<&str>,
+    folder: Option<LogFolder<'_>>,
     venues: &[Venue],
 ) -> Result<Sight, DayFault>
     ensures names { IfOk result (λ sight. sight.names.items ≡ map (λ v. v.name) venues.now) }

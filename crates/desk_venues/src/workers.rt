@@ -2,16 +2,12 @@
 
 ghost use Rattle.std.specs.Prelude.{◌≡◌, [], length, Some, IfOk, IfErr, map};
 ghost use Rattle.std.specs.List.{All};
-ghost use Rattle.exec_collector.specs.Seats.{worker_seats};
-ghost use Rattle.release_lock.specs.Queues.{new_drains};
 ghost use Rattle.desk_venues.specs.Faults.{IsNoMismatch};
-ghost use Rattle.session_core.specs.Session.{new_session};
 ghost use Rattle.session_worker.specs.Ends.{AllRan};
-ghost use Rattle.session_worker.specs.Events.{new_worker};
-ghost use Rattle.session_worker.specs.Places.{place, new_places};
+ghost use Rattle.session_worker.specs.Places.{place};
+ghost use Rattle.session_worker.specs.Restoring.{worker_from};
 ghost use Rattle.desk_venues.specs.Addresses.{IsAt, AreAt};
-ghost use Rattle.desk_venues.specs.Starts.{any_wording, starts_of};
-ghost use Rattle.desk_venues.specs.Venues.{desk_end};
+ghost use Rattle.desk_venues.specs.Starts.{any_wording, workers_from};
 ghost use Rattle.venue_words.specs.Dialect.{dialect_of};
 
 use crate::day_fault::DayFault;
@@ -20,10 +16,11 @@ use clock::{Clock, UtcClock};
 use day_log::{LoggedLink, Recorder};
 use desk_config::Venue;
 use desk_floor::{Bells, Floor, VenueView};
-use exec_collector::{Accounts, WorkerSeat};
+use exec_collector::Accounts;
+use kept_link::Telling;
 use link::{Link, Poller, Rest, TcpLink};
-use release_lock::{Run, VenueDrain};
-use session_worker::{Pace, Worker, WorkerEnd, run_all_until};
+use release_lock::Run;
+use session_worker::{Pace, Start, Worker, WorkerEnd, run_all_until};
 use std::alloc::{AllocError, Global};
 use std::collections::VecDeque;
 use std::io::Write;
@@ -37,7 +34,14 @@ use venue_words::VenueDialect;
 pub type DeskLink<'a, R> = LoggedLink<'a, R, TcpLink<'a, R>, UtcClock<'a, R>>;
 
 /// The worker of a venue.
-pub type DeskWorker<'a, R, L, M> = Worker<VenueDialect, DeskLink<'a, R>, UtcClock<'a, R>, L, M>;
+pub type DeskWorker<'a, R, L, M, J> = Worker<
+    VenueDialect,
+    DeskLink<'a, R>,
+    UtcClock<'a, R>,
+    L,
+    M,
+    J,
+>;
 
 /// Links to these addresses, in order, each seen in the view at its place. The bell of each is added to these.
 pub fn new_links<'a, R: Net + Wait + time::Clock>(
@@ -60,72 +64,70 @@ pub fn new_links<'a, R: Net + Wait + time::Clock>(
     Ok(links)
 }
 
-/// The workers of these venues, in order, each with the link, the drain and the seat at its place, seen in its view.
+/// The workers of these venues, in order, each with the link, the start and the journal at its place, seen in its view.
 /// Each link dials its venue's address.
-pub fn new_workers<'a, L: Run, M: Accounts, R: Net + Wait + time::Clock>(
+pub fn new_workers<'a, L: Run, M: Accounts, R: Net + Wait + time::Clock, J: Telling>(
     rt: &'a R,
     alloc: Global,
     venues: &[Venue],
     links: Vec<DeskLink<'a, R>>,
     views: &[VenueView],
-    drains: Vec<VenueDrain<L>>,
-    seats: Vec<WorkerSeat<M>>,
-) -> Result<Vec<DeskWorker<'a, R, L, M>>, DayFault>
+    starts: Vec<Start<L, M>>,
+    journals: Vec<J>,
+) -> Result<Vec<DeskWorker<'a, R, L, M, J>>, DayFault>
     requires links { length links.items ≡ length venues.now }
     requires at { AreAt venues.now (map (λ l. l.link.addr) links.items) }
     requires new { All (λ l. l.link.told.traffic ≡ []) links.items }
     requires views { length views.now ≡ length venues.now }
-    requires drains { drains.items ≡ new_drains (length venues.now) }
-    requires seats { seats.items ≡ worker_seats (length venues.now) }
-    ensures starts { IfOk result (λ workers. workers.items ≡ starts_of venues.now) }
-    ensures new { IfOk result (λ workers. map (λ w. place w.parts) workers.items
-        ≡ new_places (length venues.now)) }
+    requires starts { length starts.items ≡ length venues.now }
+    requires journals { length journals.items ≡ length venues.now }
+    ensures starts { IfOk result (λ workers. workers.items
+        ≡ workers_from venues.now starts.items (map J.told journals.items)) }
     ensures only { IfErr result IsNoMismatch }
 {
     let mut workers = Vec::new(alloc);
-    let mut drains = VecDeque::from(drains);
-    let mut seats = VecDeque::from(seats);
+    let mut starts = VecDeque::from(starts);
+    let mut journals = VecDeque::from(journals);
     let mut links = VecDeque::from(links);
     for venue in venues {
-        let Some(drain) = drains.pop_front() else {
+        let Some(start) = starts.pop_front() else {
             unreachable!()
         };
-        let Some(seat) = seats.pop_front() else {
+        let Some(journal) = journals.pop_front() else {
             unreachable!()
         };
         let Some(link) = links.pop_front() else {
             unreachable!()
         };
         let view = &views[workers.len()];
-        workers.push(new_worker(rt, alloc, venue, view, link, drain, seat)?)?;
+        workers.push(new_worker(rt, alloc, venue, view, link, start, journal)?)?;
     }
     Ok(workers)
 }
 
-/// The worker of a venue over a link to its address, with this drain and seat, which tells on the board of this view.
-fn new_worker<'a, L: Run, M: Accounts, R: Net + Wait + time::Clock>(
+/// The worker of a venue over a link to its address, with this start and journal, which tells on the board of this
+/// view.
+fn new_worker<'a, L: Run, M: Accounts, R: Net + Wait + time::Clock, J: Telling>(
     rt: &'a R,
     alloc: Global,
     venue: &Venue,
     view: &VenueView,
     link: DeskLink<'a, R>,
-    drain: VenueDrain<L>,
-    seat: WorkerSeat<M>,
-) -> Result<DeskWorker<'a, R, L, M>, AllocError>
-    requires drain { drain.popped ≡ [] }
-    requires seat { seat.venue ≡ Some drain.venue }
+    start: Start<L, M>,
+    journal: J,
+) -> Result<DeskWorker<'a, R, L, M, J>, AllocError>
     requires link { link.link.told.traffic ≡ [] }
     requires at { IsAt venue.now.endpoint link.link.addr }
     ensures { IfOk result (λ worker. worker ≡ record {
       dialect = dialect_of venue.now.words;
-      parts = new_worker (new_session (desk_end venue.now)) drain.venue seat (Some []);
+      parts = worker_from start (Some []) (J.told journal);
     }) }
 {
     let board = view.board()?;
     let clock = UtcClock::new(rt);
     let dialect = venue.words.dialect();
     let end = desk_end(venue);
-    let worker = Worker::new(alloc, dialect, link, clock, end, seat, drain, Pace::Time);
+    let worker = Worker::going_on(alloc, dialect, link, journal, clock, end, start, Pace::Time);
     Ok(worker.telling_on(board))
 }
 
@@ -170,13 +172,13 @@ fn new_recorder<'a, R: Wait + time::Clock>(
 
 /// Runs the workers until their sessions are over, or given up, or they took so many turns in which there was nothing
 /// to do. Then the day closes, if it wasn't closing already.
-pub fn run_workers<K, C, L, M, R, W>(
+pub fn run_workers<K, C, L, M, R, W, J>(
     rt: &R,
     alloc: Global,
-    floor: &Floor<L, M, W>,
-    workers: Vec<Worker<VenueDialect, K, C, L, M>>,
+    floor: &Floor<L, M, W, J>,
+    workers: Vec<Worker<VenueDialect, K, C, L, M, J>>,
     turn_limit: u64,
-) -> Result<Vec<WorkerEnd<K, L, M>>, DayFault>
+) -> Result<Vec<WorkerEnd<K, L, M, J>>, DayFault>
 where
     K: Link + Send,
     C: Clock + Drop + Send,
@@ -184,6 +186,7 @@ where
     M: Accounts + Send + Sync,
     R: Threads + Wait + Sync,
     W: Write + Drop + Send,
+    J: Telling + Send,
     ensures ran { IfOk result (λ ends. AllRan any_wording workers.items ends.items) }
     ensures kept { IfOk result (λ ends. map (λ e. place e.parts) ends.items
         ≡ map (λ w. place w.parts) workers.items) }

@@ -6,6 +6,7 @@ use check_command::check_command;
 use clap::Command;
 use clap::error::ErrorKind;
 use exchange_command::exchange_command;
+use journal_command::journal_command;
 use live_command::live_command;
 use order_command::order_command;
 use replay_command::replay_command;
@@ -26,13 +27,14 @@ Examples:
   dispatch live --venues 2 --callers 2 --sweeps 5 --cut 3 --turns 10000
   dispatch replay < day.script
   dispatch check day/NYSE.log
+  dispatch journal days/2026-11-24
   dispatch exchange --port 9001 --sender NYSE --target DESK --fill 60
   dispatch order --dialect plain --sweep 12 --leg 3 --symbol BRK.B --side buy --shares 100 --price 102500 \\
     --number 4 --from A --to B
 
 The exit status is 0, or 2 for the command line, 3 for a bad value, line or frame, 4 for a failed read or write or where
-there is no socket or thread, 5 for memory, 6 for an audit that fails, 7 for a day that is given up, 8 for a rule that
-is broken, 9 for reports that the book didn't take. Help has status 2.";
+there is no socket or thread, 5 for memory, 6 for an audit that fails, 7 for a day that is given up, 8 for a rule or
+a journal that is broken, 9 for reports that the book didn't take. Help has status 2.";
 
 /// The program with its commands, each with what it is for.
 fn program<'a>(alloc: Global) -> Result<Command<'a>, AllocError> {
@@ -46,6 +48,7 @@ fn program<'a>(alloc: Global) -> Result<Command<'a>, AllocError> {
         .subcommand(live_command(alloc)?)?
         .subcommand(replay_command(alloc)?)?
         .subcommand(check_command(alloc)?)?
+        .subcommand(journal_command(alloc)?)?
         .subcommand(exchange_command(alloc)?)?
         .subcommand(order_command(alloc)?)
 }

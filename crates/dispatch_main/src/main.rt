@@ -1,7 +1,7 @@
 //! The program `dispatch`: `dispatch order ..` writes a leg as an order frame and reads it back, `dispatch replay` runs
-//! a day from a script, `dispatch check ..` tells which rules the messages of a log break, `dispatch live ..` runs a
-//! day over loopback, in threads, `dispatch run FILE` runs that of a desk's file, and `dispatch exchange ..` is a
-//! simulated exchange.
+//! a day from a script, `dispatch check ..` tells which rules the messages of a log break, `dispatch journal DAY`
+//! judges the journals of a day, `dispatch live ..` runs a day over loopback, in threads, `dispatch run FILE` runs that
+//! of a desk's file, and `dispatch exchange ..` is a simulated exchange.
 #![tactic(auto)]
 
 mod command;
@@ -15,6 +15,7 @@ use check_command::check_run;
 use clock::{Clock, UtcClock};
 use command_line::{finish, print, tell};
 use exchange_command::exchange_run;
+use journal_command::journal_run;
 use live_command::live_run;
 use order_command::order_run;
 use replay_command::replay_run;
@@ -69,6 +70,7 @@ where
         + Wait
         + time::Clock
         + Sync,
+    H::Dir: Send,
     C: Clock,
     R: Read + AsRawFd,
     T: Write + IsTerminal + Drop + Send,
@@ -84,6 +86,9 @@ where
         }
         [_, command, ..] if command.as_str() == "check" => {
             check_run(rt, alloc, &words[1..], out, err)
+        }
+        [_, command, ..] if command.as_str() == "journal" => {
+            journal_run(rt, alloc, &words[1..], out, err)
         }
         [_, command, ..] if command.as_str() == "live" => {
             live_run(rt, alloc, &words[1..], input, screen, out, err)

@@ -41,6 +41,7 @@ IsOfCommandLine other = ⊥
 abbrev pub day_fault : DayFault → CommandFault
 day_fault (day.NoAddress place) = NoSocket
 day_fault (day.NoLogs fault) = NoSocket
+day_fault (day.NoJournal refused) = NoSocket
 day_fault day.NoPage = NoSocket
 day_fault day.NoSocket = NoSocket
 day_fault day.NoThread = NoThread

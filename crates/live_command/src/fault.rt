@@ -110,6 +110,7 @@ impl From<DayFault> for CommandFault {
         match fault {
             DayFault::NoAddress(_) => CommandFault::NoSocket,
             DayFault::NoLogs(_) => CommandFault::NoSocket,
+            DayFault::NoJournal(_) => CommandFault::NoSocket,
             DayFault::NoPage => CommandFault::NoSocket,
             DayFault::NoSocket => CommandFault::NoSocket,
             DayFault::NoThread => CommandFault::NoThread,

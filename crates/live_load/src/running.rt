@@ -21,11 +21,12 @@ use crate::{LiveDay, LivePlan, Progress};
 use clock::Clock;
 use desk_config::Venue;
 use desk_floor::{Floor, Manner, Voice};
-use desk_run::{DeskDay, Means, OpenDay, close_day, open_day};
+use desk_run::{DeskDay, Means, OpenDay, Past, begin_day, close_day, open_day};
 use desk_threads::{Cast, Ended, in_threads};
 use desk_venues::{DayFault, Serve};
 use exec_collector::{Accounts, BlankBook};
 use json_lines::Form;
+use kept_link::Untold;
 use link::Link;
 use release_lock::{BlankDesk, CallerSeat, Run, rings};
 use std::alloc::{AllocError, Global};
@@ -132,11 +133,13 @@ where
         servers: Vec::new(alloc),
         cut: plan.cut,
     };
-    let day = open_day::<L, M, R, Sink>(rt, alloc, venues, means, callers, workers, rings)?;
+    let begun = begin_day::<L, M>(alloc, venues, callers, workers, rings)?;
+    let past = Past::none(alloc, venues.len())?;
+    let day = open_day::<L, M, R, Sink, Untold>(rt, alloc, venues, means, begun, past)?;
     let OpenDay { floor, cast, seat } = day;
     let seats = split_seats(alloc, seat, plan.callers)?;
     let (ended, called) = with_callers(rt, alloc, &floor, cast, plan, seats, progress)?;
-    told(alloc, plan, floor, ended, called)
+    told(rt, alloc, plan, floor, ended, called)
 }
 
 /// Runs the threads of a day beside those of its callers.
@@ -183,7 +186,8 @@ where
 }
 
 /// What became of a day whose threads have ended.
-fn told<K: Link, L: Run, M: Accounts, W: Write + Drop>(
+fn told<K: Link, L: Run, M: Accounts, W: Write + Drop, R: Wait + time::Clock>(
+    rt: &R,
     alloc: Global,
     plan: LivePlan,
     floor: Floor<L, M, W>,
@@ -204,7 +208,7 @@ fn told<K: Link, L: Run, M: Accounts, W: Write + Drop>(
     let (seats, unplaced) = parted(alloc, called)?;
     let is_answered = is_answered(ended.workers.as_slice());
     let venues = left_venues(alloc, ended.workers.as_slice())?;
-    let day = close_day(alloc, floor, ended, seats, None)?;
+    let day = close_day(rt, alloc, floor, ended, seats, None)?;
     let DeskDay {
         sweeps,
         doubts: _,

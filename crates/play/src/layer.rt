@@ -5,6 +5,7 @@ use play_desk_texts::DeskTextsPlayer;
 use play_dialects::DialectsPlayer;
 use play_exchange::ExchangePlayer;
 use play_frames::FramesPlayer;
+use play_journal::JournalPlayer;
 use play_messages::MessagesPlayer;
 use play_resend::ResendPlayer;
 use play_session::SessionPlayer;
@@ -21,6 +22,7 @@ pub enum Layer {
     Exchange(ExchangePlayer),
     Desk(DeskPlayer),
     DeskTexts(DeskTextsPlayer),
+    Journal(JournalPlayer),
 }
 
 impl Layer {
@@ -38,6 +40,7 @@ impl Layer {
             "config" | "lines" | "news" | "logs" => {
                 Some(Layer::DeskTexts(DeskTextsPlayer::new(alloc)))
             }
+            "journal" => Some(Layer::Journal(JournalPlayer::new(alloc))),
             _ => None,
         }
     }

@@ -29,6 +29,7 @@ fn begin(layer: &mut Layer) -> Result<(), PlayFault> {
         Layer::Exchange(player) => player.begin(),
         Layer::Desk(player) => player.begin(),
         Layer::DeskTexts(player) => player.begin(),
+        Layer::Journal(player) => player.begin(),
     }
 }
 
@@ -43,6 +44,7 @@ fn command(layer: &mut Layer, line: &str, answers: &mut Answers) -> Result<(), P
         Layer::Exchange(player) => player.command(line, answers),
         Layer::Desk(player) => player.command(line, answers),
         Layer::DeskTexts(player) => player.command(line, answers),
+        Layer::Journal(player) => player.command(line, answers),
     }
 }
 

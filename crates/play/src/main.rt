@@ -2,8 +2,8 @@
 //! answers as they are.
 //!
 //! A line `layer NAME` says what the cases below it are on: `frames`, `messages`, `dialects`, `resend`, `session`,
-//! `exchange`, `desk`, `book`, `config`, `lines`, `news` or `logs`. A command before the first such line isn't
-//! understood.
+//! `exchange`, `desk`, `book`, `config`, `lines`, `news`, `logs` or `journal`. A command before the first such line
+//! isn't understood.
 #![tactic(auto)]
 
 mod layer;

@@ -14,6 +14,11 @@ fn desk_text(alloc: Global, config: &DeskConfig) -> Result<String, AllocError> {
     if let Some(log) = &config.log {
         write!(text, " log {log}")?;
     }
+    if let Some(journal) = &config.journal {
+        let folder = &journal.folder;
+        let durable = journal.durable;
+        write!(text, " journal {folder} durable {durable}")?;
+    }
     if let Some(page) = &config.page {
         write!(text, " page {page}")?;
     }

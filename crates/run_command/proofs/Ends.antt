@@ -4,8 +4,8 @@ use Rattle.std.specs.Prelude.{Option, Result, IfErr, OnOk}
 use Rattle.std.specs.Io.KnownBytes.{Appends, Keeps}
 use Rattle.desk_config.specs.Config.{AnswersText}
 use Rattle.desk_config.specs.declared.config.DeskConfig.{DeskConfig}
-use Rattle.desk_run.proofs.Whole.{whole_day}
-use Rattle.desk_run.specs.Told.{IsToldDay}
+use Rattle.desk_run.proofs.Whole.{whole_over}
+use Rattle.desk_run.specs.Told.{IsToldDay, IsToldOver}
 use Rattle.desk_run.specs.declared.day.DeskDay.{DeskDay}
 use Rattle.json_lines.specs.declared.form.Form.{Form}
 use Rattle.run_command.specs.Ending.{end_text, PrintsDay}
@@ -21,6 +21,7 @@ use Rattle.run_command.specs.declared.fault.CommandFault.TheVariants.{
   BadFile,
   NoPage,
   NoLogs,
+  NoJournal,
   NoAddress,
   ReadFailed,
   WriteFailed,
@@ -45,6 +46,7 @@ said_of said (NotText name) it = it
 said_of said (BadFile name fault) it = it
 said_of said NoPage it = tt
 said_of said (NoLogs fault) it = tt
+said_of said (NoJournal refused) it = tt
 said_of said (NoAddress place) it = tt
 said_of said ReadFailed it = tt
 said_of said WriteFailed it = tt
@@ -68,6 +70,7 @@ of_day said (NotText name) it = absurd it
 of_day said (BadFile name fault) it = absurd it
 of_day said NoPage it = tt
 of_day said (NoLogs fault) it = tt
+of_day said (NoJournal refused) it = tt
 of_day said (NoAddress place) it = tt
 of_day said ReadFailed it = tt
 of_day said WriteFailed it = tt
@@ -82,13 +85,15 @@ of_day said Unbooked it = tt
 
 -- the text of a day that ended well is printed
 pub prints_day : (config : DeskConfig) (form : Form) (day : DeskDay) (before after : Option (List ℕ)) (bytes : List ℕ)
-    → IsToldDay config.venues.items day → day.broken_off ≡ None → day.is_given_up ≡ false → day.unbooked.items ≡ []
-    → day.doubts.items ≡ [] → bytes ≡ end_text form day → Appends before after bytes → PrintsDay config after
-prints_day config form day before after bytes told taken closed booked settled is printed = record {
+    → IsToldOver config.venues.items day → (config.journal ≡ None → IsToldDay config.venues.items day)
+    → day.broken_off ≡ None → day.is_given_up ≡ false → day.unbooked.items ≡ [] → day.doubts.items ≡ []
+    → bytes ≡ end_text form day → Appends before after bytes → PrintsDay config after
+prints_day config form day before after bytes told new taken closed booked settled is printed = record {
   day = day;
   told = told;
+  new = new;
   taken = taken;
-  whole = whole_day config.venues.items day told closed booked settled;
+  whole = whole_over config.venues.items day told closed booked settled;
   form = form;
   held = before;
   printed = subst (λ (text : List ℕ). Appends before after text) is printed;

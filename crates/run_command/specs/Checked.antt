@@ -7,6 +7,8 @@ use Rattle.desk_config.specs.declared.address.Address.{Address}
 use Rattle.desk_config.specs.declared.config.DeskConfig.{DeskConfig}
 use Rattle.desk_config.specs.declared.endpoint.Endpoint.{Endpoint}
 use Rattle.desk_config.specs.declared.endpoint.Endpoint.TheVariants.{At, Simulated}
+use Rattle.desk_config.specs.Journal.{durable_text}
+use Rattle.desk_config.specs.declared.journal.JournalTerms.{JournalTerms}
 use Rattle.desk_config.specs.declared.venue.Venue.{Venue}
 
 -- where a venue's exchange is, as `at 127.0.0.1:9001`, or that it is simulated, as `simulated fill 60`
@@ -24,6 +26,16 @@ venue_line venue =
 abbrev pub venue_lines : Venue → List ℕ
 venue_lines venue = venue_line venue ++ 10 ∷ [] ++ head_of_words venue.words
 
+-- where the journal is kept and what it outlives, as `journal days/%Y-%m-%d durable process`
+abbrev pub journal_text : JournalTerms → List ℕ
+journal_text journal =
+    codes "journal " ++ journal.folder ++ codes " durable " ++ durable_text journal.durable ++ 10 ∷ []
+
+-- if there is one
+abbrev pub journal_line : Option JournalTerms → List ℕ
+journal_line None = []
+journal_line (Some journal) = journal_text journal
+
 -- where the page is served, as `page at 127.0.0.1:8080 callers 8`
 abbrev pub page_text : ℕ → Address → List ℕ
 page_text callers page = codes "page at " ++ address_text page ++ codes " callers " ++ decimal callers ++ 10 ∷ []
@@ -33,7 +45,8 @@ abbrev pub page_line : ℕ → Option Address → List ℕ
 page_line callers None = []
 page_line callers (Some page) = page_text callers page
 
--- the lines of each venue, where the page is, and that the file is a day's
+-- the lines of each venue, where the journal and the page are, and that the file is a day's
 abbrev pub check_text : DeskConfig → List ℕ
 check_text config =
-    flat_map venue_lines config.venues.items ++ page_line config.callers config.page ++ codes "file ok\n"
+    flat_map venue_lines config.venues.items ++ journal_line config.journal ++ page_line config.callers config.page
+    ++ codes "file ok\n"

@@ -3,7 +3,7 @@ use Rattle.std.specs.Prelude.{◌≡◌, ◌⊎◌, ℕ, List, length, Option, N
 use Rattle.std.specs.Io.KnownBytes.{Appends}
 use Rattle.desk_config.specs.Config.{AnswersText}
 use Rattle.desk_config.specs.declared.config.DeskConfig.{DeskConfig}
-use Rattle.desk_run.specs.Told.{IsToldDay}
+use Rattle.desk_run.specs.Told.{IsToldDay, IsToldOver}
 use Rattle.desk_run.specs.Whole.{IsWhole}
 use Rattle.desk_run.specs.declared.day.DeskDay.{DeskDay}
 use Rattle.json_lines.specs.declared.form.Form.{Form}
@@ -17,12 +17,14 @@ abbrev pub end_text : Form → DeskDay → List ℕ
 end_text Words day = day_text day
 end_text Json day = json_text day
 
--- a day of this configuration was audited and is told with the rest of what its book and its workers left; nothing is
--- told to have broken its lines off; each session was closed, no leg stays in doubt, and of no venue is a report on the
--- list of what that book didn't take; and its text is printed behind what the output held then
+-- a day of this configuration, which may have had lives before if it keeps a journal, was audited and is told with the
+-- rest of what its book and its workers left; nothing is told to have broken its lines off; each session was closed,
+-- no leg stays in doubt, and of no venue is a report on the list of what that book didn't take; and its text is
+-- printed behind what the output held then
 pub record PrintsDay (config : DeskConfig) (after : Option (List ℕ)) : Type 0 where
   pub day : DeskDay
-  pub told : IsToldDay config.venues.items day
+  pub told : IsToldOver config.venues.items day
+  pub new : config.journal ≡ None → IsToldDay config.venues.items day
   pub taken : day.broken_off ≡ None
   pub whole : IsWhole (length config.venues.items) told.desk_day.ends told.desk_day.audited.day.unbooked
   pub form : Form

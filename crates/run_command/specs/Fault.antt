@@ -6,6 +6,10 @@ use Rattle.desk_config.specs.declared.fault.ConfigFault.{ConfigFault}
 use Rattle.desk_config.specs.declared.fault.ConfigFault.TheVariants as config
 use Rattle.day_log.specs.declared.fault.LogFault.{LogFault}
 use Rattle.day_log.specs.declared.fault.LogFault.TheVariants as log
+use Rattle.day_restart.specs.declared.fault.RestartFault.{RestartFault}
+use Rattle.day_restart.specs.declared.fault.RestartFault.TheVariants as journal
+use Rattle.journal_folder.specs.declared.fault.FolderFault.{FolderFault}
+use Rattle.journal_folder.specs.declared.fault.FolderFault.TheVariants as folder
 use Rattle.desk_venues.specs.declared.day_fault.DayFault.{DayFault}
 use Rattle.desk_venues.specs.declared.day_fault.DayFault.TheVariants as day
 use Rattle.desk_floor.specs.declared.talk_fault.TalkFault.{TalkFault}
@@ -22,6 +26,7 @@ use Rattle.run_command.specs.declared.fault.CommandFault.TheVariants.{
   BadFile,
   NoPage,
   NoLogs,
+  NoJournal,
   NoAddress,
   ReadFailed,
   WriteFailed,
@@ -44,6 +49,25 @@ log_status log.NoFolder = 4
 log_status (log.CantWrite file) = 4
 log_status log.OutOfMemory = 5
 
+-- the status that tells why a folder of journals can't be used
+abbrev pub folder_status : FolderFault → ℕ
+folder_status folder.NoFolder = 4
+folder_status folder.Taken = 4
+folder_status (folder.CantRead file) = 4
+folder_status (folder.CantWrite file) = 4
+folder_status folder.OutOfMemory = 5
+folder_status other = 3
+
+-- and why a day can't go on from its journals
+abbrev pub journal_status : RestartFault → ℕ
+journal_status (journal.Folder fault) = folder_status fault
+journal_status (journal.Desk fault) = folder_status fault
+journal_status (journal.Venue name fault) = folder_status fault
+journal_status (journal.Ended at) = 3
+journal_status (journal.DeskLine line) = 3
+journal_status (journal.VenueLine name line) = 3
+journal_status journal.OutOfMemory = 5
+
 -- the status that tells a fault
 abbrev pub fault_status : CommandFault → ℕ
 fault_status (CommandLine error) = 2
@@ -60,6 +84,7 @@ fault_status WriteFailed = 4
 fault_status NoSocket = 4
 fault_status NoThread = 4
 fault_status (NoLogs fault) = log_status fault
+fault_status (NoJournal refused) = journal_status refused.fault
 fault_status OutOfMemory = 5
 fault_status MismatchQueue = 6
 fault_status MismatchShares = 6
@@ -88,6 +113,7 @@ talk_fault talk.OutOfMemory = OutOfMemory
 abbrev pub day_fault : DayFault → CommandFault
 day_fault (day.NoAddress place) = NoAddress place
 day_fault (day.NoLogs fault) = NoLogs fault
+day_fault (day.NoJournal refused) = NoJournal refused
 day_fault day.NoPage = NoPage
 day_fault day.NoSocket = NoSocket
 day_fault day.NoThread = NoThread

@@ -2,10 +2,10 @@
 
 ghost use Rattle.std.specs.Prelude.{◌≡◌, ◌++◌, Some, IfOk, OnOk};
 ghost use Rattle.std.specs.List.{flat_map};
-ghost use Rattle.run_command.specs.Checked.{check_text, page_line, page_text, place_text, venue_line, venue_lines};
+ghost use Rattle.run_command.specs.Checked.{check_text, journal_line, journal_text, page_line, page_text, place_text, venue_line, venue_lines};
 
 use day_log::{head_of_words, words_text};
-use desk_config::{Address, Callers, DeskConfig, Endpoint, Venue};
+use desk_config::{Address, Callers, DeskConfig, Endpoint, JournalTerms, Venue};
 use std::alloc::{AllocError, Global};
 use std::fmt;
 
@@ -61,6 +61,26 @@ fn append_venues(alloc: Global, venues: &[Venue], text: &mut Vec<u8>) -> Result<
     Ok(())
 }
 
+/// Where the journal is kept, and what it outlives.
+fn journal_text(alloc: Global, journal: &JournalTerms) -> Result<Vec<u8>, AllocError>
+    ensures { IfOk result (λ text. text.items ≡ journal_text journal.now) }
+{
+    let folder = &journal.folder;
+    let durable = journal.durable;
+    let line = format!(in alloc; "journal {folder} durable {durable}\n")?;
+    Ok(line.into_bytes())
+}
+
+/// Where the journal is kept, if there is one.
+fn journal_line(alloc: Global, config: &DeskConfig) -> Result<Vec<u8>, AllocError>
+    ensures { IfOk result (λ text. text.items ≡ journal_line config.now.journal) }
+{
+    match &config.journal {
+        Some(journal) => journal_text(alloc, journal),
+        None => Ok(Vec::new(alloc)),
+    }
+}
+
 /// Where the page is served.
 fn page_text(alloc: Global, page: &Address, callers: Callers) -> Result<Vec<u8>, AllocError>
     ensures { IfOk result (λ text. text.items ≡ page_text callers page.now) }
@@ -79,12 +99,14 @@ fn page_line(alloc: Global, config: &DeskConfig) -> Result<Vec<u8>, AllocError>
     }
 }
 
-/// The lines of the venues; where the page is served, if it is; and that the file is a day's.
+/// The lines of the venues; where the journal is kept and the page is served, if they are; and that the file is a
+/// day's.
 pub fn check_text(alloc: Global, config: &DeskConfig) -> Result<Vec<u8>, AllocError>
     ensures { IfOk result (λ text. text.items ≡ check_text config.now) }
 {
     let mut text = Vec::new(alloc);
     append_venues(alloc, config.venues.as_slice(), &mut text)?;
+    text.extend_from_slice(&journal_line(alloc, config)?)?;
     text.extend_from_slice(&page_line(alloc, config)?)?;
     text.extend_from_slice(b"file ok\n")?;
     Ok(text)

@@ -1,14 +1,16 @@
 //! Why `dispatch run` failed.
 ghost use Rattle.std.specs.Prelude.{◌≡◌};
 ghost use Rattle.run_command.specs.declared.fault.CommandFault.TheVariants.{OutOfMemory, WriteFailed};
-ghost use Rattle.run_command.specs.Fault.{IsOfCommandLine, fault_status, log_status, day_fault, input_fault, talk_fault};
+ghost use Rattle.run_command.specs.Fault.{IsOfCommandLine, fault_status, folder_status, journal_status, log_status, day_fault, input_fault, talk_fault};
 
 use clap::error::ErrorKind;
 use command_line::{Fault, InputFault};
 use day_log::LogFault;
+use day_restart::{JournalRefused, RestartFault};
 use desk_config::ConfigFault;
 use desk_floor::TalkFault;
 use desk_venues::DayFault;
+use journal_folder::FolderFault;
 use std::alloc::AllocError;
 use std::io;
 use thiserror::Error;
@@ -40,6 +42,9 @@ pub enum CommandFault {
     /// The logs of the day can't be begun in their folder.
     #[error("log: {0}")]
     NoLogs(LogFault),
+    /// The day can't go on from its journals, or begin them.
+    #[error("journal: {0}")]
+    NoJournal(JournalRefused),
     /// The page can't be served where the file asks for it.
     #[error("page: it can't be served there")]
     NoPage,
@@ -98,6 +103,76 @@ fn log_reason(fault: &LogFault) -> Option<&'static str> {
     }
 }
 
+/// The status that tells why a folder of journals can't be used: 3 where what is in it forbids it, 4 where the system
+/// or another dispatcher does.
+fn folder_status(fault: FolderFault) -> u8
+    ensures { result ≡ folder_status fault }
+{
+    match fault {
+        FolderFault::Damaged { .. }
+        | FolderFault::Gone { .. }
+        | FolderFault::NoHead { .. }
+        | FolderFault::LinesGone { .. }
+        | FolderFault::OtherWords { .. } => 3,
+        FolderFault::NoFolder
+        | FolderFault::Taken
+        | FolderFault::CantRead { .. }
+        | FolderFault::CantWrite { .. } => 4,
+        FolderFault::OutOfMemory => 5,
+    }
+}
+
+/// The status that tells why a day can't go on from its journals.
+fn journal_status(fault: &RestartFault) -> u8
+    ensures { result ≡ journal_status fault.now }
+{
+    match fault {
+        RestartFault::Folder(fault) => folder_status(*fault),
+        RestartFault::Desk(fault) => folder_status(*fault),
+        RestartFault::Venue(_, fault) => folder_status(*fault),
+        RestartFault::Ended(_) => 3,
+        RestartFault::DeskLine(_) => 3,
+        RestartFault::VenueLine(_, _) => 3,
+        RestartFault::OutOfMemory => 5,
+    }
+}
+
+/// What is wanted where a folder of journals can't be used, if there is more to say.
+fn folder_reason(fault: FolderFault) -> Option<&'static str> {
+    match fault {
+        FolderFault::NoFolder => Some(
+            "a file may be in its place, or this user may not write there",
+        ),
+        FolderFault::Taken => Some("one dispatcher at a time runs a day"),
+        FolderFault::OtherWords { .. } => Some(
+            "the day began at another date, or with other comp ids, words or terms",
+        ),
+        FolderFault::Damaged { .. }
+        | FolderFault::Gone { .. }
+        | FolderFault::NoHead { .. }
+        | FolderFault::LinesGone { .. } => Some(
+            "take the folder from a copy: cut there, it lacks what went out",
+        ),
+        FolderFault::CantRead { .. } | FolderFault::CantWrite { .. } => Some(
+            "there may be no room, or this user has no right to it",
+        ),
+        FolderFault::OutOfMemory => None,
+    }
+}
+
+/// What is wanted where a day can't go on from its journals, if there is more to say.
+fn journal_reason(fault: &RestartFault) -> Option<&'static str> {
+    match fault {
+        RestartFault::Folder(fault) => folder_reason(*fault),
+        RestartFault::Desk(fault) => folder_reason(*fault),
+        RestartFault::Venue(_, fault) => folder_reason(*fault),
+        RestartFault::Ended(_) => Some("a day that ended isn't gone on with: name another folder"),
+        RestartFault::DeskLine(_) => Some("was a venue of the desk's file renamed, or taken away?"),
+        RestartFault::VenueLine(_, _) => Some("was a venue of the desk's file changed?"),
+        RestartFault::OutOfMemory => None,
+    }
+}
+
 impl Fault for CommandFault {
     ghost status_of = { fault_status };
 
@@ -116,6 +191,7 @@ impl Fault for CommandFault {
             | CommandFault::NoSocket
             | CommandFault::NoThread => 4,
             CommandFault::NoLogs(fault) => log_status(fault),
+            CommandFault::NoJournal(refused) => journal_status(&refused.fault),
             CommandFault::OutOfMemory => 5,
             CommandFault::MismatchQueue
             | CommandFault::MismatchShares
@@ -133,6 +209,7 @@ impl Fault for CommandFault {
                 "another program may have the address, or it isn't this machine's",
             ),
             CommandFault::NoLogs(fault) => log_reason(fault),
+            CommandFault::NoJournal(refused) => journal_reason(&refused.fault),
             CommandFault::GivenUp => Some(
                 "a session didn't log out in time, or legs stay in doubt",
             ),
@@ -213,6 +290,7 @@ impl From<DayFault> for CommandFault {
         match fault {
             DayFault::NoAddress(place) => CommandFault::NoAddress(place),
             DayFault::NoLogs(fault) => CommandFault::NoLogs(fault),
+            DayFault::NoJournal(refused) => CommandFault::NoJournal(refused),
             DayFault::NoPage => CommandFault::NoPage,
             DayFault::NoSocket => CommandFault::NoSocket,
             DayFault::NoThread => CommandFault::NoThread,

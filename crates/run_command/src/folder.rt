@@ -1,4 +1,4 @@
-//! Where the folder of a day's logs is.
+//! Where the folders of a day's logs and of its journals are.
 
 ghost use Rattle.std.specs.Prelude.{◌≡◌, IfOk, string_bytes};
 ghost use Rattle.run_command.specs.Folder.{folder_of};

@@ -3,23 +3,26 @@
 //! Promises:
 //! - The exit status is 0, or that of the fault (`run_run`). A fault of the words or of the file prints nothing. At 0 a
 //!   file's bytes spell a configuration, and either what it says is printed (`check_text`), or a day of this
-//!   configuration was audited and is told (`IsToldDay`). Of that day no worker gave its session up or left a leg in
+//!   configuration was audited and is told: one that began new where no journal is kept (`IsToldDay`), and one that may
+//!   have had lives before where one is (`IsToldOver`). Of that day no worker gave its session up or left a leg in
 //!   doubt, and of no venue is a report on the audited book's list of what it didn't take (`IsWhole`). The day's text
 //!   is printed last (`EndsWell`). Which bytes a file gives, that a fault of the input is told, and what the output
 //!   holds when the day is over, no contract says.
 //! - What is printed behind a day is exactly the stated text of what became of it (`day_text`, or `json_text` with
 //!   `--json`).
 //! - Out of memory while the file is read is never told as a fault of the file (`file_fault`, private).
-//! - The folder of the logs is that which the file names, from the file's own folder on (`log_folder`, private).
+//! - The folder of the logs is that which the file names, from the file's own folder on (`log_folder`, private). So is
+//!   that of the journals, with the day's date where the file has `%Y-%m-%d` (`journal_folder`, private). Which day it
+//!   is no contract says.
 //! - That `--check` dials nothing, and that a day runs as the command line asks, is only tested.
 //!
 //! See `docs/run.md`.
 #![tactic(auto)]
 
-ghost use Rattle.std.specs.Prelude.{◌≡◌, option_map, string_bytes, IfErr, IfOk, OnOk};
+ghost use Rattle.std.specs.Prelude.{◌≡◌, None, option_map, string_bytes, IfErr, IfOk, OnOk};
 ghost use Rattle.desk_config.specs.Apart.{AreVenues};
 ghost use Rattle.run_command.specs.Ending.{end_text, PrintsDay};
-ghost use Rattle.run_command.specs.Folder.{folder_of};
+ghost use Rattle.run_command.specs.Folder.{folder_of, journal_at, journal_folder};
 ghost use Rattle.run_command.specs.Running.{EndsRun, ExitsSo, IsOfDay};
 
 mod check;
@@ -29,13 +32,15 @@ mod file;
 mod folder;
 mod options;
 mod text;
+mod today;
 
 use crate::check::check_text;
 use crate::file::read_file;
 use crate::folder::folder_of;
+use crate::today::today;
 use command_line::{finish, print};
-use desk_config::DeskConfig;
-use desk_run::{DayOptions, DeskDay, run_day};
+use desk_config::{Day, DeskConfig};
+use desk_run::{DayOptions, DeskDay, JournalAt, run_day};
 use desk_talk::DeskInput;
 pub use end_json::json_text;
 pub use fault::CommandFault;
@@ -74,6 +79,7 @@ where
         + Wait
         + Clock
         + Sync,
+    R::Dir: Send,
     I: Read + AsRawFd,
     W: Write + Send,
     E: Write,
@@ -82,7 +88,7 @@ where
     finish(run(rt, alloc, words, input, out), err)
 }
 
-#[tactic(auto, using(crate::proofs::Ends::said_of, crate::proofs::Ends::of_day))]
+#[tactic(auto, using(crate::proofs::Ends::said_of, crate::proofs::Ends::of_day, crate::proofs::Journals::no_journal))]
 fn run<S, R, I, W>(
     rt: &R,
     alloc: Global,
@@ -98,6 +104,7 @@ where
         + Wait
         + Clock
         + Sync,
+    R::Dir: Send,
     I: Read + AsRawFd,
     W: Write + Send,
     ensures { EndsRun (W.contents out.old) (W.contents out.new) result }
@@ -108,12 +115,15 @@ where
         return Ok(print(&check_text(alloc, &config)?, out)?);
     }
     let folder = log_folder(alloc, options.file, &config)?;
-    let day = DayOptions {
+    let day = today(rt);
+    let journal = journal_folder(alloc, options.file, &config, day)?;
+    let options_of_day = DayOptions {
         manner: options.manner,
         form: options.form,
         folder: folder.as_deref(),
+        journal: journal_at(&config, journal.as_deref(), day),
     };
-    run_config(rt, alloc, &config, day, input, out)
+    run_config(rt, alloc, &config, options_of_day, input, out)
 }
 
 /// The folder of the logs that the configuration of a file asks for, if it does.
@@ -123,6 +133,39 @@ fn log_folder(alloc: Global, file: &str, config: &DeskConfig) -> Result<Option<S
     match &config.log {
         Some(folder) => Ok(Some(folder_of(alloc, file, folder.as_str())?)),
         None => Ok(None),
+    }
+}
+
+/// The folder of a day's journals that the configuration of a file asks for, if it does.
+fn journal_folder(
+    alloc: Global,
+    file: &str,
+    config: &DeskConfig,
+    day: Day,
+) -> Result<Option<String>, AllocError>
+    ensures { IfOk result (λ found. option_map string_bytes found ≡ journal_folder file.now config.now.journal day) }
+{
+    match &config.journal {
+        Some(terms) => {
+            let folder = terms.folder.folder_on(alloc, day)?;
+            Ok(Some(folder_of(alloc, file, folder.as_str())?))
+        }
+        None => Ok(None),
+    }
+}
+
+/// Where the day's journals are, and what they outlive, where the configuration asks for any.
+fn journal_at<'a>(config: &DeskConfig, folder: Option<&'a str>, day: Day) -> Option<JournalAt<'a>>
+    ensures { option_map (λ at. (at.folder.now, at.durable, at.day)) result
+        ≡ journal_at config.now.journal (option_map (λ path. path.now) folder.entry) day }
+{
+    match (&config.journal, folder) {
+        (Some(terms), Some(folder)) => Some(JournalAt {
+            folder,
+            durable: terms.durable,
+            day,
+        }),
+        _ => None,
     }
 }
 
@@ -152,9 +195,11 @@ where
         + Wait
         + Clock
         + Sync,
+    R::Dir: Send,
     I: Read + AsRawFd,
     W: Write + Send,
-    requires { AreVenues config.now.venues.items }
+    requires venues { AreVenues config.now.venues.items }
+    requires journal { config.now.journal ≡ None → options.journal ≡ None }
     ensures ok { OnOk result (PrintsDay config.now (W.contents out.new)) }
     ensures err { IfErr result IsOfDay }
 {

@@ -17,5 +17,6 @@ returns-clause-ok g c =
     let none : c.in_ok-day.day.doubts.len ≡ 0 =
     elim c.if-day.branch [ then-day w ↦ search rules | else-day w ↦ search rules ] in
     let settled = nil_from_length c.in_ok-day.day.doubts.items (omega (arith, held, none)) in
-    prints_day c.args.config.now c.args.options.form c.in_ok-day.day _ _ _ c.in_ok-day.ensures.day taken closed
-    booked settled (c.deref.ensures.value ∙ c.in_ok-end_text.ensures) c.in_ok-print.ensures.ok
+    prints_day c.args.config.now c.args.options.form c.in_ok-day.day _ _ _ c.in_ok-day.ensures.day
+    (λ none. c.in_ok-day.ensures.new (c.requires.journal none)) taken closed booked settled
+    (c.deref.ensures.value ∙ c.in_ok-end_text.ensures) c.in_ok-print.ensures.ok

@@ -1,54 +1,29 @@
-use Rattle.std.proofs.Common.{rules, ◌≡◌, ◌+◌, [], ◌∷◌, length, drop, refl, sym, ap, ◌∙◌, arith}
+use Rattle.std.proofs.Common.{rules, ◌≡◌, ◌+◌, [], ◌∷◌, length, drop, map, refl, sym, ap, ◌∙◌, arith}
 use Rattle.std.proofs.lemmas.List.Elements.{All-head, All-same, All-rest}
 use Rattle.std.proofs.lemmas.List.{drop_more}
 use Rattle.std.proofs.Math.ListN.{drop_of_length-le}
-use Rattle.desk_venues.specs.Starts.{starts_on}
+use Rattle.desk_venues.specs.Starts.{workers_from}
 use Rattle.desk_venues.proofs.Addressing.{at_first}
 use Rattle.desk_venues.proofs.Starting.{starts_more, starts_over}
-use Rattle.session_worker.specs.Places.{place}
-use Rattle.exec_collector.specs.Seats.{Seat, worker_seats}
-use Rattle.release_lock.specs.Queues.{DrainParts, new_drains}
-use Rattle.session_worker.proofs.Places.{none_popped, all_seats, first_seat, seats_length, drains_length, is_new, one_made, all_made}
 use Rattle.desk_venues.proofs.workers.new_workers.Goals as goal
 
 pub loop-venue-init : goal.loop-venue-init
 loop-venue-init g c =
-    let venues = length c.args.venues.now in
-    let drains : c.from-drains.result.items ≡ new_drains venues = search rules in
-    let seats : c.from-seats.result.items ≡ worker_seats venues = search rules in
+    let starts : c.from-starts.result.items ≡ c.args.starts.items = search rules in
+    let journals : c.from-journals.result.items ≡ c.args.journals.items = search rules in
     let links : c.from-links.result.items ≡ c.args.links.items = search rules in
-    let drains_are = ap length drains in
+    let starts_are = ap length starts in
+    let journals_are = ap length journals in
     let links_are = ap length links in
-    let seats_are = ap length seats in
-    let count = drains_length venues in
-    let same = seats_length venues in
     record {
       starts_are = rw c.new-workers.ensures.items refl;
-      made_are = rw c.new-workers.ensures.items refl;
       new_links = rw links c.requires.new;
       their_links = rw links c.requires.at;
       links_left = omega (arith, links_are, c.requires.links);
-      none_popped = rw drains (none_popped venues);
-      their_seats = rw (seats, drains) (all_seats venues);
       made = rw c.new-workers.ensures.items refl;
-      as_many = omega (arith, drains_are, count);
-      seats_left = omega (arith, seats_are, same);
+      starts_left = omega (arith, starts_are, c.requires.starts);
+      journals_left = omega (arith, journals_are, c.requires.journals);
     }
-
-pub new_worker-requires-clause-drain : goal.new_worker-requires-clause-drain
-new_worker-requires-clause-drain g c =
-    let drain = c.in-Some.drain in
-    let drains = c.pop_front.new.self.items in
-    All-head (λ (d : DrainParts). d.popped ≡ []) drain drains
-    (All-same (λ (d : DrainParts). d.popped ≡ []) (drain ∷ drains) c.loop-venue.drains.items (sym c.in-Some.ensures.items)
-    c.loop-venue.invariant.none_popped)
-
-pub new_worker-requires-clause-seat : goal.new_worker-requires-clause-seat
-new_worker-requires-clause-seat g c =
-    let first = first_seat c.in-Some-pop_front.seat c.pop_front-in-loop-venue.new.self.items c.loop-venue.seats.items
-    c.in-Some.drain c.pop_front.new.self.items c.loop-venue.drains.items c.in-Some-pop_front.ensures.items
-    c.in-Some.ensures.items c.loop-venue.invariant.their_seats in
-    ap (λ (s : Seat). s.venue) first.0
 
 pub new_worker-requires-clause-link : goal.new_worker-requires-clause-link
 new_worker-requires-clause-link g c =
@@ -68,59 +43,48 @@ new_worker-requires-clause-at g c =
 pub loop-venue-preserved : goal.loop-venue-preserved
 loop-venue-preserved g c =
     let so_far = c.loop-venue.invariant in
-    let drain = c.in-Some.drain in
-    let drains = c.pop_front.new.self.items in
-    let seat = c.in-Some-pop_front.seat in
-    let seats = c.pop_front-in-loop-venue.new.self.items in
-    let first_drain = c.in-Some.ensures.items in
-    let first_seat_is = c.in-Some-pop_front.ensures.items in
-    let drains_were = ap length first_drain in
-    let seats_were = ap length first_seat_is in
+    let told = g.J.Telling.told in
+    let start = c.in-Some.start in
+    let starts = c.pop_front.new.self.items in
+    let first_start = c.in-Some.ensures.items in
+    let journal = c.in-Some-pop_front.journal in
+    let journals = c.pop_front-in-loop-venue.new.self.items in
+    let first_journal = c.in-Some-pop_front.ensures.items in
     let link = c.in-Some-pop_front-2.link in
     let links = c.pop_front-in-loop-venue-2.new.self.items in
     let first_link = c.in-Some-pop_front-2.ensures.items in
+    let starts_were = ap length first_start in
+    let journals_were = ap length first_journal in
     let links_were = ap length first_link in
+    let starts_left = so_far.starts_left in
+    let journals_left = so_far.journals_left in
     let links_left = so_far.links_left in
     let left = drop_more c.args.venues.now c.loop-venue.venue-index c.venue-item.result c.loop-venue-test.true
     ∙ ap (λ v. v ∷ drop (c.loop-venue.venue-index + 1) c.args.venues.now) (sym c.venue-item.is) in
-    let drains_left = so_far.as_many in
-    let seats_left = so_far.seats_left in
-    let first = first_seat seat seats c.loop-venue.seats.items drain drains c.loop-venue.drains.items first_seat_is
-    first_drain so_far.their_seats in
-    let made = is_new c.in_ok-new_worker.field-0.parts drain seat (ap (λ w. place w.parts) c.in_ok-new_worker.ensures) first.0 in
     record {
       starts_are = starts_more _ c.loop-venue.workers.items _ c.in_ok-new_worker.field-0
           (drop c.loop-venue.venue-index c.args.venues.now) (drop (c.loop-venue.venue-index + 1) c.args.venues.now)
-          c.venue-item.result c.loop-venue.drains.items drains drain seat c.in_ok-push.ensures.items left first_drain
-          c.in_ok-new_worker.ensures first.0 so_far.starts_are;
-      made_are = rw c.in_ok-push.ensures.items
-          (one_made _ _ c.loop-venue.workers.items c.in_ok-new_worker.field-0 drain c.loop-venue.drains.items drains _ made first_drain so_far.made_are);
+          c.venue-item.result c.loop-venue.starts.items starts start (map told c.loop-venue.journals.items)
+          (map told journals) (told journal) c.in_ok-push.ensures.items left first_start
+          (ap (map told) first_journal) c.in_ok-new_worker.ensures so_far.starts_are;
       new_links = All-rest (λ k. k.link.told.traffic ≡ []) link links c.loop-venue.links.items first_link
           so_far.new_links;
       their_links = (at_first (λ k. k.link.addr) _ _ c.venue-item.result c.loop-venue.links.items links link left
           first_link so_far.their_links).1;
       links_left = omega (arith, links_were, links_left);
-      none_popped = All-rest (λ (d : DrainParts). d.popped ≡ []) drain drains c.loop-venue.drains.items first_drain so_far.none_popped;
-      their_seats = first.1;
       made = search rules;
-      as_many = omega (arith, drains_were, drains_left);
-      seats_left = omega (arith, seats_were, seats_left);
+      starts_left = omega (arith, starts_were, starts_left);
+      journals_left = omega (arith, journals_were, journals_left);
     }
-
-pub returns-clause-new : goal.returns-clause-new
-returns-clause-new g c =
-    let venues = length c.args.venues.now in
-    let drains : c.from-drains.result.items ≡ new_drains venues = search rules in
-    let so_far = c.loop-venue.invariant in
-    let left = so_far.as_many in
-    let over = c.loop-venue-test.false in
-    let none : length c.loop-venue.drains.items ≡ 0 = omega (arith, left, over) in
-    all_made _ _ c.loop-venue.workers.items c.loop-venue.drains.items c.from-drains.result.items venues none drains so_far.made_are
 
 pub returns-clause-starts : goal.returns-clause-starts
 returns-clause-starts g c =
     let venues = c.args.venues.now in
-    let drains : c.from-drains.result.items ≡ new_drains (length venues) = search rules in
-    starts_over _ _ (drop c.loop-venue.venue-index venues) c.loop-venue.drains.items
-    (drop_of_length-le venues c.loop-venue-test.false) c.loop-venue.invariant.starts_are
-    ∙ ap (starts_on venues) drains
+    let told = g.J.Telling.told in
+    let starts : c.from-starts.result.items ≡ c.args.starts.items = search rules in
+    let journals : c.from-journals.result.items ≡ c.args.journals.items = search rules in
+    starts_over _ _ (drop c.loop-venue.venue-index venues) c.loop-venue.starts.items
+    (map told c.loop-venue.journals.items) (drop_of_length-le venues c.loop-venue-test.false)
+    c.loop-venue.invariant.starts_are
+    ∙ (ap (λ ss. workers_from venues ss (map told c.from-journals.result.items)) starts
+    ∙ ap (λ js. workers_from venues c.args.starts.items (map told js)) journals)

@@ -1,13 +1,24 @@
-use Rattle.std.proofs.Common.{◌∙◌, sym, ap}
-use Rattle.session_worker.specs.Places.{new_places}
+use Rattle.std.proofs.Common.{rules, ◌≡◌, length, map, ◌∙◌, sym, ap}
+use Rattle.session_worker.specs.Places.{place, new_places}
+use Rattle.desk_run.proofs.Begun.{as_many_new, begun_new_day, begun_places}
+use Rattle.desk_run.proofs.NewStarts.{new_day_workers}
 use Rattle.live_load.proofs.CallersLeft.{are_called}
 use Rattle.live_load.proofs.LiveDays.{live_day}
 use Rattle.live_load.proofs.running.named_day.Goals as goal
 
+pub open_day-requires-clause-starts : goal.open_day-requires-clause-starts
+open_day-requires-clause-starts g c =
+    as_many_new c.args.venues.now c.in_ok-begun.begun.starts.items c.in_ok-begun.ensures.starts
+
 pub told-requires-clause-workers : goal.told-requires-clause-workers
 told-requires-clause-workers g c =
+    let venues = c.args.venues.now in
+    let journals = c.in_ok-past.past.venues.items in
+    let as_many : length journals ≡ length venues = search rules in
+    let begun = begun_new_day venues c.in_ok-begun.begun.starts.items journals c.in_ok-begun.ensures.starts as_many in
     c.in_ok-ended.ensures.workers
-    ∙ (c.in_ok-day.ensures.workers ∙ ap new_places (c.requires.venues ∙ sym c.requires.workers.2))
+    ∙ (ap (λ ws. map (λ w. place w.parts) ws) c.in_ok-day.ensures.starts
+    ∙ (begun_places venues _ begun ∙ ap new_places (c.requires.venues ∙ sym c.requires.workers.2)))
 
 pub told-requires-clause-callers : goal.told-requires-clause-callers
 told-requires-clause-callers g c =
@@ -16,5 +27,16 @@ told-requires-clause-callers g c =
 
 pub returns-clause-day : goal.returns-clause-day
 returns-clause-day g c =
-    live_day c.args.venues.now _ _ c.told.result c.in_ok-day.ensures.starts c.in_ok-ended.ensures.ran
+    let venues = c.args.venues.now in
+    let journals = c.in_ok-past.past.venues.items in
+    let as_many : length journals ≡ length venues = search rules in
+    let new = new_day_workers venues c.in_ok-begun.begun.starts.items journals c.in_ok-begun.ensures.starts as_many in
+    live_day venues _ _ c.told.result (c.in_ok-day.ensures.starts ∙ new) c.in_ok-ended.ensures.ran
     c.told.ensures.audited c.told.ensures.ends
+
+pub invariant_of-floor : goal.invariant_of-floor
+invariant_of-floor g c = record { few = c.in_ok-day.day.floor.few; tied = c.in_ok-day.day.floor.tied }
+
+pub invariant_of-floor-in_err-ended : goal.invariant_of-floor-in_err-ended
+invariant_of-floor-in_err-ended g c =
+    record { few = c.in_ok-day.day.floor.few; tied = c.in_ok-day.day.floor.tied }

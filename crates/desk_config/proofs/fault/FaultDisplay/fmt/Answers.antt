@@ -10,3 +10,8 @@ pub returns-in-Host-clause-writes : goal.returns-in-Host-clause-writes
 returns-in-Host-clause-writes g c =
     λ plain written.
     rw c.in-Host.is (simp append_assoc (c.write-in-Host.ensures.writes plain written))
+
+pub returns-in-DeskName-clause-writes : goal.returns-in-DeskName-clause-writes
+returns-in-DeskName-clause-writes g c =
+    λ plain written.
+    rw c.in-DeskName.is (simp append_assoc (c.write-in-DeskName.ensures.writes plain written))

@@ -6,7 +6,7 @@ use Rattle.desk_threads.proofs.threads.fn.in_threads.join+arg3+FnOnce.call_once.
 -- what may cross to a thread here may do so where the dispatcher is run
 pub join+arg3-requires : goal.join+arg3-requires
 join+arg3-requires g c =
-    let r = c.requires.1.1.1.1.1.1 in (
+    let r = c.requires.1.1.1.1.1.1.1 in (
       param_send _ _ (arg_send _ yes _ r.0),
       (
         param_send _ _ (arg_send _ yes _ r.1),
@@ -17,8 +17,11 @@ join+arg3-requires g c =
             (
               param_send _ _ (arg_send _ yes _ r.4),
               (
-                param_sync _ _ (arg_sync _ yes _ r.5),
-                (param_sync _ _ (arg_sync _ yes _ r.6), param_sync _ _ (arg_sync _ yes _ r.7)),
+                param_send _ _ (arg_send _ yes _ r.5),
+                (
+                  param_sync _ _ (arg_sync _ yes _ r.6),
+                  (param_sync _ _ (arg_sync _ yes _ r.7), param_sync _ _ (arg_sync _ yes _ r.8)),
+                ),
               ),
             ),
           ),
