@@ -37,9 +37,12 @@ def free_ports(count):
 
 
 def day_file(folder, port, venues, page=None):
-    """Writes a desk's file with so many venues at the ports from this one on, with a page at a port, if one is given."""
+    """Writes a desk's file with so many venues at the ports from this one on, with a page at a port, if one is given.
+    JOURNAL in the environment, `process` or `power`, has the day keep a journal that outlives this."""
     file = Path(folder) / "desk.toml"
-    file.write_text('[desk]\nsender = "DESK"\n' + (f'page = "127.0.0.1:{page}"\n' if page else "") + "".join(
+    durable = os.environ.get("JOURNAL")
+    journal = f'journal = "days{time.time_ns()}"\ndurable = "{durable}"\n' if durable else ""
+    file.write_text('[desk]\nsender = "DESK"\n' + journal + (f'page = "127.0.0.1:{page}"\n' if page else "") + "".join(
         f'\n[[venue]]\nname = "V{venue}"\naddress = "127.0.0.1:{port + venue}"\ntarget = "V{venue}"\n'
         for venue in range(venues)))
     return str(file)

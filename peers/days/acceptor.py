@@ -76,3 +76,17 @@ class Acceptor:
     def orders(self):
         """The orders that it took, in order."""
         return [order_of(line) for line in self._orders.read_text().splitlines()]
+
+
+def logs(folder, venue):
+    """QuickFIX's own log of the messages of a venue, in the folder of a day."""
+    return list(folder.glob(f"store/*-{venue}-*.messages.current.log"))
+
+
+def frames(folder, venue, kind):
+    """The frames of a kind that the exchange received or sent at a venue, by QuickFIX's own log, as fields by tag."""
+    for log in logs(folder, venue):
+        for line in log.read_text().splitlines():
+            fields = dict(field.split("=", 1) for field in line[line.index("8=FIX") :].split("\x01") if field)
+            if fields["35"] == kind:
+                yield fields

@@ -88,6 +88,43 @@ def end_faults(lines, wanted):
             yield f"wanted {want}, was told {line}"
 
 
+def received_faults(received, orders):
+    """What is wrong with the ClOrdIDs that came to the exchange, whether it took them or not."""
+    for id, count in Counter(received).items():
+        if count > 1:
+            yield f"{id} came {count} times"
+    for order in orders:
+        if order.id not in received:
+            yield f"{order.id} was taken, and never came"
+
+
+def kind_of(report):
+    """What a report of the exchange says, in the words of `dispatch run`."""
+    words = {"0": "new", "4": "cancelled", "F": f"fill {report.get('32')} at {report.get('31')}"}
+    return words.get(report["150"], report["150"])
+
+
+def execution_faults(reports, lines):
+    """Where the executions that were told aren't those that the exchange reported, each once. Of each venue these are
+    its reports, some of them sent again."""
+    made = {
+        f"{venue} {report['11']} {kind_of(report)} id {report['17']}"
+        for venue, sent in reports.items()
+        for report in sent
+    }
+    told = []
+    for line in lines:
+        if found := re.match(r"execution (\d+) (\S+ \S+ .*? id \S+)", line):
+            told.append(found[2])
+            if int(found[1]) != len(told):
+                yield f"it isn't the execution {len(told)} of the day: {line}"
+        elif line.startswith("unbooked execution"):
+            yield line
+    yield from (f"{one} was reported, and not booked" for one in sorted(made.difference(told)))
+    yield from (f"{one} was booked, and not reported" for one in sorted(set(told) - made))
+    yield from (f"{one} was booked {count} times" for one, count in Counter(told).items() if count > 1)
+
+
 def day_faults(placed, orders, fill, status, lines):
     """All that is wrong with a day that has ended."""
     if status != 0:

@@ -3,7 +3,7 @@
 import unittest
 
 from days.acceptor import Order
-from days.compare import day_faults
+from days.compare import day_faults, execution_faults, received_faults
 from days.sweeps import Leg
 
 PLACED = {
@@ -23,6 +23,21 @@ LINES = [
     "sweep 2 legs 18 filled 8 busted 0 cancelled 10 withdrawn 0 open 0 paid 260.5 average 32.5625",
     "day placed 27 resolved 27 open 0",
     "audit ok",
+]
+
+REPORTS = {
+    "V1": [
+        {"11": "S1L1", "17": "E1", "150": "0"},
+        {"11": "S1L1", "17": "E2", "150": "F", "32": "1", "31": "10.25"},
+        {"11": "S1L1", "17": "E2", "150": "F", "32": "1", "31": "10.25", "43": "Y"},
+    ],
+    "V2": [{"11": "S1L2", "17": "E1", "150": "4"}],
+}
+EXECUTIONS = [
+    "execution 1 V1 S1L1 new id E1 order O1",
+    "sweep 1 legs 9 filled 0 busted 0 cancelled 0 withdrawn 0 open 9",
+    "execution 2 V2 S1L2 cancelled id E1 order O2",
+    "execution 3 V1 S1L1 fill 1 at 10.25 id E2 order O1",
 ]
 
 
@@ -100,3 +115,36 @@ class DaysThatWentWrong(unittest.TestCase):
 
     def test_another_sum_is_told(self):
         self.assertEqual(len(faults(lines=changed(3, "day placed 27 resolved 26 open 1"))), 1)
+
+    def test_an_order_comes_twice(self):
+        self.assertEqual(list(received_faults(["S1L1", "S1L2", "S1L1"], [])), ["S1L1 came 2 times"])
+
+    def test_an_order_is_taken_that_never_came(self):
+        self.assertEqual(len(list(received_faults(["S1L1", "S1L2", "S2L1"], ORDERS))), 1)
+
+
+class Executions(unittest.TestCase):
+    def test_all_are_booked(self):
+        self.assertEqual(list(execution_faults(REPORTS, EXECUTIONS)), [])
+
+    def test_one_is_missing(self):
+        self.assertEqual(len(list(execution_faults(REPORTS, EXECUTIONS[:-1]))), 1)
+
+    def test_one_is_booked_twice(self):
+        again = "execution 4 V1 S1L1 new id E1 order O1"
+        self.assertEqual(list(execution_faults(REPORTS, [*EXECUTIONS, again])), ["V1 S1L1 new id E1 was booked 2 times"])
+
+    def test_one_is_made_up(self):
+        self.assertEqual(len(list(execution_faults({"V1": REPORTS["V1"]}, EXECUTIONS))), 1)
+
+    def test_another_price(self):
+        lines = [*EXECUTIONS[:-1], EXECUTIONS[-1].replace("10.25", "10.5")]
+        self.assertEqual(len(list(execution_faults(REPORTS, lines))), 2)
+
+    def test_a_number_is_missing(self):
+        lines = [*EXECUTIONS[:-1], EXECUTIONS[-1].replace("execution 3", "execution 4")]
+        self.assertEqual(len(list(execution_faults(REPORTS, lines))), 1)
+
+    def test_one_is_unbooked(self):
+        unbooked = "unbooked execution 4 V1 S1L1 fill 1 at 10.25 id E2 order O1: duplicate"
+        self.assertEqual(list(execution_faults(REPORTS, [*EXECUTIONS, unbooked])), [unbooked])

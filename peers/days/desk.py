@@ -5,6 +5,7 @@ import re
 import subprocess
 import threading
 import time
+from contextlib import suppress
 
 from days.acceptor import DESK
 
@@ -16,16 +17,22 @@ LOOK = 0.25
 # The folder of the message logs, from the desk's file on.
 LOGS = "logs"
 
-ENDED = "dispatch run ended while it was asked for a sweep"
-
 
 class Late(Exception):
     """A day has come to its deadline."""
 
 
-def file_of(venues, port, heartbeat, words=""):
-    """The desk's file, for venues that one exchange serves at a port, each with these lines besides."""
-    tables = [f'[desk]\nsender = "{DESK}"\nlog = "{LOGS}"\n']
+class Ended(RuntimeError):
+    """The run has ended."""
+
+    def __init__(self):
+        super().__init__("dispatch run ended while it was asked for a sweep")
+
+
+def file_of(venues, port, heartbeat, words="", desk=""):
+    """The desk's file, for venues that one exchange serves at a port, each with these lines besides, and the desk with
+    those."""
+    tables = [f'[desk]\nsender = "{DESK}"\nlog = "{LOGS}"\n{desk}']
     for venue in venues:
         tables.append(
             f'[[venue]]\nname = "{venue}"\ntarget = "{venue}"\naddress = "127.0.0.1:{port}"\nheartbeat = {heartbeat}\n{words}'
@@ -34,23 +41,26 @@ def file_of(venues, port, heartbeat, words=""):
 
 
 class Desk:
-    def __init__(self, program, folder, text, deadline):
+    def __init__(self, program, folder, text, deadline, options=()):
         self.lines = []
         self._deadline = deadline
         self._heard = queue.Queue()
-        self._kept = (folder / "news").open("w")
+        self._kept = (folder / "news").open("a")
         self._errors = folder / "errors"
         file = folder / "desk.toml"
         file.write_text(text)
-        with self._errors.open("w") as errors:
+        command = [program, "run", file, *options]
+        with self._errors.open("a") as errors:
             self._process = subprocess.Popen(
-                [program, "run", file], stdin=subprocess.PIPE, stdout=subprocess.PIPE, stderr=errors, text=True
+                command, stdin=subprocess.PIPE, stdout=subprocess.PIPE, stderr=errors, text=True
             )
         threading.Thread(target=self._listen, daemon=True).start()
 
     def _listen(self):
         for line in self._process.stdout:
-            self._heard.put(line.rstrip("\n"))
+            # what a kill cut off is no line
+            if line.endswith("\n"):
+                self._heard.put(line.rstrip("\n"))
         self._heard.put(None)
 
     def _next(self, seconds=None):
@@ -62,30 +72,32 @@ class Desk:
             line = self._heard.get(timeout=left if seconds is None else min(left, seconds))
         except queue.Empty:
             return None if seconds is not None else self._next()
-        if line is not None:
+        if line is None:
+            self._heard.put(None)
+        else:
             self.lines.append(line)
             print(line, file=self._kept, flush=True)
         return line
 
-    def _ask(self, line):
+    def ask(self, line):
         try:
             self._process.stdin.write(line + "\n")
             self._process.stdin.flush()
         except BrokenPipeError:
-            raise RuntimeError(ENDED) from None
+            raise Ended from None
 
-    def _answer(self):
+    def answer(self):
         """The answer to a sweep: other lines are news."""
         while (line := self._next()) is not None:
             if re.match("placed|refused|bad line", line):
                 return line
-        raise RuntimeError(ENDED)
+        raise Ended
 
     def place(self, line):
         """Asks for a sweep until it is placed, and gives its number."""
         while True:
-            self._ask(line)
-            answer = self._answer()
+            self.ask(line)
+            answer = self.answer()
             if placed := re.fullmatch(r"placed (\d+) shares \d+", answer):
                 return int(placed[1])
             if not re.match("refused R0[45]", answer):
@@ -100,15 +112,16 @@ class Desk:
             pass
 
     def _is_settled(self, venue):
-        self._ask("status")
+        self.ask("status")
         while (line := self._next()) is not None:
             if line.startswith(f"status venue {venue} "):
                 return re.search(r" unsent 0 doubt 0 lost \d+ up$", line) is not None
-        raise RuntimeError(ENDED)
+        raise Ended
 
     def close(self):
-        """Ends the day, and gives the exit status."""
-        self._process.stdin.close()
+        """Ends the day, if it hasn't ended, and gives the exit status."""
+        with suppress(BrokenPipeError):
+            self._process.stdin.close()
         while self._next() is not None:
             pass
         self._kept.close()

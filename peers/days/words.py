@@ -5,7 +5,7 @@ import time
 from dataclasses import dataclass, replace
 from subprocess import TimeoutExpired
 
-from days.acceptor import Acceptor, Order
+from days.acceptor import Acceptor, Order, frames
 from days.compare import day_faults, end_faults, wanted_end
 from days.days import FILL, HEARTBEAT, MOST_SECONDS, Played, sweeps
 from days.desk import Desk, Late, file_of
@@ -106,15 +106,6 @@ WORDS_DAYS = (
     *refusals_of(HEXADECIMAL, ', "21=1"', ""),
     *refusals_of(DIALECT_WITH_A_FIELD, '"1=ACC7"', 'dialect = "split"\n'),
 )
-
-
-def frames(folder, venue, kind):
-    """The frames of a kind that the exchange received or sent at a venue, by QuickFIX's own log, as fields by tag."""
-    for log in folder.glob(f"store/*-{venue}-*.messages.current.log"):
-        for line in log.read_text().splitlines():
-            fields = dict(field.split("=", 1) for field in line[line.index("8=FIX") :].split("\x01") if field)
-            if fields["35"] == kind:
-                yield fields
 
 
 def spelling_faults(table, orders):
