@@ -8,6 +8,7 @@ _dispatch_options() {
         replay) echo --steps --frames --summary --ladder --check --help ;;
         check) echo --from --desk --json --legs --executions --exact --help ;;
         live) echo --venues --callers --sweeps --cut --turns --cut-short --stop-on-input --help ;;
+        journal) echo --lines --help ;;
         run) echo --check --executions --json --patience --quiet --refs --help ;;
         exchange) echo --port --sender --target --dialect --fill --cut --lose --help ;;
     esac
@@ -16,7 +17,7 @@ _dispatch_options() {
 # Whether an option takes a value of a command.
 _dispatch_takes_value() {
     case $1:$2 in
-        *:--help | order:--raw | order:--read | live:--cut-short | live:--stop-on-input) return 1 ;;
+        *:--help | order:--raw | order:--read | journal:--lines | live:--cut-short | live:--stop-on-input) return 1 ;;
         replay:--ladder) return 0 ;;
         replay:* | check:--executions | check:--json | check:--legs | run:--check | run:--executions | run:--json | run:--quiet) return 1 ;;
         *:--*) return 0 ;;
@@ -28,7 +29,7 @@ _dispatch() {
     local word=${COMP_WORDS[COMP_CWORD]} before=${COMP_WORDS[COMP_CWORD - 1]} command=${COMP_WORDS[1]}
     COMPREPLY=()
     if [ "$COMP_CWORD" -eq 1 ]; then
-        mapfile -t COMPREPLY < <(compgen -W 'order replay check live run exchange build help --help --version' -- "$word")
+        mapfile -t COMPREPLY < <(compgen -W 'order replay check journal live run exchange build help --help --version' -- "$word")
         return
     fi
     if _dispatch_takes_value "$command" "$before"; then
@@ -46,10 +47,14 @@ _dispatch() {
         return
     fi
     case $command in
-        help) mapfile -t COMPREPLY < <(compgen -W 'order replay check live run exchange' -- "$word") ;;
+        help) mapfile -t COMPREPLY < <(compgen -W 'order replay check journal live run exchange' -- "$word") ;;
         run | replay | check)
             compopt -o filenames 2> /dev/null
             mapfile -t COMPREPLY < <(compgen -f -- "$word")
+            ;;
+        journal)
+            compopt -o filenames 2> /dev/null
+            mapfile -t COMPREPLY < <(compgen -d -- "$word")
             ;;
     esac
 }
