@@ -6,9 +6,9 @@ use Rattle.leg.specs.declared.sweep.Routed.{Routed}
 use Rattle.message_log.specs.declared.direction.Direction.{Direction}
 use Rattle.message_log.specs.declared.direction.Direction.TheVariants.{Sent, Received}
 use Rattle.share_ledger.specs.Entries.{sweep_shares}
-use Rattle.sweep_text.specs.Answer.{answer_text}
+use Rattle.desk_answers.specs.Answer.{answer_text}
 use Rattle.sweep_text.specs.Line.{line_says}
-use Rattle.sweep_text.specs.declared.answer.Answer.TheVariants.{Placed}
+use Rattle.desk_answers.specs.declared.answer.Answer.TheVariants.{Placed}
 use Rattle.sweep_text.specs.declared.command.Command.{Command}
 use Rattle.sweep_text.specs.declared.command.Command.TheVariants.{Sweep}
 use Rattle.sweep_text.specs.declared.line_fault.LineFault.{LineFault}

@@ -5,13 +5,14 @@ ghost use Rattle.day_rules.specs.Intake.{fits, is_placed_as, is_placing, legs_as
 ghost use Rattle.message_log.specs.declared.direction.Direction.TheVariants.{Received};
 ghost use Rattle.sweep_text.specs.Line.{line_says};
 
+use desk_answers::Answer;
 use desk_words::VenueName;
 use leg::Legs;
 use message_log::Direction;
 use share_ledger::shares_of;
 use std::alloc::{AllocError, Global};
 use std::marker::Model;
-use sweep_text::{Answer, Command, LineFault, read_line};
+use sweep_text::{Command, LineFault, read_line};
 
 /// What the log of a desk's lines says: the sweeps that were placed, the first of them under number 1.
 #[derive(Debug, Drop)]

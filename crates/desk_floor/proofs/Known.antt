@@ -6,7 +6,7 @@ use Rattle.leg.specs.declared.sweep.Routed.{Routed}
 use Rattle.sweep_refs.specs.Placed.{AreDistinct, Entry, placed_under}
 use Rattle.sweep_refs.specs.declared.placement.Placement.{Placement}
 use Rattle.sweep_refs.specs.declared.submission.Submission.{Submission}
-use Rattle.sweep_text.specs.declared.answer.Answer.{Answer}
+use Rattle.desk_answers.specs.declared.answer.Answer.{Answer}
 use Rattle.desk_floor.specs.Release.{AnswersKnown, AnswersOnce, IsAnswered, IsAnsweredUnder, IsFree, IsJudged, noted, placed_after, placed_shares, told}
 
 -- the answer under a known reference is judged as it is known

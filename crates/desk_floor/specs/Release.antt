@@ -13,10 +13,10 @@ use Rattle.sweep_release.specs.History.{KeptDesk}
 use Rattle.sweep_release.specs.declared.receipt.Receipt.{Receipt}
 use Rattle.sweep_release.specs.declared.release_fault.ReleaseFault.{ReleaseFault}
 use Rattle.sweep_release.specs.declared.release_fault.ReleaseFault.TheVariants as fault
-use Rattle.sweep_text.specs.declared.answer.Answer.{Answer}
-use Rattle.sweep_text.specs.declared.answer.Answer.TheVariants.{Placed, Again, Refused, Closing}
-use Rattle.sweep_text.specs.declared.answer.Refusal.{Refusal}
-use Rattle.sweep_text.specs.declared.answer.Refusal.TheVariants as refusal
+use Rattle.desk_answers.specs.declared.answer.Answer.{Answer}
+use Rattle.desk_answers.specs.declared.answer.Answer.TheVariants.{Placed, Again, Refused, Closing}
+use Rattle.desk_answers.specs.declared.answer.Refusal.{Refusal}
+use Rattle.desk_answers.specs.declared.answer.Refusal.TheVariants as refusal
 
 -- a refusal that names the venue that is to blame, which the desk has
 abbrev pub naming : (List ℕ → Refusal) → Option (List ℕ) → Refusal

@@ -6,6 +6,7 @@ ghost use Rattle.desk_floor.specs.Release.{IsAnswered, placed_after, told};
 use crate::floor::Floor;
 use crate::signals::Closing;
 use day_log::LineLog;
+use desk_answers::Answer;
 use exec_collector::Accounts;
 use kept_link::Telling;
 use release_lock::{CallerSeat, Run};
@@ -13,7 +14,6 @@ use std::io::Write;
 use std::sync::Wait;
 use std::time::Clock;
 use sweep_refs::Submission;
-use sweep_text::Answer;
 
 /// A seat with one part of the run, on which the sweeps are counted that clients of the page hand in.
 #[derive(Drop)]

@@ -8,6 +8,7 @@ use crate::asking::asked_now;
 use crate::floor::Floor;
 use crate::signals::Closing;
 use day_log::{LineLog, moment};
+use desk_answers::{Answer, Refusal};
 use desk_words::VenueName;
 use exec_collector::Accounts;
 use kept_link::Telling;
@@ -18,7 +19,6 @@ use std::sync::Wait;
 use std::time::Clock;
 use sweep_refs::Submission;
 use sweep_release::{Receipt, ReleaseFault};
-use sweep_text::{Answer, Refusal};
 
 /// How many venues there may be.
 const VENUES: usize = 16;

@@ -6,6 +6,7 @@ ghost use Rattle.desk_floor.specs.Release.{AnswersKnown, AnswersOnce, IsReleased
 ghost use Rattle.desk_floor.specs.Release.{placed_after, placed_shares};
 
 use crate::floor::Floor;
+use desk_answers::{Answer, Refusal};
 use exec_collector::Accounts;
 use kept_link::Telling;
 use leg::{Legs, Routed, Sweep};
@@ -15,7 +16,6 @@ use std::io::Write;
 use std::sync::Wait;
 use std::time::Clock;
 use sweep_refs::{Found, Placement, RefBook, SweepRef};
-use sweep_text::{Answer, Refusal};
 
 /// The sweeps that were placed under references. Whoever hands one in under a reference holds them until it is
 /// answered.

@@ -2,10 +2,10 @@
 
 ghost use Rattle.std.specs.Prelude.{◌≡◌};
 
+use desk_answers::{Answer, Refusal};
 use std::alloc::{AllocError, Global};
 use std::collections::VecDeque;
 use std::sync::{Mutex, Wait};
-use sweep_text::{Answer, Refusal};
 
 /// How many of the last refusals are kept.
 const MOST_KEPT: usize = 64;

@@ -1,7 +1,7 @@
 -- What a sweep that is handed in is answered, in JSON.
 use Rattle.std.specs.Prelude.{ℕ, List, ◌++◌, codes, decimal}
-use Rattle.sweep_text.specs.declared.answer.Refusal.{Refusal}
-use Rattle.sweep_text.specs.declared.answer.Refusal.TheVariants.{NoLegs, TooManyLegs, UnknownVenue, GateDown, BacklogFull, SweepsSpent, OutOfMemory, WrongBook, OtherLegs, NoReference}
+use Rattle.desk_answers.specs.declared.answer.Refusal.{Refusal}
+use Rattle.desk_answers.specs.declared.answer.Refusal.TheVariants.{NoLegs, TooManyLegs, UnknownVenue, GateDown, BacklogFull, SweepsSpent, OutOfMemory, WrongBook, OtherLegs, NoReference}
 use Rattle.desk_json.specs.declared.outcome.Outcome.{Outcome}
 use Rattle.desk_json.specs.declared.outcome.Outcome.TheVariants.{Placed, Again, Refused, Closing}
 

@@ -9,10 +9,10 @@ use crate::quoted::quoted;
 use crate::standing::VenueRow;
 use crate::sweeps_written::{day_json, sweep_json};
 use crate::venues_written::venue_json;
+use desk_answers::Refusal;
 use desk_executions::Execution;
 use desk_news::{DayTotals, PaidSweep, Told};
 use std::alloc::{AllocError, Global};
-use sweep_text::Refusal;
 
 /// How the audit of a day ended.
 #[derive(Debug, PartialEq, Eq, Drop)]

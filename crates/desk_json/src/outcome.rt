@@ -3,8 +3,8 @@
 ghost use Rattle.std.specs.Prelude.{◌≡◌, ◌++◌, IfOk, codes, string_bytes};
 ghost use Rattle.desk_json.specs.Outcome.{closing_json, outcome_json, refusal_json};
 
+use desk_answers::Refusal;
 use std::alloc::{AllocError, Global};
-use sweep_text::Refusal;
 
 /// What becomes of a sweep that is handed in.
 #[derive(Debug, PartialEq, Eq, Drop)]

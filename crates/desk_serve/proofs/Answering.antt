@@ -2,9 +2,9 @@
 use Rattle.std.proofs.Common.{◌≡◌, ◌⊎◌, inl, inr, ℕ, Bool, true, false, List, Option, Some, None, refl, ap, ◌∙◌}
 use Rattle.leg.specs.declared.sweep.Routed.{Routed}
 use Rattle.sweep_refs.specs.declared.submission.Submission.{Submission}
-use Rattle.sweep_text.specs.declared.answer.Answer.{Answer}
-use Rattle.sweep_text.specs.declared.answer.Answer.TheVariants.{Refused}
-use Rattle.sweep_text.specs.declared.answer.Refusal.TheVariants.{OutOfMemory}
+use Rattle.desk_answers.specs.declared.answer.Answer.{Answer}
+use Rattle.desk_answers.specs.declared.answer.Answer.TheVariants.{Refused}
+use Rattle.desk_answers.specs.declared.answer.Refusal.TheVariants.{OutOfMemory}
 use Rattle.desk_floor.specs.Release as floor
 use Rattle.desk_json.specs.declared.outcome.Outcome.{Outcome}
 use Rattle.desk_serve.specs.Answered.{IsFloors, IsUnwritten, outcome_of}

@@ -1,9 +1,9 @@
 -- What a sweep is answered that comes over HTTP.
 use Rattle.std.specs.Prelude.{◌≡◌, ◌≢◌, ◌⊎◌, ℕ, Bool, List, None}
 use Rattle.sweep_refs.specs.declared.submission.Submission.{Submission}
-use Rattle.sweep_text.specs.declared.answer.Answer.{Answer}
-use Rattle.sweep_text.specs.declared.answer.Answer.TheVariants as answer
-use Rattle.sweep_text.specs.declared.answer.Refusal.TheVariants.{OutOfMemory}
+use Rattle.desk_answers.specs.declared.answer.Answer.{Answer}
+use Rattle.desk_answers.specs.declared.answer.Answer.TheVariants as answer
+use Rattle.desk_answers.specs.declared.answer.Refusal.TheVariants.{OutOfMemory}
 use Rattle.desk_floor.specs.Release as floor
 use Rattle.desk_json.specs.declared.outcome.Outcome.{Outcome}
 use Rattle.desk_json.specs.declared.outcome.Outcome.TheVariants as outcome

@@ -12,6 +12,7 @@ use crate::page::Page;
 use crate::shown::{leg_rows, sweeps_behind, venue_rows};
 use clock::UtcClock;
 use day_log::LineLog;
+use desk_answers::{Answer, Refusal};
 use desk_floor::{Closing, Floor, sweep_legs};
 use desk_http::{Changes, Day, DaySums, RefusalCounts};
 use desk_json::{Event, ExecutionsPage, LegRow, Outcome, SweepLegs, SweepsPage, VenueRow};
@@ -24,7 +25,7 @@ use std::io::Write;
 use std::sync::Wait;
 use std::time::{Clock, Duration};
 use sweep_refs::{Submission, SweepRef};
-use sweep_text::{Answer, Refusal, write_sweep};
+use sweep_text::write_sweep;
 
 /// How many milliseconds pass between two tellings, at least: what comes in a burst is told once.
 const TELL_MILLIS: u64 = 1;

@@ -7,6 +7,7 @@ use crate::open_sweeps::OpenSweeps;
 use crate::status::tell_status;
 use clock::UtcClock;
 use day_log::LineLog;
+use desk_answers::Answer;
 use desk_floor::{Floor, TalkFault};
 use exec_collector::Accounts;
 use kept_link::Telling;
@@ -15,7 +16,7 @@ use std::alloc::Global;
 use std::io::{Read, Write};
 use std::sync::Wait;
 use std::time::{Clock, Duration};
-use sweep_text::{Answer, Command, read_line};
+use sweep_text::{Command, read_line};
 
 /// How many seconds the caller waits for a line before it looks how the day stands. The end of the workers ends the
 /// wait.

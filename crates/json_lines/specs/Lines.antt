@@ -2,8 +2,8 @@
 use Rattle.std.specs.Prelude.{ℕ, List, [], ◌++◌, codes, decimal}
 use Rattle.json.specs.Print.{quoted}
 use Rattle.leg.specs.LegId.{LegIdParts, leg_id_text}
-use Rattle.sweep_text.specs.declared.answer.Answer.{Answer}
-use Rattle.sweep_text.specs.declared.answer.Answer.TheVariants as answer
+use Rattle.desk_answers.specs.declared.answer.Answer.{Answer}
+use Rattle.desk_answers.specs.declared.answer.Answer.TheVariants as answer
 use Rattle.sweep_text.specs.declared.line_fault.LineFault.{LineFault}
 use Rattle.sweep_text.specs.Fault.{fault_text}
 use Rattle.desk_news.specs.Cause.{cause_text}

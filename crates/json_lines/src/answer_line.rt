@@ -5,9 +5,10 @@ ghost use Rattle.json_lines.specs.Lines.{answer_json, bad_line_json};
 
 use crate::line::Line;
 use crate::quoted::quoted;
+use desk_answers::Answer;
 use desk_json::{Outcome, outcome_json, refusal_json};
 use std::alloc::{AllocError, Global};
-use sweep_text::{Answer, LineFault};
+use sweep_text::LineFault;
 
 /// That a line asks for nothing.
 fn bad_line_json(alloc: Global, number: u64, fault: &LineFault) -> Result<String, AllocError>

@@ -10,6 +10,7 @@ use crate::order::one_sweep;
 use crate::watch::Running;
 use clock::UtcClock;
 use day_log::LineLog;
+use desk_answers::Answer;
 use desk_floor::Floor;
 use exec_collector::Accounts;
 use release_lock::{CallerSeat, Run};
@@ -19,7 +20,6 @@ use std::sync::Wait;
 use std::thread;
 use std::time::{Clock, Duration};
 use sweep_refs::Submission;
-use sweep_text::Answer;
 
 /// How many milliseconds a caller waits before it tries a refused sweep again.
 const WAIT_MILLIS: u64 = 1;

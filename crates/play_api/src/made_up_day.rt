@@ -4,6 +4,7 @@ ghost use Rattle.std.specs.Prelude.{⊤};
 ghost use Rattle.play_api.specs.Names.{names_of};
 
 use crate::venues::Venues;
+use desk_answers::Refusal;
 use desk_executions::Execution;
 use desk_http::{Changes, Day, DaySums, RefusalCounts};
 use desk_json::{Audit, Event, ExecutionsPage, LegRow, Outcome, SweepLegs, SweepsPage, VenueRow};
@@ -16,7 +17,7 @@ use report_words::ReportWords;
 use share_ledger::Applied;
 use std::alloc::{AllocError, Global};
 use sweep_refs::{Submission, SweepRef};
-use sweep_text::{Refusal, write_sweep};
+use sweep_text::write_sweep;
 
 /// What a day says, and what it was asked.
 #[derive(Drop)]

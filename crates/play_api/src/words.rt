@@ -2,6 +2,7 @@
 
 use crate::made_up_day::NOT_PAID;
 use case_text::{PlayFault, number, words};
+use desk_answers::Refusal;
 use desk_http::RefusalCounts;
 use desk_json::Outcome;
 use desk_news::{DayTotals, Paid, PaidSweep, SweepParts};
@@ -9,7 +10,6 @@ use desk_words::VenueName;
 use leg::Totals;
 use leg_worth::Worth;
 use std::alloc::Global;
-use sweep_text::Refusal;
 
 /// The numbers of a text, parted by spaces.
 fn numbers(alloc: Global, text: &str) -> Result<Vec<u64>, PlayFault> {

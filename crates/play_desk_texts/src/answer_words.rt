@@ -1,8 +1,8 @@
 //! What a line is answered, from the words of a case.
 
 use case_text::{PlayFault, number};
+use desk_answers::{Answer, Refusal};
 use desk_words::VenueName;
-use sweep_text::{Answer, Refusal};
 
 /// The venue of this name.
 pub fn venue_named(word: &str) -> Result<VenueName, PlayFault> {

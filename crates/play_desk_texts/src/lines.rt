@@ -2,9 +2,10 @@
 
 use crate::say::say;
 use case_text::{Answers, PlayFault, bytes_of, number, words};
+use desk_answers::Answer;
 use desk_words::VenueName;
 use std::alloc::Global;
-use sweep_text::{Answer, Command, LineFault, read_line, write_sweep};
+use sweep_text::{Command, LineFault, read_line, write_sweep};
 
 /// The most venues of a desk.
 const MAX_VENUES: usize = 16;

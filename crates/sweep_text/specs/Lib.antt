@@ -3,4 +3,3 @@ pub mod Fault
 pub mod Legs
 pub mod Line
 pub mod Written
-pub mod Answer

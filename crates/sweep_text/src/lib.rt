@@ -1,14 +1,13 @@
-//! The lines of a desk: what its standard input asks for, and what is answered.
+//! The lines of a desk: what its standard input asks for.
 //!
 //! Promises:
 //! - `read_line` answers exactly what a line asks for (`line_says`), or its first fault from left to right; or
 //!   memory was wanted, which only a line that asks for legs does.
 //! - `write_sweep` gives exactly the line of a sweep (`sweep_line`). What is written is read back: the line of up to
 //!   a thousand legs, each in range and for a venue that has a name of its own, asks for those very legs under their
-//!   reference (`written_sweeps_read_back`). Answers are the stated texts (`answer_text`).
+//!   reference (`written_sweeps_read_back`).
 #![tactic(auto)]
 
-mod answer;
 mod command;
 mod laws;
 mod leg_words;
@@ -17,7 +16,6 @@ mod read;
 mod words;
 mod write;
 
-pub use answer::{Answer, Refusal};
 pub use command::Command;
 pub use laws::written_sweeps_read_back;
 pub use line_fault::{LineFault, MAX_LINE, Word};

@@ -1,11 +1,11 @@
 //! What a line is answered.
 
 ghost use Rattle.std.specs.Prelude.{Some};
-ghost use Rattle.sweep_text.specs.Answer.{answer_text};
+ghost use Rattle.desk_answers.specs.Answer.{answer_text};
 
-use crate::line_fault::LineFault;
 use desk_words::VenueName;
 use std::fmt;
+use sweep_text::LineFault;
 
 /// Why a sweep isn't placed. Where a venue is to blame it is named.
 #[derive(Debug, PartialEq, Eq, Drop)]
@@ -47,7 +47,7 @@ pub enum Answer {
 }
 
 impl fmt::Display for Refusal {
-    ghost use Rattle.sweep_text.specs.Answer.{refusal_text};
+    ghost use Rattle.desk_answers.specs.Answer.{refusal_text};
 
     ghost output = { λ refusal. Some (refusal_text refusal) };
 

@@ -1,9 +1,9 @@
 -- What a line is answered.
 use Rattle.std.specs.Prelude.{ℕ, List, ◌++◌, codes, decimal}
-use Rattle.sweep_text.specs.declared.answer.Answer.{Answer}
-use Rattle.sweep_text.specs.declared.answer.Answer.TheVariants.{Placed, Again, Refused, Closing, BadLine}
-use Rattle.sweep_text.specs.declared.answer.Refusal.{Refusal}
-use Rattle.sweep_text.specs.declared.answer.Refusal.TheVariants.{NoLegs, TooManyLegs, UnknownVenue, GateDown, BacklogFull, SweepsSpent, OutOfMemory, WrongBook, OtherLegs, NoReference}
+use Rattle.desk_answers.specs.declared.answer.Answer.{Answer}
+use Rattle.desk_answers.specs.declared.answer.Answer.TheVariants.{Placed, Again, Refused, Closing, BadLine}
+use Rattle.desk_answers.specs.declared.answer.Refusal.{Refusal}
+use Rattle.desk_answers.specs.declared.answer.Refusal.TheVariants.{NoLegs, TooManyLegs, UnknownVenue, GateDown, BacklogFull, SweepsSpent, OutOfMemory, WrongBook, OtherLegs, NoReference}
 use Rattle.sweep_text.specs.Fault.{fault_text}
 
 -- why a sweep isn't placed, as `R04 ARCA: its gate is down`
