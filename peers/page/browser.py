@@ -23,6 +23,15 @@ def program():
     return next(filter(None, map(shutil.which, NAMES)), None)
 
 
+def is_installed():
+    """Whether a browser is there, or could be installed."""
+    if not program():
+        command = "apt-get update && apt-get install -y --no-install-recommends chromium"
+        environment = {**os.environ, "DEBIAN_FRONTEND": "noninteractive"}
+        subprocess.run(["bash", "-c", command], capture_output=True, env=environment)
+    return program() is not None
+
+
 class Failed(Exception):
     """What the browser refused, or what didn't come to be in time."""
 

@@ -2,7 +2,7 @@
 stand-in; against another desk they are skipped."""
 
 import json
-import subprocess
+import re
 import threading
 import time
 import urllib.request
@@ -12,6 +12,8 @@ import mock
 from browser import WITHIN, Failed, Page
 
 PARTS = ("filled", "busted", "cancelled", "withdrawn", "open")
+SCREENS = ((390, 844), (1024, 768), (1440, 900))
+WINDOW = 200
 HOSTILE = "<img src=x onerror='document.title=1'><b>bold</b>"
 
 
@@ -20,13 +22,15 @@ class Skipped(Exception):
 
 
 class Trial:
-    """A page in a browser, the desk behind it, and the stand-in's day where it is that."""
+    """A page in a browser, and the desk behind it: a stand-in with its day, a desk that can be stopped and started again,
+    or one of which nothing more is known than where it is."""
 
-    def __init__(self, browser, base, day=None, drop=None):
+    def __init__(self, browser, base, day=None, desk=None):
         self.browser = browser
         self.base = base
         self.day = day
-        self.drop = drop
+        self.desk = desk
+        self.ended = None
         self.page = self.open(f"{base}/")
 
     def open(self, url, **more):
@@ -43,6 +47,18 @@ class Trial:
             raise Skipped("it needs the stand-in")
         return self.day
 
+    def sweeps(self, after=0):
+        """The sweeps behind a number, which the desk tells in pages."""
+        found = []
+        while more := self.ask(f"/api/sweeps?after={found[-1]['sweep'] if found else after}&most={WINDOW}")["sweeps"]:
+            found += more
+        return found
+
+    def newest(self):
+        """The newest sweeps, as many as a page shows at first."""
+        sweeps = self.sweeps()
+        return sweeps[-WINDOW:]
+
     def venue_that_is(self, is_up):
         names = [venue["venue"] for venue in self.ask("/api/venues")["venues"] if (venue["state"] == "up") == is_up]
         if not names:
@@ -53,6 +69,13 @@ class Trial:
 def expect(found, wanted, what):
     if found != wanted:
         raise Failed(f"{what}: {found!r}, and not {wanted!r}")
+
+
+def phase_of(venue):
+    """The word for how a venue stands on a day that isn't closing, by docs/page.md."""
+    if venue["state"] != "dialled":
+        return venue["state"]
+    return "settling" if venue["received"] else "logging on" if venue["connections"] else "dialling"
 
 
 def row(page, number):
@@ -73,11 +96,25 @@ def rounded(price):
 
 
 def price_of(said):
-    """The words behind the parts of a sweep or a leg: its average price, and which shares have none or are disputed."""
-    words = [rounded(said["average"])] if said["average"] else []
-    words += [f"{said['price_unknown']:,} at an unknown price"] if said["price_unknown"] else []
+    """The words behind the parts of a sweep or a leg: its average price, what was paid to the cent, and which shares have
+    no price or are disputed."""
+    words = [f"{said['price_unknown']:,} at an unknown price"] if said["price_unknown"] else []
     words += [f"{said['disputed']:,} disputed"] if said["disputed"] else []
-    return ", ".join(words) or "–"
+    if not said["average"]:
+        return ["–", "", ", ".join(words)]
+    cents = (Decimal(said["paid_e8"]) / 10**8).quantize(Decimal("0.01"), ROUND_HALF_UP)
+    return [rounded(said["average"]), f"${cents:,}", ", ".join(words)]
+
+
+def order_of(legs):
+    """What a sweep of these legs trades."""
+    symbols = {leg["symbol"] for leg in legs}
+    sides = " and ".join(sorted({leg["side"] for leg in legs}))
+    return f"{sides} {legs[0]['symbol']}" if len(symbols) == 1 else f"{len(symbols)} symbols"
+
+
+def parts_of(leg):
+    return f"{leg['shares']:,} shares: " + ", ".join(f"{leg[part]:,} {part}" for part in PARTS if leg[part])
 
 
 def fill_leg(page, at, venue, side, shares, symbol, price):
@@ -98,6 +135,15 @@ def text(page, selector):
     return page.run(f"document.querySelector({json.dumps(selector)}).textContent")
 
 
+def texts(page, selector):
+    return page.run(f"[...document.querySelectorAll({json.dumps(selector)})].map(one => one.textContent)")
+
+
+def rows(page):
+    """The numbers of the sweeps that the table has."""
+    return page.run("[...document.querySelectorAll('#table tbody')].map(body => Number(body.id.slice(6)))")
+
+
 def settled(compare):
     """A comparison that holds once the page has heard what the desk says; a desk may go on meanwhile."""
     end = time.monotonic() + WITHIN
@@ -110,30 +156,166 @@ def settled(compare):
 
 
 def shows_the_sweeps(trial):
-    """Each sweep, newest first, has the shares and parts that the desk says, and a bar of them."""
+    """Each of the newest sweeps, the newest first, has the shares and parts that the desk says, and a bar of them."""
     settled(lambda: compare_sweeps(trial))
-    numbers = trial.page.run("[...document.querySelectorAll('tbody')].map(body => Number(body.id.slice(6)))")
+    numbers = rows(trial.page)
     expect(numbers, sorted(numbers, reverse=True), "newest first")
 
 
 def compare_sweeps(trial):
-    said = trial.ask("/api/sweeps?after=0&most=100")
-    expect(len(said["sweeps"]) > 0, True, "the desk has sweeps")
-    for sweep in said["sweeps"]:
+    sweeps, said = trial.newest(), trial.ask("/api/sweeps?after=0&most=1")
+    expect(len(sweeps) > 0, True, "the desk has sweeps")
+    for sweep in sweeps[-20:]:
         expect(row(trial.page, sweep["sweep"]), sweep_of(sweep), f"sweep {sweep['sweep']}")
         widths = trial.page.run(f"""[...document.querySelectorAll('#sweep-{sweep["sweep"]} tr:first-child .bar span')]
             .map(part => part.getBoundingClientRect().width > 0)""")
         expect(widths, [sweep[part] > 0 for part in PARTS], f"the bar of sweep {sweep['sweep']}")
-        price = trial.page.run(f"[...document.querySelector('#sweep-{sweep['sweep']} tr').cells].at(-1).textContent")
-        expect(price, price_of(sweep), f"the price of sweep {sweep['sweep']}")
+        cell = f"[...document.querySelector('#sweep-{sweep['sweep']} tr').cells].at(-1)"
+        price = trial.page.run(f"[...{cell}.children].map(part => part.textContent)")
+        expect(price, price_of(sweep), f"the price and dollars of sweep {sweep['sweep']}")
     for part in ("placed", "resolved", "open"):
         expect(text(trial.page, f"#sum-{part}"), f"{said['day'][part]:,}", part)
+    total = sweeps[-1]["sweep"]
+    count = f"The {WINDOW} newest of {total:,} sweeps" if total > WINDOW else f"All {total:,} sweep{'s'[:total > 1]} of the day"
+    expect(text(trial.page, "#sweeps-note"), count, "what the table has")
+
+
+def says_what_a_sweep_trades(trial):
+    """A sweep in view has its symbol and side, or how many symbols it has; and when it came, if the page was open."""
+    trial.page.run("document.querySelector('#sweeps').scrollIntoView()")
+    settled(lambda: compare_orders(trial))
+    number = trial.newest()[-1]["sweep"] + 1
+    if trial.day:
+        trial.day.place([mock.leg("NYSE", "GE", "sell", 30, "168.3")])
+    elif trial.desk:
+        trial.desk.place("sweep NYSE GE sell 30 168.3")
+    else:
+        return
+    trial.page.until(f"document.querySelector('#sweep-{number}') !== null", "the new sweep is shown")
+    came = text(trial.page, f"#sweep-{number} .came")
+    expect(re.fullmatch(r"\d\d:\d\d:\d\d UTC", came) is not None, True, f"when it came, {came!r}")
+    expect(texts(trial.page, f"#sweep-{number - 1} .came"), [""], "of one before the page nobody says when it came")
+
+
+def compare_orders(trial):
+    for sweep in trial.newest()[-4:]:
+        number = sweep["sweep"]
+        wanted = order_of(trial.ask(f"/api/sweeps/{number}")["legs"])
+        expect(texts(trial.page, f"#sweep-{number} .order"), [wanted], f"what sweep {number} trades")
+
+
+def finds_a_sweep(trial):
+    """The desk is asked for a number and a reference, also of a sweep that isn't loaded; a symbol is looked for in the
+    sweeps that are loaded, and the page says so."""
+    page, total = trial.page, len(trial.sweeps())
+    look_for(page, "1")
+    page.until("document.querySelector('#find-note').textContent.startsWith('Sweep 1 is there.')", "sweep 1")
+    expect(1 in rows(page), True, "it is shown")
+    look_for(page, "999999")
+    page.until("document.querySelector('#find-note').textContent.startsWith('The desk has no sweep 999,999.')", "no sweep")
+    expect(rows(page), [], "nothing is shown")
+    if trial.desk:
+        look_for(page, "R-2")
+        page.until("document.querySelector('#find-note').textContent.endsWith('is that of sweep 2.')", "a reference")
+        expect(rows(page), [2], "its sweep is shown")
+        expect(text(page, "#sweeps-note"), "1 sweep found", "how many were found")
+    look_for(page, "ibm")
+    where = f"the {WINDOW} newest of {total:,} sweeps" if total > WINDOW else f"all {total:,} sweeps of the day"
+    note = f"The desk has no reference ibm. The symbol is looked for in {where}; no others are looked at."
+    page.until(f"document.querySelector('#find-note').textContent === {json.dumps(note)}", "where the symbol is looked for")
+    wanted = [sweep["sweep"] for sweep in trial.newest()
+              if any(leg["symbol"] == "IBM" for leg in trial.ask(f"/api/sweeps/{sweep['sweep']}")["legs"])]
+    expect(rows(page), wanted[::-1], "the sweeps with the symbol")
+    expect(text(page, "#sweeps-note"), f"{len(wanted)} sweep{'s'[:len(wanted) != 1]} found", "how many were found")
+    if total > WINDOW:
+        press(page, "#older")
+        where = f"in the {2 * WINDOW} newest" if total > 2 * WINDOW else f"in all {total:,}"
+        page.until(f"document.querySelector('#find-note').textContent.includes('{where}')", "older ones too")
+    look_for(page, "")
+    page.until(f"document.querySelectorAll('#table tbody').length >= {min(total, WINDOW)}", "all are shown again")
+
+
+def look_for(page, words):
+    page.run("(field => { field.focus(); field.value = '' })(document.querySelector('#find'))")
+    if words:
+        page.type(words)
+    page.key("Enter")
+
+
+def shows_what_is_open(trial):
+    """The sweeps with open shares are those of the whole day, and not those that are loaded; the count says so."""
+    if trial.desk:
+        return compare_open(trial, trial.page)
+    trial.stand_in()
+    day = mock.Day(["NYSE"])
+    for number in range(1, 1201):
+        day.place([mock.leg("NYSE", "IBM", "buy", 100, "1")])
+        if number % 170:
+            day.move(number, 1, "filled")
+    server = mock.Server(day)
+    stood_in, page = Trial(trial.browser, server.base, day), None
+    page = stood_in.page
+    compare_open(stood_in, page)
+    press(page, "#only-open")
+    page.until("document.querySelectorAll('#table tbody').length === 7", "the open ones again")
+    day.move(170, 1, "filled")
+    page.until("document.querySelectorAll('#table tbody').length === 6", "one that is filled leaves")
+    page.close()
+    server.shutdown()
+
+
+def compare_open(trial, page):
+    wanted = [sweep["sweep"] for sweep in trial.sweeps() if sweep["open"]]
+    expect(len(wanted) > 0, True, "some are open")
+    press(page, "#only-open")
+    note = f"{len(wanted)} sweep{'s'[:len(wanted) != 1]} with open shares, all of the day's"
+    page.until(f"document.querySelector('#sweeps-note').textContent === {json.dumps(note)}", "how many are open")
+    expect(rows(page), wanted[::-1], "they are shown")
+    press(page, "#only-open")
+    page.until(f"document.querySelectorAll('#table tbody').length > {len(wanted)}", "all are shown again")
+
+
+def shows_executions(trial):
+    """The newest executions are listed, and all that the book didn't take, with an alarm at the top and in the title."""
+    page, server = trial.page, None
+    if trial.day:
+        server = mock.Server(mock.many())
+        trial = Trial(trial.browser, server.base, server.day)
+        page = trial.page
+    settled(lambda: compare_executions(trial, page))
+    if server:
+        server.day.execute("IEX", "S3L1", "fill", shares=1200, price="1.5", unbooked="overfill")
+        page.until("document.title.startsWith('2 unbooked')", "another one is told")
+        expect(text(page, "#unbooked li").startswith("! IEX S3L1 fill 1,200 at 1.5: overfill"), True, "it is first")
+        expect("IEX S3L1" in text(page, "#news"), True, "a screen reader says it")
+        page.close()
+        server.shutdown()
+
+
+def compare_executions(trial, page):
+    told = []
+    while more := trial.ask(f"/api/executions?after={len(told)}&most={WINDOW}")["executions"]:
+        told += more
+    unbooked = [said for said in told if "unbooked" in said]
+    shown = min(len(told), 100)
+    expect(text(page, "#executions-note"), f"The {shown:,} newest of {len(told):,}", "how many are listed")
+    listed = texts(page, "#executions li")
+    expect([f"#{said['execution']:,}" in line for said, line in zip(told[::-1], listed)], [True] * shown, "the newest first")
+    expect([f"#{said['execution']:,}" in line for said, line in zip(unbooked[::-1], texts(page, "#unbooked li"))],
+           [True] * len(unbooked), "all that the book didn't take")
+    if unbooked:
+        expect(text(page, "#unbooked-note"), f"All {len(unbooked)} of the day", "how many they are")
+        expect(text(page, "#alarm").startswith(f"{len(unbooked)} report"), True, "an alarm")
+        expect(page.run("document.querySelector('#alarm').getAttribute('role')"), "alert", "a screen reader says it")
+        expect(page.run("document.title").startswith(f"{len(unbooked)} unbooked"), True, "the tab's title says it")
+    else:
+        expect(page.run("document.querySelector('#alarm').hidden"), True, "no alarm")
 
 
 def opens_a_sweep(trial):
     """A sweep is opened and closed by the keyboard, and shows its legs."""
     page = trial.page
-    number = page.run("Number([...document.querySelectorAll('tbody')].at(-1).id.slice(6))")
+    number = rows(page)[-1]
     page.run(f"document.querySelector('#sweep-{number} button').focus()")
     page.key("Enter")
     legs = f"document.querySelectorAll('#sweep-{number} tr.leg').length"
@@ -154,15 +336,17 @@ def compare_legs(trial, number):
     for at, leg in enumerate(trial.ask(f"/api/sweeps/{number}")["legs"], 2):
         leg_row = f"document.querySelector('#sweep-{number} tr:nth-child({at})')"
         cells = trial.page.run(f"[...{leg_row}.cells].map(cell => cell.textContent)")
-        head = f"{leg['venue']} {leg['side']} {leg['symbol']} at {leg['price']}{leg['leg']}, {leg['state']}"
-        expect(cells, [head, f"{leg['shares']:,}", "", *(f"{leg[part]:,}" for part in PARTS), price_of(leg)], leg["leg"])
+        words = f"{leg['venue']} {leg['side']} {leg['symbol']} at {leg['price']}"
+        head = f"{words}{leg['leg']}, {leg['state']}{parts_of(leg)}"
+        parts = [f"{leg[part]:,}" for part in PARTS]
+        expect(cells, [head, f"{leg['shares']:,}", "", *parts, "".join(price_of(leg))], leg["leg"])
 
 
 def shows_the_venues(trial):
     """Each venue has its name, its state in a word, and a lamp of that state's shape."""
     if trial.day:
         mock.troubles(trial.day)
-        trial.page.until("document.title.startsWith('3 of 5 not up')", "it shows the states")
+        trial.page.until("document.title.includes('3 of 5 not up')", "it shows the states")
     shapes = settled(lambda: compare_venues(trial))
     expect(len(set(shapes.values())), len(shapes), "shapes differ between states")
     if trial.day:
@@ -175,11 +359,11 @@ def compare_venues(trial):
     """The shape of each state that is shown; each venue is shown as the desk says."""
     shapes = {}
     for venue in trial.ask("/api/venues")["venues"]:
-        card = f"[data-venue='{venue['venue']}']"
-        expect(text(trial.page, f"{card} h3"), venue["venue"], "its name")
-        expect(text(trial.page, f"{card} .state"), venue["state"], f"the state of {venue['venue']}")
+        card, phase = f"[data-venue='{venue['venue']}']", phase_of(venue)
+        expect(text(trial.page, f"{card} .name"), venue["venue"], "its name")
+        expect(text(trial.page, f"{card} .state"), phase, f"the state of {venue['venue']}")
         shape = trial.page.run(f"document.querySelector(\"{card} path\").getAttribute('d')")
-        expect(shapes.setdefault(venue["state"], shape), shape, f"the shape of {venue['state']}")
+        expect(shapes.setdefault(phase, shape), shape, f"the shape of {phase}")
         facts = trial.page.run(f"[...document.querySelectorAll(\"{card} dd\")].map(fact => fact.textContent)")
         counts = [venue.get("doubt"), sum(venue["unbooked"].values()), venue.get("unsent")]
         wanted = [*counts, None, venue.get("connections"), venue.get("refused_dials")]
@@ -187,6 +371,99 @@ def compare_venues(trial):
             if count is not None:
                 expect(found, f"{max(0, count - less):,}", f"a count of {venue['venue']}")
     return shapes
+
+
+def puts_trouble_first(trial):
+    """Sixteen venues are seen in one screen, those in trouble first, each with a word of its own; details come on demand."""
+    server = None
+    if trial.day:
+        server = mock.Server(mock.many())
+        trial = Trial(trial.browser, server.base, server.day)
+    elif trial.desk is None:
+        raise Skipped("it needs sixteen venues")
+    page = trial.page
+    shapes = settled(lambda: compare_venues(trial))
+    expect(len(set(shapes.values())), len(shapes), "shapes differ between states")
+    wanted = {"up", "down", "unreachable"}
+    wanted |= {"closed", "dialling", "logging on", "settling"} if server else set()
+    expect(wanted <= set(shapes), True, f"words for how they stand, {sorted(shapes)}")
+    page.run("document.activeElement.blur()")
+    page.until("!document.querySelector('#lamps').contains(document.activeElement)", "nothing of them has the focus")
+    settled(lambda: compare_order(page))
+    for width, height in SCREENS:
+        page.size(width, height)
+        page.run("document.querySelector('#venues').scrollIntoView()")
+        page.until(f"innerWidth === {width}", "the size")
+        boxes = page.run("[...document.querySelectorAll('.venue')].map(one => one.getBoundingClientRect().toJSON())")
+        expect(len(boxes), 16, "venues")
+        high = max(box["bottom"] for box in boxes) - min(box["top"] for box in boxes)
+        expect(high <= height, True, f"{high} pixels of venues at {width} by {height}")
+    page.size(1440, 900)
+    facts = "document.querySelector('.venue .facts').checkVisibility()"
+    expect(page.run(facts), False, "no details at first")
+    page.run("document.querySelector('.venue .chip').focus()")
+    page.key("Enter")
+    expect([page.run(facts), page.run("document.activeElement.ariaExpanded")], [True, "true"], "details on demand")
+    page.key("Enter")
+    expect(page.run(facts), False, "and they go again")
+    if server:
+        page.close()
+        server.shutdown()
+
+
+def compare_order(page):
+    states = page.run("[...document.querySelectorAll('.venue')].map(one => one.dataset.state)")
+    expect([state == "up" for state in states], sorted(state == "up" for state in states), "trouble is first")
+
+
+def fits_a_phone(trial):
+    """At a phone's width what is open is seen without scrolling sideways, and the page isn't many screens high."""
+    page = trial.page
+    page.size(390, 844)
+    page.until("innerWidth === 390", "the size")
+    for selector in ("#sum-open", "#table thead th:nth-child(8)", "#table tbody td:nth-child(8)"):
+        box = page.run(f"document.querySelector('{selector}').getBoundingClientRect().toJSON()")
+        expect(0 <= box["left"] < box["right"] <= 390, True, f"{selector} is seen")
+    expect(page.run("document.querySelector('#table thead th:nth-child(8)').textContent"), "Open", "the column")
+    high = page.run("document.documentElement.scrollHeight")
+    expect(high <= 5 * 844, True, f"{high} pixels high")
+    page.size(1440, 900)
+
+
+def greys_what_is_stale(trial):
+    """Where the desk doesn't answer, nothing that it said before looks live: lamps, bars and words are grey, and say so."""
+    page = trial.page
+    if not trial.day and not trial.desk:
+        raise Skipped("it needs a desk that can be stopped")
+    if trial.day:
+        trial.day.answers = trial.day.takes_streams = False
+        trial.day.cut_streams()
+    else:
+        trial.desk.stop()
+    try:
+        page.until("document.body.classList.contains('stale')", "it says that it is stale")
+        colours = page.run("[...new Set([...document.querySelectorAll('.venue, .venue .lamp, .venue .state')]"
+                           ".map(one => getComputedStyle(one).color))]")
+        off = page.run("(one => { one.className = 'off'; document.body.append(one); "
+                       "return getComputedStyle(one).color })(document.createElement('i'))")
+        page.run("document.body.lastChild.remove()")
+        expect(colours, [off], "the colours of lamps")
+        expect(page.run("getComputedStyle(document.querySelector('.bar .filled')).backgroundColor"), off, "of bars")
+        states = texts(page, ".venue .state")
+        expect([state.startswith("was ") for state in states], [True] * len(states), "how they stood")
+        expect(text(page, "#standing").startswith("No answer since"), True, "the top line")
+        expect(page.run("document.title.startsWith('No answer')"), True, "the tab's title")
+        for scheme in ("light", "dark"):
+            page.scheme(scheme)
+            expect(page.run(CONTRAST)[1], [], f"too little contrast, {scheme}")
+        page.scheme("light")
+    finally:
+        if trial.day:
+            trial.day.answers = trial.day.takes_streams = True
+        else:
+            trial.desk.go_on()
+    page.until("following && !document.body.classList.contains('stale')", "it is live again")
+    expect(page.run("document.querySelector('.venue[data-state=up] .state').textContent"), "up", "a venue that is up")
 
 
 def hands_in(trial):
@@ -263,17 +540,17 @@ def says_why_refused(trial):
 
 def turns_a_lamp(trial):
     """A venue that goes down turns its lamp: word, shape, colour and cause; and it is told."""
-    page, name = trial.page, trial.venue_that_is(True)
+    page, name = trial.page, trial.desk.dropped if trial.desk else trial.venue_that_is(True)
     card = f"[data-venue='{name}']"
     look = f"(card => [card.querySelector('path').getAttribute('d'), getComputedStyle(card).color])" \
            f"(document.querySelector(\"{card}\"))"
     before = page.run(look)
     if trial.day:
         trial.day.venue(name, state="down", code="E10", text="it was silent", doubt=3)
-    elif trial.drop:
-        subprocess.run(["sh", "-c", f"{trial.drop} {name}"], check=True)
+    elif trial.desk:
+        trial.desk.drop()
     else:
-        raise Skipped("it needs the stand-in, or --drop")
+        raise Skipped("it needs a desk that can be stopped")
     page.until(f"['down', 'unreachable', 'closed'].includes(document.querySelector(\"{card} .state\").textContent)",
                "its word says so", 3 * WITHIN)
     after = page.run(look)
@@ -289,7 +566,7 @@ def turns_a_lamp(trial):
 def keeps_text_text(trial):
     """What a venue says is shown as it is, and never becomes markup."""
     day, page = trial.stand_in(), trial.page
-    day.venue("BATS", state="down", code="E07", text="it logged out", said=HOSTILE)
+    day.venue("BATS", state="down", code="E07", text="it logged out", said=HOSTILE, lost=0)
     day.tell("refused", {"refused": "R04", "text": HOSTILE, "venue": "BATS"})
     why = "document.querySelector(\"[data-venue='BATS'] .why\").textContent"
     page.until(f"{why}.includes('<img')", "it is shown")
@@ -310,9 +587,11 @@ def says_when_it_lost_events(trial):
     page = trial.page
     if trial.day is None:
         page.offline(True)
-        page.until("document.querySelector('#standing').textContent.startsWith('Events lost')", "the loss is said")
-        page.offline(False)
-        page.until("following", "the page follows again")
+        try:
+            page.until("document.querySelector('#standing').textContent.startsWith('No answer since')", "the loss is said")
+        finally:
+            page.offline(False)
+        page.until("following && !document.body.classList.contains('stale')", "the page follows again")
         return
     day = trial.day
     try:
@@ -375,6 +654,8 @@ def finds_a_sweep_whose_answer_is_lost(trial):
 def begins_anew_with_another_run(trial):
     """Where the program is started again under an open page, the page shows the new run alone and says so, keeps what
     was typed, and says of the new run how it ended."""
+    if trial.desk:
+        return starts_again(trial)
     trial.stand_in()
     server = mock.Server(mock.morning())
     page = trial.open(f"{server.base}/")
@@ -393,6 +674,50 @@ def begins_anew_with_another_run(trial):
     day.close()
     page.until("document.querySelector('#banner').textContent.startsWith('The day is closed')", "its end is said")
     expect(page.run("document.querySelectorAll('tbody').length"), 1, "its sweep alone stands below")
+    server.day = mock.morning()
+    says_how_the_day_before_ended(page)
+    expect(len(rows(page)), 5, "the sweeps of the day behind it")
+    page.close()
+    server.shutdown()
+
+
+def starts_again(trial):
+    """The program is killed and started again under an open page: what is shown is grey until the new run answers, and
+    then of the new run alone."""
+    page, desk = trial.page, trial.desk
+    expect(len(rows(page)) > 2, True, "sweeps are shown")
+    fill_leg(page, 0, "NYSE", "buy", 7, "IBM", "187.5")
+    desk.kill()
+    page.until("document.body.classList.contains('stale')", "what is shown is stale")
+    expect("Live" in text(page, "#standing"), False, "nothing is live")
+    desk.start()
+    desk.place("sweep NYSE GE sell 30 168.3")
+    page.until("document.querySelector('#banner').textContent.startsWith('The program was started again')", "it says so")
+    page.until("following && document.querySelectorAll('#table tbody').length === 1", "it shows the new run's sweep alone")
+    settled(lambda: compare_sweeps(trial))
+    settled(lambda: compare_venues(trial))
+    settled(lambda: compare_executions(trial, page))
+    expect(page.run("document.querySelector('[name=shares]').value"), "7", "what was typed")
+    desk.place("sweep NSDQ GE sell 30 168.3", "sweep ARCA IBM buy 40 10.25")
+    settled(lambda: compare_sweeps(trial))
+
+
+def says_how_the_day_before_ended(page):
+    page.until("document.querySelector('#banner').textContent.startsWith('The program was started again')", "it says so")
+    expect(text(page, "#banner").endswith("The day before it was closed, and its audit found nothing wrong."), True,
+           "how the day before ended")
+    page.until("following && document.querySelector('#standing').textContent.startsWith('Live')", "the new run is live")
+
+
+def begins_anew_behind_a_closed_day(trial):
+    """A page that shows how a day ended begins anew with the next one on its address, and says how that day ended."""
+    if trial.desk is None:
+        raise Skipped("it needs a desk that can be started again")
+    trial.ended = trial.desk.ended()
+    trial.desk.start()
+    trial.desk.place("sweep NYSE GE sell 30 168.3")
+    says_how_the_day_before_ended(trial.page)
+    settled(lambda: compare_sweeps(trial))
 
 
 def asks_for_the_token(trial):
@@ -496,7 +821,7 @@ def has_names(trial):
     for role in ("table", "columnheader", "rowheader", "banner", "main", "region", "status"):
         expect(role in roles, True, f"a {role}")
     headings = page.run("[...document.querySelectorAll('main h2')].map(head => head.textContent)")
-    expect(headings, ["Venues", "Sweeps", "New sweep", "Refused"], "headings")
+    expect(headings, ["Venues", "Unbooked reports", "Sweeps", "New sweep", "Executions", "Refused"], "headings")
 
 
 CONTRAST = """(() => {
@@ -534,10 +859,13 @@ def can_be_read(trial):
         expect(count > 30, True, f"texts looked at, {scheme}")
         expect(low, [], f"too little contrast, {scheme}")
     page.scheme("light")
-    for width in (320, 768, 1280):
+    for width in (320, 390, 768, 1024, 1280, 1440):
         page.size(width, 900)
-        time.sleep(0.2)
+        page.until(f"innerWidth === {width}", "the size")
         expect(page.run("document.documentElement.scrollWidth <= innerWidth"), True, f"{width} wide")
+        box = "document.querySelector('.roll')"
+        if width >= 390:
+            expect(page.run(f"{box}.scrollWidth <= {box}.clientWidth"), True, f"the table, {width} wide")
     page.size(1440, 900)
 
 
@@ -580,8 +908,30 @@ def closes_the_day(trial):
 
 
 CHECKS = [
-    shows_the_sweeps, opens_a_sweep, shows_the_venues, hands_in, names_a_fault, says_why_refused, turns_a_lamp,
-    keeps_text_text, is_reached_by_tab, has_names, can_be_read, says_when_it_lost_events,
+    shows_the_sweeps, says_what_a_sweep_trades, finds_a_sweep, shows_what_is_open, shows_executions, opens_a_sweep,
+    shows_the_venues, puts_trouble_first, hands_in, names_a_fault, says_why_refused, turns_a_lamp, keeps_text_text,
+    is_reached_by_tab, has_names, can_be_read, fits_a_phone, says_when_it_lost_events, greys_what_is_stale,
     begins_anew_with_another_run, asks_for_the_token, reads_a_long_day, stays_at_home, says_when_an_answer_is_lost,
-    finds_a_sweep_whose_answer_is_lost, closes_the_day,
+    finds_a_sweep_whose_answer_is_lost, closes_the_day, begins_anew_behind_a_closed_day,
 ]
+
+
+def is_passed(check, trial):
+    """Makes a check, and says whether it didn't fail."""
+    name = check.__name__.replace("_", " ")
+    try:
+        check(trial)
+    except Skipped as why:
+        print(f"{name}: skipped, {why}", flush=True)
+    except Failed as fault:
+        print(f"{name}: FAILED, {fault}", flush=True)
+        return False
+    else:
+        print(f"{name}: ok", flush=True)
+    return True
+
+
+def try_all(trial, word=""):
+    """Makes the checks with a word in their names, and says whether there are some and none failed."""
+    results = [is_passed(check, trial) for check in CHECKS if word in check.__name__.replace("_", " ")]
+    return bool(results) and all(results)

@@ -20,8 +20,9 @@ PAGE = Path(__file__).resolve().parents[2] / "pages" / "desk.html"
 PARTS = ("filled", "busted", "cancelled", "withdrawn", "open")
 MOST_LEGS = 32
 MOST_STREAMS = 4
-MOST_AT_ONCE = 100
+MOST_AT_ONCE = 200
 E8 = 10**8
+KINDS = {"filled": "fill", "cancelled": "cancelled", "busted": "bust"}
 LEG_KEYS = ("venue", "symbol", "side", "shares", "price")
 
 
@@ -45,6 +46,7 @@ class Day:
         self.lock = threading.RLock()
         self.venues = {name: self.new_venue(name) for name in names}
         self.sweeps = []
+        self.executions = []
         self.placed = 0
         self.still_open = 0
         self.closing = False
@@ -141,7 +143,22 @@ class Day:
             leg["state"] = state
             self.venues[leg["venue"]]["received"] += 1
             self.venues[leg["venue"]]["heard"] = time.monotonic()
+            if part in KINDS:
+                fill = {"shares": shares, "price": leg["price"]} if part == "filled" else {}
+                bust = {"of": "E1"} if part == "busted" else {}
+                self.execute(leg["venue"], leg["leg"], KINDS[part], **fill, **bust)
             self.tell_sweep(number)
+
+    def execute(self, venue, leg, kind, **more):
+        """An exchange says something of an order. What the book doesn't take is counted at its venue."""
+        with self.lock:
+            number = len(self.executions) + 1
+            about = {"venue": venue, "sweep": int(leg[1:].split("L")[0]), "leg": leg}
+            said = {"execution": number, **about, "kind": kind, "exec": f"E{number}", **more}
+            self.executions.append(said)
+            if "unbooked" in more:
+                self.venues[venue]["unbooked"][more["unbooked"]] += 1
+            self.tell("execution", said, number)
 
     def totals(self, number):
         legs = self.sweeps[number - 1]
@@ -152,7 +169,9 @@ class Day:
     def dispute(self, number, at, shares):
         """A trade of so many shares of a leg is told that the book doesn't take."""
         with self.lock:
-            self.sweeps[number - 1][at - 1]["disputed"] += shares
+            leg = self.sweeps[number - 1][at - 1]
+            leg["disputed"] += shares
+            self.execute(leg["venue"], leg["leg"], "fill", shares=shares, price=leg["price"], unbooked="overfill")
             self.tell_sweep(number)
 
     def sums(self):
@@ -163,9 +182,10 @@ class Day:
         self.tell("sweep", self.totals(number))
         self.tell("day", self.sums())
 
-    def tell(self, name, said):
+    def tell(self, name, said, id=None):
+        head = f"id: {id}\n" if id else ""
         for stream in self.streams:
-            stream.put(f"event: {name}\ndata: {json.dumps(said)}\n\n")
+            stream.put(f"{head}event: {name}\ndata: {json.dumps(said)}\n\n")
 
     def cut_streams(self):
         with self.lock:
@@ -273,6 +293,8 @@ class Handler(BaseHTTPRequestHandler):
                 self.answer_legs(answer["placed"])
             else:
                 self.answer_sweeps({key: int(values[0]) for key, values in asked.items()})
+        elif place.path == "/api/executions":
+            self.answer_executions({key: int(values[0]) for key, values in parse_qs(place.query).items()})
         elif found := re.fullmatch(r"/api/sweeps/(\d+)", place.path):
             self.answer_legs(int(found[1]))
         else:
@@ -285,6 +307,12 @@ class Handler(BaseHTTPRequestHandler):
             numbers = range(after + 1, min(after + most, len(day.sweeps)) + 1)
             sweeps = [day.totals(number) for number in numbers]
             self.answer(200, {"sweeps": sweeps, "day": day.sums(), "closing": day.closing})
+
+    def answer_executions(self, asked):
+        day = self.server.day
+        after, most = asked.get("after", 0), min(asked.get("most", MOST_AT_ONCE), MOST_AT_ONCE)
+        with day.lock:
+            self.answer(200, {"executions": day.executions[after : after + most], "last": len(day.executions)})
 
     def answer_legs(self, number):
         day = self.server.day
@@ -412,6 +440,21 @@ def troubles(day):
               heard=time.monotonic() - 190)
     day.venue("NSDQ", connections=2)
     day.venue("EDGX", state="closed", code="E07", text="it logged out", said="back at noon")
+
+
+def many():
+    """A day of sixteen venues, some of which are in trouble of each kind."""
+    day = Day([*morning().venues, "EDGA", "BATY", "BX", "PHLX", "IEX", "MEMX", "MIAX", "LTSE", "CHX", "AMEX", "NSX"])
+    for number in range(1, 41):
+        day.place([leg("NYSE", "IBM" if number % 2 else "KO", "buy", 100 * number, "187.5")])
+        day.move(number, 1, "filled", 60 * number)
+        day.move(number, 1, "cancelled", 30 * number if number % 3 else None)
+    troubles(day)
+    day.venue("IEX", state="dialled", connections=0, sent=0, received=0)
+    day.venue("LTSE", state="dialled", connections=1, sent=1, received=0)
+    day.venue("PHLX", state="dialled", connections=1, sent=2, received=1, heard=time.monotonic() - 12)
+    day.execute("MEMX", "S7L1", "fill", shares=200, price="187.5", order="O7", text="late report", unbooked="stray")
+    return day
 
 
 def go_on(day):

@@ -5,7 +5,7 @@ pub const PAGE: &str = r###"<!doctype html>
 <html lang="en">
 <head>
 <meta charset="utf-8">
-<meta http-equiv="Content-Security-Policy" content="default-src 'none'; script-src 'sha256-Rh2cZLANyR4dWriUm8/ysELc+NYSPGYBIclxMq49Fsc='; style-src 'sha256-YZSIKH6yJWE1TJiqAl/uWIG5QHVgjG9MX/tOSwLKO1Y='; connect-src 'self'; base-uri 'none'; form-action 'none'; require-trusted-types-for 'script'; trusted-types 'none'">
+<meta http-equiv="Content-Security-Policy" content="default-src 'none'; script-src 'sha256-mPQeMZJ+wEUNDOzZUT0/y8R0ZbnJ5ng6LlQxOQXxLaI='; style-src 'sha256-uQ55fLEHN5J+GFdgt6Hn72WE7VsLOfqqNj5s59zfEG0='; connect-src 'self'; base-uri 'none'; form-action 'none'; require-trusted-types-for 'script'; trusted-types 'none'">
 <meta name="viewport" content="width=device-width, initial-scale=1">
 <meta name="referrer" content="no-referrer">
 <meta name="color-scheme" content="light dark">
@@ -36,9 +36,10 @@ html {
 body { margin: 0; background: var(--page); color: var(--ink); font-variant-numeric: tabular-nums; }
 h1, h2, h3, p, dl, dd, ul, ol { margin: 0; padding: 0; }
 ul, ol { list-style: none; }
-h1 { font-size: 1.35rem; }
+h1 { font-size: 1.35rem; line-height: 1.15; }
+h1 small { display: block; font-size: .8rem; font-weight: 400; color: var(--soft); }
 h2 { font-size: 1.15rem; }
-h3 { font-size: 1.15rem; }
+h3 { font-size: 1rem; }
 :focus-visible { outline: 3px solid var(--link); outline-offset: 2px; border-radius: 4px; }
 .unseen { position: absolute; width: 1px; height: 1px; overflow: hidden; clip-path: inset(50%); white-space: nowrap; }
 .skip {
@@ -65,22 +66,28 @@ input[type=checkbox] {
 [aria-invalid=true] { border: 2px solid var(--bad); }
 
 header { position: sticky; top: 0; z-index: 2; background: var(--card); border-bottom: 1px solid var(--line); }
-.line { display: flex; flex-wrap: wrap; align-items: center; gap: .5rem 1.75rem; padding: .6rem 1.25rem; }
-#standing { display: flex; align-items: center; gap: .5rem; font-weight: 600; flex: 1 1 16rem; }
+.line { display: flex; flex-wrap: wrap; align-items: center; gap: .5rem 1.5rem; padding: .6rem 1.25rem; }
+#standing { display: flex; align-items: center; gap: .5rem; font-weight: 600; flex: 1 1 12rem; }
 #sums { display: flex; flex-wrap: wrap; gap: .2rem 1.75rem; }
 #sums div { text-align: right; }
 #sums dt { color: var(--soft); font-size: .85rem; }
 #sums dd { font-size: 1.35rem; font-weight: 650; line-height: 1.15; }
-#banner { display: flex; gap: .7rem; align-items: center; padding: .7rem 1.25rem; font-weight: 600; }
+#banner, #alarm { display: flex; gap: .7rem; align-items: center; padding: .7rem 1.25rem; font-weight: 600; }
+#alarm a { color: inherit; }
 
 .lamp { width: 1.45rem; height: 1.45rem; flex: none; fill: currentColor; fill-rule: evenodd; }
 .small { width: 1.05rem; height: 1.05rem; }
 .good { color: var(--good); } .bad { color: var(--bad); } .warn { color: var(--warn); }
 .calm { color: var(--calm); } .off { color: var(--off); }
 .wash.good { background: var(--good-wash); } .wash.bad { background: var(--bad-wash); }
-.wash.warn {
-  background: var(--warn-wash); } .wash.calm { background: var(--calm-wash);
-  } .wash.off { background: var(--off-wash);
+.wash.warn { background: var(--warn-wash); } .wash.calm { background: var(--calm-wash); }
+.wash.off { background: var(--off-wash); }
+
+/* What isn't heard any more has no colour of its own, so that nothing old looks live. */
+.stale .heard {
+  --ink: var(--soft); --good: var(--off); --bad: var(--off); --warn: var(--off); --calm: var(--off);
+  --filled: var(--off); --busted: var(--off); --cancelled: var(--off); --withdrawn: var(--off); --open: var(--off);
+  color: var(--ink);
 }
 
 main { display: grid; gap: 1.25rem; padding: 1.25rem; max-width: 120rem; margin: 0 auto; }
@@ -92,38 +99,52 @@ section { min-width: 0; }
 }
 .note { color: var(--soft); font-size: .9rem; }
 
-#lamps { display: grid; grid-template-columns: repeat(auto-fill, minmax(15.25rem, 1fr)); gap: .8rem; }
-.venue { padding: .75rem .9rem .8rem; border-top: 5px solid currentColor; }
-.venue > * { color: var(--ink); }
-.venue .head { display: flex; align-items: center; gap: .6rem; color: inherit; }
-.venue h3 { color: var(--ink); overflow-wrap: anywhere; }
-.venue .state { margin-left: auto; font-weight: 700; }
-.venue .note { color: var(--soft); margin-top: .4rem; }
-.venue .why { min-height: 1.45em; margin: .25rem 0 .4rem; overflow-wrap: anywhere; }
-.facts { display: grid; grid-template-columns: repeat(3, auto); justify-content: space-between; gap: .35rem .5rem; }
+#lamps { display: grid; grid-template-columns: repeat(auto-fill, minmax(9.75rem, 1fr)); gap: .5rem; }
+.venue { padding: 0; border-left: 5px solid currentColor; overflow: hidden; }
+.venue.opened { grid-column: 1 / -1; }
+.chip {
+  display: flex; flex-wrap: wrap; gap: 0 .4rem; align-items: center; align-content: start; width: 100%; height: 100%;
+  padding: .4rem .45rem; border: 0; border-radius: 0; background: none; color: inherit; text-align: left;
+}
+.chip:focus-visible { outline-offset: -3px; }
+.chip .name { color: var(--ink); overflow-wrap: anywhere; }
+.chip .lamp { width: 1.2rem; height: 1.2rem; }
+.chip .state { font-size: .85rem; margin-left: auto; }
+.chip .why {
+  flex: 0 0 100%; font-size: .85rem; font-weight: 400; color: var(--ink); white-space: nowrap; overflow: hidden;
+  text-overflow: ellipsis;
+}
+.opened .why { white-space: normal; overflow-wrap: anywhere; }
+.more { padding: 0 .7rem .6rem; color: var(--ink); }
+.facts { display: flex; flex-wrap: wrap; gap: .35rem 1.5rem; }
 .facts dt { color: var(--soft); white-space: nowrap; font-size: .8rem; line-height: 1.2; }
 .facts dd { font-weight: 600; white-space: nowrap; }
 .facts .heed { color: var(--warn); }
 .facts .heed::before { content: "! "; }
 .facts .alarm { color: var(--bad); }
 
-.roll { overflow-x: auto; }
+.roll { position: relative; overflow: auto; max-height: min(42rem, 75vh); scroll-padding: 3.5rem 0 .5rem; }
 table { border-collapse: collapse; width: 100%; }
 th, td { padding: .32rem .4rem; text-align: right; white-space: nowrap; }
 thead th {
-  color: var(--soft); font-size: .85rem; font-weight: 600; border-bottom: 2px solid var(--line);
-  vertical-align: bottom; white-space: normal;
+  position: sticky; top: 0; z-index: 1; background: var(--card); box-shadow: inset 0 -2px var(--line);
+  color: var(--soft); font-size: .85rem; font-weight: 600; vertical-align: bottom; white-space: normal;
 }
 tbody th { font-weight: 600; }
 thead th:first-child, tbody th { text-align: left; }
 tbody + tbody { border-top: 1px solid var(--line); }
 td.bar-cell, th.bar-cell { width: 40%; min-width: 6rem; text-align: left; }
-td:last-child { white-space: normal; }
+td.price { white-space: normal; }
 td.none { color: var(--soft); font-weight: 400; }
 td { font-weight: 600; }
-.whole { color: var(--soft); font-weight: 400; }
 tr.leg th { padding-left: 1.4rem; font-weight: 500; line-height: 1.25; }
-tr.leg small { color: var(--soft); font-size: .85rem; display: block; }
+tbody small { font-size: .85rem; font-weight: 400; }
+tbody small:not(.bad) { color: var(--soft); }
+tbody .bad { font-weight: 600; }
+td small, tr.leg small, .came { display: block; }
+.came { padding-left: 1.7rem; }
+td small:empty, .came:empty { display: none; }
+tr.leg .parts { display: none; }
 tr.leg { background: var(--off-wash); }
 button.opens {
   min-height: 2rem; padding: 0 .7rem 0 .4rem; border-color: transparent; background: none; color: var(--link);
@@ -163,9 +184,17 @@ legend { font-weight: 600; padding: 0 .3rem; }
 .remove { position: absolute; right: .8rem; top: -1.6rem; min-height: 1.7rem; padding: 0 .6rem; font-size: .85rem; }
 .plain { min-height: 2rem; font-size: .9rem; margin-top: .55rem; }
 #answer { padding: .6rem .8rem; border-radius: 8px; margin-top: .8rem; font-weight: 600; overflow-wrap: anywhere; }
-#refusals li { padding: .35rem 0; border-top: 1px solid var(--line); overflow-wrap: anywhere; }
-#refusals li:first-child { border-top: 0; }
-#refusals .mark { color: var(--bad); font-weight: 700; }
+.list { position: relative; overflow: auto; max-height: 22rem; }
+.list li { padding: .35rem 0; border-top: 1px solid var(--line); overflow-wrap: anywhere; }
+.list li:first-child { border-top: 0; }
+.list .note { display: block; }
+.mark { color: var(--bad); font-weight: 700; }
+#unbooked { border: 2px solid var(--bad); }
+#unbooked .list { max-height: 9.5rem; }
+#unbooked li { font-weight: 600; }
+#unbooked .note { font-weight: 400; }
+.tools { display: flex; flex-wrap: wrap; align-items: center; gap: .5rem 1.5rem; margin-bottom: .5rem; }
+#find { min-height: 2.2rem; width: 15rem; }
 
 dialog {
   background: var(--card); color: var(--ink); border: 2px solid var(--field); border-radius: 12px;
@@ -182,18 +211,39 @@ dialog input { width: 100%; display: block; margin-top: .3rem; }
 
 @media (min-width: 88rem) {
   main { grid-template-columns: minmax(0, 1fr) 21.5rem; }
-  #venues { grid-column: 1 / -1; }
+  #venues, #unbooked { grid-column: 1 / -1; }
+}
+@media (min-width: 48rem) and (max-width: 87.99rem) {
+  .rail { grid-template-columns: minmax(0, 1fr) minmax(0, 1fr); }
+  #hand-in { grid-row: span 2; }
+}
+@media (max-width: 56rem) {
+  .spare { display: none; }
+  tr.leg .parts { display: block; }
 }
 @media (max-width: 40rem) {
   header { position: static; }
   .line { padding: .6rem .75rem; }
   main { padding: .75rem; }
   html { scroll-padding: 1rem 0; }
+  .card { padding: .7rem .6rem; }
+  .venue { padding: 0; }
+  h1 { order: -2; }
+  #close { order: -1; margin-left: auto; }
+  #sums { justify-content: space-between; width: 100%; }
+  #sums dd { font-size: 1.1rem; }
   .bar-cell { display: none; }
+  table { font-size: .95rem; }
+  th, td { padding: .32rem .2rem; }
+  tbody th { white-space: normal; overflow-wrap: anywhere; }
+  tr.leg th { padding-left: .6rem; }
+  button.opens { white-space: nowrap; padding: 0; }
+  .order { display: inline-block; }
+  .came { padding-left: 1.2rem; }
 }
 @media (forced-colors: active) {
   .lamp, .bar span, .swatch { forced-color-adjust: none; }
-  .venue { border-top-color: CanvasText; }
+  .venue { border-left-color: CanvasText; }
 }
 </style>
 </head>
@@ -204,45 +254,53 @@ dialog input { width: 100%; display: block; margin-top: .3rem; }
 
 <header>
   <div class="line">
-    <h1>Desk</h1>
+    <h1>Desk <small id="place"></small></h1>
     <p id="standing" role="status"></p>
-    <dl id="sums" aria-label="The day's shares">
-      <div><dt>Placed</dt><dd id="sum-placed">–</dd></div>
+    <dl id="sums" class="heard" aria-label="Shares of all the day's sweeps">
+      <div><dt>Shares placed</dt><dd id="sum-placed">–</dd></div>
       <div><dt>Resolved</dt><dd id="sum-resolved">–</dd></div>
       <div><dt>Open</dt><dd id="sum-open">–</dd></div>
     </dl>
     <button id="close" type="button">Close the day…</button>
   </div>
   <div id="banner" role="alert" hidden></div>
+  <p id="alarm" class="wash bad" role="alert" hidden></p>
 </header>
 <p id="news" class="unseen" role="log" aria-label="News"></p>
 <noscript><p>This page needs its script: it reads the day from the desk that serves it.</p></noscript>
 
 <main>
-  <section id="venues" aria-labelledby="venues-title" tabindex="-1">
+  <section id="venues" class="heard" aria-labelledby="venues-title" tabindex="-1">
     <div class="top"><h2 id="venues-title">Venues</h2><p id="venues-note" class="note"></p></div>
     <ul id="lamps"></ul>
   </section>
 
+  <section id="unbooked" class="card heard" aria-labelledby="unbooked-title" tabindex="-1" hidden>
+    <div class="top"><h2 id="unbooked-title">Unbooked reports</h2><p id="unbooked-note" class="note"></p></div>
+    <p class="note">An exchange said this, and the desk's book didn't take it. Ask the exchange about each.</p>
+    <div class="list" role="region" aria-labelledby="unbooked-title" tabindex="0"><ol></ol></div>
+  </section>
+
   <section id="sweeps" class="card" aria-labelledby="sweeps-title" tabindex="-1">
-    <div class="top">
-      <h2 id="sweeps-title">Sweeps</h2>
-      <p id="sweeps-note" class="note"></p>
-      <label><input id="only-open" type="checkbox"> Only those with open shares</label>
-    </div>
-    <div class="roll" role="region" aria-labelledby="sweeps-title" tabindex="0">
+    <div class="top"><h2 id="sweeps-title">Sweeps</h2><p id="sweeps-note" class="note"></p></div>
+    <form id="finder" class="tools" role="search" autocomplete="off">
+      <label>Find <input id="find" type="search" spellcheck="false" placeholder="number, reference, symbol"></label>
+      <label><input id="only-open" type="checkbox"> Only sweeps with open shares</label>
+      <p id="find-note" class="note" role="status"></p>
+    </form>
+    <div class="roll heard" role="region" aria-labelledby="sweeps-title" tabindex="0">
       <table id="table">
         <thead>
           <tr>
             <th scope="col">Sweep</th>
-            <th scope="col">Shares</th>
+            <th scope="col" class="spare">Shares</th>
             <th scope="col" class="bar-cell">Where they are</th>
             <th scope="col"><span class="swatch filled"></span>Filled</th>
-            <th scope="col"><span class="swatch busted"></span>Busted</th>
-            <th scope="col"><span class="swatch cancelled"></span>Cancelled</th>
-            <th scope="col"><span class="swatch withdrawn"></span>Withdrawn</th>
+            <th scope="col" class="spare"><span class="swatch busted"></span>Busted</th>
+            <th scope="col" class="spare"><span class="swatch cancelled"></span>Cancelled</th>
+            <th scope="col" class="spare"><span class="swatch withdrawn"></span>Withdrawn</th>
             <th scope="col"><span class="swatch open"></span>Open</th>
-            <th scope="col">Average price</th>
+            <th scope="col">Average price, dollars</th>
           </tr>
         </thead>
       </table>
@@ -263,10 +321,15 @@ dialog input { width: 100%; display: block; margin-top: .3rem; }
       </form>
     </section>
 
+    <section class="card heard" aria-labelledby="executions-title">
+      <div class="top"><h2 id="executions-title">Executions</h2><p id="executions-note" class="note"></p></div>
+      <div class="list" role="region" aria-labelledby="executions-title" tabindex="0"><ol id="executions"></ol></div>
+    </section>
+
     <section class="card" aria-labelledby="refused-title">
       <div class="top"><h2 id="refused-title">Refused</h2><p class="note">since this page was opened</p></div>
       <p id="nothing-refused" class="note">Nothing.</p>
-      <ol id="refusals"></ol>
+      <div class="list" role="region" aria-labelledby="refused-title" tabindex="0"><ol id="refusals"></ol></div>
     </section>
   </div>
 </main>
@@ -302,7 +365,10 @@ if (window.top !== window.self) {
 }
 
 const WINDOW = 200;           // sweeps that are shown at first, and asked for at once
+const MOST_EXECUTIONS = 100;  // that are shown, and of those that the book didn't take too
 const LOOK_EVERY = 2000;      // ms between two readings of what no event tells
+const STALE_AFTER = 6000;     // ms without a word of the desk
+const FIND_AFTER = 300;       // ms behind the last key
 const DRAWN_WITHIN = 250;     // ms, where no frame comes before
 const ANSWER_WITHIN = 5000;   // ms
 const MOST_LEGS = 32;
@@ -316,7 +382,7 @@ const legsOf = new Map();     // of the sweeps that are opened, by number
 let closing = false;
 let audit = null;             // how the day's audit ended, once it is closed
 let run = null;               // which run of the program answers: its id
-let beganAnew = null;         // when another run was found to answer
+let beganAnew = null;         // when another run was found to answer, and how the day before it had ended
 
 // Each event has its place in time: what was asked for before an event and answered behind it is older than the event.
 let time = 0;
@@ -346,6 +412,12 @@ function digits(count) {
   return /^\d+$/.test(count ?? "") ? BigInt(count).toLocaleString("en-US") : "–";
 }
 
+// Dollars of hundred-millionths of one, to the cent.
+function money(e8) {
+  const cents = (BigInt(e8) + 500000n) / 1000000n;
+  return `${(cents / 100n).toLocaleString("en-US")}.${String(cents % 100n).padStart(2, "0")}`;
+}
+
 const PRICES = new Intl.NumberFormat("en-US", { minimumFractionDigits: 2, maximumFractionDigits: 4 });
 
 const counted = (count, word) => `${digits(count)} ${word}${count === 1 ? "" : "s"}`;
@@ -366,28 +438,32 @@ function tenThousandths(text) {
   return price >= 1n && price <= 9999999999n ? price : null;
 }
 
-function dollars(tenThousandths) {
-  const cents = (tenThousandths + 50n) / 100n;
-  return `$${(cents / 100n).toLocaleString("en-US")}.${String(cents % 100n).padStart(2, "0")}`;
-}
-
 // ---- Lamps: a shape, a colour and a word for each state.
 
+const DISC = "M12 1.5a10.5 10.5 0 1 0 0 21a10.5 10.5 0 1 0 0-21z";
 const SHAPES = {
-  disc: "M12 1.5a10.5 10.5 0 1 0 0 21a10.5 10.5 0 1 0 0-21z",
-  ring: "M12 1.5a10.5 10.5 0 1 0 0 21a10.5 10.5 0 1 0 0-21zM12 6a6 6 0 1 1 0 12a6 6 0 1 1 0-12z",
+  disc: DISC,
+  ring: `${DISC}M12 6a6 6 0 1 1 0 12a6 6 0 1 1 0-12z`,
   triangle: "M.5 3h23L12 23z",
   cross: "M5.5 2 12 8.5 18.5 2 22 5.5 15.5 12 22 18.5 18.5 22 12 15.5 5.5 22 2 18.5 8.5 12 2 5.5z",
   square: "M3 3h18v18H3z",
+  half: `${DISC}M12 5a7 7 0 1 1 0 14z`,
+  target: `${DISC}M12 5a7 7 0 1 1 0 14a7 7 0 1 1 0-14zM12 9a3 3 0 1 0 0 6a3 3 0 1 0 0-6z`,
+  diamond: "M12 0 24 12 12 24 0 12z",
 };
-const STATES = {
-  up: ["good", "disc"],
-  dialled: ["calm", "ring"],
+
+// In the order in which venues are shown.
+const PHASES = {
   down: ["bad", "triangle"],
   unreachable: ["warn", "cross"],
+  settling: ["warn", "target"],
+  "logging on": ["warn", "half"],
+  dialling: ["calm", "ring"],
+  closing: ["off", "diamond"],
   closed: ["off", "square"],
+  up: ["good", "disc"],
 };
-const look = state => STATES[state] || ["warn", "ring"];
+const look = phase => PHASES[phase] || ["warn", "ring"];
 
 function lamp(shape, classes) {
   const svg = document.createElementNS("http://www.w3.org/2000/svg", "svg");
@@ -400,27 +476,45 @@ function lamp(shape, classes) {
   return svg;
 }
 
-function paint(element, state) {
-  const [colour, shape] = look(state);
-  element.setAttribute("class", `venue card ${colour}`);
-  element.dataset.state = state;
-  element.querySelector("path").setAttribute("d", SHAPES[shape]);
-}
-
 // ---- Venues.
 
 const FACTS = ["In doubt", "Unbooked", "Waiting", "Heard", "Reconnects", "Failed dials", "Log lost"];
 const HEEDED = ["In doubt", "Unbooked", "Log lost"];
 const cards = new Map();
 
+// A venue's state in a word. The desk says `dialled` until a venue was up, so the counts tell what is waited for: its
+// first connection, its Logon, or its answer to a TestRequest.
+function phaseOf({ state, connections, received }) {
+  if (state === "up" && closing) return "closing";
+  if (state !== "dialled") return state;
+  return !connections ? "dialling" : received ? "settling" : "logging on";
+}
+
+const unbookedOf = venue => Object.values(venue.unbooked || {}).reduce((sum, count) => sum + count, 0);
+const isExpected = phase => phase === "up" || closing && (phase === "closing" || phase === "closed");
+
+// Venues in trouble come first, and those that are up and have something to be looked at behind them.
+function rankOf(venue) {
+  const phase = phaseOf(venue);
+  const rank = Object.keys(PHASES).indexOf(phase);
+  if (!isExpected(phase)) return rank;
+  return (unbookedOf(venue) || venue.lost ? 100 : 200) + rank;
+}
+
 function makeCard(name) {
   const facts = FACTS.map(fact => make("div", null, make("dt", null, fact), make("dd")));
-  const state = make("span", { class: "state" });
-  const head = make("div", { class: "head" }, lamp("ring", ""), make("h3", null, name), state);
-  const why = make("p", { class: "why" });
-  const list = make("dl", { class: "facts" }, ...facts);
-  const card = make("li", { class: "venue card" }, head, why, list, make("p", { class: "note" }));
+  const words = ["name", "state", "why"].map(kind => make("span", { class: kind }));
+  const chip = make("button", { type: "button", class: "chip", "aria-expanded": "false" }, lamp("ring", ""), ...words);
+  const more = make("div", { class: "more", hidden: "" }, make("dl", { class: "facts" }, ...facts));
+  more.append(make("p", { class: "note" }));
+  const card = make("li", { class: "venue card" }, make("h3", null, chip), more);
   card.dataset.venue = name;
+  setText(card.querySelector(".name"), name);
+  chip.addEventListener("click", () => {
+    const isOpened = card.classList.toggle("opened");
+    chip.setAttribute("aria-expanded", String(isOpened));
+    show(more, isOpened);
+  });
   cards.set(name, card);
   at("lamps").append(card);
   return card;
@@ -431,28 +525,48 @@ function cause({ text, said, code }) {
   return [text, said].filter(Boolean).join(": ") + (code ? ` (${code})` : "");
 }
 
+function heardOf(venue) {
+  if (venue.heard_ms_ago === undefined || venue.heard_ms_ago === null) return "–";
+  return lasting((venue.heard_ms_ago + Date.now() - venue.read) / 1000);
+}
+
 function whyOf(venue) {
+  const phase = phaseOf(venue);
   const why = cause(venue);
   const next = venue.next_s ?? venue.seconds;
-  if (venue.state === "unreachable" && next !== undefined) {
+  if (phase === "unreachable" && next !== undefined) {
     const left = Math.max(0, Math.ceil(next - (Date.now() - venue.read) / 1000));
     return `${sentence(why || "no answer")}. Next try in ${left} s`;
   }
   if (why) return sentence(why);
+  if (phase === "logging on") return "Connected, and no Logon came yet";
+  if (phase === "settling") return `No answer to our TestRequest; heard ${heardOf(venue)} ago`;
   if (venue.ended) return `Last ended ${clock(venue.ended.moment)}: ${venue.ended.why}`;
   return "";
 }
 
+// What is to be looked at of a venue, however it stands, and why it isn't up.
+function remarksOf(venue) {
+  const unbooked = unbookedOf(venue) && counted(unbookedOf(venue), "unbooked report");
+  const lost = venue.lost && `${counted(venue.lost, "log line")} lost`;
+  return [unbooked, lost, whyOf(venue)].filter(Boolean).join(". ");
+}
+
 function drawVenue(venue) {
   const card = cards.get(venue.venue) || makeCard(venue.venue);
-  paint(card, venue.state);
-  setText(card.querySelector(".state"), venue.state);
-  setText(card.querySelector(".why"), whyOf(venue));
+  const phase = phaseOf(venue);
+  const [colour, shape] = look(phase);
+  for (const name of ["good", "bad", "warn", "calm", "off"]) card.classList.toggle(name, name === colour);
+  card.dataset.state = phase;
+  card.querySelector("path").setAttribute("d", SHAPES[shape]);
+  const remarks = remarksOf(venue);
+  setText(card.querySelector(".state"), isStale() ? `was ${phase}` : phase);
+  setText(card.querySelector(".why"), remarks);
+  card.querySelector(".why").title = remarks;
+  show(card.querySelector(".why"), remarks !== "");
   const reconnects = venue.connections === undefined ? undefined : Math.max(0, venue.connections - 1);
-  const heard = venue.heard_ms_ago === undefined || venue.heard_ms_ago === null ? "–"
-    : lasting((venue.heard_ms_ago + Date.now() - venue.read) / 1000);
-  const unbooked = venue.unbooked && Object.values(venue.unbooked).reduce((sum, count) => sum + count, 0);
-  const facts = [venue.doubt, unbooked, venue.unsent, heard, reconnects, venue.refused_dials, venue.lost];
+  const unbooked = venue.unbooked && unbookedOf(venue);
+  const facts = [venue.doubt, unbooked, venue.unsent, heardOf(venue), reconnects, venue.refused_dials, venue.lost];
   const places = card.querySelectorAll("dd");
   facts.forEach((fact, i) => {
     setText(places[i], FACTS[i] === "Heard" ? fact : digits(fact));
@@ -462,16 +576,32 @@ function drawVenue(venue) {
   setText(card.querySelector(".note"), `Messages: ${digits(venue.sent)} sent, ${digits(venue.received)} received`);
 }
 
+// Puts the lamps in order, but not under a hand: one that moves would lose the focus.
+function orderVenues() {
+  if (at("lamps").contains(document.activeElement)) return;
+  const names = [...venues.values()].sort((a, b) => rankOf(a) - rankOf(b)).map(venue => venue.venue);
+  names.forEach((name, i) => {
+    const place = at("lamps").children[i];
+    if (place !== cards.get(name)) at("lamps").insertBefore(cards.get(name), place);
+  });
+}
+
 function drawVenues() {
   for (const venue of venues.values()) drawVenue(venue);
-  const states = [...venues.values()].map(venue => venue.state);
-  const told = Object.keys(STATES).map(state => [states.filter(one => one === state).length, state]);
-  setText(at("venues-note"), told.filter(([count]) => count).map(([count, state]) => `${count} ${state}`).join(", "));
-  const isAmiss = state => state !== "up" && !(closing && state === "closed");
-  const amiss = audit ? 0 : states.filter(isAmiss).length;
-  const words = amiss ? `${amiss} of ${states.length} not up · Desk` : "Desk";
-  document.title = (following || audit ? "" : "Events lost · ") + words;
+  orderVenues();
+  const phases = [...venues.values()].map(phaseOf);
+  const told = Object.keys(PHASES).map(phase => [phases.filter(one => one === phase).length, phase]);
+  setText(at("venues-note"), told.filter(([count]) => count).map(([count, phase]) => `${count} ${phase}`).join(", "));
   for (const choice of document.querySelectorAll("select.venue-choice")) fillVenues(choice);
+  const amiss = audit ? 0 : phases.filter(phase => !isExpected(phase)).length;
+  const unbooked = expectedUnbooked();
+  const words = [
+    !audit && lostAt && (isStale() ? "No answer" : "Events lost"),
+    unbooked > 0 && `${digits(unbooked)} unbooked`,
+    amiss > 0 && `${amiss} of ${phases.length} not up`,
+    `Desk ${location.host}`,
+  ];
+  document.title = words.filter(Boolean).join(" · ");
 }
 
 const NO_CAUSE = { code: undefined, text: undefined, said: undefined, next_s: undefined, seconds: undefined };
@@ -485,7 +615,7 @@ function takeVenue(said) {
   }
   if (said.heard_ms_ago === undefined && before) venue.heard_ms_ago = before.heard_ms_ago + venue.read - before.read;
   venues.set(said.venue, venue);
-  if (before && before.state !== venue.state) tell(`${venue.venue} ${venue.state}. ${whyOf(venue)}`);
+  if (before && phaseOf(before) !== phaseOf(venue)) tell(`${venue.venue} ${phaseOf(venue)}. ${whyOf(venue)}`);
 }
 
 function tell(words) {
@@ -496,9 +626,15 @@ function tell(words) {
 // ---- Sweeps.
 
 const bodies = new Map();     // a part of the table for each sweep that is shown, by its number
+const terms = new Map();      // what a sweep trades, by its number; it never changes
 const dirty = new Set();
+const inView = new Set();
 let shown = WINDOW;
 let readBehind = null;        // all sweeps behind this number are here, and are kept
+let openBehind = null;        // and behind this one those with open shares, where they alone are shown
+let newestRead = 0;           // the newest when the page began to follow
+let dayOpen = 0;              // open shares of the day
+let search = null;            // what is looked for, and which sweeps the desk found
 let drawing = false;
 
 // Draws what changed in the next frame; a tab that is hidden has no frames, and its title is to say what happened.
@@ -514,6 +650,7 @@ function draw() {
     drawing = false;
     drawSweeps();
     drawVenues();
+    drawExecutions();
   }
 }
 
@@ -530,21 +667,24 @@ function drawBar(bar, split) {
 }
 
 function makeRow(head, kind) {
-  const cells = PARTS.map(() => make("td"));
-  const price = make("td");
-  return make("tr", kind, head, make("td"), make("td", { class: "bar-cell" }, makeBar()), ...cells, price);
+  const cells = PARTS.map(part => make("td", part === "filled" || part === "open" ? null : { class: "spare" }));
+  const bar = make("td", { class: "bar-cell" }, makeBar());
+  const price = make("td", { class: "price" }, make("span"), make("small"), make("small", { class: "bad" }));
+  return make("tr", kind, head, make("td", { class: "spare" }), bar, ...cells, price);
 }
 
-// The average price to four decimals, and behind it the shares whose price isn't known and those that are disputed. The
-// title has the whole average.
+// The average price to four decimals, the dollars, and the shares whose price isn't known and those that are disputed.
+// The title has the whole average.
 function drawPrice(cell, split) {
-  const words = [split.average ? PRICES.format(split.average) : ""];
-  if (split.price_unknown > 0) words.push(`${digits(split.price_unknown)} at an unknown price`);
-  if (split.disputed > 0) words.push(`${digits(split.disputed)} disputed`);
-  const said = words.filter(Boolean);
-  setText(cell, said.length > 0 ? said.join(", ") : "–");
+  const doubts = [
+    split.price_unknown > 0 && `${digits(split.price_unknown)} at an unknown price`,
+    split.disputed > 0 && `${digits(split.disputed)} disputed`,
+  ];
+  const words = [split.average ? PRICES.format(split.average) : "–", split.average ? `$${money(split.paid_e8)}` : "",
+    doubts.filter(Boolean).join(", ")];
+  words.forEach((text, i) => setText(cell.children[i], text));
   cell.title = split.average ?? "";
-  cell.className = split.disputed > 0 ? "bad" : said.length > 0 ? "" : "none";
+  cell.classList.toggle("none", !split.average);
 }
 
 function drawRow(row, shares, split) {
@@ -553,24 +693,51 @@ function drawRow(row, shares, split) {
   PARTS.forEach((part, i) => {
     const cell = row.cells[i + 3];
     setText(cell, digits(split[part]));
-    cell.className = split[part] ? "" : "none";
+    cell.classList.toggle("none", !split[part]);
   });
   drawPrice(row.cells[PARTS.length + 3], split);
 }
+
+const views = new IntersectionObserver(entries => {
+  for (const { target, isIntersecting } of entries) {
+    if (isIntersecting) inView.add(numberOf(target)); else inView.delete(numberOf(target));
+  }
+  readTerms();
+});
+const numberOf = body => Number(body.id.slice(6));
 
 function makeBody(number) {
   const words = [make("span", { class: "unseen" }, "Sweep "), String(number)];
   const button = make("button", { type: "button", class: "opens", "aria-expanded": "false" }, ...words);
   button.addEventListener("click", () => turn(number));
-  const body = make("tbody", { id: `sweep-${number}` }, makeRow(make("th", { scope: "row" }, button), {}));
+  const head = make("th", { scope: "row" }, button, make("span", { class: "order" }), make("small", { class: "came" }));
+  const body = make("tbody", { id: `sweep-${number}` }, makeRow(head, {}));
   bodies.set(number, body);
+  dirty.add(number);
+  views.observe(body);
   return body;
+}
+
+function dropBody(number) {
+  views.unobserve(bodies.get(number));
+  bodies.get(number).remove();
+  bodies.delete(number);
+  inView.delete(number);
+}
+
+// What a sweep trades, as `buy IBM` or `3 symbols`.
+function termsOf(legs) {
+  const symbols = new Set(legs.map(leg => leg.symbol));
+  const sides = [...new Set(legs.map(leg => leg.side))].sort().join(" and ");
+  return { symbols, words: symbols.size === 1 ? `${sides} ${legs[0].symbol}` : `${symbols.size} symbols` };
 }
 
 function makeLegRow(leg) {
   const small = make("small", null, `${leg.leg}, ${leg.state}`);
+  const parts = PARTS.filter(part => leg[part]).map(part => `${digits(leg[part])} ${part}`).join(", ");
   const words = `${leg.venue} ${leg.side} ${leg.symbol} at ${leg.price}`;
-  return makeRow(make("th", { scope: "row" }, words, small), { class: "leg" });
+  const more = make("small", { class: "parts" }, `${digits(leg.shares)} shares: ${parts}`);
+  return makeRow(make("th", { scope: "row" }, words, small, more), { class: "leg" });
 }
 
 function drawLegs(number) {
@@ -586,58 +753,164 @@ function drawLegs(number) {
   body.append(...rows);
 }
 
-// Puts a sweep's part of the table at its place: the newest is first.
-function placeBody(number) {
-  const body = makeBody(number);
-  const older = [...at("table").tBodies].find(other => Number(other.id.slice(6)) < number);
-  at("table").insertBefore(body, older || null);
-}
-
 function drawSweep(number) {
   const sweep = sweeps.get(number);
-  if (!bodies.has(number)) placeBody(number);
-  const body = bodies.get(number);
-  drawRow(body.rows[0], sweep.legs, sweep);
+  const row = bodies.get(number).rows[0];
+  drawRow(row, sweep.legs, sweep);
+  setText(row.querySelector(".order"), terms.get(number)?.words ?? "");
+  setText(row.querySelector(".came"), sweep.came ? clock(sweep.came) : "");
   drawLegs(number);
-  show(body, !at("only-open").checked || sweep.open !== 0 || body.contains(document.activeElement));
+}
+
+const showsOpen = () => at("only-open").checked;
+const isHeld = number => bodies.get(number)?.contains(document.activeElement);
+
+// Whether the table is to have a sweep. The one with the focus stays.
+function isListed(number) {
+  if (isHeld(number) || search?.numbers.has(number)) return true;
+  if (search && !terms.get(number)?.symbols.has(search.symbol)) return false;
+  return !showsOpen() || sweeps.get(number).open !== 0;
 }
 
 // Lets go of the oldest sweeps that aren't shown any more, but of none that is being looked at.
 function trim() {
-  if (readBehind === null || newest() - readBehind <= shown) return;
-  readBehind = newest() - shown;
-  for (const number of [...sweeps.keys()].filter(number => number <= readBehind)) {
-    if (legsOf.has(number) || bodies.get(number)?.contains(document.activeElement)) continue;
+  if (readBehind === null) return;
+  if (newest() - readBehind > shown) readBehind = newest() - shown;
+  if (!showsOpen()) openBehind = readBehind;
+  for (const [number, { open }] of sweeps) {
+    const isKept = number > readBehind || legsOf.has(number) || search?.numbers.has(number) || isHeld(number);
+    if (isKept || showsOpen() && open !== 0) continue;
     sweeps.delete(number);
-    dirty.delete(number);
-    bodies.get(number)?.remove();
-    bodies.delete(number);
+    terms.delete(number);
   }
 }
 
-const newest = () => Math.max(0, ...sweeps.keys());
+const greatest = numbers => numbers.reduce((most, number) => Math.max(most, number), 0);
+const newest = () => greatest([...sweeps.keys()]);
+
+// Puts the sweeps into the table, by falling number.
+function placeBodies(numbers) {
+  const wanted = new Set(numbers);
+  for (const number of [...bodies.keys()]) if (!wanted.has(number)) dropBody(number);
+  let next = at("table").tBodies[0] ?? null;
+  for (const number of numbers) {
+    const body = bodies.get(number);
+    if (body && body === next) next = next.nextElementSibling;
+    else at("table").insertBefore(body ?? makeBody(number), next);
+  }
+}
 
 function drawSweeps() {
   trim();
-  for (const number of dirty) drawSweep(number);
+  const listed = [...sweeps.keys()].filter(isListed).sort((a, b) => b - a);
+  placeBodies(listed.slice(0, shown));
+  for (const number of dirty) if (bodies.has(number)) drawSweep(number);
   dirty.clear();
-  const hidden = [...bodies.values()].filter(body => body.hidden).length;
-  const left = readBehind > 0 ? `the ${digits(newest() - readBehind)} newest of ${digits(newest())}` : digits(newest());
-  const count = at("only-open").checked ? `${digits(sweeps.size - hidden)} with open shares, of ${left}, newest first`
-    : `${digits(sweeps.size)} of ${digits(newest())}, newest first`;
-  setText(at("sweeps-note"), sweeps.size === 0 ? "None yet" : count);
-  show(at("older"), readBehind > 0);
+  setText(at("sweeps-note"), countWords(listed.length));
+  setText(at("find-note"), search ? findWords() : "");
+  show(at("older"), listed.length > shown || readBehind > 0 && (search ? search.symbol !== null : !showsOpen()));
+  setText(at("older"), search ? `Look at ${WINDOW} older sweeps` : "Show older sweeps");
+  seekOpen();
+  readTerms();
+}
+
+const ofDay = () => readBehind > 0 ? `the ${digits(newest() - readBehind)} newest of ${digits(newest())} sweeps`
+  : `all ${counted(newest(), "sweep")} of the day`;
+const shareSum = () => [...sweeps.values()].reduce((sum, { open }) => sum + open, 0);
+const allOpenFound = () => openBehind === 0 || shareSum() >= dayOpen;
+
+// What the table has, and of how many.
+function countWords(count) {
+  const cut = count > shown ? `, of which the ${digits(shown)} newest are shown` : "";
+  if (newest() === 0) return "None yet";
+  if (search) return `${counted(count, "sweep")} found${cut}`;
+  if (!showsOpen()) return sentence(ofDay());
+  const found = `${counted(count, "sweep")} with open shares`;
+  return allOpenFound() ? `${found}, all of the day's${cut}` : `${found} so far; older ones are being read`;
+}
+
+// Reads older sweeps until all that is open is found: the desk says how many shares that is.
+const seekOpen = alone(async () => {
+  while (showsOpen() && openBehind !== null && !allOpenFound()) {
+    const behind = Math.max(0, openBehind - WINDOW);
+    await readSweeps(behind, openBehind);
+    openBehind = behind;
+    draw();
+  }
+});
+
+// Reads what the sweeps trade that are in view; where a symbol is looked for, of all that are here.
+const readTerms = alone(async () => {
+  for (let number; (number = greatest(unread())) > 0;) {
+    const { legs } = await ask(`/api/sweeps/${number}`);
+    terms.set(number, termsOf(legs));
+    dirty.add(number);
+    draw();
+  }
+});
+
+function unread() {
+  const asked = search?.symbol ? [...sweeps.keys()] : [...inView];
+  return asked.filter(number => sweeps.has(number) && !terms.has(number));
+}
+
+// ---- Looking for a sweep. The desk is asked for a number and a reference; for a symbol it can't be.
+
+async function find() {
+  const text = at("find").value.trim();
+  const upper = text.toUpperCase();
+  const symbol = WANTED.symbol[0](upper) ? upper : null;
+  const mine = search = text === "" ? null : { symbol, numbers: new Set(), said: "Asking the desk…" };
+  draw();
+  if (mine === null) return;
+  try {
+    const said = [/^[1-9]\d{0,14}$/.test(text) && await findNumber(mine, Number(text)),
+      /^[!-~]{1,64}$/.test(text) && await findReference(mine, text)];
+    mine.said = said.filter(Boolean).join(" ") || "That is no number, reference or symbol.";
+  } catch (fault) {
+    mine.said = fault.status ? `${fault.message}.` : "The desk doesn't answer.";
+    if (!fault.status) again(stream, fault);
+  }
+  draw();
+}
+
+async function findNumber(mine, number) {
+  await readSweeps(number - 1, number);
+  if (!sweeps.has(number)) return `The desk has no sweep ${digits(number)}.`;
+  mine.numbers.add(number);
+  return `Sweep ${digits(number)} is there.`;
+}
+
+async function findReference(mine, reference) {
+  const number = await placedUnder(reference);
+  if (!number) return `The desk has no reference ${reference}.`;
+  mine.numbers.add(number);
+  await readSweeps(number - 1, number);
+  return `The reference ${reference} is that of sweep ${digits(number)}.`;
+}
+
+function findWords() {
+  if (search.symbol === null) return search.said;
+  const looked = unread().length > 0 ? "not all of them are looked at yet" : "no others are looked at";
+  return `${search.said} The symbol is looked for in ${ofDay()}; ${looked}.`;
 }
 
 function takeSweep(sweep) {
-  sweeps.set(sweep.sweep, { ...sweep, time });
-  dirty.add(sweep.sweep);
+  keep(sweep, time);
 }
 
 // What was asked for at a time, and doesn't undo what events told since.
 function takeSweepOf(sweep, asked) {
-  if ((sweeps.get(sweep.sweep)?.time ?? -1) <= asked) sweeps.set(sweep.sweep, { ...sweep, time: asked });
-  dirty.add(sweep.sweep);
+  if ((sweeps.get(sweep.sweep)?.time ?? -1) <= asked) keep(sweep, asked);
+}
+
+// Keeps a sweep, and when it came if it is new.
+function keep(sweep, told) {
+  const number = sweep.sweep;
+  const isNew = following && number > newestRead && number > readBehind;
+  const came = sweeps.has(number) ? sweeps.get(number).came : isNew ? new Date() : null;
+  sweeps.set(number, { ...sweep, time: told, came });
+  dirty.add(number);
 }
 
 async function turn(number) {
@@ -661,6 +934,7 @@ async function readLegs(number) {
     do {
       asked = sweeps.get(number)?.time;
       const { legs } = await ask(`/api/sweeps/${number}`);
+      terms.set(number, termsOf(legs));
       if (!legsOf.has(number)) return;
       legsOf.set(number, legs);
       dirty.add(number);
@@ -677,6 +951,102 @@ function takeDay(day) {
   for (const part of ["placed", "resolved", "open"]) {
     if (day?.[part] !== undefined) setText(at(`sum-${part}`), digits(day[part]));
   }
+  dayOpen = day?.open ?? dayOpen;
+}
+
+// ---- Executions, and those that the book didn't take.
+
+const executions = new Map(); // the newest, by number
+const unbooked = new Map();   // what the book didn't take, by number
+let lastExecution = 0;        // all of the executions up to this one,
+let lookedBehind = 0;         // and behind this one, were looked at
+
+function takeExecution(said) {
+  if (said.execution === lastExecution + 1) lastExecution = said.execution;
+  if (said.unbooked && !unbooked.has(said.execution)) {
+    unbooked.set(said.execution, said);
+    if (following) tell(`Unbooked: ${executionWords(said)}`);
+  }
+  executions.set(said.execution, said);
+  if (executions.size > 2 * MOST_EXECUTIONS) dropOldExecutions();
+}
+
+const byNumber = map => [...map.keys()].sort((a, b) => b - a);
+
+function dropOldExecutions() {
+  for (const number of byNumber(executions).slice(MOST_EXECUTIONS)) executions.delete(number);
+}
+
+// Reads the executions behind the last that is here; where there are many, the newest of them.
+async function readExecutions() {
+  for (;;) {
+    const { executions: found, last } = await ask(`/api/executions?after=${lastExecution}&most=${WINDOW}`);
+    if (last - lastExecution > 2 * WINDOW) {
+      lastExecution = lookedBehind = last - WINDOW;
+      continue;
+    }
+    found.forEach(takeExecution);
+    if (found.length === 0) return;
+  }
+}
+
+const expectedUnbooked = () => [...venues.values()].reduce((sum, venue) => sum + unbookedOf(venue), 0);
+
+// Reads older executions until all that the book didn't take are found: the venues say how many those are.
+const seekUnbooked = alone(async () => {
+  while (lookedBehind > 0 && unbooked.size < expectedUnbooked()) {
+    const behind = Math.max(0, lookedBehind - WINDOW);
+    const { executions: found } = await ask(`/api/executions?after=${behind}&most=${lookedBehind - behind}`);
+    for (const said of found) if (said.unbooked) unbooked.set(said.execution, said);
+    lookedBehind = behind;
+    draw();
+  }
+});
+
+function executionWords({ venue, leg, kind, shares, price, of, fault, unbooked }) {
+  const words = { fill: `fill ${digits(shares)} at ${price}`, bust: `bust of ${of}`, unread: fault };
+  return [venue, leg, words[kind] ?? kind].filter(Boolean).join(" ") + (unbooked ? `: ${unbooked}` : "");
+}
+
+// What else the exchange's message says.
+function executionNote(said) {
+  const tags = [11, 150, 32, 31].filter(tag => said[`tag_${tag}`]).map(tag => `${tag}=${said[`tag_${tag}`]}`);
+  const order = said.order && `order ${said.order}`;
+  const reason = said.reason && `reason ${said.reason_tag}=${said.reason}`;
+  const words = [`#${digits(said.execution)}`, said.exec, order, said.time, reason, said.text, ...tags];
+  return words.filter(Boolean).join(" · ");
+}
+
+function drawList(list, map) {
+  const numbers = byNumber(map).slice(0, MOST_EXECUTIONS);
+  if (list.dataset.shown === numbers.join()) return;
+  list.dataset.shown = numbers.join();
+  list.replaceChildren(...numbers.map(number => {
+    const said = map.get(number);
+    const mark = said.unbooked ? [make("span", { class: "mark", "aria-hidden": "true" }, "! ")] : [];
+    return make("li", null, ...mark, executionWords(said), make("span", { class: "note" }, executionNote(said)));
+  }));
+}
+
+function drawExecutions() {
+  const kept = Math.min(executions.size, MOST_EXECUTIONS);
+  drawList(at("executions"), executions);
+  setText(at("executions-note"), kept === 0 ? "None yet" : `The ${digits(kept)} newest of ${digits(lastExecution)}`);
+  const all = Math.max(unbooked.size, expectedUnbooked());
+  const some = Math.min(unbooked.size, MOST_EXECUTIONS);
+  drawList(at("unbooked").querySelector("ol"), unbooked);
+  setText(at("unbooked-note"), some === all ? `All ${digits(all)} of the day` : `${digits(some)} of ${digits(all)}`);
+  show(at("unbooked"), all > 0);
+  drawAlarm(all);
+  seekUnbooked();
+}
+
+function drawAlarm(count) {
+  show(at("alarm"), count > 0);
+  if (at("alarm").dataset.count === String(count)) return;
+  at("alarm").dataset.count = String(count);
+  const words = `${counted(count, "report")} of exchanges that the book didn't take`;
+  at("alarm").replaceChildren(lamp("triangle", "small bad"), make("a", { href: "#unbooked" }, words));
 }
 
 // ---- Reading the desk.
@@ -684,6 +1054,22 @@ function takeDay(day) {
 function parse(text) {
   return JSON.parse(text, (key, value, context) =>
     typeof value === "number" && !Number.isSafeInteger(value) && context ? context.source : value);
+}
+
+// A reading that runs one at a time, and not while the desk is silent; a fault of it is one of the desk.
+function alone(read) {
+  let isReading = false;
+  return async () => {
+    if (isReading || silentAt) return;
+    isReading = true;
+    try {
+      await read();
+    } catch (fault) {
+      again(stream, fault);
+    } finally {
+      isReading = false;
+    }
+  };
 }
 
 // What is read across two runs of the program is thrown away.
@@ -700,10 +1086,10 @@ function isOfThisRun(id) {
 
 // Forgets the day of the run before. What stands in the form stays.
 function beginAnew() {
-  beganAnew = new Date();
-  for (const map of [venues, cards, sweeps, legsOf, dirty, bodies]) map.clear();
+  beganAnew = { moment: new Date(), before: audit };
+  for (const number of [...bodies.keys()]) dropBody(number);
+  for (const map of [venues, cards, sweeps, legsOf, dirty, terms, executions, unbooked]) map.clear();
   at("lamps").replaceChildren();
-  for (const body of [...at("table").tBodies]) body.remove();
   for (const part of ["placed", "resolved", "open"]) setText(at(`sum-${part}`), "–");
   at("refusals").replaceChildren();
   show(at("nothing-refused"), true);
@@ -712,8 +1098,14 @@ function beginAnew() {
   closing = false;
   audit = null;
   shown = WINDOW;
-  readBehind = null;
+  readBehind = openBehind = search = null;
+  at("find").value = "";
+  newestRead = dayOpen = lastExecution = lookedBehind = 0;
   tell("The program was started again. The page shows its new run.");
+  if (beganAnew.before) {
+    following = false;
+    follow();
+  }
   drawStanding();
   draw();
 }
@@ -742,7 +1134,7 @@ async function readSweeps(after, upTo = Infinity) {
     const { found, asked } = await askSweeps(after, Math.min(WINDOW, upTo - after));
     if (found.length === 0) return;
     for (const sweep of found) takeSweepOf(sweep, asked);
-    after = Math.max(...found.map(sweep => sweep.sweep));
+    after = greatest(found.map(sweep => sweep.sweep));
   }
 }
 
@@ -779,21 +1171,19 @@ async function readDay(whole) {
 
 async function readParts(whole) {
   await readVenues();
+  await readExecutions();
   if (readBehind === null || whole) {
     const behind = readBehind ?? Math.max(0, await nearNewest() - WINDOW);
-    await readSweeps(behind);
+    const openToo = showsOpen() ? openBehind ?? behind : behind;
+    await readSweeps(openToo);
     readBehind = behind;
-    for (const number of legsOf.keys()) await readOpened(number);
+    openBehind = openToo;
+    for (const number of sweeps.keys()) if (number <= openToo) await readSweeps(number - 1, number);
+    for (const number of legsOf.keys()) readLegs(number);
   } else {
     await readSweeps(newest());
   }
   draw();
-}
-
-// Reads a sweep that is opened, and may be older than those that are shown.
-async function readOpened(number) {
-  await readSweeps(number - 1, number);
-  readLegs(number);
 }
 
 // ---- Following the events, and saying so where they are lost.
@@ -804,8 +1194,12 @@ let silentAt = null;          // when the desk was first found not to answer
 let heardAt = null;           // when it was last heard
 let wait = 1000;
 
+// Whether what is shown is older than a reading or two.
+const isStale = () => audit === null && heardAt !== null && (silentAt !== null || Date.now() - heardAt > STALE_AFTER);
+
 function standingOf(since) {
   if (audit) return audit === "ok" ? ["off", "square", "Day closed"] : ["bad", "triangle", "Day closed, audit failed"];
+  if (isStale()) return ["bad", "triangle", `No answer since ${clock(heardAt)}`];
   if (!following && !lostAt) return ["calm", "ring", "Reading the day"];
   if (!following) return ["bad", "triangle", `Events lost since ${since}`];
   return closing ? ["warn", "ring", "Closing"] : ["good", "disc", `Live, ${clock(heardAt)}`];
@@ -813,6 +1207,7 @@ function standingOf(since) {
 
 function drawStanding() {
   const since = lostAt && clock(lostAt);
+  document.body.classList.toggle("stale", isStale());
   const [colour, shape, words] = standingOf(since);
   const standing = at("standing");
   if (standing.dataset.state !== colour + shape) {
@@ -837,19 +1232,23 @@ function banner() {
     return ["bad", "triangle", `The day was closing when the desk last answered, at ${clock(silentAt)}. ${what}`];
   }
   if (lostAt && silentAt) {
-    const what = "What is shown is as it was then; the page goes on trying.";
+    const what = "What is shown, in grey, is as it was then; the page goes on trying.";
     return ["bad", "triangle", `The desk hasn't answered since ${clock(silentAt)}. ${what}`];
   }
   if (lostAt) {
     const what = `The page reads the day every ${LOOK_EVERY / 1000} seconds instead, and goes on trying.`;
-    return ["warn", "cross", `Events were lost at ${clock(lostAt)}. ${what}`];
+    const why = isRefused ? " Four others may follow the day, which is the most." : "";
+    return ["warn", "cross", `Events were lost at ${clock(lostAt)}. ${what}${why}`];
   }
   if (closing) {
     return ["warn", "ring", "The day is closing. No sweep is taken any more; open shares are waited for."];
   }
   if (beganAnew) {
-    const what = "The page shows its new run, and nothing of the one before.";
-    return ["calm", "ring", `The program was started again, which was seen at ${clock(beganAnew)}. ${what}`];
+    const { moment, before } = beganAnew;
+    const what = `All that is shown is read anew, from the run that began at ${String(run).slice(11, 19)} UTC.`;
+    const how = before === "ok" ? "its audit found nothing wrong" : `its audit FAILED: ${before}`;
+    const ended = before ? ` The day before it was closed, and ${how}.` : "";
+    return ["calm", "ring", `The program was started again, which was seen at ${clock(moment)}. ${what}${ended}`];
   }
   return null;
 }
@@ -868,6 +1267,8 @@ function hear() {
   silentAt = null;
 }
 
+let isRefused = false;        // whether the desk never told this page events since they were lost
+
 function lose(fault) {
   if (fault) silentAt = silentAt || heardAt || new Date();
   if (following || !lostAt) lostAt = heardAt || new Date();
@@ -884,6 +1285,7 @@ const EVENTS = {
     takeSweep(said);
     if (legsOf.has(said.sweep)) readLegs(said.sweep);
   },
+  execution: takeExecution,
   venue(said) {
     takeVenue(said);
     venues.get(said.venue).time = time;
@@ -895,8 +1297,10 @@ const EVENTS = {
     takeDay(said.day || said);
   },
   closed(said) {
+    closing = true;
     audit = said.audit;
     stream.close();
+    stream = null;
     tell("The day is closed.");
   },
 };
@@ -906,7 +1310,11 @@ let stream = null;
 function follow() {
   const mine = new EventSource("/api/events");
   stream = mine;
-  mine.onopen = () => catchUp(mine);
+  isRefused = true;
+  mine.onopen = () => {
+    isRefused = false;
+    catchUp(mine);
+  };
   mine.onerror = () => again(mine, null);
   for (const name of Object.keys(EVENTS)) mine.addEventListener(name, event => take(mine, name, event.data));
 }
@@ -923,6 +1331,7 @@ async function catchUp(mine) {
   }
   if (stream !== mine) return;
   following = true;
+  newestRead = newest();
   lostAt = null;
   wait = 1000;
   hear();
@@ -958,9 +1367,10 @@ function again(mine, fault) {
 }
 
 async function keepLooking() {
-  if (audit) return;
   try {
-    if (daysInHand === 0) {
+    if (audit) {
+      await ask("/api/sweeps?after=0&most=1");
+    } else if (daysInHand === 0) {
       await readDay(!following);
       hear();
     }
@@ -1074,7 +1484,7 @@ const WANTED = {
 };
 
 function fillVenues(choice) {
-  const nameOf = ({ venue, state }) => state === "up" ? venue : `${venue} (${state})`;
+  const nameOf = venue => venue.state === "up" ? venue.venue : `${venue.venue} (${phaseOf(venue)})`;
   const choices = [...venues.values()].map(venue => [venue.venue, nameOf(venue)]);
   [["", "Choose"], ...choices].forEach(([value, text], i) => {
     const option = choice.options[i] || choice.appendChild(make("option"));
@@ -1135,7 +1545,7 @@ function totalOf(legs) {
     shares += BigInt(leg.shares);
     worth += BigInt(leg.shares) * price;
   }
-  return `${counted(legs.length, "leg")}, ${digits(String(shares))} shares, ${dollars(worth)}`;
+  return `${counted(legs.length, "leg")}, ${digits(String(shares))} shares, $${money(worth * 10000n)}`;
 }
 
 function drawTotal() {
@@ -1209,7 +1619,7 @@ async function submit(sweep) {
   for (let tries = 1; answer?.lost && tries < MOST_TRIES; tries += 1) {
     say("warn", "Asking again, since no answer came…");
     await new Promise(resolve => setTimeout(resolve, TRY_AFTER));
-    const found = await foundUnder(sweep.ref);
+    const found = await placedUnder(sweep.ref).catch(() => null);
     if (run !== began) break;
     if (found) {
       const shares = sweep.legs.reduce((sum, leg) => sum + leg.shares, 0);
@@ -1220,12 +1630,15 @@ async function submit(sweep) {
   return answer;
 }
 
-// The number of the sweep that was placed under a reference, 0 for none, and null where the desk doesn't answer.
-async function foundUnder(reference) {
+// The number of the sweep that was placed under a reference, 0 for none.
+async function placedUnder(reference) {
   try {
-    return (await ask(`/api/sweeps?ref=${reference}`)).sweep;
+    const { sweep, legs } = await ask(`/api/sweeps?ref=${encodeURIComponent(reference)}`);
+    terms.set(sweep, termsOf(legs));
+    return sweep;
   } catch (fault) {
-    return fault.status === 404 ? 0 : null;
+    if (fault.status === 404) return 0;
+    throw fault;
   }
 }
 
@@ -1314,26 +1727,33 @@ function begin() {
     at("token-ask").close("yes");
   });
   at("table").addEventListener("keydown", walk);
-  at("only-open").addEventListener("change", () => {
-    for (const number of sweeps.keys()) dirty.add(number);
-    draw();
+  at("only-open").addEventListener("change", draw);
+  at("finder").addEventListener("submit", event => {
+    event.preventDefault();
+    find();
   });
-  at("older").addEventListener("click", async () => {
+  let finding;
+  at("find").addEventListener("input", () => {
+    clearTimeout(finding);
+    finding = setTimeout(find, FIND_AFTER);
+  });
+  at("older").addEventListener("click", alone(async () => {
     const behind = Math.max(0, readBehind - WINDOW);
-    try {
-      await readSweeps(behind, readBehind);
-      shown += WINDOW;
-      readBehind = behind;
-    } catch (fault) {
-      again(stream, fault);
-    }
+    await readSweeps(behind, readBehind);
+    shown += WINDOW;
+    readBehind = behind;
+    openBehind = Math.min(openBehind, behind);
     draw();
-  });
+  }));
+  setText(at("place"), location.host);
   addLeg();
   drawStanding();
   follow();
   setTimeout(keepLooking, LOOK_EVERY);
-  setInterval(drawVenues, 1000);
+  setInterval(() => {
+    drawStanding();
+    drawVenues();
+  }, 1000);
 }
 
 begin();
