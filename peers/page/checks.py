@@ -22,8 +22,8 @@ class Skipped(Exception):
 
 
 class Trial:
-    """A page in a browser, and the desk behind it: a stand-in with its day, a desk that can be stopped and started again,
-    or one of which nothing more is known than where it is."""
+    """A page in a browser, and the desk behind it: a stand-in with its day, a desk that can be stopped and started
+    again, or one of which nothing more is known than where it is."""
 
     def __init__(self, browser, base, day=None, desk=None):
         self.browser = browser
@@ -96,8 +96,8 @@ def rounded(price):
 
 
 def price_of(said):
-    """The words behind the parts of a sweep or a leg: its average price, what was paid to the cent, and which shares have
-    no price or are disputed."""
+    """The words behind the parts of a sweep or a leg: its average price, what was paid to the cent, and which shares
+    have no price or are disputed."""
     words = [f"{said['price_unknown']:,} at an unknown price"] if said["price_unknown"] else []
     words += [f"{said['disputed']:,} disputed"] if said["disputed"] else []
     if not said["average"]:
@@ -133,6 +133,12 @@ def press(page, selector):
 
 def text(page, selector):
     return page.run(f"document.querySelector({json.dumps(selector)}).textContent")
+
+
+def says(page, selector, start, what, within=WITHIN):
+    """Waits until an element's text begins so."""
+    begins = f"document.querySelector({json.dumps(selector)}).textContent.startsWith({json.dumps(start)})"
+    page.until(begins, what, within)
 
 
 def texts(page, selector):
@@ -175,9 +181,17 @@ def compare_sweeps(trial):
         expect(price, price_of(sweep), f"the price and dollars of sweep {sweep['sweep']}")
     for part in ("placed", "resolved", "open"):
         expect(text(trial.page, f"#sum-{part}"), f"{said['day'][part]:,}", part)
-    total = sweeps[-1]["sweep"]
-    count = f"The {WINDOW} newest of {total:,} sweeps" if total > WINDOW else f"All {total:,} sweep{'s'[:total > 1]} of the day"
-    expect(text(trial.page, "#sweeps-note"), count, "what the table has")
+    count = part_of_day(sweeps[-1]["sweep"])
+    expect(text(trial.page, "#sweeps-note"), count[0].upper() + count[1:], "what the table has")
+
+
+def some(count, word):
+    return f"{count:,} {word}" if count == 1 else f"{count:,} {word}s"
+
+
+def part_of_day(total, shown=WINDOW):
+    """What the table has of so many sweeps, where it shows so many."""
+    return f"the {shown} newest of {total:,} sweeps" if total > shown else f"all {some(total, 'sweep')} of the day"
 
 
 def says_what_a_sweep_trades(trial):
@@ -209,10 +223,10 @@ def finds_a_sweep(trial):
     sweeps that are loaded, and the page says so."""
     page, total = trial.page, len(trial.sweeps())
     look_for(page, "1")
-    page.until("document.querySelector('#find-note').textContent.startsWith('Sweep 1 is there.')", "sweep 1")
+    says(page, "#find-note", "Sweep 1 is there.", "sweep 1")
     expect(1 in rows(page), True, "it is shown")
     look_for(page, "999999")
-    page.until("document.querySelector('#find-note').textContent.startsWith('The desk has no sweep 999,999.')", "no sweep")
+    says(page, "#find-note", "The desk has no sweep 999,999.", "no sweep")
     expect(rows(page), [], "nothing is shown")
     if trial.desk:
         look_for(page, "R-2")
@@ -220,17 +234,16 @@ def finds_a_sweep(trial):
         expect(rows(page), [2], "its sweep is shown")
         expect(text(page, "#sweeps-note"), "1 sweep found", "how many were found")
     look_for(page, "ibm")
-    where = f"the {WINDOW} newest of {total:,} sweeps" if total > WINDOW else f"all {total:,} sweeps of the day"
-    note = f"The desk has no reference ibm. The symbol is looked for in {where}; no others are looked at."
-    page.until(f"document.querySelector('#find-note').textContent === {json.dumps(note)}", "where the symbol is looked for")
+    where = f"The symbol is looked for in {part_of_day(total)}; no others are looked at."
+    says(page, "#find-note", f"The desk has no reference ibm. {where}", "where the symbol is looked for")
     wanted = [sweep["sweep"] for sweep in trial.newest()
               if any(leg["symbol"] == "IBM" for leg in trial.ask(f"/api/sweeps/{sweep['sweep']}")["legs"])]
     expect(rows(page), wanted[::-1], "the sweeps with the symbol")
-    expect(text(page, "#sweeps-note"), f"{len(wanted)} sweep{'s'[:len(wanted) != 1]} found", "how many were found")
+    expect(text(page, "#sweeps-note"), f"{some(len(wanted), 'sweep')} found", "how many were found")
     if total > WINDOW:
         press(page, "#older")
-        where = f"in the {2 * WINDOW} newest" if total > 2 * WINDOW else f"in all {total:,}"
-        page.until(f"document.querySelector('#find-note').textContent.includes('{where}')", "older ones too")
+        where = f"The symbol is looked for in {part_of_day(total, 2 * WINDOW)};"
+        says(page, "#find-note", f"The desk has no reference ibm. {where}", "older ones too")
     look_for(page, "")
     page.until(f"document.querySelectorAll('#table tbody').length >= {min(total, WINDOW)}", "all are shown again")
 
@@ -253,7 +266,7 @@ def shows_what_is_open(trial):
         if number % 170:
             day.move(number, 1, "filled")
     server = mock.Server(day)
-    stood_in, page = Trial(trial.browser, server.base, day), None
+    stood_in = Trial(trial.browser, server.base, day)
     page = stood_in.page
     compare_open(stood_in, page)
     press(page, "#only-open")
@@ -268,15 +281,15 @@ def compare_open(trial, page):
     wanted = [sweep["sweep"] for sweep in trial.sweeps() if sweep["open"]]
     expect(len(wanted) > 0, True, "some are open")
     press(page, "#only-open")
-    note = f"{len(wanted)} sweep{'s'[:len(wanted) != 1]} with open shares, all of the day's"
-    page.until(f"document.querySelector('#sweeps-note').textContent === {json.dumps(note)}", "how many are open")
+    says(page, "#sweeps-note", f"{some(len(wanted), 'sweep')} with open shares, all of the day's", "how many are open")
     expect(rows(page), wanted[::-1], "they are shown")
     press(page, "#only-open")
     page.until(f"document.querySelectorAll('#table tbody').length > {len(wanted)}", "all are shown again")
 
 
 def shows_executions(trial):
-    """The newest executions are listed, and all that the book didn't take, with an alarm at the top and in the title."""
+    """The newest executions are listed, and all that the book didn't take, with an alarm at the top and in the title.
+    """
     page, server = trial.page, None
     if trial.day:
         server = mock.Server(mock.many())
@@ -292,19 +305,24 @@ def shows_executions(trial):
         server.shutdown()
 
 
+def numbers_in(lines):
+    """The numbers of listed executions."""
+    return [int(re.search(r"#([\d,]+)", line)[1].replace(",", "")) for line in lines]
+
+
 def compare_executions(trial, page):
     told = []
     while more := trial.ask(f"/api/executions?after={len(told)}&most={WINDOW}")["executions"]:
         told += more
     unbooked = [said for said in told if "unbooked" in said]
     shown = min(len(told), 100)
-    expect(text(page, "#executions-note"), f"The {shown:,} newest of {len(told):,}", "how many are listed")
-    listed = texts(page, "#executions li")
-    expect([f"#{said['execution']:,}" in line for said, line in zip(told[::-1], listed)], [True] * shown, "the newest first")
-    expect([f"#{said['execution']:,}" in line for said, line in zip(unbooked[::-1], texts(page, "#unbooked li"))],
-           [True] * len(unbooked), "all that the book didn't take")
+    count = f"The {shown:,} newest of {len(told):,}" if shown < len(told) else f"{shown:,} in all"
+    expect(text(page, "#executions-note"), count, "how many are listed")
+    newest = [said["execution"] for said in told[: -shown - 1 : -1]]
+    expect(numbers_in(texts(page, "#executions li")), newest, "the newest")
+    expect(numbers_in(texts(page, "#unbooked li")), [said["execution"] for said in unbooked[::-1]], "the unbooked")
     if unbooked:
-        expect(text(page, "#unbooked-note"), f"All {len(unbooked)} of the day", "how many they are")
+        expect(text(page, "#unbooked-note"), f"{len(unbooked)} in all", "how many they are")
         expect(text(page, "#alarm").startswith(f"{len(unbooked)} report"), True, "an alarm")
         expect(page.run("document.querySelector('#alarm').getAttribute('role')"), "alert", "a screen reader says it")
         expect(page.run("document.title").startswith(f"{len(unbooked)} unbooked"), True, "the tab's title says it")
@@ -374,7 +392,7 @@ def compare_venues(trial):
 
 
 def puts_trouble_first(trial):
-    """Sixteen venues are seen in one screen, those in trouble first, each with a word of its own; details come on demand."""
+    """Sixteen venues are seen in one screen, those in trouble first, each with a word of its own; details on demand."""
     server = None
     if trial.day:
         server = mock.Server(mock.many())
@@ -431,7 +449,7 @@ def fits_a_phone(trial):
 
 
 def greys_what_is_stale(trial):
-    """Where the desk doesn't answer, nothing that it said before looks live: lamps, bars and words are grey, and say so."""
+    """Where the desk doesn't answer, nothing that it said before looks live: lamps, bars and words are grey."""
     page = trial.page
     if not trial.day and not trial.desk:
         raise Skipped("it needs a desk that can be stopped")
@@ -487,7 +505,7 @@ def hands_in(trial):
     press(page, "#send")
     page.until("document.querySelector('#ask').open", "it is asked back again")
     press(page, "#ask-yes")
-    page.until("document.querySelector('#answer').textContent.startsWith('Placed as sweep')", "it is placed")
+    says(page, "#answer", "Placed as sweep", "it is placed")
     number = int(text(page, "#answer").split()[3].rstrip(":"))
     expect(text(page, "#answer"), f"Placed as sweep {number}: 150 shares.", "the answer")
     page.until(f"document.querySelector('#sweep-{number}') !== null", "the new sweep is shown")
@@ -528,7 +546,7 @@ def says_why_refused(trial):
     page.until("document.querySelector('#ask').open", "it is asked back")
     expect(f"Not up now: {venue}" in text(page, "#ask-body"), True, "the page warns of it")
     press(page, "#ask-yes")
-    page.until("document.querySelector('#answer').textContent.startsWith('Refused')", "it is refused")
+    says(page, "#answer", "Refused", "it is refused")
     words = f"R04 {venue}: its gate is down"
     expect(text(page, "#answer"), f"Refused: {words}", "the answer")
     page.until("document.querySelectorAll('#refusals li').length > 0", "it is listed")
@@ -588,7 +606,7 @@ def says_when_it_lost_events(trial):
     if trial.day is None:
         page.offline(True)
         try:
-            page.until("document.querySelector('#standing').textContent.startsWith('No answer since')", "the loss is said")
+            says(page, "#standing", "No answer since", "the loss is said")
         finally:
             page.offline(False)
         page.until("following && !document.body.classList.contains('stale')", "the page follows again")
@@ -604,8 +622,8 @@ def says_when_it_lost_events(trial):
 def lose_events(page, day):
     day.takes_streams = False
     day.cut_streams()
-    page.until("document.querySelector('#standing').textContent.startsWith('Events lost since')", "the loss is said")
-    page.until("document.querySelector('#banner').textContent.startsWith('Events were lost at')", "the banner says it")
+    says(page, "#standing", "Events lost since", "the loss is said")
+    says(page, "#banner", "Events were lost at", "the banner says it")
     expect(page.run("document.querySelector('#banner').getAttribute('role')"), "alert", "a screen reader says it")
     expect(page.run("document.title.startsWith('Events lost')"), True, "the tab's title says it")
     status, said = day.place([mock.leg("NYSE", "IBM", "buy", 10, "1")])
@@ -631,7 +649,7 @@ def says_when_an_answer_is_lost(trial):
     day.answers = False
     press(page, "#ask-yes")
     try:
-        page.until("document.querySelector('#answer').textContent.startsWith('No answer came')", "it says so")
+        says(page, "#answer", "No answer came", "it says so")
     finally:
         day.answers = True
     expect("may have been placed" in text(page, "#answer"), True, "what may be")
@@ -647,7 +665,7 @@ def finds_a_sweep_whose_answer_is_lost(trial):
     page.until("document.querySelector('#ask').open", "it is asked back")
     day.loses = 1
     press(page, "#ask-yes")
-    page.until("document.querySelector('#answer').textContent.startsWith('Placed as sweep')", "it is placed")
+    says(page, "#answer", "Placed as sweep", "it is placed")
     expect((day.loses, len(day.sweeps)), (0, before + 1), "an answer was lost, and it is placed once")
 
 
@@ -665,14 +683,14 @@ def begins_anew_with_another_run(trial):
     day.place([mock.leg("ARCA", "GE", "sell", 30, "168.3")])
     server.day = day
     old.cut_streams()
-    page.until("document.querySelector('#banner').textContent.startsWith('The program was started again')", "it says so")
+    says(page, "#banner", "The program was started again", "it says so")
     page.until("following && document.querySelectorAll('tbody').length === 1", "it shows the new run's sweep alone")
     settled(lambda: expect(row(page, 1), [30, 0, 0, 0, 0, 30], "the new run's sweep"))
     expect([text(page, f"#sum-{part}") for part in ("placed", "resolved", "open")], ["30", "0", "30"], "its sums")
     expect(page.run("document.querySelectorAll('.venue.card').length"), 2, "its venues")
     expect(page.run("document.querySelector('[name=shares]').value"), "7", "what was typed")
     day.close()
-    page.until("document.querySelector('#banner').textContent.startsWith('The day is closed')", "its end is said")
+    says(page, "#banner", "The day is closed", "its end is said")
     expect(page.run("document.querySelectorAll('tbody').length"), 1, "its sweep alone stands below")
     server.day = mock.morning()
     says_how_the_day_before_ended(page)
@@ -692,8 +710,8 @@ def starts_again(trial):
     expect("Live" in text(page, "#standing"), False, "nothing is live")
     desk.start()
     desk.place("sweep NYSE GE sell 30 168.3")
-    page.until("document.querySelector('#banner').textContent.startsWith('The program was started again')", "it says so")
-    page.until("following && document.querySelectorAll('#table tbody').length === 1", "it shows the new run's sweep alone")
+    says(page, "#banner", "The program was started again", "it says so")
+    page.until("following && document.querySelectorAll('#table tbody').length === 1", "the new run's sweep alone")
     settled(lambda: compare_sweeps(trial))
     settled(lambda: compare_venues(trial))
     settled(lambda: compare_executions(trial, page))
@@ -703,7 +721,7 @@ def starts_again(trial):
 
 
 def says_how_the_day_before_ended(page):
-    page.until("document.querySelector('#banner').textContent.startsWith('The program was started again')", "it says so")
+    says(page, "#banner", "The program was started again", "it says so")
     expect(text(page, "#banner").endswith("The day before it was closed, and its audit found nothing wrong."), True,
            "how the day before ended")
     page.until("following && document.querySelector('#standing').textContent.startsWith('Live')", "the new run is live")
@@ -734,7 +752,7 @@ def asks_for_the_token(trial):
         page.until("document.querySelector('#token-ask').open && !document.querySelector('#token').value", "asked")
         page.type(token)
         page.key("Enter")
-    page.until("document.querySelector('#answer').textContent.startsWith('Placed as sweep 1')", "it is placed")
+    says(page, "#answer", "Placed as sweep 1", "it is placed")
     expect(page.run("sessionStorage.getItem('token')"), "a word of ours", "it is kept")
     expect(len(server.day.sweeps), 1, "it is placed once")
     page.close()
@@ -845,6 +863,10 @@ CONTRAST = """(() => {
         const [a, b] = [light(parts(getComputedStyle(one).color)), light(behind(one))].sort((x, y) => y - x);
         if ((a + .05) / (b + .05) < 4.5) low.add(`${one.tagName}.${one.className} ${walker.currentNode.data.trim()}`);
     }
+    for (const one of document.querySelectorAll('[placeholder]')) {
+        const [a, b] = [light(parts(getComputedStyle(one, '::placeholder').color)), light(behind(one))];
+        if ((Math.max(a, b) + .05) / (Math.min(a, b) + .05) < 4.5) low.add(`placeholder ${one.placeholder}`);
+    }
     return [count, [...low]];
 })()"""
 
@@ -900,7 +922,7 @@ def closes_the_day(trial):
     press(page, "#ask-yes")
     page.until("document.querySelector('#close').disabled", "it can't be closed twice")
     page.until("document.querySelector('#send').disabled", "no more sweeps are taken")
-    page.until("document.querySelector('#banner').textContent.startsWith('The day is closed')", "it is closed", 3 * WITHIN)
+    says(page, "#banner", "The day is closed", "it is closed", 3 * WITHIN)
     expect("its audit found nothing wrong" in text(page, "#banner"), True, "its audit")
     page.until("document.querySelector('#standing').textContent === 'Day closed'", "it says so at the top")
     time.sleep(3)

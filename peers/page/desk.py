@@ -1,4 +1,5 @@
-"""A day of `dispatch run` behind its page: sixteen venues, most of them simulated, the others in trouble of each kind."""
+"""A day of `dispatch run` behind its page: sixteen venues, most of them simulated, the others in trouble of each kind.
+"""
 
 import json
 import random
@@ -18,7 +19,7 @@ from exchange import Exchange
 MOST_SECONDS = 300
 NAMES = ("NYSE", "ARCA", "NSDQ", "BATS", "EDGX", "EDGA", "BATY", "BX", "PHLX", "IEX", "MEMX", "MIAX", "LTSE", "CHX",
          "AMEX", "NSX")
-# The venues that aren't simulated, by how their exchange behaves: `refused` has none, and `served` is one of the program.
+# The venues that aren't simulated, by how their exchange behaves: `refused` has none, and `served` is the program's.
 MANNERS = {"NSDQ": "keeping", "BATS": "refused", "EDGA": "mute", "PHLX": "deaf", "MEMX": "wild", "LTSE": "parting",
            "CHX": "served"}
 # Where the session can come up.

@@ -46,7 +46,7 @@ class Handler(BaseHTTPRequestHandler):
             body = self.rfile.read(int(self.headers.get("Content-Length", 0))) or None
             desk.request(self.command, self.path, body, {"Host": self.server.desk, **fields})
             answer = desk.getresponse()
-            self.begin(answer.status, {name: answer.getheader(name) for name in ANSWER_FIELDS if answer.getheader(name)})
+            self.begin(answer.status, {name: value for name, value in answer.getheaders() if name in ANSWER_FIELDS})
             while piece := answer.read1(65536):
                 self.wfile.write(piece)
         except (OSError, http.client.HTTPException):

@@ -61,7 +61,8 @@ class Day:
 
     @staticmethod
     def new_venue(name):
-        counts = {"unsent": 0, "doubt": 0, "settled": 0, "lost": 0, "connections": 1, "refused_dials": 0, "sent": 2, "received": 2}
+        counts = {"unsent": 0, "doubt": 0, "settled": 0, "lost": 0, "connections": 1, "refused_dials": 0}
+        counts |= {"sent": 2, "received": 2}
         counts["unbooked"] = {"duplicate": 0, "overfill": 0, "stray": 0, "unread": 0}
         return {"venue": name, "state": "up", **counts, "heard": time.monotonic()}
 

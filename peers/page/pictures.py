@@ -32,15 +32,38 @@ def wait(page, script, what):
     time.sleep(0.2)
 
 
+def opened(browser, day, **size):
+    page = Page(browser, f"{mock.Server(day).base}/", **size)
+    wait(page, "typeof following === 'boolean' && following && unread().length === 0", "it follows")
+    return page
+
+
 def take_all(browser):
+    take_a_day(browser)
+    take_trouble(browser)
+
+
+def take_trouble(browser):
+    """Sixteen venues with trouble of each kind, on a desk's screen and on a phone's, and what is left without the desk."""
+    day = mock.many()
+    page = opened(browser, day)
+    take(page, "troubles")
+    phone = opened(browser, day, width=390, height=844)
+    take(phone, "narrow")
+    phone.close()
+    day.answers = day.takes_streams = False
+    day.cut_streams()
+    wait(page, "document.body.classList.contains('stale')", "it is stale")
+    take(page, "stale")
+    page.close()
+
+
+def take_a_day(browser):
+    """A day from its morning to its close."""
     day = mock.morning()
-    page = Page(browser, f"{mock.Server(day).base}/")
-    wait(page, "typeof following === 'boolean' && following", "it follows")
+    page = opened(browser, day)
     take(page, "morning")
     mock.troubles(day)
-    page.run("turn(2)")
-    wait(page, "document.querySelectorAll('tr.leg').length === 4", "its legs")
-    take(page, "troubles")
     checks.fill_leg(page, 0, "ARCA", "buy", 100, "IBM", "187.5")
     checks.press(page, "#add")
     checks.fill_leg(page, 1, "NYSE", "buy", 2500, "BRK.B", "412.25")
@@ -48,19 +71,18 @@ def take_all(browser):
     wait(page, "document.querySelector('#ask').open", "it is asked back")
     take(page, "asked_back")
     checks.press(page, "#ask-yes")
-    wait(page, "document.querySelector('#answer').textContent.startsWith('Refused')", "it is refused")
+    checks.says(page, "#answer", "Refused", "it is refused")
+    page.run("turn(2)")
+    wait(page, "document.querySelectorAll('tr.leg').length === 4", "its legs")
     take(page, "refused")
     day.takes_streams = False
     day.cut_streams()
-    wait(page, "document.querySelector('#banner').textContent.startsWith('Events were lost')", "the loss")
+    checks.says(page, "#banner", "Events were lost", "the loss")
     take(page, "events_lost")
-    page.size(400, 850)
-    take(page, "narrow")
-    page.size(1440, 900)
     day.takes_streams = True
     wait(page, "following", "it follows again")
     day.close()
-    wait(page, "document.querySelector('#standing').textContent === 'Day closed'", "the end")
+    checks.says(page, "#standing", "Day closed", "the end")
     take(page, "closed")
 
 

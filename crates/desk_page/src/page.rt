@@ -5,7 +5,7 @@ pub const PAGE: &str = r###"<!doctype html>
 <html lang="en">
 <head>
 <meta charset="utf-8">
-<meta http-equiv="Content-Security-Policy" content="default-src 'none'; script-src 'sha256-mPQeMZJ+wEUNDOzZUT0/y8R0ZbnJ5ng6LlQxOQXxLaI='; style-src 'sha256-uQ55fLEHN5J+GFdgt6Hn72WE7VsLOfqqNj5s59zfEG0='; connect-src 'self'; base-uri 'none'; form-action 'none'; require-trusted-types-for 'script'; trusted-types 'none'">
+<meta http-equiv="Content-Security-Policy" content="default-src 'none'; script-src 'sha256-KnObchnZ2AWBAkPyhJaEUTZEW2IiIHRmprTyePGA5uA='; style-src 'sha256-9j9grgHCb4OjElDby1LT2sLTDIJyZ+iGJWl82qv5EsE='; connect-src 'self'; base-uri 'none'; form-action 'none'; require-trusted-types-for 'script'; trusted-types 'none'">
 <meta name="viewport" content="width=device-width, initial-scale=1">
 <meta name="referrer" content="no-referrer">
 <meta name="color-scheme" content="light dark">
@@ -194,7 +194,8 @@ legend { font-weight: 600; padding: 0 .3rem; }
 #unbooked li { font-weight: 600; }
 #unbooked .note { font-weight: 400; }
 .tools { display: flex; flex-wrap: wrap; align-items: center; gap: .5rem 1.5rem; margin-bottom: .5rem; }
-#find { min-height: 2.2rem; width: 15rem; }
+#find { min-height: 2.2rem; width: 16.5rem; max-width: 100%; }
+#find::placeholder { color: var(--soft); opacity: 1; }
 
 dialog {
   background: var(--card); color: var(--ink); border: 2px solid var(--field); border-radius: 12px;
@@ -856,7 +857,10 @@ function unread() {
 
 // ---- Looking for a sweep. The desk is asked for a number and a reference; for a symbol it can't be.
 
+let finding = 0;
+
 async function find() {
+  clearTimeout(finding);
   const text = at("find").value.trim();
   const upper = text.toUpperCase();
   const symbol = WANTED.symbol[0](upper) ? upper : null;
@@ -1031,11 +1035,12 @@ function drawList(list, map) {
 function drawExecutions() {
   const kept = Math.min(executions.size, MOST_EXECUTIONS);
   drawList(at("executions"), executions);
-  setText(at("executions-note"), kept === 0 ? "None yet" : `The ${digits(kept)} newest of ${digits(lastExecution)}`);
+  const listed = kept < lastExecution ? `The ${digits(kept)} newest of ${digits(lastExecution)}` : `${digits(kept)} in all`;
+  setText(at("executions-note"), kept === 0 ? "None yet" : listed);
   const all = Math.max(unbooked.size, expectedUnbooked());
   const some = Math.min(unbooked.size, MOST_EXECUTIONS);
   drawList(at("unbooked").querySelector("ol"), unbooked);
-  setText(at("unbooked-note"), some === all ? `All ${digits(all)} of the day` : `${digits(some)} of ${digits(all)}`);
+  setText(at("unbooked-note"), some === all ? `${digits(all)} in all` : `${digits(some)} of ${digits(all)}`);
   show(at("unbooked"), all > 0);
   drawAlarm(all);
   seekUnbooked();
@@ -1045,7 +1050,7 @@ function drawAlarm(count) {
   show(at("alarm"), count > 0);
   if (at("alarm").dataset.count === String(count)) return;
   at("alarm").dataset.count = String(count);
-  const words = `${counted(count, "report")} of exchanges that the book didn't take`;
+  const words = `${counted(count, "report")} that the book didn't take`;
   at("alarm").replaceChildren(lamp("triangle", "small bad"), make("a", { href: "#unbooked" }, words));
 }
 
@@ -1102,7 +1107,7 @@ function beginAnew() {
   at("find").value = "";
   newestRead = dayOpen = lastExecution = lookedBehind = 0;
   tell("The program was started again. The page shows its new run.");
-  if (beganAnew.before) {
+  if (streamRun !== run) {
     following = false;
     follow();
   }
@@ -1117,7 +1122,10 @@ async function ask(path) {
   if (!response.ok) {
     throw Object.assign(new Error(`${path} was answered ${response.status}`), { status: response.status });
   }
-  return parse(await response.text());
+  const answered = run;
+  const text = await response.text();
+  if (run !== answered) throw ANOTHER_RUN;
+  return parse(text);
 }
 
 async function askSweeps(after, most) {
@@ -1237,7 +1245,7 @@ function banner() {
   }
   if (lostAt) {
     const what = `The page reads the day every ${LOOK_EVERY / 1000} seconds instead, and goes on trying.`;
-    const why = isRefused ? " Four others may follow the day, which is the most." : "";
+    const why = isRefused ? " Perhaps four others follow the day, which is the most." : "";
     return ["warn", "cross", `Events were lost at ${clock(lostAt)}. ${what}${why}`];
   }
   if (closing) {
@@ -1279,6 +1287,7 @@ function lose(fault) {
 
 const EVENTS = {
   run(said) {
+    streamRun = said.run;
     if (!isOfThisRun(said.run)) catchUp(stream);
   },
   sweep(said) {
@@ -1306,8 +1315,12 @@ const EVENTS = {
 };
 
 let stream = null;
+let streamRun = null;         // the run whose events it tells
+let redial = 0;
 
 function follow() {
+  clearTimeout(redial);
+  stream?.close();
   const mine = new EventSource("/api/events");
   stream = mine;
   isRefused = true;
@@ -1340,7 +1353,7 @@ async function catchUp(mine) {
 }
 
 function take(mine, name, data) {
-  if (stream !== mine) return;
+  if (stream !== mine || name !== "run" && streamRun !== run) return;
   time += 1;
   try {
     EVENTS[name](parse(data));
@@ -1360,7 +1373,7 @@ function again(mine, fault) {
   if (stream === mine && mine !== null) {
     stream.close();
     stream = null;
-    setTimeout(follow, wait);
+    redial = setTimeout(follow, wait);
     wait = Math.min(2 * wait, 15000);
   }
   lose(fault);
@@ -1732,7 +1745,6 @@ function begin() {
     event.preventDefault();
     find();
   });
-  let finding;
   at("find").addEventListener("input", () => {
     clearTimeout(finding);
     finding = setTimeout(find, FIND_AFTER);
