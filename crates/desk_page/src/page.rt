@@ -5,7 +5,7 @@ pub const PAGE: &str = r###"<!doctype html>
 <html lang="en">
 <head>
 <meta charset="utf-8">
-<meta http-equiv="Content-Security-Policy" content="default-src 'none'; script-src 'sha256-KnObchnZ2AWBAkPyhJaEUTZEW2IiIHRmprTyePGA5uA='; style-src 'sha256-9j9grgHCb4OjElDby1LT2sLTDIJyZ+iGJWl82qv5EsE='; connect-src 'self'; base-uri 'none'; form-action 'none'; require-trusted-types-for 'script'; trusted-types 'none'">
+<meta http-equiv="Content-Security-Policy" content="default-src 'none'; script-src 'sha256-9ok+kcDpsAy5J2+lRCkVJyZM4/jP50MMjZJZLQLCWoM='; style-src 'sha256-9j9grgHCb4OjElDby1LT2sLTDIJyZ+iGJWl82qv5EsE='; connect-src 'self'; base-uri 'none'; form-action 'none'; require-trusted-types-for 'script'; trusted-types 'none'">
 <meta name="viewport" content="width=device-width, initial-scale=1">
 <meta name="referrer" content="no-referrer">
 <meta name="color-scheme" content="light dark">
@@ -1034,9 +1034,10 @@ function drawList(list, map) {
 
 function drawExecutions() {
   const kept = Math.min(executions.size, MOST_EXECUTIONS);
+  const isCut = kept < lastExecution;
+  const words = isCut ? `The ${digits(kept)} newest of ${digits(lastExecution)}` : `${digits(kept)} in all`;
   drawList(at("executions"), executions);
-  const listed = kept < lastExecution ? `The ${digits(kept)} newest of ${digits(lastExecution)}` : `${digits(kept)} in all`;
-  setText(at("executions-note"), kept === 0 ? "None yet" : listed);
+  setText(at("executions-note"), kept === 0 ? "None yet" : words);
   const all = Math.max(unbooked.size, expectedUnbooked());
   const some = Math.min(unbooked.size, MOST_EXECUTIONS);
   drawList(at("unbooked").querySelector("ol"), unbooked);
