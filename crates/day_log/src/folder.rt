@@ -201,10 +201,25 @@ fn begin_logs<R: Files>(
     Ok(logs)
 }
 
+/// Looks that no log of a day is in a folder yet, and makes nothing. Of several that are there the first is named: the
+/// venues' come in order, and then `sweeps.log`.
+pub fn check_new_logs<R: Files>(
+    rt: &R,
+    alloc: Global,
+    folder: &str,
+    venues: &[Venue],
+) -> Result<(), LogFault>
+    ensures { result ≡ Err LogFault.NameTaken ↔ is_name_taken venues.now ≡ true }
+{
+    if is_name_taken(venues) {
+        return Err(LogFault::NameTaken);
+    }
+    check_files(rt, alloc, folder, venues)
+}
+
 /// Begins the logs of a day in a folder, which is made where it isn't there: a file for each venue, and one for the
-/// lines of the desk, each with its first line. Where one of the files is there already none is made, nor the folder;
-/// of several the first is named, the venues' in order and then `sweeps.log`. Where the system refuses a file after
-/// that look, those before it stay.
+/// lines of the desk, each with its first line. Where one of the files is there already (`check_new_logs`) none is
+/// made, nor the folder. Where the system refuses a file after that look, those before it stay.
 pub fn open_logs<R: Files>(
     rt: &R,
     alloc: Global,
@@ -215,10 +230,7 @@ pub fn open_logs<R: Files>(
     ensures writers { IfOk result (λ logs. length logs.writers.items ≡ length venues.now + 1) }
     ensures taken { result ≡ Err LogFault.NameTaken ↔ is_name_taken venues.now ≡ true }
 {
-    if is_name_taken(venues) {
-        return Err(LogFault::NameTaken);
-    }
-    check_files(rt, alloc, folder, venues)?;
+    check_new_logs(rt, alloc, folder, venues)?;
     match fs::create_dir_all(rt, folder) {
         Ok(()) => {}
         Err(_) => return Err(LogFault::NoFolder),

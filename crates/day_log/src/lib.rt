@@ -44,7 +44,7 @@ mod way;
 pub use counts::LogCounts;
 pub use fault::LogFault;
 pub use file_writer::{FileWriter, write_until};
-pub use folder::{DayLogs, open_logs};
+pub use folder::{DayLogs, check_new_logs, open_logs};
 pub use going_on::go_on_with_logs;
 pub use header::{SWEEPS_HEADER, head_of_words, header_lines, words_text};
 pub use line_log::LineLog;

@@ -179,6 +179,14 @@ impl<'a, R: Files<File = File> + Clock> DayFiles<'a, R> {
         self.desk.count() == 0 && self.venues.iter().all(|found| found.count() == 0)
     }
 
+    /// Whether no file of a journal is there: the day wasn't begun.
+    pub fn are_none(&self) -> bool
+        ensures { result ≡ (self.now.desk.files == 0)
+            && list_all (λ found. found.files == 0) self.now.venues.items }
+    {
+        self.desk.files() == 0 && self.venues.iter().all(|found| found.files() == 0)
+    }
+
     /// Where the file is whose lock is held.
     fn lock_path(&self, alloc: Global) -> Result<String, AllocError> {
         let path = self.path;

@@ -24,7 +24,7 @@ use desk_config::{Day, DeskConfig, Durable};
 use desk_floor::{Floor, Manner, Voice};
 use desk_talk::{DeskInput, InputLines, LinesEnd, take_lines};
 use desk_threads::{Cast, Ended, in_threads};
-use desk_venues::{DayFault, LogFolder, Serve};
+use desk_venues::{DayFault, LogFolder, Serve, check_new_logs};
 use exec_collector::{Accounts, BlankBook};
 use json_lines::Form;
 use kept_link::Telling;
@@ -69,7 +69,7 @@ pub struct DayOptions<'a> {
 /// out. A session that isn't over ten seconds later, or at a second `close`, is given up. Where a folder is named the
 /// messages of each venue and the lines are logged there, in files that aren't there yet; they are begun once each
 /// exchange's address is known. Where journals are kept the day goes on with them, if there are lines in them, and
-/// with its logs, and says so; at its end it is written there that it ended.
+/// says so; at its end it is written there that it ended. Once a file of a journal is there, the logs go on too.
 pub fn run_day<R, I, W>(
     rt: &R,
     alloc: Global,
@@ -157,6 +157,9 @@ where
         Some(at) => {
             let names = JournalNames::new(alloc, at.day, venues)?;
             let files = open_files(rt, alloc, at, &names, venues)?;
+            if files.are_none() {
+                check_new_logs(rt, alloc, options.folder, venues)?;
+            }
             let is_new = files.is_new();
             let (begun, again) = restored(rt, alloc, at, venues, &files, begun)?;
             let past = past_of(
@@ -171,7 +174,7 @@ where
             )?;
             let told = if is_new { None } else { Some(again.told) };
             held_day(
-                rt, alloc, config, options, !is_new, told, out, lines, begun, past,
+                rt, alloc, config, options, true, told, out, lines, begun, past,
             )
         }
     }

@@ -29,7 +29,7 @@ mod workers;
 pub use address::first_address;
 pub use day_fault::DayFault;
 pub use exchange::{Exchange, Serve};
-pub use logs::LogFolder;
+pub use logs::{LogFolder, check_new_logs};
 pub use opened::{OpenVenues, open_venues};
 pub use session::desk_end;
 pub use views::Sight;

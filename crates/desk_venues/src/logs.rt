@@ -26,11 +26,39 @@ pub struct Logs<F: Write + Drop> {
 #[derive(Clone, Copy, Debug)]
 pub struct LogFolder<'a> {
     pub path: &'a str,
-    /// Whether the day goes on, so that its logs may be there.
+    /// Whether logs that are there go on: the day keeps journals, and was begun before, or looked that there are none.
     pub goes_on: bool,
 }
 
-/// Begins the logs of a day in a folder, if it has one. Those of a day that goes on may be there, and go on too.
+/// Why a day isn't run whose logs are refused.
+fn refused(fault: LogFault) -> DayFault
+    ensures { IsNoMismatch result }
+{
+    match fault {
+        LogFault::OutOfMemory => DayFault::OutOfMemory,
+        fault => DayFault::NoLogs(fault),
+    }
+}
+
+/// Refuses a day that isn't begun yet and whose logs are there already, if it keeps any. Nothing is made.
+pub fn check_new_logs<R: Files<File = File>>(
+    rt: &R,
+    alloc: Global,
+    folder: Option<&str>,
+    venues: &[Venue],
+) -> Result<(), DayFault>
+    ensures { IfErr result IsNoMismatch }
+{
+    let Some(folder) = folder else {
+        return Ok(());
+    };
+    match day_log::check_new_logs(rt, alloc, folder, venues) {
+        Ok(()) => Ok(()),
+        Err(fault) => Err(refused(fault)),
+    }
+}
+
+/// Begins the logs of a day in a folder, if it has one. Those that are there go on, or are refused.
 pub fn begin_logs<R: Files<File = File>>(
     rt: &R,
     alloc: Global,
@@ -57,7 +85,6 @@ pub fn begin_logs<R: Files<File = File>>(
             lines: Some(logs.sweeps),
             writers: logs.writers,
         }),
-        Err(LogFault::OutOfMemory) => Err(DayFault::OutOfMemory),
-        Err(fault) => Err(DayFault::NoLogs(fault)),
+        Err(fault) => Err(refused(fault)),
     }
 }
