@@ -31,12 +31,14 @@
 //! - The entries of the book's history that a look goes through give exactly the sweeps that they are about
 //!   (`note_entries`, private), and so do the notes that it didn't take (`note_unbooked`, private). That each is gone
 //!   through once is only tested.
-//! - The count of refused sweeps by their reasons, and the last of them, are only tested.
+//! - The count of refused sweeps by their reasons, and the last of them, are only tested. So is how long a sweep waits
+//!   for room (`Floor::await_room`).
 //!
 //! See `docs/run.md`.
 #![tactic(auto)]
 
 mod asking;
+mod awaiting;
 mod bells;
 mod changes;
 mod counter;

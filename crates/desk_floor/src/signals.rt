@@ -24,6 +24,8 @@ pub struct Manner {
     pub tells_executions: bool,
     /// Whether a sweep without a reference is refused.
     pub wants_refs: bool,
+    /// Whether a line waits until its venues have room.
+    pub waits: bool,
 }
 
 /// Whether threads that others rest on have begun.

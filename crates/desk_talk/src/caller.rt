@@ -147,6 +147,9 @@ where
     let line = lines.line();
     match read_line(alloc, floor.names.as_slice(), line) {
         Ok(Command::Sweep(submission)) => {
+            if floor.manner.waits {
+                floor.await_room(rt, submission.sweep.legs.as_slice());
+            }
             let handed = floor.hand_in(rt, seat, log, line, submission);
             let answer = handed.unwrap_or(Answer::Closing);
             floor.voice.say(rt, &answer)

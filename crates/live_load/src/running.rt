@@ -127,6 +127,7 @@ where
             tells_news: true,
             tells_executions: false,
             wants_refs: false,
+            waits: false,
         },
         folder: None,
         voice: Voice::new(alloc, Form::Words, sink()),

@@ -23,6 +23,8 @@ const QUIET: &str = "quiet";
 
 const REFS: &str = "refs";
 
+const WAIT: &str = "wait";
+
 /// How many seconds open shares are waited for at the end where the command line doesn't say.
 const USUAL_PATIENCE: u64 = 30;
 
@@ -83,7 +85,12 @@ pub fn run_command<'a>(alloc: Global) -> Result<Command<'a>, AllocError> {
         .arg(flag(alloc, EXECUTIONS, "tells each execution, with its number"))?
         .arg(flag(alloc, QUIET, "tells no changes while they come"))?
         .arg(flag(alloc, JSON, "writes each line as an object of JSON"))?
-        .arg(refs)
+        .arg(refs)?
+        .arg(flag(
+            alloc,
+            WAIT,
+            "has a line wait until its venues have room, in place of R05",
+        ))
 }
 
 /// The patience that the command line asks for.
@@ -130,6 +137,7 @@ pub fn read_options<'a, S: AsStr>(
             tells_news: !matches.get_flag(QUIET),
             tells_executions: matches.get_flag(EXECUTIONS),
             wants_refs,
+            waits: matches.get_flag(WAIT),
         },
         form: if matches.get_flag(JSON) {
             Form::Json
