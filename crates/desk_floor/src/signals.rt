@@ -26,6 +26,8 @@ pub struct Manner {
     pub wants_refs: bool,
     /// Whether a line waits until its venues have room.
     pub waits: bool,
+    /// Whether the day goes on once its input has ended.
+    pub serves: bool,
 }
 
 /// Whether threads that others rest on have begun.

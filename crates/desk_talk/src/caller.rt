@@ -15,12 +15,16 @@ use release_lock::{CallerSeat, Run};
 use std::alloc::Global;
 use std::io::{Read, Write};
 use std::sync::Wait;
+use std::thread;
 use std::time::{Clock, Duration};
 use sweep_text::{Command, read_line};
 
 /// How many seconds the caller waits for a line before it looks how the day stands. The end of the workers ends the
 /// wait.
 const LOOK_SECONDS: u64 = 60;
+
+/// How many milliseconds pass between two looks whether the day is closing, once the input has ended.
+const LOOK_MILLIS: u64 = 250;
 
 /// How many lines are taken between two looks at the sweeps that have open shares. So `status` never looks at a whole
 /// day. What memory is wanted for is looked at later.
@@ -35,9 +39,9 @@ pub struct LinesEnd<L: Run> {
 }
 
 /// Takes the lines of an input and answers each, and counts what is placed on this seat. It begins once the workers
-/// run, and waits until each venue is up, but no longer than two seconds. With the end of the input, with `close`, or
-/// where input or output fails, the day is to close. Where no worker runs within ten seconds the day is given up, and
-/// it leaves nothing.
+/// run, and waits until each venue is up, but no longer than two seconds. With `close`, or where input or output fails,
+/// the day is to close; with the end of the input too, unless it serves on. Where no worker runs within ten seconds the
+/// day is given up, and it leaves nothing.
 pub fn take_lines<
     L: Run,
     M: Accounts,
@@ -118,10 +122,28 @@ where
             Next::Nothing => {
                 let _ = open.look(rt, &floor.collector);
             }
-            Next::End => return Ok(()),
+            Next::End => {
+                if floor.manner.serves {
+                    await_close(rt, floor);
+                }
+                return Ok(());
+            }
         }
     }
     Ok(())
+}
+
+/// Waits until the day is closing, or its workers have ended.
+fn await_close<L: Run, M: Accounts, W: Write + Drop, J: Telling, R: Wait + Clock>(
+    rt: &R,
+    floor: &Floor<L, M, W, J>,
+) {
+    for _ in rt.forever() {
+        if floor.signals.is_closing() || floor.signals.is_ending() {
+            return;
+        }
+        thread::sleep(rt, Duration::from_millis(LOOK_MILLIS));
+    }
 }
 
 /// Answers the line that was read last.

@@ -128,6 +128,7 @@ where
             tells_executions: false,
             wants_refs: false,
             waits: false,
+            serves: false,
         },
         folder: None,
         voice: Voice::new(alloc, Form::Words, sink()),

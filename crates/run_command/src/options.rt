@@ -23,6 +23,8 @@ const QUIET: &str = "quiet";
 
 const REFS: &str = "refs";
 
+const SERVE: &str = "serve";
+
 const WAIT: &str = "wait";
 
 /// How many seconds open shares are waited for at the end where the command line doesn't say.
@@ -90,6 +92,11 @@ pub fn run_command<'a>(alloc: Global) -> Result<Command<'a>, AllocError> {
             alloc,
             WAIT,
             "has a line wait until its venues have room, in place of R05",
+        ))?
+        .arg(flag(
+            alloc,
+            SERVE,
+            "goes on once the input has ended, until the page or a signal closes the day",
         ))
 }
 
@@ -138,6 +145,7 @@ pub fn read_options<'a, S: AsStr>(
             tells_executions: matches.get_flag(EXECUTIONS),
             wants_refs,
             waits: matches.get_flag(WAIT),
+            serves: matches.get_flag(SERVE),
         },
         form: if matches.get_flag(JSON) {
             Form::Json
