@@ -1,0 +1,7 @@
+use Rattle.std.proofs.Common.{◌≡◌, drop}
+use Rattle.order_limits.specs.Limits.{first_of, symbol_excess}
+use Rattle.order_limits.proofs.limits.OrderLimits.first_by_symbol.Given as goal
+
+abbrev pub invariant-loop-leg : goal.invariant-loop-leg
+invariant-loop-leg l =
+    first_of (symbol_excess l.self) l.legs ≡ first_of (symbol_excess l.self) (drop l.leg-index l.legs)

@@ -1,0 +1,12 @@
+use Rattle.std.proofs.Common.{refl}
+use Rattle.order_limits.specs.Limits.{first_excess}
+use Rattle.order_limits.proofs.worked.days_are_judged.Goals as goal
+
+pub returns : goal.returns
+unfolding first_excess
+returns c = record {
+  first = refl;
+  second = refl;
+  third = refl;
+  above = refl;
+}

@@ -1,0 +1,11 @@
+use Rattle.std.proofs.Common.{refl}
+use Rattle.order_limits.specs.Limits.{first_excess}
+use Rattle.order_limits.proofs.worked.symbols_are_judged.Goals as goal
+
+pub returns : goal.returns
+unfolding first_excess
+returns c = record {
+  known = refl;
+  unknown = refl;
+  dollars_come_first = refl;
+}
