@@ -17,8 +17,12 @@ use Rattle.sweep_release.specs.History.{KeptDesk}
 use Rattle.journal_words.specs.Desk.{DeskSaid, desk_said}
 use Rattle.journal_words.specs.Desk.DeskSaid.{Places, Settles, Pauses, Resumes, Halts, Ends}
 use Rattle.journal_words.specs.declared.fault.WordsFault.{WordsFault}
-use Rattle.release_lock.specs.Locked.{Releases}
+use Rattle.release_lock.specs.Locked.{BecomesOf, Releases, ReleasesWithin, day_dollars}
 use Rattle.release_lock.specs.Noted.{number_before, numbers_from, placed_in}
+use Rattle.order_limits.specs.declared.dollars.Dollars.{Dollars}
+use Rattle.order_limits.specs.declared.over.Excess.{Excess}
+use Rattle.order_limits.specs.Day.{judged_if}
+use Rattle.order_limits.specs.Limits.{LimitParts}
 use Rattle.release_lock.specs.Queues.{PumpsEach, PumpsIf, is_for}
 use Rattle.release_lock.proofs.Leaving.{pumped_sweeps}
 use Rattle.release_lock.proofs.Placing.{outcome}
@@ -223,7 +227,7 @@ pub record IsOneMore (legs : List Routed) (before : KeptDesk) (receipt : Receipt
   pub sweeps : after.desk.sweeps ≡ before.desk.sweeps ++ legs ∷ []
   pub number : receipt.number ≡ length before.desk.sweeps + 1
 
-pub one_more : (legs : List Routed) (before : KeptDesk) (receipt : Receipt) (after : KeptDesk)
+one_more : (legs : List Routed) (before : KeptDesk) (receipt : Receipt) (after : KeptDesk)
     → Releases legs before (Ok receipt) after → IsOneMore legs before receipt after
 one_more legs before receipt after it =
     let placed = outcome legs before it.between (Ok receipt) it.placed in
@@ -232,3 +236,15 @@ one_more legs before receipt after it =
           ∙ ap (λ d. d.sweeps) placed.desk;
       number = ap (λ r. r.number) placed.receipt_is;
     }
+
+-- what was judged and placed was released
+was_released : (day : Result Dollars Excess) (legs : List Routed) (before : KeptDesk) (receipt : Receipt)
+    (after : KeptDesk) → BecomesOf day legs before (Ok receipt) after → Releases legs before (Ok receipt) after
+was_released (Ok day) legs before receipt after becomes = becomes.0
+was_released (Err excess) legs before receipt after becomes = absurd (let never = becomes.0 in cc)
+
+pub one_judged : (limits : Option LimitParts) (legs : List Routed) (before : KeptDesk) (receipt : Receipt)
+    (after : KeptDesk) → ReleasesWithin limits legs before (Ok receipt) after → IsOneMore legs before receipt after
+one_judged limits legs before receipt after releases =
+    one_more legs before receipt after
+    (was_released (judged_if limits (day_dollars before) legs) legs before receipt after releases)

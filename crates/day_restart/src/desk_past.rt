@@ -10,7 +10,7 @@ use desk_words::VenueName;
 use exec_collector::{Accounts, Collector};
 use journal_words::{DeskDeed, read_desk};
 use leg::{Legs, Sweep};
-use release_lock::{Asked, CallerSeat, LockedDesk, Run};
+use release_lock::{Asked, CallerSeat, Declined, LockedDesk, Run};
 use session_worker::Start;
 use std::alloc::{AllocError, Global};
 use std::sync::Wait;
@@ -95,7 +95,7 @@ fn place_as<L: Run, M: Accounts>(
     match desk.release(rt, collector, sweep, seat, &Asked::nothing()) {
         Ok(receipt) if receipt.number == number => Ok(receipt),
         Ok(_) => Err(RestartFault::DeskLine(line)),
-        Err(ReleaseFault::OutOfMemory) => Err(RestartFault::OutOfMemory),
+        Err(Declined::Fault(ReleaseFault::OutOfMemory)) => Err(RestartFault::OutOfMemory),
         Err(_) => Err(RestartFault::DeskLine(line)),
     }
 }

@@ -11,3 +11,4 @@ pub mod TakenLegs
 pub mod Raising
 pub mod NotedSweeps
 pub mod Shares
+pub mod DayDollars

@@ -1,5 +1,5 @@
 -- What the desk's journal has kept of the sweeps released: it stays so while these are the same, and when one is placed.
-use Rattle.std.proofs.Common.{◌≡◌, ℕ, suc, ◌+◌, ◌≤◌, List, [], ◌∷◌, ◌++◌, length, Option, Some, None, Result, Ok, Err, refl, ap, sym, ◌∙◌, arith}
+use Rattle.std.proofs.Common.{◌≡◌, ℕ, suc, ◌+◌, List, [], ◌∷◌, ◌++◌, length, Option, Some, None, Result, Ok, Err, refl, ap, sym, ◌∙◌, arith}
 use Rattle.std.proofs.lemmas.List.{append-nil}
 use Rattle.fix_tags.specs.Stamp.{StampParts, IsStamp}
 use Rattle.leg.specs.declared.sweep.Routed.{Routed}

@@ -1,5 +1,5 @@
 -- What the desk's journal has kept, each time the lock is free.
-use Rattle.std.specs.Prelude.{◌≡◌, ℕ, suc, List, [], ◌∷◌, length, Option, Some, None, Result, Ok, Err}
+use Rattle.std.specs.Prelude.{◌≡◌, ℕ, suc, List, [], ◌∷◌, Option, Some, None, Result, Ok}
 use Rattle.fix_tags.specs.Stamp.{StampParts}
 use Rattle.sweep_release.specs.History.{KeptDesk}
 use Rattle.journal_tape.specs.Told.{LinesTold}

@@ -34,6 +34,7 @@ pub fn check_queues<L: Run, J: Telling>(
         feeds,
         sweeps: _,
         book: _,
+        dollars: _,
         journal: _,
     } = locked;
     let mut feeds = VecDeque::from(feeds);

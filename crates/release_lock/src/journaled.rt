@@ -21,6 +21,7 @@ impl<L: Run> LockedDesk<L> {
             feeds,
             sweeps,
             book,
+            dollars,
             journal: _,
         } = self;
         LockedDesk {
@@ -29,6 +30,7 @@ impl<L: Run> LockedDesk<L> {
             feeds,
             sweeps,
             book,
+            dollars,
             journal,
         }
     }
@@ -46,6 +48,7 @@ impl<L: Run, J: Telling> LockedDesk<L, J> {
             feeds,
             sweeps,
             book,
+            dollars,
             journal,
         } = self;
         let locked = LockedDesk {
@@ -54,6 +57,7 @@ impl<L: Run, J: Telling> LockedDesk<L, J> {
             feeds,
             sweeps,
             book,
+            dollars,
             journal: Untold,
         };
         (locked, journal)

@@ -8,9 +8,12 @@
 //! - The desk's journal is under the lock too. Each time the lock is got its lines are kept, and they say of each sweep
 //!   released, in order and once, that it was placed under its number (`IsNoted`, of a journal that says what it was
 //!   told). So a leg goes into a ring only once its sweep's line is kept. `Untold` is no journal.
-//! - `release` is `place` under both locks, with its answers. The seat gains exactly this sweep, under the number of
-//!   the receipt, and its shares, and by a refusal nothing. Then each venue of the sweep's legs is pumped, by a refusal
-//!   none.
+//! - A sweep that is asked for under limits is judged first, by what the desk's own sweeps come to at that moment. Over
+//!   a limit it is declined, and nothing changes. A day on which it is placed then comes to what was judged, so never
+//!   to more than its limit (`ReleasesWithin`). The sum of the day is kept beside the desk, exactly (`IsDeskDollars`).
+//! - Within them `release` is `place` under both locks, with its answers. The seat gains exactly this sweep, under the
+//!   number of the receipt, and its shares, and by a refusal nothing. Then each venue of the sweep's legs is pumped, by
+//!   a refusal none.
 //! - A seat's shares are those of its sweeps (`CallerSeat::shares`); a seat that is split off has none, and one that is
 //!   joined hands its own on. The sweeps of all seats are the desk's, each once and under its number (clause
 //!   `all_placed` of `check_placed`): a sweep that is placed is on one seat, once.
@@ -34,6 +37,7 @@ mod caller_seat;
 mod checking;
 mod comparing;
 mod counting;
+mod declined;
 mod journaled;
 mod locked_desk;
 mod new_desk;
@@ -53,6 +57,7 @@ pub use caller_seat::CallerSeat;
 pub use checking::{WrongQueue, check_queues};
 pub use comparing::compare_sweeps;
 pub use counting::{Miscounted, check_placed};
+pub use declined::Declined;
 pub use locked_desk::LockedDesk;
 pub use new_desk::OpenedDesk;
 pub use release_lock::{Opened, ReleaseLock};

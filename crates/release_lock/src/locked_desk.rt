@@ -1,17 +1,21 @@
 //! The desk, the count of what its callers placed, and the feeds of the venues' rings.
 
-ghost use Rattle.std.specs.Prelude.{◌≡◌, ◌⊎◌, ◌+◌, ◌<◌, ◌≤◌, ◌++◌, ◌∷◌, [], List, length, min, IfOk, MatchResult};
+ghost use Rattle.std.specs.Prelude.{◌≡◌, ◌⊎◌, ◌+◌, ◌*◌, ◌^◌, ◌<◌, ◌≤◌, ◌++◌, ◌∷◌, [], List, length, min, option_map};
+ghost use Rattle.std.specs.Prelude.{IfOk, IfSome, OnOk, MatchResult};
 ghost use Rattle.std.specs.Fn.{FnOnceReturnsAtMut};
 ghost use Rattle.crossbeam_queue.specs.Fifo.{Held};
 ghost use Rattle.leg.specs.Answering.{Answers};
-ghost use Rattle.leg.specs.declared.sweep.Routed.{Routed};
+ghost use Rattle.leg.specs.declared.sweep.Routed.{Routed as ARouted};
 ghost use Rattle.venue_queue.specs.Rule.{EndsWith};
 ghost use Rattle.share_ledger.specs.Entries.{sweep_shares};
 ghost use Rattle.sweep_release.specs.Desk.{placed};
 ghost use Rattle.sweep_release.specs.History.{KeptDesk as ADesk, without_room};
 ghost use Rattle.sweep_release.specs.Place.{kept, place_kept, PlaceAnswers};
 ghost use Rattle.exec_collector.specs.Resolved.{OnlyOpens};
-ghost use Rattle.release_lock.specs.Locked.{Replays, Places, Releases, OnlyTurns};
+ghost use Rattle.order_limits.specs.Day.{MayComeToIf, judged_if, with_sweep};
+ghost use Rattle.order_limits.specs.Within.{IsWithin};
+ghost use Rattle.release_lock.specs.Locked.{IsPlacedWithin, OnlyTurns, Places, Releases};
+ghost use Rattle.release_lock.specs.Locked.{ReleasesWithin, Replays, day_dollars};
 ghost use Rattle.release_lock.specs.Queues.{left_to, Pumps, raise};
 ghost use Rattle.release_lock.specs.Seats.{placing};
 
@@ -19,11 +23,12 @@ use crate::asked::Asked;
 use crate::noting::note_placed;
 use crate::pumping::{pump, pump_each};
 use crate::sweep_venues::SweepVenues;
-use crate::{CallerSeat, Run, VenueDrain};
+use crate::{CallerSeat, Declined, Run, VenueDrain};
 use agreed_list::SeatSide;
 use exec_collector::{Accounts, Collector, PlacedSweep};
 use kept_link::{Telling, Untold};
-use leg::{Sweep, VenueId};
+use leg::{Routed, Sweep, VenueId};
+use order_limits::{Dollars, Excess, judge};
 use share_ledger::Book;
 use slips::SlipBook;
 use std::marker::Model;
@@ -33,8 +38,8 @@ use sweep_release::{Desk, Gate, GateFault, Receipt, ReleaseFault, place};
 use venue_queue::Feed;
 
 /// What lies under the lock. Contracts see the desk. It replays from its own history, the seats add up to the shares of
-/// all sweeps released, a slip was given for each of these, and what was pushed to a venue is the first of the legs
-/// released to it, just as many as have left the desk.
+/// all sweeps released, a slip was given for each of these, the dollars are what they come to, and what was pushed to a
+/// venue is the first of the legs released to it, just as many as have left the desk.
 #[derive(Drop)]
 pub struct LockedDesk<L: Run, J: Telling = Untold> {
     pub(crate) desk: Desk,
@@ -42,12 +47,13 @@ pub struct LockedDesk<L: Run, J: Telling = Untold> {
     pub(crate) feeds: Vec<Feed>,
     pub(crate) sweeps: SeatSide<Sweep>,
     pub(crate) book: SlipBook<PlacedSweep>,
+    pub(crate) dollars: Dollars,
     pub(crate) journal: J,
 }
 
 impl<L: Run, J: Telling> Model for LockedDesk<L, J> {
     ghost use Rattle.sweep_release.specs.History.{KeptDesk};
-    ghost use Rattle.release_lock.specs.Locked.{IsLocked, IsDeskSide, IsDeskBook};
+    ghost use Rattle.release_lock.specs.Locked.{IsLocked, IsDeskSide, IsDeskBook, IsDeskDollars};
     ghost use Rattle.release_lock.specs.Noted.{IsNoted};
 
     ghost Value = { KeptDesk };
@@ -57,7 +63,7 @@ impl<L: Run, J: Telling> Model for LockedDesk<L, J> {
     ghost invariant = { λ locked. IsLocked L.queues locked.desk locked.total.total locked.feeds.items
         × IsDeskSide L.sweeps locked.desk locked.sweeps.name locked.sweeps.items
         × IsDeskBook L.slips locked.desk locked.book.name locked.book.given
-        × IsNoted locked.desk (J.told locked.journal) };
+        × IsNoted locked.desk (J.told locked.journal) × IsDeskDollars locked.desk locked.dollars };
 }
 
 impl<L: Run, J: Telling> LockedDesk<L, J> {
@@ -70,10 +76,27 @@ impl<L: Run, J: Telling> LockedDesk<L, J> {
         &self.desk
     }
 
+    /// What the day comes to with a sweep of these legs, or the first limit that it is over.
+    #[tactic(auto, using(crate::proofs::DayDollars::few_dollars))]
+    fn judge(&self, asked: &Asked<'_>, legs: &[Routed]) -> Result<Dollars, Excess>
+        ensures judged { result
+            ≡ judged_if (option_map (λ l. l.now) asked.now.limits) (day_dollars self.now) legs.now }
+        ensures within { OnOk result (IfSome (option_map (λ l. l.now) asked.now.limits)
+            (λ parts. IsWithin parts (day_dollars self.now) legs.now)) }
+        ensures sum { IfOk result (λ day. day ≡ with_sweep (day_dollars self.now) legs.now) }
+        ensures limit { IfOk result (MayComeToIf (option_map (λ l. l.now) asked.now.limits)) }
+        ensures few { IfOk result (λ day. day.ten_thousandths
+            ≤ (day_dollars self.now).ten_thousandths + 10 ^ 16 * length legs.now) }
+        ensures replays { Replays self.now }
+    {
+        judge(asked.limits, self.dollars, legs)
+    }
+
     /// Releases a sweep at the desk and opens it in the collector's book, under one number, or does neither; the seat
     /// gains the sweep under that number, and its shares, and the journal has kept what was asked for. Then each venue
-    /// of its legs is pumped, in the order of the venues' numbers. R01 to R08 in the order of `place`; a refused sweep
-    /// is dropped, no venue is pumped, and nothing else changes.
+    /// of its legs is pumped, in the order of the venues' numbers. Before all this the sweep is judged by the limits
+    /// that are asked for, R11 to R15; then come R01 to R08 in the order of `place`. A declined sweep is dropped,
+    /// no venue is pumped, and nothing else changes.
     pub fn release<M: Accounts>(
         &mut self,
         rt: &impl Wait,
@@ -81,9 +104,44 @@ impl<L: Run, J: Telling> LockedDesk<L, J> {
         sweep: Sweep,
         seat: &mut CallerSeat<L>,
         asked: &Asked<'_>,
+    ) -> Result<Receipt, Declined>
+        requires tied { L.sweeps ≡ M.sweeps }
+        ensures released { ReleasesWithin (option_map (λ l. l.now) asked.now.limits) sweep.legs self.old result
+            self.new }
+        ensures within { OnOk result
+            (IsPlacedWithin (option_map (λ l. l.now) asked.now.limits) sweep.legs self.old self.new) }
+        ensures replays { Replays self.old × Replays self.new }
+        ensures seat { MatchResult result (λ receipt. (receipt.shares ≡ sweep_shares sweep.legs)
+            × (seat.new.shares ≡ seat.old.shares + receipt.shares)) (λ _. seat.new ≡ seat.old) }
+        ensures noted { IfOk result (λ receipt. seat.new.placed
+            ≡ seat.old.placed ++ placing receipt.number sweep.legs ∷ []) }
+        ensures parts { seat.new.parts ≡ seat.old.parts }
+    {
+        let day = match self.judge(asked, sweep.legs.as_slice()) {
+            Ok(day) => day,
+            Err(excess) => return Err(Declined::Over(excess)),
+        };
+        match self.release_within(rt, collector, sweep, seat, asked, day) {
+            Ok(receipt) => Ok(receipt),
+            Err(fault) => Err(Declined::Fault(fault)),
+        }
+    }
+
+    /// Releases a sweep with which the day comes to this, and pumps its venues.
+    fn release_within<M: Accounts>(
+        &mut self,
+        rt: &impl Wait,
+        collector: &Collector<M>,
+        sweep: Sweep,
+        seat: &mut CallerSeat<L>,
+        asked: &Asked<'_>,
+        day: Dollars,
     ) -> Result<Receipt, ReleaseFault>
         requires tied { L.sweeps ≡ M.sweeps }
+        requires day { day ≡ with_sweep (day_dollars self.old) sweep.legs }
+        requires few { day.ten_thousandths ≤ (day_dollars self.old).ten_thousandths + 10 ^ 16 * length sweep.legs }
         ensures released { Releases sweep.legs self.old result self.new }
+        ensures dollars { OnOk result (day_dollars self.new ≡ day) }
         ensures replays { Replays self.old × Replays self.new }
         ensures seat { MatchResult result (λ receipt. (receipt.shares ≡ sweep_shares sweep.legs)
             × (seat.new.shares ≡ seat.old.shares + receipt.shares)) (λ _. seat.new ≡ seat.old) }
@@ -92,12 +150,13 @@ impl<L: Run, J: Telling> LockedDesk<L, J> {
         ensures parts { seat.new.parts ≡ seat.old.parts }
     {
         let venues = SweepVenues::of(sweep.legs.as_slice());
-        let receipt = self.place_sweep(rt, collector, sweep, seat, asked)?;
+        let receipt = self.place_sweep(rt, collector, sweep, seat, asked, day)?;
         pump_each(rt, self, &venues);
         Ok(receipt)
     }
 
-    /// Releases a sweep of these legs and opens it in the book, or does neither; the seat gains it, and its shares.
+    /// Releases a sweep of these legs, with which the day comes to this, and opens it in the book, or does neither; the
+    /// seat gains it, and its shares.
     fn place_sweep<M: Accounts>(
         &mut self,
         rt: &impl Wait,
@@ -105,11 +164,15 @@ impl<L: Run, J: Telling> LockedDesk<L, J> {
         sweep: Sweep,
         seat: &mut CallerSeat<L>,
         asked: &Asked<'_>,
+        day: Dollars,
     ) -> Result<Receipt, ReleaseFault>
-        ghost legs: { List Routed }
+        ghost legs: { List ARouted }
         requires tied { L.sweeps ≡ M.sweeps }
         requires legs { legs ≡ sweep.legs }
+        requires day { day ≡ with_sweep (day_dollars self.old) sweep.legs }
+        requires few { day.ten_thousandths ≤ (day_dollars self.old).ten_thousandths + 10 ^ 16 * length sweep.legs }
         ensures placed { Places sweep.legs self.old result self.new }
+        ensures dollars { OnOk result (day_dollars self.new ≡ day) }
         ensures replays { Replays self.old × Replays self.new }
         ensures seat { MatchResult result (λ receipt. (receipt.shares ≡ sweep_shares sweep.legs)
             × (seat.new.shares ≡ seat.old.shares + receipt.shares)) (λ _. seat.new ≡ seat.old) }
@@ -123,6 +186,7 @@ impl<L: Run, J: Telling> LockedDesk<L, J> {
             feeds: _,
             sweeps,
             book,
+            dollars,
             journal,
         } = self;
         let receipt = collector.lend_beside(
@@ -133,6 +197,7 @@ impl<L: Run, J: Telling> LockedDesk<L, J> {
         )?;
         note_placed(rt, journal, receipt.number, asked);
         seat.count(total, book, receipt);
+        *dollars = day;
         Ok(receipt)
     }
 
@@ -152,6 +217,7 @@ impl<L: Run, J: Telling> LockedDesk<L, J> {
             feeds,
             sweeps: _,
             book: _,
+            dollars: _,
             journal: _,
         } = self;
         pump(rt, desk, venue, &mut feeds[usize::from(venue.number())])

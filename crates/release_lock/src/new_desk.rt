@@ -10,6 +10,7 @@ use crate::{BlankDesk, CallerSeat, LockedDesk, Run, VenueDrain};
 use agreed_list::SeatSide;
 use kept_link::Untold;
 use leg::{Sweep, VenueId};
+use order_limits::Dollars;
 use slips::no_slips;
 use std::alloc::Global;
 use std::collections::VecDeque;
@@ -75,6 +76,7 @@ impl<L: Run> LockedDesk<L> {
             feeds,
             sweeps,
             book,
+            dollars: Dollars::of(0),
             journal: Untold,
         };
         let seat = CallerSeat {

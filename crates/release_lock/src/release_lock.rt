@@ -1,6 +1,7 @@
 //! The desk behind a lock.
 
-ghost use Rattle.std.specs.Prelude.{[], ◌∷◌, ◌++◌, ◌≡◌, ◌⊎◌, ◌+◌, ◌<◌, ◌≤◌, length, map, min, IfOk, IsOkUnless, MatchResult};
+ghost use Rattle.std.specs.Prelude.{[], ◌∷◌, ◌++◌, ◌≡◌, ◌⊎◌, ◌+◌, ◌<◌, ◌≤◌, length, map, min, option_map};
+ghost use Rattle.std.specs.Prelude.{IfOk, IsOkUnless, MatchResult, OnOk};
 ghost use Rattle.std.specs.List.{All};
 ghost use Rattle.std.specs.Fn.{FnOnceReturnsAtMut};
 ghost use Rattle.crossbeam_queue.specs.Fifo.{Held};
@@ -9,12 +10,12 @@ ghost use Rattle.venue_queue.specs.Rule.{EndsWith};
 ghost use Rattle.share_ledger.specs.Entries.{sweep_shares};
 ghost use Rattle.sweep_release.specs.Desk.{placed};
 ghost use Rattle.sweep_release.specs.History.{KeptDesk as ADesk, without_room};
-ghost use Rattle.release_lock.specs.Locked.{Replays, Releases, OnlyTurns};
+ghost use Rattle.release_lock.specs.Locked.{IsPlacedWithin, OnlyTurns, Releases, ReleasesWithin, Replays};
 ghost use Rattle.release_lock.specs.Queues.{IsFresh, new_drains, left_to, Pumps, raise};
 ghost use Rattle.release_lock.specs.Seats.{first_seat, placing};
 
 use crate::venue_note::VenueNote;
-use crate::{Asked, BlankDesk, CallerSeat, LockedDesk, OpenedDesk, Run, VenueDrain};
+use crate::{Asked, BlankDesk, CallerSeat, Declined, LockedDesk, OpenedDesk, Run, VenueDrain};
 use agreed_list::SeatSide;
 use exec_collector::{Accounts, Collector};
 use kept_link::{Telling, Untold};
@@ -90,7 +91,11 @@ impl<L: Run> ReleaseLock<L> {
             ≡ seat.old.placed ++ placing receipt.number sweep.legs ∷ []) }
         ensures parts { seat.new.parts ≡ seat.old.parts }
     {
-        self.release_asked(rt, collector, sweep, seat, &Asked::nothing())
+        match self.release_asked(rt, collector, sweep, seat, &Asked::nothing()) {
+            Ok(receipt) => Ok(receipt),
+            Err(Declined::Fault(fault)) => Err(fault),
+            Err(Declined::Over(_)) => unreachable!(),
+        }
     }
 }
 
@@ -98,7 +103,9 @@ impl<L: Run, J: Telling> ReleaseLock<L, J> {
     /// Releases a sweep under both locks, the desk's first: at the desk and in the collector's book, under one number,
     /// or in neither; the seat gains the sweep under that number, and its shares. The journal has then kept what was
     /// asked for. Before it gives up the lock, each venue of the sweep's legs is pumped, so that a worker finds them
-    /// without it. R01 to R08 in the order of `place`, and no venue is pumped.
+    /// without it. Before all this the sweep is judged by the limits that are asked for, on the day as it stands under
+    /// the lock: R11 to R15. Then R01 to R08 in the order of `place`. Declined, it changes nothing, and no venue is
+    /// pumped.
     pub fn release_asked<M: Accounts>(
         &self,
         rt: &impl Wait,
@@ -106,10 +113,12 @@ impl<L: Run, J: Telling> ReleaseLock<L, J> {
         sweep: Sweep,
         seat: &mut CallerSeat<L>,
         asked: &Asked<'_>,
-    ) -> Result<Receipt, ReleaseFault>
+    ) -> Result<Receipt, Declined>
         requires tied { L.sweeps ≡ M.sweeps }
         ensures placed { (before : ADesk) × (after : ADesk) × Replays before × Replays after
-            × Releases sweep.legs before result after }
+            × ReleasesWithin (option_map (λ l. l.now) asked.now.limits) sweep.legs before result after
+            × OnOk result
+            (IsPlacedWithin (option_map (λ l. l.now) asked.now.limits) sweep.legs before after) }
         ensures seat { MatchResult result (λ receipt. (receipt.shares ≡ sweep_shares sweep.legs)
             × (seat.new.shares ≡ seat.old.shares + receipt.shares)) (λ _. seat.new ≡ seat.old) }
         ensures noted { IfOk result (λ receipt. seat.new.placed

@@ -3,6 +3,7 @@ use Rattle.sweep_release.specs.History.{KeptDesk}
 use Rattle.release_lock.specs.Locked.{Replays, OnlyTurns}
 use Rattle.release_lock.proofs.Turning.{turned_locked, turned_side, turned_book}
 use Rattle.release_lock.proofs.NotedSweeps.{turned_noted}
+use Rattle.release_lock.proofs.DayDollars.{turned_dollars}
 use Rattle.release_lock.proofs.locked_desk.LockedDesk.lend.Goals as goal
 
 pub invariant_of-self : goal.invariant_of-self
@@ -14,6 +15,7 @@ invariant_of-self g c =
       turned_side c.self.inside.desk c.f.new.arg2 only c.self.invariant.1,
       turned_book c.self.inside.desk c.f.new.arg2 only c.self.invariant.2,
       turned_noted c.self.inside.desk c.f.new.arg2 (g.J.Telling.told c.self.inside.journal) only c.self.invariant.3,
+      turned_dollars c.self.inside.desk c.f.new.arg2 c.self.inside.dollars only c.self.invariant.4,
     )
 
 pub returns-clause-replays : goal.returns-clause-replays

@@ -1,14 +1,16 @@
-use Rattle.std.proofs.Common.{rules, Ok, Err, Result, [], ◌∷◌, ◌++◌, sym, subst, ap, ◌∙◌}
+use Rattle.std.proofs.Common.{rules, ◌≡◌, ◌+◌, ◌*◌, ◌^◌, ◌≤◌, length, Ok, Err, Result, [], ◌∷◌, ◌++◌, sym, subst, ap, ◌∙◌}
 use Rattle.share_ledger.specs.Entries.{sweep_shares}
 use Rattle.sweep_release.specs.declared.receipt.Receipt.{Receipt}
 use Rattle.sweep_release.specs.declared.release_fault.ReleaseFault.{ReleaseFault}
 use Rattle.sweep_release.specs.History.{KeptDesk}
 use Rattle.sweep_release.proofs.Answered.{err_is}
-use Rattle.release_lock.specs.Locked.{Replays, Places}
+use Rattle.order_limits.specs.Day.{with_sweep}
+use Rattle.release_lock.specs.Locked.{Replays, Places, day_dollars}
 use Rattle.release_lock.specs.Seats.{placing}
 use Rattle.release_lock.proofs.Siding.{placed_side}
 use Rattle.release_lock.proofs.Placing.{outcome, released_locked, released_book, same_locked, same_book}
 use Rattle.release_lock.proofs.NotedSweeps.{same_noted, placed_noted}
+use Rattle.release_lock.proofs.DayDollars.{day_more, same_dollars, released_dollars}
 use Rattle.release_lock.proofs.locked_desk.LockedDesk.place_sweep.Goals as goal
 
 pub invariant_of-self : goal.invariant_of-self
@@ -27,6 +29,9 @@ invariant_of-self g c =
       same_noted c.self.inside.desk c.lend_beside.new.beside (g.J.Telling.told c.self.inside.journal)
           (outcome c.args.sweep.legs c.self.inside.desk c.lend_beside.new.beside (Err c.in_err-receipt.field-0.0) places)
           c.self.invariant.3,
+      same_dollars c.self.inside.desk c.lend_beside.new.beside c.self.inside.dollars
+          (outcome c.args.sweep.legs c.self.inside.desk c.lend_beside.new.beside (Err c.in_err-receipt.field-0.0) places)
+          c.self.invariant.4,
     )
 
 pub returns-in_err-receipt-clause-placed : goal.returns-in_err-receipt-clause-placed
@@ -57,13 +62,13 @@ count-requires g c κs within =
     record { book = gave.0; book_after = gave.1; placed = search rules } in
     let it = outcome c.args.sweep.legs c.self.inside.desk c.lend_beside.new.beside (Ok c.in_ok-receipt.receipt) places in (
       search rules,
-      (c.self.invariant.2.named, ap (λ r. r.shares) it.receipt_is ∙ ap sweep_shares (sym c.requires.1.1.1.1.1)),
+      (c.self.invariant.2.named, ap (λ r. r.shares) it.receipt_is ∙ ap sweep_shares (sym c.requires.1.1.1.1.1.0)),
     )
 
 pub returns-clause-noted : goal.returns-clause-noted
 returns-clause-noted g c =
     c.count.ensures.placed
-    ∙ ap (λ legs. c.args.seat.now.placed ++ placing c.in_ok-receipt.receipt.number legs ∷ []) c.requires.1.1.1.1.1
+    ∙ ap (λ legs. c.args.seat.now.placed ++ placing c.in_ok-receipt.receipt.number legs ∷ []) c.requires.1.1.1.1.1.0
 
 pub invariant_of-self-2 : goal.invariant_of-self-2
 invariant_of-self-2 g c =
@@ -79,12 +84,19 @@ invariant_of-self-2 g c =
       released_book c.args.sweep.legs c.self.inside.desk c.in_ok-receipt.receipt c.lend_beside.new.beside it
           c.count.ensures.book.0
           (c.count.ensures.book.1
-          ∙ ap (λ legs. c.self.inside.book.given ++ placing c.in_ok-receipt.receipt.number legs ∷ []) c.requires.1.1.1.1.1)
+          ∙ ap (λ legs. c.self.inside.book.given ++ placing c.in_ok-receipt.receipt.number legs ∷ []) c.requires.1.1.1.1.1.0)
           c.self.invariant.2,
       placed_noted c.args.sweep.legs c.self.inside.desk c.in_ok-receipt.receipt c.lend_beside.new.beside
           c.args.asked.now.stamp c.args.asked.now.line.now (g.J.Telling.told c.self.inside.journal)
           (g.J.Telling.told c.note_placed.new.journal) c.note_placed.ensures.within it c.note_placed.ensures.told
           c.note_placed.ensures.kept c.self.invariant.3,
+      released_dollars c.args.sweep.legs c.self.inside.desk c.in_ok-receipt.receipt c.lend_beside.new.beside it
+          c.self.inside.dollars c.args.day c.self.invariant.4
+          (subst (λ (d : KeptDesk). c.args.day ≡ with_sweep (day_dollars d) c.args.sweep.legs) (sym c.self.view_is)
+          c.requires.1.1.1.1.1.1.0)
+          (subst (λ (d : KeptDesk). c.args.day.ten_thousandths
+          ≤ (day_dollars d).ten_thousandths + 10 ^ 16 * length c.args.sweep.legs) (sym c.self.view_is)
+          c.requires.1.1.1.1.1.1.1),
     )
 
 pub returns-clause-placed : goal.returns-clause-placed
@@ -113,3 +125,13 @@ returns-clause-seat g c =
     record { book = gave.0; book_after = gave.1; placed = search rules } in
     let it = outcome c.args.sweep.legs c.self.inside.desk c.lend_beside.new.beside (Ok c.in_ok-receipt.receipt) places in
     (ap (λ r. r.shares) it.receipt_is, c.count.ensures.seat)
+
+pub returns-clause-dollars : goal.returns-clause-dollars
+returns-clause-dollars g c =
+    let gave = c.in_ok-receipt.ensures in
+    let places : Places c.args.sweep.legs c.self.inside.desk (Ok c.in_ok-receipt.receipt) c.lend_beside.new.beside =
+    record { book = gave.0; book_after = gave.1; placed = search rules } in
+    let it = outcome c.args.sweep.legs c.self.inside.desk c.lend_beside.new.beside (Ok c.in_ok-receipt.receipt) places in
+    day_more c.args.sweep.legs c.self.inside.desk c.in_ok-receipt.receipt c.lend_beside.new.beside it
+    ∙ (ap (λ d. with_sweep (day_dollars d) c.args.sweep.legs) c.self.view_is
+    ∙ sym c.requires.1.1.1.1.1.1.0)

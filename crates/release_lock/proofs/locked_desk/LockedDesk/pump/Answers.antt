@@ -7,6 +7,7 @@ use Rattle.sweep_release.specs.Desk.{placed}
 use Rattle.release_lock.specs.Locked.{Replays}
 use Rattle.release_lock.proofs.Leaving.{pumped_locked, pumped_side, pumped_book}
 use Rattle.release_lock.proofs.NotedSweeps.{pumped_noted}
+use Rattle.release_lock.proofs.DayDollars.{pumped_dollars}
 use Rattle.release_lock.proofs.locked_desk.LockedDesk.pump.Goals as goal
 
 pub invariant_of-self : goal.invariant_of-self
@@ -25,6 +26,8 @@ invariant_of-self g c =
       pumped_book c.args.venue c.self.inside.desk c.pump.new.desk c.pump.ensures.desk c.self.invariant.2,
       pumped_noted c.args.venue c.self.inside.desk c.pump.new.desk (g.J.Telling.told c.self.inside.journal)
           c.pump.ensures.desk c.self.invariant.3,
+      pumped_dollars c.args.venue c.self.inside.desk c.pump.new.desk c.self.inside.dollars c.pump.ensures.desk
+          c.self.invariant.4,
     )
 
 pub returns-clause-done : goal.returns-clause-done

@@ -2,6 +2,7 @@ use Rattle.std.proofs.Common.{subst}
 use Rattle.release_lock.specs.Locked.{Replays}
 use Rattle.release_lock.proofs.Turning.{turned_locked, turned_side, turned_book, turns_up}
 use Rattle.release_lock.proofs.NotedSweeps.{turned_noted}
+use Rattle.release_lock.proofs.DayDollars.{turned_dollars}
 use Rattle.release_lock.proofs.locked_desk.LockedDesk.raise.Goals as goal
 
 pub invariant_of-self : goal.invariant_of-self
@@ -13,6 +14,7 @@ invariant_of-self g c =
       turned_book c.self.inside.desk c.gate_up.new.self turns c.self.invariant.2,
       turned_noted c.self.inside.desk c.gate_up.new.self (g.J.Telling.told c.self.inside.journal) turns
           c.self.invariant.3,
+      turned_dollars c.self.inside.desk c.gate_up.new.self c.self.inside.dollars turns c.self.invariant.4,
     )
 
 pub returns-clause-replays : goal.returns-clause-replays

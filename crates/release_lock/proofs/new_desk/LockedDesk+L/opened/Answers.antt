@@ -1,6 +1,7 @@
-use Rattle.std.proofs.Common.{◌≡◌, sym, ap, ◌∙◌, arith}
+use Rattle.std.proofs.Common.{◌≡◌, length, sym, ap, ◌∙◌, arith}
 use Rattle.exec_collector.specs.Opened.{sweeps_of}
 use Rattle.exec_collector.proofs.Counts.{venue_is}
+use Rattle.order_limits.specs.Day.{dollars_of}
 use Rattle.release_lock.specs.Seats.{placings_from}
 use Rattle.release_lock.proofs.Opening.{drain_named, opens_on, new_locked}
 use Rattle.release_lock.proofs.new_desk.LockedDesk+L.opened.Goals as goal
@@ -44,4 +45,9 @@ invariant_of-desk g c =
         gives = c.blank.invariant ∙ ap (λ d. placings_from 1 d.desk.sweeps) (sym c.in_ok-desk.ensures.ok);
       },
       tt,
+      record {
+        sum = c.of.ensures ∙ ap (λ d. dollars_of d.desk.sweeps) (sym c.in_ok-desk.ensures.ok);
+        worth = (let zero = ap (λ d. d.ten_thousandths) c.of.ensures in omega (arith, zero));
+        numbers = (let none = ap (λ d. length d.desk.sweeps) c.in_ok-desk.ensures.ok in omega (arith, none));
+      },
     )
