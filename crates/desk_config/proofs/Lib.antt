@@ -5,3 +5,4 @@ pub mod Apart
 pub mod FieldsRead
 pub mod HostsRead
 pub mod DayParts
+pub mod SymbolsRead

@@ -1,5 +1,6 @@
 -- The configuration that a file spells.
 use Rattle.std.specs.Prelude.{◌≡◌, ℕ, List, Option, Some, None, IsSome, option_map, Result, Ok, Err}
+use Rattle.leg.specs.Symbol.{SymbolParts}
 use Rattle.toml.specs.Data.{Data, table}
 use Rattle.toml.specs.Errors.{IsMemory, IsBlank}
 use Rattle.toml.specs.Parse.{parse_document}
@@ -11,11 +12,14 @@ use Rattle.desk_config.specs.declared.fault.ConfigFault.TheVariants as fault
 use Rattle.desk_config.specs.declared.fault.KeyFault.{KeyFault}
 use Rattle.desk_config.specs.declared.journal.JournalTerms.{JournalTerms}
 use Rattle.desk_config.specs.declared.keys.Keys.TheVariants as keys
+use Rattle.desk_config.specs.declared.limit_keys.LimitsTable.{LimitsTable}
 use Rattle.desk_config.specs.declared.place.Place.TheVariants as place
 use Rattle.desk_config.specs.declared.venue.Venue.{Venue}
 use Rattle.desk_config.specs.Desk.{desk_in}
 use Rattle.desk_config.specs.Hosts.{hosts_of}
 use Rattle.desk_config.specs.JournalName.{apart_from_desk}
+use Rattle.desk_config.specs.LimitKeys.{limits_in}
+use Rattle.desk_config.specs.Symbols.{symbols_of}
 use Rattle.desk_config.specs.Reading.{and_then, checked, in_place}
 use Rattle.desk_config.specs.Venues.{venues_of}
 
@@ -27,6 +31,8 @@ pub record ConfigParts : Type 0 where
   pub page : Option Address
   pub token : Option (List ℕ)
   pub hosts : List (List ℕ)
+  pub limits : LimitsTable
+  pub symbols : List SymbolParts
   pub venues : List Venue
 
 abbrev pub parts_of_config : DeskConfig → ConfigParts
@@ -38,12 +44,14 @@ parts_of_config config =
       page = config.page;
       token = config.token;
       hosts = config.hosts.items;
+      limits = config.limits;
+      symbols = config.symbols.items;
       venues = config.venues.items;
     }
 
--- what `[desk]`, the names of the page and the venues say together
-abbrev pub config_of : DeskTable → List (List ℕ) → List Venue → ConfigParts
-config_of desk hosts venues =
+-- what `[desk]`, the names of the page, `[limits]` with its symbols and the venues say together
+abbrev pub config_of : DeskTable → List (List ℕ) → LimitsTable → List SymbolParts → List Venue → ConfigParts
+config_of desk hosts limits symbols venues =
     record {
       callers = desk.callers;
       log = desk.log;
@@ -51,6 +59,8 @@ config_of desk hosts venues =
       page = desk.page;
       token = desk.token;
       hosts = hosts;
+      limits = limits;
+      symbols = symbols;
       venues = venues;
     }
 
@@ -60,9 +70,11 @@ config_in file =
     and_then (in_place place.File (checked keys.File file)) (λ _.
     and_then (desk_in file) (λ desk.
     and_then (hosts_of desk.token file) (λ hosts.
+    and_then (limits_in file) (λ limits.
+    and_then (symbols_of file) (λ symbols.
     and_then (venues_of desk.sender file) (λ venues.
     and_then (in_place place.Desk (apart_from_desk desk.journal venues)) (λ _.
-    Ok (config_of desk hosts venues))))))
+    Ok (config_of desk hosts limits symbols venues))))))))
 
 -- the answer is what is said, or its fault; or memory ran out
 abbrev pub Answers : Result ConfigParts KeyFault → Result DeskConfig ConfigFault → Type 0

@@ -1,12 +1,12 @@
 -- The texts of faults.
 use Rattle.std.specs.Prelude.{ℕ, List, [], ◌++◌, codes, decimal, Option, Some, None}
 use Rattle.desk_config.specs.declared.fault.Fault.{Fault}
-use Rattle.desk_config.specs.declared.fault.Fault.TheVariants.{NoTable, Unknown, UnknownWord, Missing, Bad, Mark, Order, NoJournal, NeedsToken, HostsNeedToken, Host, OnlySimulated, SameName, SameSession, DeskName}
+use Rattle.desk_config.specs.declared.fault.Fault.TheVariants.{NoTable, Unknown, UnknownWord, Missing, Bad, Mark, Order, NoJournal, NeedsToken, HostsNeedToken, Host, Symbol, OnlySimulated, SameName, SameSession, DeskName}
 use Rattle.desk_config.specs.declared.fault.KeyFault.{KeyFault}
 use Rattle.desk_config.specs.declared.fault.ConfigFault.{ConfigFault}
 use Rattle.desk_config.specs.declared.fault.ConfigFault.TheVariants.{Toml, Key, OutOfMemory}
 use Rattle.desk_config.specs.declared.place.Place.{Place}
-use Rattle.desk_config.specs.declared.place.Place.TheVariants.{File, Desk, Venue}
+use Rattle.desk_config.specs.declared.place.Place.TheVariants.{File, Desk, Limits, Venue}
 use Rattle.desk_config.specs.Key.{key_shown, key_wants}
 use Rattle.desk_config.specs.Found.{found_text}
 use Rattle.venue_words.specs.Field.{field_fault_text}
@@ -28,6 +28,9 @@ fault_text HostsNeedToken = codes "hosts is there, and there is no token"
 fault_text (Host number found) =
     codes "hosts " ++ decimal number ++ codes " is " ++ found_text found
     ++ codes ", and has to be a name as desk.example.com"
+fault_text (Symbol number found) =
+    codes "symbols " ++ decimal number ++ codes " is " ++ found_text found
+    ++ codes ", and has to be a symbol as BRK.B"
 fault_text OnlySimulated = codes "fill is there, and the venue isn't simulated"
 fault_text (SameName place) = codes "name is that of venue " ++ decimal place
 fault_text (SameSession place) = codes "address and comp ids are those of venue " ++ decimal place
@@ -43,6 +46,7 @@ name_text (Some name) = codes " (" ++ name ++ codes ")"
 abbrev pub place_text : Place → List ℕ
 place_text File = []
 place_text Desk = codes "desk: "
+place_text Limits = codes "limits: "
 place_text (Venue number name) = codes "venue " ++ decimal number ++ name_text name ++ codes ": "
 
 -- a fault behind its place, as `venue 2 (ARCA): heartbeat is 99999, and has to be 1 to 3600`

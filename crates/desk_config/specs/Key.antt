@@ -1,7 +1,7 @@
 -- The keys of the desk's file.
 use Rattle.std.specs.Prelude.{ℕ, List, ◌++◌, codes}
 use Rattle.desk_config.specs.declared.key.Key.{Key}
-use Rattle.desk_config.specs.declared.key.Key.TheVariants.{Venue, Sender, Callers, Log, Journal, Durable, Page, Token, Hosts, Name, Address, Target, Dialect, Words, Id, Mark, Price, Symbol, Order, Heartbeat, NextExpected, MaxNumber, Fill}
+use Rattle.desk_config.specs.declared.key.Key.TheVariants.{Venue, Sender, Callers, Log, Journal, Durable, Page, Token, Hosts, Name, Address, Target, Dialect, Words, Id, Mark, Price, Symbol, Order, Heartbeat, NextExpected, MaxNumber, Fill, LegShares, LegDollars, SweepDollars, DayDollars, Symbols}
 
 -- a key as the file spells it
 abbrev pub key_name : Key → List ℕ
@@ -28,6 +28,11 @@ key_name Heartbeat = codes "heartbeat"
 key_name NextExpected = codes "next_expected"
 key_name MaxNumber = codes "max_number"
 key_name Fill = codes "fill"
+key_name LegShares = codes "leg_shares"
+key_name LegDollars = codes "leg_dollars"
+key_name SweepDollars = codes "sweep_dollars"
+key_name DayDollars = codes "day_dollars"
+key_name Symbols = codes "symbols"
 
 -- a key as a fault names it: one of `words` behind its table
 abbrev pub key_shown : Key → List ℕ
@@ -62,3 +67,8 @@ key_wants Heartbeat = codes "1 to 3600"
 key_wants NextExpected = codes "true or false"
 key_wants MaxNumber = codes "16 to 999999999"
 key_wants Fill = codes "0 to 1000000"
+key_wants LegShares = codes "1 to 1000000"
+key_wants LegDollars = codes "whole dollars, 1 to 1000000000000000"
+key_wants SweepDollars = codes "whole dollars, 1 to 1000000000000000"
+key_wants DayDollars = codes "whole dollars, 1 to 1000000000000000"
+key_wants Symbols = codes "an array of 1 to 256 symbols as BRK.B"

@@ -11,6 +11,8 @@ pub mod JournalName
 pub mod Reading
 pub mod Desk
 pub mod Hosts
+pub mod LimitKeys
+pub mod Symbols
 pub mod Words
 pub mod Venue
 pub mod Venues

@@ -17,6 +17,7 @@ use Rattle.desk_config.specs.Endpoint.{where_of}
 use Rattle.desk_config.specs.Number.{number_within}
 use Rattle.desk_config.specs.Reading.{and_then, checked, needed, value_at}
 use Rattle.desk_config.specs.Words.{words_in}
+use Rattle.desk_config.specs.LimitKeys.{leg_limits_in}
 
 -- a venue's name and its address, as the file spells them
 abbrev pub name_in : Data → Option (List ℕ)
@@ -69,6 +70,7 @@ venue_in desk given =
     and_then (sender_in desk given) (λ sender.
     and_then (words_in given) (λ words.
     and_then (session_in given) (λ session.
+    and_then (leg_limits_in given) (λ limits.
     Ok (record {
       name = name;
       endpoint = exchange;
@@ -76,4 +78,5 @@ venue_in desk given =
       sender = sender;
       session = session;
       words = words;
-    }))))))))
+      limits = limits;
+    })))))))))

@@ -4,9 +4,11 @@ ghost use Rattle.std.specs.Prelude.{◌≡◌};
 
 use crate::address::{Address, MAX_HOST};
 use crate::journal::JournalTerms;
+use crate::limit_keys::LimitsTable;
 use crate::venue::Venue;
 use crate::within::Within;
 use desk_words::Printable;
+use leg::Symbol;
 
 /// The most bytes of the name of the logs' folder.
 pub const MAX_FOLDER: usize = 200;
@@ -41,6 +43,10 @@ pub struct DeskConfig {
     pub token: Option<TokenText>,
     /// What the page may be called beside its address; where there is a name, there is a token.
     pub hosts: Vec<HostName>,
+    /// What orders may have at most.
+    pub limits: LimitsTable,
+    /// The symbols that may be ordered, at most 256; any where there is none.
+    pub symbols: Vec<Symbol>,
     /// The venues, 1 to 16, in the order of the file.
     pub venues: Vec<Venue>,
 }

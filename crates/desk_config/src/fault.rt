@@ -50,6 +50,11 @@ pub enum Fault {
         number: usize,
         found: Found,
     },
+    /// A symbol of the limits isn't one: which one, counted from 1.
+    Symbol {
+        number: usize,
+        found: Found,
+    },
     /// A venue that has an address says how a simulated one fills.
     OnlySimulated,
     /// An earlier venue, counted from 1, has the same name.
@@ -85,6 +90,10 @@ impl fmt::Display for Fault {
             Fault::Host { number, found } => write!(
                 f,
                 "hosts {number} is {found}, and has to be a name as desk.example.com"
+            ),
+            Fault::Symbol { number, found } => write!(
+                f,
+                "symbols {number} is {found}, and has to be a symbol as BRK.B"
             ),
             Fault::OnlySimulated => write!(f, "fill is there, and the venue isn't simulated"),
             Fault::SameName(place) => write!(f, "name is that of venue {place}"),

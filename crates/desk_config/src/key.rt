@@ -5,7 +5,7 @@ ghost use Rattle.desk_config.specs.Key.{key_name, key_shown, key_wants};
 
 use std::fmt;
 
-/// A key of the file, of its `[desk]`, of a `[[venue]]` or of that one's `words`.
+/// A key of the file, of its `[desk]` or `[limits]`, of a `[[venue]]` or of that one's `words`.
 #[derive(Clone, Copy, Debug, PartialEq, Eq)]
 pub enum Key {
     Venue,
@@ -31,6 +31,11 @@ pub enum Key {
     NextExpected,
     MaxNumber,
     Fill,
+    LegShares,
+    LegDollars,
+    SweepDollars,
+    DayDollars,
+    Symbols,
 }
 
 impl Key {
@@ -62,6 +67,11 @@ impl Key {
             Key::NextExpected => "next_expected",
             Key::MaxNumber => "max_number",
             Key::Fill => "fill",
+            Key::LegShares => "leg_shares",
+            Key::LegDollars => "leg_dollars",
+            Key::SweepDollars => "sweep_dollars",
+            Key::DayDollars => "day_dollars",
+            Key::Symbols => "symbols",
         }
     }
 
@@ -94,6 +104,11 @@ impl Key {
             Key::NextExpected => "true or false",
             Key::MaxNumber => "16 to 999999999",
             Key::Fill => "0 to 1000000",
+            Key::LegShares => "1 to 1000000",
+            Key::LegDollars | Key::SweepDollars | Key::DayDollars => {
+                "whole dollars, 1 to 1000000000000000"
+            }
+            Key::Symbols => "an array of 1 to 256 symbols as BRK.B",
         }
     }
 }

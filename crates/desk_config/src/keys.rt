@@ -13,6 +13,7 @@ pub(crate) enum Keys {
     Desk,
     Venue,
     Words,
+    Limits,
 }
 
 impl Keys {
@@ -24,6 +25,7 @@ impl Keys {
             Keys::Desk => is_desk_key(key),
             Keys::Venue => is_venue_key(key),
             Keys::Words => is_word_key(key),
+            Keys::Limits => is_limit_key(key),
         }
     }
 
@@ -44,7 +46,7 @@ impl Keys {
 fn is_file_key(key: &str) -> bool
     ensures { result ≡ has_key Keys.File key.now }
 {
-    matches!(key, "desk" | "venue")
+    matches!(key, "desk" | "limits" | "venue")
 }
 
 fn is_desk_key(key: &str) -> bool
@@ -72,6 +74,8 @@ fn is_venue_key(key: &str) -> bool
             | "next_expected"
             | "max_number"
             | "fill"
+            | "leg_shares"
+            | "leg_dollars"
     )
 }
 
@@ -79,4 +83,13 @@ fn is_word_key(key: &str) -> bool
     ensures { result ≡ has_key Keys.Words key.now }
 {
     matches!(key, "id" | "mark" | "price" | "symbol")
+}
+
+fn is_limit_key(key: &str) -> bool
+    ensures { result ≡ has_key Keys.Limits key.now }
+{
+    matches!(
+        key,
+        "leg_shares" | "leg_dollars" | "sweep_dollars" | "day_dollars" | "symbols"
+    )
 }

@@ -13,6 +13,8 @@ pub enum Place {
     File,
     /// `[desk]`.
     Desk,
+    /// `[limits]`.
+    Limits,
     /// A `[[venue]]`: which one, counted from 1, and its name where that is one.
     Venue {
         number: usize,
@@ -27,6 +29,7 @@ impl fmt::Display for Place {
         match self {
             Place::File => Ok(()),
             Place::Desk => write!(f, "desk: "),
+            Place::Limits => write!(f, "limits: "),
             Place::Venue { number, name: None } => write!(f, "venue {number}: "),
             Place::Venue {
                 number,

@@ -11,7 +11,9 @@ use crate::fault::{ConfigFault, KeyFault};
 use crate::hosts::read_hosts;
 use crate::journal_name::apart_from_desk;
 use crate::keys::Keys;
+use crate::limit_keys::read_limits;
 use crate::place::Place;
+use crate::symbols::read_symbols;
 use crate::value_at::checked;
 use crate::venues::read_venues;
 use std::alloc::Global;
@@ -34,6 +36,11 @@ fn read_table(alloc: Global, file: &Value) -> Result<DeskConfig, ConfigFault>
         Err(fault) => return Err(ConfigFault::Key(fault)),
     };
     let hosts = read_hosts(alloc, &desk.token, file)?;
+    let limits = match read_limits(file) {
+        Ok(limits) => limits,
+        Err(fault) => return Err(ConfigFault::Key(fault)),
+    };
+    let symbols = read_symbols(alloc, file)?;
     let venues = read_venues(alloc, &desk.sender, file)?;
     if let Err(fault) = apart_from_desk(&desk.journal, venues.as_slice()) {
         return Err(ConfigFault::Key(KeyFault {
@@ -48,16 +55,19 @@ fn read_table(alloc: Global, file: &Value) -> Result<DeskConfig, ConfigFault>
         page: desk.page,
         token: desk.token,
         hosts,
+        limits,
+        symbols,
         venues,
     })
 }
 
 /// The configuration that a file's text spells, or its first fault: first the TOML, then the keys of the file, those of
-/// `[desk]`, and those of each `[[venue]]` in turn, by `sender`, `callers`, `log`, `journal`, `durable`, `page`,
-/// `token`, `hosts`, and by `name`, `address`, `fill`, `target`, `sender`, `dialect`, `words` with `id`, `mark`,
-/// `price` and `symbol`, the fields of `order`, `heartbeat`, `next_expected`, `max_number`. In each table a key that it
-/// may not have comes first, and behind a venue's own keys that it has the name or the session of an earlier one. Last
-/// comes that a venue is called as the desk's journal is.
+/// `[desk]`, those of `[limits]`, and those of each `[[venue]]` in turn, by `sender`, `callers`, `log`, `journal`,
+/// `durable`, `page`, `token`, `hosts`; by `leg_shares`, `leg_dollars`, `sweep_dollars`, `day_dollars`, `symbols`; and
+/// by `name`, `address`, `fill`, `target`, `sender`, `dialect`, `words` with `id`, `mark`, `price` and `symbol`, the
+/// fields of `order`, `heartbeat`, `next_expected`, `max_number`, `leg_shares`, `leg_dollars`. In each table a key that
+/// it may not have comes first, and behind a venue's own keys that it has the name or the session of an earlier one.
+/// Last comes that a venue is called as the desk's journal is.
 #[tactic(auto, using(crate::proofs::TextRead::answers_text))]
 pub fn read_config(alloc: Global, text: &str) -> Result<DeskConfig, ConfigFault>
     ensures says { AnswersText text.now result }

@@ -4,6 +4,7 @@ use crate::endpoint::Endpoint;
 use crate::session_terms::SessionTerms;
 use desk_words::VenueName;
 use fix_tags::CompId;
+use order_limits::LegLimits;
 use venue_words::VenueWords;
 
 /// A venue, and the session with its exchange.
@@ -18,4 +19,6 @@ pub struct Venue {
     pub session: SessionTerms,
     /// How it spells orders and reports.
     pub words: VenueWords,
+    /// What a leg for it may have, beside what any leg may.
+    pub limits: LegLimits,
 }

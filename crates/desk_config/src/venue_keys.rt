@@ -8,6 +8,7 @@ use crate::endpoint::{Endpoint, FillShares, Where};
 use crate::fault::Fault;
 use crate::key::Key;
 use crate::keys::Keys;
+use crate::limit_keys::leg_limits_in;
 use crate::session_terms::{Heartbeat, NumberLimit, SessionTerms};
 use crate::value_at::{checked, needed, value_at};
 use crate::venue::Venue;
@@ -84,6 +85,7 @@ pub(crate) fn venue_in(desk: &Option<CompId>, table: &Value) -> Result<Venue, Fa
     let sender = sender_in(desk, table)?;
     let words = words_in(table)?;
     let session = session_in(table)?;
+    let limits = leg_limits_in(table)?;
     Ok(Venue {
         name,
         endpoint,
@@ -91,5 +93,6 @@ pub(crate) fn venue_in(desk: &Option<CompId>, table: &Value) -> Result<Venue, Fa
         sender,
         session,
         words,
+        limits,
     })
 }

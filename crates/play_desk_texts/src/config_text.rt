@@ -3,6 +3,7 @@
 use case_text::{Answers, PlayFault};
 use desk_config::{ConfigFault, DeskConfig, Endpoint, Venue};
 use dialect::AnyDialect;
+use order_limits::LegLimits;
 use std::alloc::{AllocError, Global};
 use std::str;
 use venue_words::{VenueWords, table_text};
@@ -27,6 +28,32 @@ fn desk_text(alloc: Global, config: &DeskConfig) -> Result<String, AllocError> {
     }
     for host in &config.hosts {
         write!(text, " host {host}")?;
+    }
+    Ok(text)
+}
+
+/// Appends a limit behind its key, if there is one.
+fn write_limit(text: &mut String, key: &str, limit: Option<u64>) -> Result<(), AllocError> {
+    match limit {
+        Some(limit) => write!(text, " {key} {limit}"),
+        None => Ok(()),
+    }
+}
+
+/// Appends what a leg may have.
+fn write_leg_limits(text: &mut String, leg: LegLimits) -> Result<(), AllocError> {
+    write_limit(text, "leg_shares", leg.shares)?;
+    write_limit(text, "leg_dollars", leg.dollars)
+}
+
+/// What is limited; nothing where nothing is.
+fn limits_text(alloc: Global, config: &DeskConfig) -> Result<String, AllocError> {
+    let mut text = String::new(alloc);
+    write_leg_limits(&mut text, config.limits.leg)?;
+    write_limit(&mut text, "sweep_dollars", config.limits.sweep_dollars)?;
+    write_limit(&mut text, "day_dollars", config.limits.day_dollars)?;
+    for symbol in &config.symbols {
+        write!(text, " symbol {symbol}")?;
     }
     Ok(text)
 }
@@ -88,7 +115,9 @@ fn venue_text(alloc: Global, venue: &Venue) -> Result<String, AllocError> {
     let endpoint = endpoint_text(alloc, &venue.endpoint)?;
     let ends = ends_text(alloc, venue)?;
     let session = session_text(alloc, venue)?;
-    format!(in alloc; "venue {name} {endpoint} {ends} {session}")
+    let mut text = format!(in alloc; "venue {name} {endpoint} {ends} {session}")?;
+    write_leg_limits(&mut text, venue.limits)?;
+    Ok(text)
 }
 
 /// The desk in a line, and each venue in a line of its own.
@@ -99,6 +128,11 @@ pub fn say_config(
 ) -> Result<(), PlayFault> {
     let desk = desk_text(alloc, config)?;
     answers.say(desk.as_str())?;
+    let limits = limits_text(alloc, config)?;
+    if !limits.is_empty() {
+        let line = format!(in alloc; "limits{limits}")?;
+        answers.say(line.as_str())?;
+    }
     for venue in config.venues.iter() {
         let text = venue_text(alloc, venue)?;
         answers.say(text.as_str())?;

@@ -11,6 +11,11 @@ returns-in-Host-clause-writes g c =
     λ plain written.
     rw c.in-Host.is (simp append_assoc (c.write-in-Host.ensures.writes plain written))
 
+pub returns-in-Symbol-clause-writes : goal.returns-in-Symbol-clause-writes
+returns-in-Symbol-clause-writes g c =
+    λ plain written.
+    rw c.in-Symbol.is (simp append_assoc (c.write-in-Symbol.ensures.writes plain written))
+
 pub returns-in-DeskName-clause-writes : goal.returns-in-DeskName-clause-writes
 returns-in-DeskName-clause-writes g c =
     λ plain written.
